@@ -1,0 +1,72 @@
+-- One network as a value: its peers are a finite map by number and its routes one by prefix, each
+-- a list in the order of its keys.
+use Rattle.std.specs.Prelude.{ℕ, ◌≡◌, ◌+◌, ◌<◌, ◌≤◌, Bool, true, false, ◌&&◌, ◌||◌, List, length, Option, is_some, All}
+use Rattle.std.specs.List.{filter, list_any}
+use Rattle.wgr_text.specs.declared.key.Key.{Key}
+use Rattle.wgr_text.specs.Prefix.{AddrValue, PrefixValue, IsAddr, IsPrefix}
+use Rattle.wgr_core.specs.declared.peer.Peer.{Peer}
+use Rattle.wgr_core.specs.PrefixTests.{has, covers, same_prefix, full}
+use Rattle.wgr_core.specs.Pool.{IsPool}
+use Rattle.wgr_core.specs.Allot.{is_assignable, lowest_where}
+use Rattle.wgr_core.specs.Limits.{IsPort, IsCapacity}
+use Rattle.wgr_core.specs.Peers.{is_live, is_own, peer_of, same_key, AreNumbered, AreApart}
+use Rattle.wgr_core.specs.Routes.{Routes, AreOrdered}
+
+pub record NetworkValue : Type 0 where
+  pub pool : PrefixValue
+  pub host : List ℕ
+  pub port : ℕ
+  pub server : Key
+  pub capacity : ℕ
+  pub next : ℕ
+  pub peers : List Peer
+  pub routes : Routes
+
+-- the server's address: the pool's second
+abbrev pub server_address : PrefixValue → AddrValue
+server_address pool = record pool.address { number = pool.address.number + 1 }
+
+-- the network without the peers whose lease is over, and without the routes to them
+abbrev pub live_at : NetworkValue → ℕ → NetworkValue
+live_at n now =
+    let peers = filter (is_live now) n.peers in
+    record n { peers = peers; routes = filter (λ r. is_some (peer_of peers r.1)) n.routes }
+
+-- whether the address is a peer's own, or lies in a route that lies wholly in the pool
+abbrev pub is_held : NetworkValue → AddrValue → Bool
+is_held n a = is_own n.peers a || list_any (λ r. covers n.pool r.0 && has r.0 a) n.routes
+
+-- the lowest address that may be given and isn't held
+abbrev pub lowest_free : NetworkValue → Option AddrValue
+lowest_free n = lowest_where n.pool (is_held n)
+
+-- ---- the rules that each network keeps
+
+-- a peer's number is given already, its key isn't the server's, and the pool may give its address
+pub record IsMember (n : NetworkValue) (p : Peer) : Type 0 where
+  pub numbered : (1 ≤ p.number) × (p.number < n.next)
+  pub not_server : same_key p.key n.server ≡ false
+  pub assignable : is_assignable n.pool p.address ≡ true
+
+-- whether the prefix is a peer's or the server's address at full length
+abbrev pub is_address : NetworkValue → PrefixValue → Bool
+is_address n p = list_any (λ e. same_prefix p (full e.address)) n.peers || same_prefix p (full (server_address n.pool))
+
+-- a route is masked, leads to a peer, and is no peer's and not the server's address
+pub record IsRoute (n : NetworkValue) (r : PrefixValue × ℕ) : Type 0 where
+  pub masked : IsAddr r.0.address × IsPrefix r.0
+  pub leads : is_some (peer_of n.peers r.1) ≡ true
+  pub no_address : is_address n r.0 ≡ false
+
+pub record IsNetwork (n : NetworkValue) : Type 0 where
+  pub pool : IsPool n.pool
+  pub port : IsPort n.port
+  pub capacity : IsCapacity n.capacity
+  pub next : (1 ≤ n.next) × (n.next ≤ 1000001)
+  pub room : length n.peers ≤ n.capacity
+  pub members : All (IsMember n) n.peers
+  pub numbered : AreNumbered n.peers
+  pub apart : AreApart n.peers
+  pub few_routes : length n.routes ≤ 4096
+  pub routes : All (IsRoute n) n.routes
+  pub ordered : AreOrdered n.routes

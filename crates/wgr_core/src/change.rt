@@ -1,0 +1,180 @@
+ghost use Rattle.std.specs.Prelude.{◌≡◌, ℕ, ◌≤◌, List, [], length, not, ◌&&◌, nat_eq, All, IfOk, OnOk, OnErr, IsTrue};
+ghost use Rattle.std.specs.List.{filter};
+ghost use Rattle.std.specs.HashSet.{contains};
+ghost use Rattle.wgr_core.specs.Change.{Fits, OnlyJoins, applied, is_among, without_peers, without_routes};
+ghost use Rattle.wgr_core.specs.Routes.{AreOrdered, HasAddr};
+
+use crate::items::Items;
+use crate::network::Network;
+use crate::order::{drop_route, put_peer, put_route};
+use crate::peer::Peer;
+use crate::peer_table::PeerTable;
+use std::alloc::{AllocError, Global};
+use std::collections::HashSet;
+use wgr_text::Prefix;
+
+/// What an accepted command changes of a network, in the order in which it is made.
+#[derive(Debug, Drop)]
+pub struct Change {
+    /// Peers that go, by number, and the routes to them with them.
+    pub removed: Items<u32>,
+    /// Peers that come, or take the place of the one of their number.
+    pub peers: Items<Peer>,
+    /// Routes that come, or lead to another peer from now on.
+    pub routes_put: Items<(Prefix, u32)>,
+    /// Routes that go.
+    pub routes_gone: Items<Prefix>,
+    /// The next number.
+    pub next: u32,
+}
+
+impl Change {
+    /// The network with this change.
+    pub fn apply(&self, alloc: Global, network: &Network) -> Result<Network, AllocError>
+        requires { Fits self.now network.now }
+        ensures { IfOk result (λ changed. changed ≡ applied self.now network.now) }
+    {
+        let removed = number_set(alloc, self.removed.as_slice())?;
+        let peers = self.changed_peers(alloc, network, &removed)?;
+        let routes = self.changed_routes(alloc, network, &removed)?;
+        network.with(self.next, PeerTable::collect(alloc, peers)?, routes)
+    }
+
+    // The network's peers without those that go, and with those that come.
+    fn changed_peers(
+        &self,
+        alloc: Global,
+        network: &Network,
+        removed: &HashSet<u32>,
+    ) -> Result<Vec<Peer>, AllocError>
+        requires { (n : ℕ) → contains nat_eq removed.now n ≡ is_among self.now.removed n }
+        ensures { IfOk result (λ peers. peers.items ≡ (applied self.now network.now).peers) }
+    {
+        let mut peers = peers_outside(alloc, network.peers(), removed)?;
+        let _next = network.next();
+        for peer in self.peers.as_slice() {
+            put_peer(&mut peers, peer.copy()?)?;
+        }
+        Ok(peers)
+    }
+
+    // The network's routes without those that go, and with those that come.
+    fn changed_routes(
+        &self,
+        alloc: Global,
+        network: &Network,
+        removed: &HashSet<u32>,
+    ) -> Result<Vec<(Prefix, u32)>, AllocError>
+        requires { (n : ℕ) → contains nat_eq removed.now n ≡ is_among self.now.removed n }
+        ensures { IfOk result (λ routes. routes.items ≡ (applied self.now network.now).routes) }
+    {
+        let mut routes = self.routes_left(alloc, network, removed)?;
+        let _next = network.next();
+        for route in self.routes_put.as_slice() {
+            put_route(&mut routes, route.0, route.1)?;
+        }
+        Ok(routes)
+    }
+
+    // The network's routes without those that go.
+    fn routes_left(
+        &self,
+        alloc: Global,
+        network: &Network,
+        removed: &HashSet<u32>,
+    ) -> Result<Vec<(Prefix, u32)>, AllocError>
+        requires { (n : ℕ) → contains nat_eq removed.now n ≡ is_among self.now.removed n }
+        ensures left { IfOk result (λ routes. routes.items ≡ without_routes (without_peers network.now self.now.removed).routes self.now.routes_gone) }
+        ensures ordered { IfOk result (λ routes. AreOrdered routes.items) }
+        ensures masked { IfOk result (λ routes. All HasAddr routes.items) }
+    {
+        let mut routes = routes_outside(alloc, network.routes(), removed)?;
+        let _next = network.next();
+        for prefix in self.routes_gone.as_slice() {
+            drop_route(&mut routes, prefix);
+        }
+        Ok(routes)
+    }
+
+    // Whether the change only brings one peer, whose number is `next` or above it.
+    fn only_joins(&self, next: u32) -> bool
+        ensures { IsTrue result → OnlyJoins self.now next }
+    {
+        match self.peers.as_slice() {
+            [peer] => {
+                next <= peer.number
+                    && self.removed.is_empty()
+                    && self.routes_put.is_empty()
+                    && self.routes_gone.is_empty()
+            }
+            _ => false,
+        }
+    }
+}
+
+impl Network {
+    /// Makes the change; for want of memory the network is as before. A change that only brings
+    /// one new peer is made in place.
+    pub fn apply(&mut self, alloc: Global, change: Change) -> Result<(), AllocError>
+        requires { Fits change self.old }
+        ensures ok { OnOk result (self.new ≡ applied change self.old) }
+        ensures err { OnErr result (self.new ≡ self.old) }
+    {
+        if change.only_joins(self.next()) {
+            let Some(peer) = change.peers.into_vec().pop() else {
+                unreachable!();
+            };
+            return self.join(peer, change.next);
+        }
+        *self = change.apply(alloc, self)?;
+        Ok(())
+    }
+}
+
+// The set of these numbers.
+fn number_set(alloc: Global, numbers: &[u32]) -> Result<HashSet<u32>, AllocError>
+    ensures { IfOk result (λ set. (n : ℕ) → contains nat_eq set n ≡ is_among numbers.now n) }
+{
+    let mut set = HashSet::new(alloc);
+    for number in numbers {
+        set.insert(*number)?;
+    }
+    Ok(set)
+}
+
+// The peers whose numbers are not in the set.
+fn peers_outside(
+    alloc: Global,
+    peers: &[Peer],
+    removed: &HashSet<u32>,
+) -> Result<Vec<Peer>, AllocError>
+    ensures { IfOk result (λ kept. kept.items ≡ filter (λ p. not (contains nat_eq removed.now p.number)) peers.now) }
+{
+    let mut kept = Vec::new(alloc);
+    for peer in peers {
+        if !removed.contains(&peer.number) {
+            kept.push(peer.copy()?)?;
+        }
+    }
+    Ok(kept)
+}
+
+// The routes to peers whose numbers are not in the set.
+fn routes_outside(
+    alloc: Global,
+    routes: &[(Prefix, u32)],
+    removed: &HashSet<u32>,
+) -> Result<Vec<(Prefix, u32)>, AllocError>
+    ensures { IfOk result (λ kept. kept.items ≡ filter (λ r. not (contains nat_eq removed.now r.1)) routes.now) }
+{
+    let mut kept = Vec::new(alloc);
+    for route in routes {
+        if !removed.contains(&route.1) {
+            kept.push(*route)?;
+        }
+    }
+    Ok(kept)
+}
+
+#[cfg(test)]
+mod tests;

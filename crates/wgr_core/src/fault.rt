@@ -1,0 +1,22 @@
+use crate::refusal::Refusal;
+use std::alloc::AllocError;
+
+/// Why a command was not done.
+#[derive(Clone, Copy, Debug, Drop, PartialEq, Eq)]
+pub enum ActFault {
+    /// The network refuses it.
+    Refused(Refusal),
+    /// Memory was refused.
+    NoMemory,
+}
+
+impl From<AllocError> for ActFault {
+    ghost use Rattle.std.specs.Prelude.{◌≡◌};
+    ghost use Rattle.wgr_core.specs.declared.fault.ActFault.TheVariants.{NoMemory};
+
+    ghost from_gives = { λ _ r. r ≡ NoMemory };
+
+    fn from(_: AllocError) -> ActFault {
+        ActFault::NoMemory
+    }
+}

@@ -1,0 +1,56 @@
+use std::fmt;
+
+/// A field of a request or a word of the command line that isn't of its form.
+#[derive(Clone, Copy, Debug, Drop, PartialEq, Eq)]
+pub enum Field {
+    /// A public key.
+    Key,
+}
+
+impl fmt::Display for Field {
+    fn fmt<W: fmt::Write>(&self, f: &mut fmt::Formatter<W>) -> fmt::Result {
+        f.write_str(match self {
+            Field::Key => "key",
+        })
+    }
+}
+
+/// Why a command is refused, with the fact that it turns on.
+#[derive(Clone, Copy, Debug, Drop, PartialEq, Eq)]
+pub enum Refusal {
+    /// The peer of this number has the key.
+    KeyHeld { number: u32 },
+    /// The named address is a peer's, or a route at full length.
+    AddressHeld,
+    /// The pool never gives the named address.
+    OutsidePool,
+    /// No address is free.
+    PoolFull,
+    /// As many peers stand as the capacity allows.
+    CapacityReached,
+    /// The next number would be above 1,000,000.
+    NumbersSpent,
+    /// A field isn't of its form.
+    BadField { field: Field },
+    /// The lease would have ended already.
+    LeaseOver,
+    /// The key is the server's own.
+    ServerKey,
+}
+
+impl fmt::Display for Refusal {
+    /// The refusal's name, followed by a blank and its fact where it carries one.
+    fn fmt<W: fmt::Write>(&self, f: &mut fmt::Formatter<W>) -> fmt::Result {
+        match self {
+            Refusal::KeyHeld { number } => write!(f, "key_held {number}"),
+            Refusal::AddressHeld => f.write_str("address_held"),
+            Refusal::OutsidePool => f.write_str("outside_pool"),
+            Refusal::PoolFull => f.write_str("pool_full"),
+            Refusal::CapacityReached => f.write_str("capacity_reached"),
+            Refusal::NumbersSpent => f.write_str("numbers_spent"),
+            Refusal::BadField { field } => write!(f, "bad_field {field}"),
+            Refusal::LeaseOver => f.write_str("lease_over"),
+            Refusal::ServerKey => f.write_str("server_key"),
+        }
+    }
+}

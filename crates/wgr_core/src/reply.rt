@@ -1,0 +1,19 @@
+use crate::items::Items;
+use crate::peer::Peer;
+use wgr_text::Prefix;
+
+/// A peer with the routes that lead to it, in their order.
+#[derive(Debug, Drop)]
+pub struct PeerView {
+    pub peer: Peer,
+    pub routes: Items<Prefix>,
+}
+
+/// What an accepted command answers.
+#[derive(Debug, Drop)]
+pub enum Reply {
+    /// The peer after the change.
+    Peer(PeerView),
+    /// The live peers by number.
+    List(Items<PeerView>),
+}

@@ -1,0 +1,4 @@
+pub mod Lines
+pub mod Plan
+pub mod PlanFault
+pub mod PlanLaws

@@ -1,0 +1,76 @@
+//! The command line, read by `clap`.
+//!
+//! A first check of a command takes long, so this file has nothing else. A further subcommand is a
+//! function beside [`plan_command`], a variant of [`Request`] and an arm in [`request_of`].
+use clap::error::ErrorKind;
+use clap::{Arg, ArgMatches, Command, Error};
+use std::alloc::Global;
+
+/// What a command line asks for.
+#[derive(Clone, Copy)]
+pub enum Request<'a> {
+    Plan { pool: &'a str },
+}
+
+const PLAN_HELP: &str = "\
+Standard input has one public key a line, as `wg pubkey` prints it. Each key is given the
+lowest free address, and a line is printed for it: its number, the key and ADDRESS/LENGTH,
+separated by tabs.
+
+A pool is an IPv4 prefix of length 8 to 30 or an IPv6 prefix of length 48 to 126, with all
+host bits zero. Its first address is never given and the second is the server's; the last
+address of an IPv4 pool is never given either. A pool serves 4096 keys.
+
+The first line that is refused ends the plan. The lines before it are printed, and
+`wgr: line N: REASON` goes to standard error. The reasons: `bad_field key` (not the base64
+of 32 bytes), `key_held NUMBER` (an earlier line has the key), `server_key` (the key is kept
+for the server), `capacity_reached` and `pool_full`.
+
+Exit status:
+  0  all lines are printed
+  1  a fault: no memory, or a stream that failed
+  2  a refused pool or line, or a command line that does not read
+
+Example:
+  $ printf '%s\\n' AAAAAAAAAAAAAAAAAAAAAAAAAAAAAAAAAAAAAAAAAAA= | wgr plan 10.8.0.0/24
+  1\tAAAAAAAAAAAAAAAAAAAAAAAAAAAAAAAAAAAAAAAAAAA=\t10.8.0.2/32";
+
+fn plan_command<'a>(alloc: Global) -> Result<Command<'a>, Error> {
+    let pool = Arg::new(alloc, "pool")
+        .value_name("POOL")
+        .required(true)
+        .help("The network's addresses, such as 10.8.0.0/24 or fd00::/64");
+    let command = Command::new(alloc, "plan")
+        .about("Gives each public key an address of a pool")
+        .after_help(PLAN_HELP);
+    Ok(command.arg(pool)?)
+}
+
+fn wgr_command<'a>(alloc: Global) -> Result<Command<'a>, Error> {
+    let command = Command::new(alloc, "wgr")
+        .version("0.1.0")
+        .about("A register of WireGuard peers and their tunnel addresses")
+        .no_binary_name(true)
+        .subcommand_required(true)
+        .bin_name("wgr")?;
+    Ok(command.subcommand(plan_command(alloc)?)?)
+}
+
+fn request_of<'a>(matches: &ArgMatches<'a>) -> Option<Request<'a>> {
+    match matches.subcommand()? {
+        ("plan", found) => Some(Request::Plan {
+            pool: found.get_str("pool")?,
+        }),
+        _ => None,
+    }
+}
+
+/// What the words ask for. An error is also the text of `--help` and of `--version`.
+pub fn read_words<'a>(alloc: Global, words: &'a [&'a str]) -> Result<Request<'a>, Error> {
+    let mut command = wgr_command(alloc)?;
+    let matches = command.try_get_matches_from_mut(words)?;
+    match request_of(&matches) {
+        Some(request) => Ok(request),
+        None => Err(command.error(ErrorKind::MissingSubcommand, "a command is missing")?),
+    }
+}

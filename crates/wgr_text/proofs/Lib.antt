@@ -1,0 +1,12 @@
+pub mod AddrTexts
+pub mod Blocks
+pub mod Bytes
+pub mod Hex
+pub mod KeyLemmas
+pub mod Lengths
+pub mod Recommended
+pub mod RoundTrips
+pub mod Slashes
+pub mod Spans
+pub mod Spelled
+pub mod Written

@@ -1,0 +1,5 @@
+pub mod Canonical
+pub mod KeyText
+pub mod Laws
+pub mod Prefix
+pub mod PrefixText

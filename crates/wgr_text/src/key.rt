@@ -1,0 +1,49 @@
+ghost use Rattle.base64.specs.GeneralPurpose.{IsBytes};
+ghost use Rattle.std.specs.Prelude.{◌≡◌, ◌≢◌, ◌++◌, ℕ, List, length, IfSome, IfNone, OnOk, OnErr};
+ghost use Rattle.wgr_text.specs.KeyText.{key_text};
+
+use base64::engine::general_purpose::STANDARD;
+use std::alloc::AllocError;
+
+/// A Curve25519 public key: 32 bytes.
+#[derive(Clone, Copy, Debug, PartialEq, Eq, Hash, PartialOrd, Ord)]
+pub struct Key(pub [u8; 32]);
+
+impl Key {
+    /// The key whose base64 text this is (RFC 4648 section 4, with padding). Of any other text it
+    /// is `None`: a key has one text, of 44 bytes, whose unused bits are zero.
+    pub fn read(text: &[u8]) -> Option<Key>
+        ensures spelled { IfSome result (λ key. text.now ≡ key_text key.0) }
+        ensures none { IfNone result ((key : List ℕ) → length key ≡ 32 → IsBytes key → text.now ≢ key_text key) }
+    {
+        if text.len() != 44 {
+            return None;
+        }
+        let mut decoded = [0; 33];
+        let Ok(count) = STANDARD.decode_slice_unchecked(text, &mut decoded) else {
+            return None;
+        };
+        if count != 32 {
+            return None;
+        }
+        let mut key = [0; 32];
+        key.copy_from_slice(&decoded[..32]);
+        Some(Key(key))
+    }
+}
+
+/// Appends the base64 text of a key (RFC 4648 section 4, with padding). Where memory is wanting,
+/// `out` keeps its items.
+pub fn write_key(key: &Key, out: &mut Vec<u8>) -> Result<(), AllocError>
+    ensures ok { OnOk result (out.new.items ≡ out.old.items ++ key_text key.now.0) }
+    ensures err { OnErr result (out.new.items ≡ out.old.items) }
+{
+    let mut text = [0; 44];
+    let Ok(_) = STANDARD.encode_slice(&key.0, &mut text) else {
+        unreachable!();
+    };
+    out.extend_from_slice(&text)
+}
+
+#[cfg(test)]
+mod tests;

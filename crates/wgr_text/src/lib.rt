@@ -1,0 +1,17 @@
+//! Addresses, prefixes and keys of WireGuard networks, and their texts.
+//!
+//! IPv4 (RFC 4632) and IPv6 (RFC 4291) are two families of one [`Addr`]; a [`Prefix`] is the set
+//! of the addresses that agree in its first bits. Each reader answers `Some` exactly on the texts
+//! that spell a value, and takes no memory.
+#![tactic(auto)]
+
+mod addr;
+mod key;
+pub mod laws;
+mod prefix;
+mod text;
+
+pub use addr::{Addr, Family};
+pub use key::{Key, write_key};
+pub use prefix::{Prefix, Span};
+pub use text::{read_loose, write_addr, write_prefix};
