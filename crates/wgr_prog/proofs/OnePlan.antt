@@ -27,14 +27,14 @@ one_key text one other s t =
 -- the ways in which a plan begins
 data Begins : NetworkValue → ℕ → List ℕ → List (List ℕ) → Plan → Type 0 where
   without_key : (n : NetworkValue) (line : ℕ) (text : List ℕ) (more : List (List ℕ)) (p : Plan)
-    → ((key : List ℕ) → length key ≡ 32 → IsBytes key → text ≢ key_text key)
-    → p ≡ refused_at line (refusal.BadField field.Key) → Begins n line text more p
+      → ((key : List ℕ) → length key ≡ 32 → IsBytes key → text ≢ key_text key)
+      → p ≡ refused_at line (refusal.BadField field.Key) → Begins n line text more p
   with_refusal : (n : NetworkValue) (line : ℕ) (text : List ℕ) (more : List (List ℕ)) (p : Plan) (key : Key) (why : Refusal)
-    → SpellsKey text key → outcome_of n 0 (joining key) ≡ Err why
-    → p ≡ refused_at line why → Begins n line text more p
+      → SpellsKey text key → outcome_of n 0 (joining key) ≡ Err why
+      → p ≡ refused_at line why → Begins n line text more p
   with_peer : (n : NetworkValue) (line : ℕ) (text : List ℕ) (more : List (List ℕ)) (p : Plan) (key : Key) (view : PeerView) (m : NetworkValue) (rest : Plan)
-    → SpellsKey text key → outcome_of n 0 (joining key) ≡ Ok (reply.Peer view, m)
-    → Plans m (line + 1) more rest → p ≡ after (row_text view.peer) rest → Begins n line text more p
+      → SpellsKey text key → outcome_of n 0 (joining key) ≡ Ok (reply.Peer view, m)
+      → Plans m (line + 1) more rest → p ≡ after (row_text view.peer) rest → Begins n line text more p
 
 abbrev Is : NetworkValue → ℕ → List (List ℕ) → Plan → Type 0
 Is n line [] p = p ≡ no_more
