@@ -4,9 +4,11 @@ use Rattle.std.specs.List.{All, filter}
 use Rattle.wgr_text.specs.Prefix.{PrefixValue}
 use Rattle.wgr_core.specs.declared.peer.Peer.{Peer}
 use Rattle.wgr_core.specs.declared.change.Change.{Change}
+use Rattle.wgr_core.specs.Peers.{put_peer}
+use Rattle.wgr_core.specs.PeerIndex.{IsAlikeAt, IsKeyedAt}
 use Rattle.wgr_core.specs.Routes.{Routes}
-use Rattle.wgr_core.specs.Network.{NetworkValue, IsNetwork}
-use Rattle.wgr_core.specs.Change.{is_among, without_peers, put_peers, assign_routes, without_routes, changed, applied, OnlyJoins}
+use Rattle.wgr_core.specs.Network.{NetworkValue, IsNetwork, is_among, without_peers}
+use Rattle.wgr_core.specs.Change.{put_peers, assign_routes, without_routes, changed, applied, OnlyJoins, OnlyRenews, OnlyMoves}
 use Rattle.wgr_core.proofs.Lists.{filter_agree_on}
 use Rattle.wgr_core.proofs.CommandLemmas.{put_peer_above, without_none}
 
@@ -47,4 +49,44 @@ joins_one c n next before p is only same last =
           ∙ ap (λ (ps : List Peer). record n { next = c.next; peers = ps; routes = assign_routes (without_routes n.routes c.routes_gone) c.routes_put }) (put_peer_above n.peers p above)
           ∙ ap (λ (gone : List PrefixValue). record n { next = c.next; peers = n.peers ++ p ∷ []; routes = assign_routes (without_routes n.routes gone) c.routes_put }) only.routes_gone
           ∙ ap (λ (put : Routes). record n { next = c.next; peers = n.peers ++ p ∷ []; routes = assign_routes n.routes put }) only.routes_put),
+    )
+
+-- ---- a change that removes no peer
+
+pub removes_none : (c d : Change) (n : NetworkValue) → c ≡ d → d.removed ≡ [] → changed d n ≡ applied c n
+removes_none c d n is none =
+    sym (ap (λ (c : Change). applied c n) is ∙ ap (λ (rs : List ℕ). changed d (without_peers n rs)) none ∙ ap (changed d) (without_none n))
+
+-- ---- a change that only removes a peer
+
+pub removes_one : (c : Change) (n : NetworkValue) (number : ℕ) → c ≡ record { removed = number ∷ []; peers = []; routes_put = []; routes_gone = []; next = c.next } → applied c n ≡ record (without_peers n (number ∷ [])) { next = c.next }
+removes_one c n number is = ap (λ (c : Change). applied c n) is
+
+-- ---- a change that only renews a peer
+
+puts_one : (c : Change) (n : NetworkValue) (p : Peer) → c.peers ≡ p ∷ [] → c.removed ≡ [] → c.routes_put ≡ [] → c.routes_gone ≡ [] → record n { peers = put_peer n.peers p; next = c.next } ≡ applied c n
+puts_one c n p one removed put gone =
+    sym
+    (ap (λ (rs : List ℕ). changed c (without_peers n rs)) removed
+    ∙ ap (changed c) (without_none n)
+    ∙ ap (λ (ps : List Peer). record n { next = c.next; peers = put_peers n.peers ps; routes = assign_routes (without_routes n.routes c.routes_gone) c.routes_put }) one
+    ∙ ap (λ (gone : List PrefixValue). record n { next = c.next; peers = put_peer n.peers p; routes = assign_routes (without_routes n.routes gone) c.routes_put }) gone
+    ∙ ap (λ (put : Routes). record n { next = c.next; peers = put_peer n.peers p; routes = assign_routes n.routes put }) put)
+
+pub renews_one : (c : Change) (n : NetworkValue) (peers : List Peer) (before : List Peer) (p : Peer) (at : ℕ) → OnlyRenews c peers at → peers ≡ n.peers → c.peers ≡ before ++ p ∷ []
+    → IsAlikeAt n.peers p at × (record n { peers = put_peer n.peers p; next = c.next } ≡ applied c n)
+renews_one c n peers before p at only same last =
+    let one : c.peers ≡ p ∷ [] = one_item c.peers before p only.one last in (
+      subst (λ (qs : List Peer). IsAlikeAt qs p at) same (subst (λ (ps : List Peer). IsAlikeAt peers (get_or ps 0 p) at) one (only.alike p)),
+      puts_one c n p one only.removed only.routes_put only.routes_gone,
+    )
+
+-- ---- a change that only moves a peer
+
+pub moves_one : (c : Change) (n : NetworkValue) (peers : List Peer) (before : List Peer) (p : Peer) (at : ℕ) → OnlyMoves c peers at → peers ≡ n.peers → c.peers ≡ before ++ p ∷ []
+    → IsKeyedAt n.peers p at × (record n { peers = put_peer n.peers p; next = c.next } ≡ applied c n)
+moves_one c n peers before p at only same last =
+    let one : c.peers ≡ p ∷ [] = one_item c.peers before p only.one last in (
+      subst (λ (qs : List Peer). IsKeyedAt qs p at) same (subst (λ (ps : List Peer). IsKeyedAt peers (get_or ps 0 p) at) one (only.keyed p)),
+      puts_one c n p one only.removed only.routes_put only.routes_gone,
     )

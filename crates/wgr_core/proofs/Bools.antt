@@ -37,3 +37,7 @@ or_left false b h = cc
 pub or_right : (a b : Bool) → b ≡ true → (a || b) ≡ true
 or_right true b h = refl
 or_right false b h = h
+
+pub and_false_last : (a b : Bool) → b ≡ false → (a && b) ≡ false
+and_false_last true b h = h
+and_false_last false b h = refl

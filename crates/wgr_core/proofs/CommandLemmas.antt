@@ -1,9 +1,10 @@
 -- From the live network to the whole one.
-use Rattle.std.proofs.Common.{◌≡◌, ℕ, ◌<◌, ◌⊎◌, ◌↔◌, inl, inr, Bool, true, false, ◌||◌, cond, nat_eq, nat_lt, List, [], ◌∷◌, ◌++◌, get_or, map, Option, Some, None, is_some, refl, sym, ap, ◌∙◌, subst, arith}
+use Rattle.std.proofs.Common.{◌≡◌, ℕ, ◌<◌, ◌⊎◌, ◌↔◌, inl, inr, Bool, true, false, not, ◌&&◌, ◌||◌, cond, nat_eq, nat_lt, List, [], ◌∷◌, ◌++◌, get_or, map, Option, Some, None, is_some, refl, sym, ap, ◌∙◌, subst, arith}
 use Rattle.std.specs.Prelude.{Result, Ok, Err, IfOk, IfSome}
 use Rattle.std.specs.List.{All, filter}
 use Rattle.std.proofs.lemmas.Bool.Decides.{nat_tests}
 use Rattle.std.proofs.lemmas.List.Elements.{All-weaker}
+use Rattle.std.proofs.lemmas.List.Folds.{list_any-append}
 use Rattle.wgr_text.specs.Prefix.{PrefixValue}
 use Rattle.wgr_core.specs.declared.peer.Peer.{Peer}
 use Rattle.wgr_core.specs.declared.command.Command.{Command}
@@ -13,10 +14,10 @@ use Rattle.wgr_core.specs.declared.fault.ActFault.{ActFault}
 use Rattle.wgr_core.specs.declared.fault.ActFault.TheVariants.{Refused, NoMemory}
 use Rattle.wgr_core.specs.Peers.{expired, peer_of, put_peer}
 use Rattle.wgr_core.specs.Routes.{routes_to}
-use Rattle.wgr_core.specs.Network.{NetworkValue, IsNetwork, IsRoute, live_at}
-use Rattle.wgr_core.specs.Outcome.{Outcome, live_outcome, is_reading, kept_if, outcome_of}
-use Rattle.wgr_core.specs.Change.{without_peers, changed, applied_if, Fits, GivesChange, Meets, MeetsLive}
-use Rattle.wgr_core.proofs.Lists.{filter_all, filter_none}
+use Rattle.wgr_core.specs.Network.{NetworkValue, IsNetwork, IsRoute, is_among, live_at, without_peers}
+use Rattle.wgr_core.specs.Outcome.{Outcome, live_outcome, is_reading, kept_if, leaving, outcome_of}
+use Rattle.wgr_core.specs.Change.{changed, applied_if, with_leaving, without_leaving, Fits, GivesChange, Meets, MeetsLive}
+use Rattle.wgr_core.proofs.Lists.{filter_all, filter_none, filter_twice}
 use Rattle.wgr_core.proofs.Bools.{or_cases, or_left, or_right}
 use Rattle.wgr_core.proofs.OrderedLemmas.{put_above}
 use Rattle.wgr_core.proofs.LiveLemmas.{without_expired}
@@ -50,27 +51,51 @@ none_to_next n is = ap (map (λ (r : PrefixValue × ℕ). r.0)) (filter_none (λ
 
 -- ---- the change of the whole network
 
-changes : (n live : NetworkValue) (reading : Bool) (removed : List ℕ) (given : Option Change) (after : NetworkValue)
-    → without_peers n removed ≡ live → GivesChange reading live removed given after → applied_if given n ≡ cond reading n after
-changes n live true removed None after same gives = refl
-changes n live true removed (Some c) after same gives = absurd gives
-changes n live false removed None after same gives = absurd gives
-changes n live false removed (Some c) after same gives =
-    ap (λ rs. changed c (without_peers n rs)) gives.0 ∙ ap (changed c) same ∙ gives.1
+-- one more number among those that go
+among_more : (removed : List ℕ) (number m : ℕ) → not (is_among (removed ++ number ∷ []) m) ≡ (not (is_among removed m) && not (is_among (number ∷ []) m))
+among_more removed number m =
+    ap not (list_any-append (nat_eq m) removed (number ∷ [])) ∙ neither (is_among removed m) (is_among (number ∷ []) m)
+  where
+    neither : (a b : Bool) → not (a || b) ≡ (not a && not b)
+    neither true b = refl
+    neither false b = refl
 
-meets : (n live : NetworkValue) (reading : Bool) (removed : List ℕ) (r : Result (Reply × Option Change) ActFault) (o : Outcome)
-    → without_peers n removed ≡ live → MeetsLive reading live removed r o → Meets n r (kept_if reading n o)
-meets n live reading removed (Err NoMemory) o same is = tt
-meets n live reading removed (Err (Refused why)) (Err is') same is = is
-meets n live reading removed (Err (Refused why)) (Ok done) same is = is
-meets n live reading removed (Ok given) (Err is') same is = is
-meets n live reading removed (Ok given) (Ok done) same is = (is.0, changes n live reading removed given.1 done.1 same is.1)
+without_more : (n : NetworkValue) (removed : List ℕ) (number : ℕ) → without_peers n (removed ++ number ∷ []) ≡ without_peers (without_peers n removed) (number ∷ [])
+without_more n removed number =
+    let more = among_more removed number in
+    let peers = filter_twice (λ (p : Peer). not (is_among removed p.number)) (λ p. not (is_among (number ∷ []) p.number)) (λ p. not (is_among (removed ++ number ∷ []) p.number)) (λ p. more p.number) n.peers in
+    let routes = filter_twice (λ (r : PrefixValue × ℕ). not (is_among removed r.1)) (λ r. not (is_among (number ∷ []) r.1)) (λ r. not (is_among (removed ++ number ∷ []) r.1)) (λ r. more r.1) n.routes in
+    ap (λ (ps : List Peer). record n { peers = ps; routes = filter (λ (r : PrefixValue × ℕ). not (is_among (removed ++ number ∷ []) r.1)) n.routes }) peers
+    ∙ ap (λ (rs : List (PrefixValue × ℕ)). record n { peers = (without_peers (without_peers n removed) (number ∷ [])).peers; routes = rs }) routes
+
+without_all : (n : NetworkValue) (removed : List ℕ) (leaves : Option ℕ) → without_peers n (with_leaving removed leaves) ≡ without_leaving (without_peers n removed) leaves
+without_all n removed None = refl
+without_all n removed (Some number) = without_more n removed number
+
+changes : (n live : NetworkValue) (reading : Bool) (leaves : Option ℕ) (removed : List ℕ) (given : Option Change) (after : NetworkValue)
+    → without_peers n removed ≡ live → GivesChange reading leaves live removed given after → applied_if given n ≡ cond reading n after
+changes n live true leaves removed None after same gives = refl
+changes n live true leaves removed (Some c) after same gives = absurd gives
+changes n live false leaves removed None after same gives = absurd gives
+changes n live false leaves removed (Some c) after same gives =
+    ap (λ rs. changed c (without_peers n rs)) gives.0
+    ∙ ap (changed c) (without_all n removed leaves)
+    ∙ ap (λ l. changed c (without_leaving l leaves)) same
+    ∙ gives.1
+
+meets : (n live : NetworkValue) (reading : Bool) (leaves : Option ℕ) (removed : List ℕ) (r : Result (Reply × Option Change) ActFault) (o : Outcome)
+    → without_peers n removed ≡ live → MeetsLive reading leaves live removed r o → Meets n r (kept_if reading n o)
+meets n live reading leaves removed (Err NoMemory) o same is = tt
+meets n live reading leaves removed (Err (Refused why)) (Err is') same is = is
+meets n live reading leaves removed (Err (Refused why)) (Ok done) same is = is
+meets n live reading leaves removed (Ok given) (Err is') same is = is
+meets n live reading leaves removed (Ok given) (Ok done) same is = (is.0, changes n live reading leaves removed given.1 done.1 same is.1)
 
 pub meets_from_live : (n live : NetworkValue) (now : ℕ) (asked : Command) (removed : List ℕ) (r : Result (Reply × Option Change) ActFault)
-    → IsNetwork n → live ≡ live_at n now → removed ≡ expired now n.peers → MeetsLive (is_reading asked) live removed r (live_outcome live now asked) → Meets n r (outcome_of n now asked)
+    → IsNetwork n → live ≡ live_at n now → removed ≡ expired now n.peers → MeetsLive (is_reading asked) (leaving asked) live removed r (live_outcome live now asked) → Meets n r (outcome_of n now asked)
 meets_from_live n live now asked removed r is same gone given =
     let left = ap (without_peers n) gone ∙ without_expired n now is in
-    meets n (live_at n now) (is_reading asked) removed r (live_outcome (live_at n now) now asked) left (subst (λ l. MeetsLive (is_reading asked) l removed r (live_outcome l now asked)) same given)
+    meets n (live_at n now) (is_reading asked) (leaving asked) removed r (live_outcome (live_at n now) now asked) left (subst (λ l. MeetsLive (is_reading asked) (leaving asked) l removed r (live_outcome l now asked)) same given)
 
 -- without nobody, the network is as it was
 pub without_none : (n : NetworkValue) → without_peers n [] ≡ n

@@ -1,5 +1,5 @@
 -- The definition of a command's outcome on small networks, by computation.
-use Rattle.std.proofs.Common.{◌≡◌, ℕ, ◌+◌, ◌*◌, ◌^◌, List, [], ◌∷◌, map, refl, Some, None, Ok, Err}
+use Rattle.std.proofs.Common.{◌≡◌, ℕ, ◌+◌, ◌*◌, ◌^◌, List, [], ◌∷◌, map, refl, Option, Some, None, Ok, Err}
 use Rattle.std.specs.Prelude.{replicate, codes}
 use Rattle.wgr_text.specs.declared.addr.Family.TheVariants.{V4, V6}
 use Rattle.wgr_text.specs.declared.key.Key.{Key}
@@ -9,6 +9,7 @@ use Rattle.wgr_core.specs.declared.command.Command.{Command}
 use Rattle.wgr_core.specs.declared.command.Command.TheVariants as command
 use Rattle.wgr_core.specs.declared.refusal.Refusal.TheVariants as refusal
 use Rattle.wgr_core.specs.Network.{NetworkValue, live_at}
+use Rattle.wgr_core.specs.Owner.{owner_of}
 use Rattle.wgr_core.specs.Outcome.{outcome_of}
 
 abbrev v4 : ℕ → ℕ → ℕ → ℕ → AddrValue
@@ -76,3 +77,64 @@ leases = (refl, refl, refl)
 -- a large pool costs no more
 large : addresses (run (office (mask (v4 10 0 0 0) 8)) ((0, add 1) ∷ [])).peers ≡ (1, v4 10 0 0 2) ∷ []
 large = refl
+
+-- ---- peers that move and leave, routes and their owners
+
+-- the network with peers of these keys, from 10.8.0.2 on
+abbrev with_peers : ℕ → List ℕ → NetworkValue
+with_peers length keys = run (ten_eight length) (map (λ byte. (0, add byte)) keys)
+
+abbrev routed : NetworkValue → List (PrefixValue × ℕ)
+routed n = n.routes
+
+abbrev owner : NetworkValue → AddrValue → Option ℕ
+owner n a = owner_of n a
+
+-- a number is new, though the address is given again
+revoked : addresses (run (with_peers 29 (1 ∷ 2 ∷ 3 ∷ [])) ((0, command.Revoke 2) ∷ (0, add 4) ∷ [])).peers ≡ (1, v4 10 8 0 2) ∷ (3, v4 10 8 0 4) ∷ (4, v4 10 8 0 3) ∷ []
+revoked = refl
+
+-- a route in the pool holds its addresses
+beside_a_route : addresses (run (ten_eight 29) ((0, add_at 1 (v4 10 8 0 6)) ∷ (0, command.Route 1 (mask (v4 10 8 0 2) 31)) ∷ (0, add 2) ∷ [])).peers ≡ (1, v4 10 8 0 6) ∷ (2, v4 10 8 0 4) ∷ []
+beside_a_route = refl
+
+-- the identical prefix leaves the peer that had it
+taken_over : routed (run (with_peers 24 (1 ∷ 2 ∷ [])) ((0, command.Route 1 (mask (v4 192 168 4 7) 24)) ∷ (0, command.Route 2 (mask (v4 192 168 4 0) 24)) ∷ [])) ≡ (mask (v4 192 168 4 0) 24, 2) ∷ []
+taken_over = refl
+
+abbrev two_routes : NetworkValue
+two_routes = run (with_peers 24 (1 ∷ 2 ∷ [])) ((0, command.Route 2 (mask (v4 10 0 0 0) 8)) ∷ (0, command.Route 1 (mask (v4 0 0 0 0) 0)) ∷ [])
+
+-- the longest prefix that has the address owns it, and a prefix of the other family never does
+longest : (owner two_routes (v4 10 1 1 1) ≡ Some 2) × (owner two_routes (v4 1 1 1 1) ≡ Some 1) × (owner two_routes (v4 10 8 0 2) ≡ Some 1)
+    × (outcome_of two_routes 0 (command.Owner (record { family = V6; number = 0xfd00 * 2 ^ 112 + 1 })) ≡ Err refusal.NobodysAddress)
+longest = (refl, refl, refl, refl)
+
+-- neither a peer's nor the server's address becomes a route
+no_route : (outcome_of (with_peers 24 (1 ∷ 2 ∷ [])) 0 (command.Route 1 (mask (v4 10 8 0 3) 32)) ≡ Err refusal.IsAddress)
+    × (outcome_of (with_peers 24 (1 ∷ 2 ∷ [])) 0 (command.Route 1 (mask (v4 10 8 0 1) 32)) ≡ Err refusal.IsAddress)
+    × (outcome_of (with_peers 24 (1 ∷ [])) 0 (command.Unroute (mask (v4 10 8 0 2) 32)) ≡ Err refusal.NoSuchRoute)
+no_route = (refl, refl, refl)
+
+-- a peer may move to its own address, and where it names none its own is free
+stays : (addresses (run (with_peers 24 (1 ∷ [])) ((0, command.Move 1 (Some (v4 10 8 0 2))) ∷ [])).peers ≡ (1, v4 10 8 0 2) ∷ [])
+    × (addresses (run (with_peers 30 (1 ∷ [])) ((0, command.Move 1 None) ∷ [])).peers ≡ (1, v4 10 8 0 2) ∷ [])
+stays = (refl, refl)
+
+-- a named address may lie in a shorter route, but not be one
+into_a_route : (addresses (run (with_peers 24 (1 ∷ [])) ((0, command.Route 1 (mask (v4 10 8 0 4) 30)) ∷ (0, command.Move 1 (Some (v4 10 8 0 5))) ∷ [])).peers ≡ (1, v4 10 8 0 5) ∷ [])
+    × (addresses (run (with_peers 24 (1 ∷ [])) ((0, command.Route 1 (mask (v4 10 8 0 4) 30)) ∷ (0, command.Move 1 (Some (v4 10 8 0 5))) ∷ (0, command.Move 1 None) ∷ [])).peers ≡ (1, v4 10 8 0 2) ∷ [])
+    × (outcome_of (run (with_peers 24 (1 ∷ [])) ((0, command.Route 1 (mask (v4 10 8 0 9) 32)) ∷ [])) 0 (command.Move 1 (Some (v4 10 8 0 9))) ≡ Err refusal.AddressHeld)
+    × (outcome_of (run (with_peers 30 (1 ∷ [])) ((0, command.Route 1 (mask (v4 10 8 0 2) 31)) ∷ [])) 0 (command.Move 1 None) ≡ Err refusal.PoolFull)
+into_a_route = (refl, refl, refl, refl)
+
+abbrev leased : NetworkValue
+leased = run (ten_eight 24) ((0, add_until 1 100) ∷ (50, command.Route 1 (mask (v4 172 16 0 0) 12)) ∷ [])
+
+-- a lease that is over owns nothing and isn't renewed; one that is renewed goes on
+leases_and_routes : (owner (live_at leased 99) (v4 172 16 0 1) ≡ Some 1)
+    × (outcome_of leased 100 (command.Owner (v4 172 16 0 1)) ≡ Err refusal.NobodysAddress)
+    × (outcome_of leased 100 (command.Renew 1 200) ≡ Err refusal.NoSuchPeer)
+    × (outcome_of leased 99 (command.Renew 1 99) ≡ Err refusal.LeaseOver)
+    × (owner (live_at (run leased ((99, command.Renew 1 0) ∷ [])) 100) (v4 172 16 0 1) ≡ Some 1)
+leases_and_routes = (refl, refl, refl, refl, refl)

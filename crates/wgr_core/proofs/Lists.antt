@@ -1,5 +1,5 @@
 -- Lists: pairs, filters and tests.
-use Rattle.std.proofs.Common.{◌≡◌, ℕ, zero, suc, ◌+◌, ◌<◌, inl, inr, Bool, true, false, ◌||◌, cond, List, [], ◌∷◌, ◌++◌, length, get_or, drop, drop-cons, add-one, refl, sym, ap, ◌∙◌, arith}
+use Rattle.std.proofs.Common.{◌≡◌, ℕ, zero, suc, ◌+◌, ◌<◌, inl, inr, Bool, true, false, ◌&&◌, ◌||◌, cond, List, [], ◌∷◌, ◌++◌, length, get_or, drop, drop-cons, add-one, refl, sym, ap, ◌∙◌, arith}
 use Rattle.std.specs.List.{All, AllPairs, filter, list_any}
 use Rattle.wgr_core.proofs.Bools.{decide}
 use Rattle.std.proofs.lemmas.List.Elements.{All-cons, All-head, All-tail, All-filter}
@@ -82,3 +82,13 @@ filter_each p xs all = filter_agree_on p (λ x. true) xs all ∙ filter_all xs
 -- what is left of a list where one more item is read
 pub drop_next : {X : Type 0} (xs : List X) (i : ℕ) (x : X) → i < length xs → x ≡ get_or xs i x → drop i xs ≡ x ∷ drop (i + 1) xs
 drop_next xs i x l is = rw add-one (drop-cons xs i x l ∙ ap (λ y. y ∷ drop (suc i) xs) (sym is))
+
+-- what passes both tests, where the third tells both
+pub filter_twice : {X : Type 0} (p q both : X → Bool) → ((x : X) → both x ≡ (p x && q x)) → (xs : List X) → filter both xs ≡ filter q (filter p xs)
+filter_twice p q both same [] = refl
+filter_twice p q both same (x ∷ xs) =
+    let rest = filter_twice p q both same xs in
+    elim (p x) as (λ b. both x ≡ (b && q x) → cond (both x) (x ∷ filter both xs) (filter both xs) ≡ filter q (cond b (x ∷ filter p xs) (filter p xs))) [
+      | true ↦ (λ e. ap (λ b. cond b (x ∷ filter both xs) (filter both xs)) e ∙ ap (λ ys. cond (q x) (x ∷ ys) ys) rest)
+      | false ↦ (λ e. ap (λ b. cond b (x ∷ filter both xs) (filter both xs)) e ∙ rest)
+    ] (same x)

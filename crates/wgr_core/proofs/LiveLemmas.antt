@@ -1,48 +1,21 @@
 -- The live network keeps the rules, and is what removing the expired peers leaves.
 use Rattle.std.proofs.Common.{◌≡◌, ℕ, ◌+◌, ◌<◌, ◌≤◌, inl, inr, Bool, true, false, not, ◌||◌, cond, nat_eq, List, [], ◌∷◌, get_or, map, Some, None, is_some, refl, sym, ap, ◌∙◌, arith}
-use Rattle.std.specs.List.{All, filter, list_any}
+use Rattle.std.specs.List.{All, filter}
 use Rattle.std.proofs.lemmas.Bool.Decides.{nat_tests}
-use Rattle.std.proofs.lemmas.List.Elements.{All-cons, All-head, All-filter, All-weaker, filter_passes}
-use Rattle.std.proofs.lemmas.List.Filters.{length-filter_both}
+use Rattle.std.proofs.lemmas.List.Elements.{All-cons, All-head, All-weaker}
 use Rattle.wgr_text.specs.Prefix.{PrefixValue}
 use Rattle.wgr_core.specs.declared.peer.Peer.{Peer}
-use Rattle.wgr_core.specs.PrefixTests.{same_prefix, full}
-use Rattle.wgr_core.specs.Peers.{is_live, expired, peer_of, IsNumberedBelow, AreNumbered, IsApart}
-use Rattle.wgr_core.specs.Routes.{Routes, ComesBefore}
-use Rattle.wgr_core.specs.Network.{NetworkValue, IsNetwork, IsMember, IsRoute, is_address, live_at, server_address}
-use Rattle.wgr_core.specs.Change.{is_among, without_peers}
-use Rattle.wgr_core.proofs.Lists.{AllPairs-filter, AllPairs-head, AllPairs-tail, filter_agree_on, list_any-filter_none}
-use Rattle.wgr_core.proofs.Bools.{decide, or_false}
+use Rattle.wgr_core.specs.Peers.{is_live, expired, peer_of, AreNumbered}
+use Rattle.wgr_core.specs.Routes.{Routes}
+use Rattle.wgr_core.specs.Network.{NetworkValue, IsNetwork, is_among, live_at, without_peers}
+use Rattle.wgr_core.proofs.Lists.{AllPairs-head, AllPairs-tail, filter_agree_on}
+use Rattle.wgr_core.proofs.Bools.{decide}
+use Rattle.wgr_core.proofs.KeptLemmas.{kept_is_network}
 
 -- ---- the live network keeps the rules
 
-live_member : (n : NetworkValue) (now : ℕ) (p : Peer) → IsMember n p → IsMember (live_at n now) p
-live_member n now p is = record { numbered = is.numbered; not_server = is.not_server; assignable = is.assignable }
-
-live_no_address : (n : NetworkValue) (now : ℕ) (p : PrefixValue) → is_address n p ≡ false → is_address (live_at n now) p ≡ false
-live_no_address n now p h =
-    let parts = or_false (list_any (λ (e : Peer). same_prefix p (full e.address)) n.peers) (same_prefix p (full (server_address n.pool))) h in
-    let rest = list_any-filter_none (λ (e : Peer). same_prefix p (full e.address)) (is_live now) n.peers parts.0 in
-    ap (λ b. b || same_prefix p (full (server_address n.pool))) rest ∙ parts.1
-
 pub live_is_network : (n : NetworkValue) (now : ℕ) → IsNetwork n → IsNetwork (live_at n now)
-live_is_network n now is =
-    let led = λ (r : PrefixValue × ℕ). is_some (peer_of (filter (is_live now) n.peers) r.1) in
-    let leads = filter_passes led n.routes in
-    let kept = All-filter led (IsRoute n) n.routes is.routes in
-    record {
-      pool = is.pool;
-      port = is.port;
-      capacity = is.capacity;
-      next = is.next;
-      room = omega (arith, is.room, length-filter_both (is_live now) (λ p. not (is_live now p)) (λ p. refl) n.peers);
-      members = All-weaker (IsMember n) (IsMember (live_at n now)) (live_member n now) (filter (is_live now) n.peers) (All-filter (is_live now) (IsMember n) n.peers is.members);
-      numbered = AllPairs-filter IsNumberedBelow (is_live now) n.peers is.numbered;
-      apart = AllPairs-filter IsApart (is_live now) n.peers is.apart;
-      few_routes = omega (arith, is.few_routes, length-filter_both led (λ r. not (led r)) (λ r. refl) n.routes);
-      routes = λ k d h. let r = kept k d h in record { masked = r.masked; leads = leads k d h; no_address = live_no_address n now _ r.no_address };
-      ordered = AllPairs-filter ComesBefore led n.routes is.ordered;
-    }
+live_is_network n now is = kept_is_network n (is_live now) (λ r. is_some (peer_of (filter (is_live now) n.peers) r.1)) is (λ r stands leads. leads)
 
 -- ---- removing the expired peers by number leaves the live network
 
@@ -113,7 +86,7 @@ live_or_expired now floor i (p ∷ peers) r h =
     ]
 
 -- each peer stands at its number
-peer_stands : (peers : List Peer) → All (λ p. is_some (peer_of peers p.number) ≡ true) peers
+pub peer_stands : (peers : List Peer) → All (λ p. is_some (peer_of peers p.number) ≡ true) peers
 peer_stands [] = λ k d h. absurd (omega (arith, h))
 peer_stands (p ∷ peers) =
     let self : nat_eq p.number p.number ≡ true = grind (arith, nat_tests) in

@@ -1,59 +1,63 @@
 -- A command leaves a network that keeps the rules.
-use Rattle.std.proofs.Common.{◌≡◌, ℕ, ◌<◌, ◌≤◌, Bool, true, false, not, cond, nat_lt, List, length, Option, Some, None, refl, arith}
-use Rattle.std.specs.Prelude.{Result, Ok, Err}
+use Rattle.std.proofs.Common.{◌≡◌, ℕ, ◌<◌, ◌≤◌, inl, inr, Bool, true, false, not, ◌&&◌, cond, nat_eq, nat_lt, List, [], ◌∷◌, length, get_or, Option, Some, None, is_some, refl, sym, ap, ◌∙◌, subst, arith}
+use Rattle.std.specs.Prelude.{IfOk}
+use Rattle.std.specs.List.{All, list_any}
 use Rattle.std.proofs.lemmas.Bool.Decides.{nat_tests}
+use Rattle.std.proofs.lemmas.List.Elements.{All-cons}
+use Rattle.std.proofs.lemmas.Result.{IfOk-weaker}
 use Rattle.wgr_text.specs.declared.key.Key.{Key}
-use Rattle.wgr_text.specs.Prefix.{AddrValue}
+use Rattle.wgr_text.specs.Prefix.{AddrValue, PrefixValue, IsAddr, IsPrefix}
+use Rattle.wgr_core.specs.declared.peer.Peer.{Peer}
 use Rattle.wgr_core.specs.declared.command.Command.{Command}
 use Rattle.wgr_core.specs.declared.command.Command.TheVariants as command
 use Rattle.wgr_core.specs.declared.refusal.Refusal.{Refusal}
-use Rattle.wgr_core.specs.declared.refusal.Refusal.TheVariants.{CapacityReached, NumbersSpent, LeaseOver, ServerKey}
+use Rattle.wgr_core.specs.declared.refusal.Refusal.TheVariants.{CapacityReached, IsAddress, NumbersSpent, LeaseOver, RoutesFull, ServerKey}
+use Rattle.wgr_core.specs.declared.reply.Reply.{Reply}
+use Rattle.wgr_core.specs.PrefixTests.{full, same_address, same_prefix}
 use Rattle.wgr_core.specs.Limits.{is_over}
-use Rattle.wgr_core.specs.Peers.{key_holder, same_key}
-use Rattle.wgr_core.specs.Network.{NetworkValue, IsNetwork, live_at}
-use Rattle.wgr_core.specs.Outcome.{Outcome, unless, held_or, join_refusal, at_place, place, add, live_outcome, is_reading, kept_if, outcome_of}
+use Rattle.wgr_core.specs.Peers.{is_own, key_holder, peer_of, same_key, without_peer}
+use Rattle.wgr_core.specs.Routes.{route_of}
+use Rattle.wgr_core.specs.Network.{NetworkValue, IsNetwork, IsMember, is_address, live_at, server_address}
+use Rattle.wgr_core.specs.Owner.{owner_of}
+use Rattle.wgr_core.specs.Outcome.{Outcome, held_or, join_refusal, place, add, vacated, move, revoke, lease_refusal, renew, route_refusal, route, unroute, live_outcome, is_reading, outcome_of, IsAsked}
+use Rattle.wgr_core.proofs.Lists.{list_any-none}
+use Rattle.wgr_core.proofs.Bools.{decide, or_false}
+use Rattle.wgr_core.proofs.KeptLemmas.{without_is_network, unrouted_is_network}
+use Rattle.wgr_core.proofs.OutcomeCases.{unless_if, place_if, stands_if, routed_if, owner_if, kept_if_reading}
 use Rattle.wgr_core.proofs.LiveLemmas.{live_is_network}
 use Rattle.wgr_core.proofs.JoinLemmas.{place_is_open, joined_is_network}
+use Rattle.wgr_core.proofs.ReplaceLemmas.{others_apart, peer_is, replaced_is_network}
+use Rattle.wgr_core.proofs.RoutedKeeps.{MayRoute, routed_is_network}
 
 -- where a command is accepted, the network after it keeps the rules
 abbrev pub Keeps : Outcome → Type 0
-Keeps (Err why) = Unit {0}
-Keeps (Ok done) = IsNetwork done.1
+Keeps o = IfOk o (λ done. IsNetwork done.1)
 
-unless_keeps : (refusal : Option Refusal) (next : Outcome) → (refusal ≡ None → Keeps next) → Keeps (unless refusal next)
-unless_keeps (Some why) next keeps = tt
-unless_keeps None next keeps = keeps refl
-
-place_keeps : (at : Result AddrValue Refusal) (next : AddrValue → Outcome) → ((a : AddrValue) → at ≡ Ok a → Keeps (next a)) → Keeps (at_place at next)
-place_keeps (Err why) next keeps = tt
-place_keeps (Ok a) next keeps = keeps a refl
-
-kept_keeps : (n : NetworkValue) (reading : Bool) (o : Outcome) → IsNetwork n → Keeps o → Keeps (kept_if reading n o)
-kept_keeps n reading (Err why) is keeps = tt
-kept_keeps n true (Ok done) is keeps = is
-kept_keeps n false (Ok done) is keeps = keeps
+abbrev After : Reply × NetworkValue → Type 0
+After done = IsNetwork done.1
 
 -- what a peer that may join has
-record IsAdmitted (n : NetworkValue) (key : Key) : Type 0 where
-  not_server : same_key key n.server ≡ false
-  unheld : key_holder n.peers key ≡ None
-  room : length n.peers < n.capacity
-  left : n.next ≤ 1000000
+pub record IsAdmitted (n : NetworkValue) (now : ℕ) (key : Key) (until : ℕ) : Type 0 where
+  pub not_server : same_key key n.server ≡ false
+  pub unheld : key_holder n.peers key ≡ None
+  pub runs : is_over now until ≡ false
+  pub room : length n.peers < n.capacity
+  pub left : n.next ≤ 1000000
 
 none_holds : (server over full spent : Bool) (w x y z : Refusal) (holder : Option ℕ)
     → cond server (Some w) (held_or holder (cond over (Some x) (cond full (Some y) (cond spent (Some z) None)))) ≡ None
-    → (server ≡ false) × (holder ≡ None) × (full ≡ false) × (spent ≡ false)
+    → (server ≡ false) × (holder ≡ None) × (over ≡ false) × (full ≡ false) × (spent ≡ false)
 none_holds true over full spent w x y z holder h = cc
 none_holds false over full spent w x y z (Some number) h = cc
 none_holds false true full spent w x y z None h = cc
 none_holds false false true spent w x y z None h = cc
 none_holds false false false true w x y z None h = cc
-none_holds false false false false w x y z None h = (refl, refl, refl, refl)
+none_holds false false false false w x y z None h = (refl, refl, refl, refl, refl)
 
-is_admitted : (n : NetworkValue) (now : ℕ) (key : Key) (until : ℕ) → join_refusal n now key until ≡ None → IsAdmitted n key
+pub is_admitted : (n : NetworkValue) (now : ℕ) (key : Key) (until : ℕ) → join_refusal n now key until ≡ None → IsAdmitted n now key until
 is_admitted n now key until h =
     let parts = none_holds (same_key key n.server) (is_over now until) (not (nat_lt (length n.peers) n.capacity)) (nat_lt 1000000 n.next) ServerKey LeaseOver CapacityReached NumbersSpent (key_holder n.peers key) h in
-    record { not_server = parts.0; unheld = parts.1; room = has_room (length n.peers) n.capacity parts.2; left = has_number n.next parts.3 }
+    record { not_server = parts.0; unheld = parts.1; runs = parts.2; room = has_room (length n.peers) n.capacity parts.3; left = has_number n.next parts.4 }
   where
     has_room : (m c : ℕ) → not (nat_lt m c) ≡ false → m < c
     has_room m c h = grind (arith, nat_tests)
@@ -63,15 +67,103 @@ is_admitted n now key until h =
 
 pub add_keeps : (n : NetworkValue) (now : ℕ) (key : Key) (label : List ℕ) (wanted : Option AddrValue) (until keepalive : ℕ) → IsNetwork n → Keeps (add n now key label wanted until keepalive)
 add_keeps n now key label wanted until keepalive is =
-    unless_keeps (join_refusal n now key until) _ (λ admitted.
-    place_keeps (place n wanted) _ (λ a placed.
+    unless_if After (join_refusal n now key until) _ (λ admitted.
+    place_if After (place n wanted) _ (λ a placed.
     let may = is_admitted n now key until admitted in
     joined_is_network n (record { number = n.next; key = key; label = label; address = a; until = until; keepalive = keepalive; status = None }) is
     (record { next = refl; number_left = may.left; key_unheld = may.unheld; not_server = may.not_server; room = may.room; address = place_is_open n wanted a is.pool placed })))
 
-pub live_outcome_keeps : (n : NetworkValue) (now : ℕ) (asked : Command) → IsNetwork n → Keeps (live_outcome n now asked)
-live_outcome_keeps n now (command.Add key label wanted until keepalive) is = add_keeps n now key label wanted until keepalive is
-live_outcome_keeps n now command.List is = is
+-- ---- a peer that moves, leaves, or has another lease
 
-pub outcome_keeps : (n : NetworkValue) (now : ℕ) (asked : Command) → IsNetwork n → Keeps (outcome_of n now asked)
-outcome_keeps n now asked is = kept_keeps n (is_reading asked) (live_outcome (live_at n now) now asked) is (live_outcome_keeps (live_at n now) now asked (live_is_network n now is))
+-- no other peer has an address that nobody has where one peer is left out
+unowned_but : (peers : List Peer) (number : ℕ) (a : AddrValue) → is_own (without_peer peers number) a ≡ false → All (λ e. nat_eq e.number number ≡ false → same_address e.address a ≡ false) peers
+unowned_but [] number a unowned = λ k d h. absurd (omega (arith, h))
+unowned_but (p ∷ peers) number a unowned =
+    let others = without_peer peers number in
+    elim (decide (nat_eq p.number number)) [
+      | inl here ↦
+          All-cons (λ e. nat_eq e.number number ≡ false → same_address e.address a ≡ false) p peers (λ apart. let bad : true ≡ false = sym here ∙ apart in cc)
+          (unowned_but peers number a (sym (ap (λ b. is_own (cond (not b) (p ∷ others) others) a) here) ∙ unowned))
+      | inr apart ↦
+          let parts = or_false (same_address p.address a) (is_own others a) (sym (ap (λ b. is_own (cond (not b) (p ∷ others) others) a) apart) ∙ unowned) in
+          All-cons (λ e. nat_eq e.number number ≡ false → same_address e.address a ≡ false) p peers (λ other. parts.0) (unowned_but peers number a parts.1)
+    ]
+
+pub move_keeps : (n : NetworkValue) (number : ℕ) (wanted : Option AddrValue) → IsNetwork n → Keeps (move n number wanted)
+move_keeps n number wanted is =
+    stands_if After (peer_of n.peers number) _ (λ p found.
+    place_if After (place (vacated n (Some number)) wanted) _ (λ a placed.
+    let may = place_is_open (vacated n (Some number)) wanted a is.pool placed in
+    let at : p.number ≡ number = (peer_is (IsMember n) n.peers number p is.members found).1 in
+    replaced_is_network n p (record p { address = a }) is
+    (record {
+      stands = ap (peer_of n.peers) at ∙ found;
+      key = refl;
+      assignable = may.assignable;
+      unowned = subst (λ (i : ℕ). All (λ e. nat_eq e.number i ≡ false → same_address e.address a ≡ false) n.peers) (sym at) (unowned_but n.peers number a may.unowned);
+      no_route = may.no_route;
+    })))
+
+-- a route is no peer's address at full length
+no_route_at : (n : NetworkValue) (number : ℕ) (p : Peer) → IsNetwork n → peer_of n.peers number ≡ Some p → All (λ r. same_prefix r.0 (full p.address) ≡ false) n.routes
+no_route_at n number p is found = λ k d h.
+    let r = get_or n.routes k d in
+    let parts = or_false (list_any (λ (e : Peer). same_prefix r.0 (full e.address)) n.peers) (same_prefix r.0 (full (server_address n.pool))) (is.routes k d h).no_address in
+    (peer_is (λ e. same_prefix r.0 (full e.address) ≡ false) n.peers number p (list_any-none (λ (e : Peer). same_prefix r.0 (full e.address)) n.peers parts.0) found).0
+
+pub renew_keeps : (n : NetworkValue) (now number until : ℕ) → IsNetwork n → Keeps (renew n now number until)
+renew_keeps n now number until is =
+    stands_if After (peer_of n.peers number) _ (λ p found.
+    unless_if After (lease_refusal now until) _ (λ allowed.
+    let member = peer_is (IsMember n) n.peers number p is.members found in
+    let apart = others_apart n.peers number p is.apart found in
+    replaced_is_network n p (record p { until = until }) is
+    (record {
+      stands = ap (peer_of n.peers) member.1 ∙ found;
+      key = refl;
+      assignable = member.0.assignable;
+      unowned = λ k d h other. (apart k d h (ap (nat_eq (get_or n.peers k d).number) (sym member.1) ∙ other)).1;
+      no_route = no_route_at n number p is found;
+    })))
+
+pub revoke_keeps : (n : NetworkValue) (number : ℕ) → IsNetwork n → Keeps (revoke n number)
+revoke_keeps n number is = stands_if After (peer_of n.peers number) _ (λ p found. without_is_network n (number ∷ []) is)
+
+-- ---- routes
+
+no_route_refusal : (address full : Bool) (x y : Refusal) → cond address (Some x) (cond full (Some y) None) ≡ None → (address ≡ false) × (full ≡ false)
+no_route_refusal true full x y h = cc
+no_route_refusal false true x y h = cc
+no_route_refusal false false x y h = (refl, refl)
+
+pub may_route : (n : NetworkValue) (number : ℕ) (prefix : PrefixValue) (p : Peer) → IsAddr prefix.address × IsPrefix prefix → peer_of n.peers number ≡ Some p → route_refusal n prefix ≡ None → MayRoute n prefix number
+may_route n number prefix p masked found allowed =
+    let parts = no_route_refusal (is_address n prefix) (not (is_some (route_of n.routes prefix)) && not (nat_lt (length n.routes) 4096)) IsAddress RoutesFull allowed in
+    record { masked = masked; stands = ap is_some found; no_address = parts.0; room = parts.1 }
+
+pub route_keeps : (n : NetworkValue) (number : ℕ) (prefix : PrefixValue) → IsNetwork n → IsAddr prefix.address × IsPrefix prefix → Keeps (route n number prefix)
+route_keeps n number prefix is masked =
+    stands_if After (peer_of n.peers number) _ (λ p found.
+    unless_if After (route_refusal n prefix) _ (λ allowed. routed_is_network n prefix number is (may_route n number prefix p masked found allowed)))
+
+pub unroute_keeps : (n : NetworkValue) (prefix : PrefixValue) → IsNetwork n → Keeps (unroute n prefix)
+unroute_keeps n prefix is = routed_if After n (route_of n.routes prefix) _ (λ number p found. unrouted_is_network n prefix is)
+
+-- ---- each command
+
+pub live_outcome_keeps : (n : NetworkValue) (now : ℕ) (asked : Command) → IsNetwork n → IsAsked asked → Keeps (live_outcome n now asked)
+live_outcome_keeps n now (command.Add key label wanted until keepalive) is fits = add_keeps n now key label wanted until keepalive is
+live_outcome_keeps n now (command.Move number wanted) is fits = move_keeps n number wanted is
+live_outcome_keeps n now (command.Revoke number) is fits = revoke_keeps n number is
+live_outcome_keeps n now (command.Route number prefix) is fits = route_keeps n number prefix is fits
+live_outcome_keeps n now (command.Unroute prefix) is fits = unroute_keeps n prefix is
+live_outcome_keeps n now (command.Renew number until) is fits = renew_keeps n now number until is
+live_outcome_keeps n now command.List is fits = is
+live_outcome_keeps n now (command.Owner address) is fits = owner_if After n (owner_of n address) (λ number found. is)
+
+pub outcome_keeps : (n : NetworkValue) (now : ℕ) (asked : Command) → IsNetwork n → IsAsked asked → Keeps (outcome_of n now asked)
+outcome_keeps n now asked is fits =
+    let after = live_outcome_keeps (live_at n now) now asked (live_is_network n now is) fits in
+    kept_if_reading After n (is_reading asked) (live_outcome (live_at n now) now asked)
+    (λ reads. IfOk-weaker (live_outcome (live_at n now) now asked) After (λ done. IsNetwork n) (λ done keeps. is) after)
+    (λ changes. after)

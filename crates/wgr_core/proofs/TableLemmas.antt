@@ -1,5 +1,5 @@
 -- The indexes after one more peer.
-use Rattle.std.proofs.Common.{◌≡◌, ℕ, zero, suc, nat_eq, not, ◌<◌, ◌≤◌, ◌⊎◌, ◌↔◌, inl, inr, Bool, true, false, ◌||◌, cond, List, [], ◌∷◌, ◌++◌, length, get_or, map, Option, Some, None, refl, sym, ap, ◌∙◌, subst, arith}
+use Rattle.std.proofs.Common.{◌≡◌, ℕ, zero, suc, nat_eq, nat_lt, set, not, ◌<◌, ◌≤◌, ◌⊎◌, ◌↔◌, inl, inr, Bool, true, false, ◌||◌, cond, List, [], ◌∷◌, ◌++◌, length, get_or, map, Option, Some, None, refl, sym, ap, ◌∙◌, subst, arith}
 use Rattle.std.specs.List.{All, AllPairs}
 use Rattle.std.specs.Cmp.Lexicographic.{same_text}
 use Rattle.std.specs.HashMap.{HashMap, get}
@@ -19,10 +19,13 @@ use Rattle.wgr_text.specs.Prefix.{AddrValue, IsAddr}
 use Rattle.wgr_core.specs.declared.peer.Peer.{Peer}
 use Rattle.wgr_core.specs.PrefixTests.{same_address}
 use Rattle.wgr_core.specs.Spans.{IsHeld}
-use Rattle.wgr_core.specs.Peers.{is_own, is_live, expired, key_holder, peer_of, same_key, IsNumberedBelow, AreNumbered, IsApart}
-use Rattle.wgr_core.specs.PeerIndex.{IsIndexed, EndsFrom}
+use Rattle.wgr_core.specs.Peers.{is_own, is_live, expired, key_holder, peer_of, same_key, put_peer, IsNumberedBelow, AreNumbered, IsApart}
+use Rattle.wgr_core.specs.PeerIndex.{IsIndexed, IsAlikeAt, IsKeyedAt, EndsFrom}
+use Rattle.wgr_core.specs.Ordered.{EndsAt}
 use Rattle.wgr_core.proofs.Lists.{filter_none, AllPairs-before, AllPairs-head, AllPairs-tail}
 use Rattle.wgr_core.proofs.Bools.{decide, or_cases, or_left, or_right}
+use Rattle.wgr_core.proofs.OrderedLemmas.{put_found, put_all, put_pairs}
+use Rattle.wgr_core.proofs.PlaceLemmas.{peers_placed}
 
 abbrev Numbers : Type 0
 Numbers = HashMap Key ℕ (BuildHasherDefault FoldHasher)
@@ -56,7 +59,7 @@ own_push (q ∷ peers) p b = ap (λ x. same_address q.address b || x) (own_push 
     or_again true y z = refl
     or_again false y z = refl
 
-ends_sooner : (high low : ℕ) (p : Peer) → low ≤ high → EndsFrom high p → EndsFrom low p
+pub ends_sooner : (high low : ℕ) (p : Peer) → low ≤ high → EndsFrom high p → EndsFrom low p
 ends_sooner high low p l (inl never) = inl never
 ends_sooner high low p l (inr later) = inr (omega (arith, l, later))
 
@@ -169,3 +172,68 @@ live_before soonest now p early (inr later) = grind (arith, nat_tests)
 pub none_expired : (soonest now : ℕ) (peers : List Peer) → now < soonest → All (EndsFrom soonest) peers → expired now peers ≡ []
 none_expired soonest now peers early ends =
     ap (map (λ (p : Peer). p.number)) (filter_none (λ p. not (is_live now p)) peers (All-weaker (EndsFrom soonest) (λ p. not (is_live now p) ≡ false) (λ p. live_before soonest now p early) peers ends))
+
+-- ---- a peer in the place of one of its number, key and address
+
+pub keyed_ends : (peers : List Peer) (p : Peer) (at : ℕ) → AreNumbered peers → IsKeyedAt peers p at → EndsAt (λ (q : Peer). nat_lt q.number p.number) (λ q. nat_eq q.number p.number) peers (Ok at)
+keyed_ends peers p at pairs keyed = (
+  record {
+    within = omega (arith, keyed.within);
+    before = λ k d h. let l = pairs k at d h keyed.within in let e = keyed.number d in below (get_or peers k d).number p.number (omega (arith, l, e));
+    after = λ k d h w. not_below (get_or peers k d).number p.number (elim (cases_lt at k) [
+      | inl l ↦ let m = pairs at k d l w in let e = keyed.number d in omega (arith, m, e)
+      | inr g ↦ let same : at ≡ k = omega (arith, g, h) in let e = keyed.number d in subst (λ (i : ℕ). p.number ≤ (get_or peers i d).number) same (omega (arith, e))
+    ]);
+  },
+  keyed.within,
+  λ d. equal (get_or peers at d).number p.number (keyed.number d),
+)
+  where
+    below : (m n : ℕ) → m < n → nat_lt m n ≡ true
+    below m n l = grind (arith, nat_tests)
+
+    not_below : (m n : ℕ) → n ≤ m → nat_lt m n ≡ false
+    not_below m n l = grind (arith, nat_tests)
+
+    equal : (m n : ℕ) → m ≡ n → nat_eq m n ≡ true
+    equal m n e = grind (arith, nat_tests)
+
+pub alike_place : (peers : List Peer) (p : Peer) (at : ℕ) → AreNumbered peers → IsAlikeAt peers p at → put_peer peers p ≡ set peers at p
+alike_place peers p at pairs alike =
+    put_found (λ q. nat_lt q.number p.number) (λ q. nat_eq q.number p.number) peers p at (keyed_ends peers p at pairs (record { within = alike.within; number = alike.number; key = alike.key }))
+
+alike_tail : (q : Peer) (peers : List Peer) (p : Peer) (at : ℕ) → IsAlikeAt (q ∷ peers) p (suc at) → IsAlikeAt peers p at
+alike_tail q peers p at alike = record {
+  within = omega (arith, alike.within);
+  number = alike.number;
+  key = alike.key;
+  address = alike.address;
+}
+
+alike_holder : (peers : List Peer) (p : Peer) (at : ℕ) (key : Key) → IsAlikeAt peers p at → key_holder (set peers at p) key ≡ key_holder peers key
+alike_holder [] p at key alike = refl
+alike_holder (q ∷ peers) p zero key alike =
+    ap (λ k. cond (same_key k key) (Some p.number) (key_holder peers key)) (sym (alike.key q))
+    ∙ ap (λ (n : ℕ). cond (same_key q.key key) (Some n) (key_holder peers key)) (sym (alike.number q))
+alike_holder (q ∷ peers) p (suc at) key alike =
+    ap (λ (o : Option ℕ). cond (same_key q.key key) (Some q.number) o) (alike_holder peers p at key (alike_tail q peers p at alike))
+
+alike_own : (peers : List Peer) (p : Peer) (at : ℕ) (b : AddrValue) → IsAlikeAt peers p at → is_own (set peers at p) b ≡ is_own peers b
+alike_own [] p at b alike = refl
+alike_own (q ∷ peers) p zero b alike = ap (λ a. same_address a b || is_own peers b) (sym (alike.address q))
+alike_own (q ∷ peers) p (suc at) b alike = ap (λ x. same_address q.address b || x) (alike_own peers p at b (alike_tail q peers p at alike))
+
+pub indexed_alike : (peers : List Peer) (numbers : Numbers) (runs : List Span) (soonest soonest' : ℕ) (p : Peer) (at : ℕ)
+    → IsIndexed peers numbers runs soonest → IsAlikeAt peers p at → soonest' ≤ soonest → EndsFrom soonest' p
+    → IsIndexed (set peers at p) numbers runs soonest'
+indexed_alike peers numbers runs soonest soonest' p at is alike sooner ends =
+    let placed = alike_place peers p at is.in_order alike in
+    record {
+      in_order = subst (AllPairs IsNumberedBelow) placed (put_pairs IsNumberedBelow (λ q. Unit {0}) (λ q. nat_lt q.number p.number) (λ q. nat_eq q.number p.number) peers p (peers_placed p) (λ k d h. tt) is.in_order);
+      by_key = λ key. is.by_key key ∙ sym (alike_holder peers p at key alike);
+      by_address = λ b fits. (
+        (λ h. alike_own peers p at b alike ∙ (is.by_address b fits).0 h),
+        (λ h. (is.by_address b fits).1 (sym (alike_own peers p at b alike) ∙ h)),
+      );
+      ends = subst (All (EndsFrom soonest')) placed (put_all (EndsFrom soonest') (λ q. nat_lt q.number p.number) (λ q. nat_eq q.number p.number) peers p (All-weaker (EndsFrom soonest) (EndsFrom soonest') (λ q h. ends_sooner soonest soonest' q sooner h) peers is.ends) ends);
+    }

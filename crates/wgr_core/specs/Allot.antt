@@ -1,5 +1,5 @@
 -- The lowest address of a pool that may be given and isn't taken.
-use Rattle.std.specs.Prelude.{ℕ, zero, suc, ◌+◌, ◌-◌, Bool, true, false, not, ◌&&◌, nat_lt, Option, Some, None}
+use Rattle.std.specs.Prelude.{ℕ, zero, suc, ◌+◌, ◌-◌, Bool, true, false, not, ◌&&◌, cond, nat_lt, Option, Some, None}
 use Rattle.wgr_text.specs.declared.addr.Family.{Family}
 use Rattle.wgr_text.specs.Prefix.{AddrValue, PrefixValue, block}
 use Rattle.wgr_core.specs.PrefixTests.{has}
@@ -19,3 +19,8 @@ first_from family passes start (suc count) =
 -- the lowest of the pool's assignable addresses that isn't taken
 abbrev pub lowest_where : PrefixValue → (AddrValue → Bool) → Option AddrValue
 lowest_where pool taken = first_from pool.address.family (λ a. is_assignable pool a && not (taken a)) pool.address.number (block pool.address.family pool.length)
+
+-- the lower of two addresses of one family, where there is a first
+abbrev pub lower : Option AddrValue → AddrValue → AddrValue
+lower None b = b
+lower (Some a) b = cond (nat_lt a.number b.number) a b

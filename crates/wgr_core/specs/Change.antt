@@ -1,6 +1,5 @@
 -- What a change does to a network, and when an answer is that of the definition.
-use Rattle.std.specs.Prelude.{ℕ, ◌≡◌, ◌≤◌, Bool, true, false, not, nat_eq, List, [], ◌∷◌, length, slice_index_or, Option, Some, None, Result, Ok, Err}
-use Rattle.std.specs.List.{filter, list_any}
+use Rattle.std.specs.Prelude.{ℕ, ◌≡◌, ◌≤◌, Bool, true, false, List, [], ◌∷◌, ◌++◌, length, slice_index_or, Option, Some, None, Result, Ok, Err}
 use Rattle.wgr_text.specs.Prefix.{PrefixValue}
 use Rattle.wgr_core.specs.declared.peer.Peer.{Peer}
 use Rattle.wgr_core.specs.declared.change.Change.{Change}
@@ -9,12 +8,9 @@ use Rattle.wgr_core.specs.declared.fault.ActFault.{ActFault}
 use Rattle.wgr_core.specs.declared.fault.ActFault.TheVariants.{Refused, NoMemory}
 use Rattle.wgr_core.specs.Peers.{put_peer}
 use Rattle.wgr_core.specs.Routes.{Routes, assign_route, without_route}
-use Rattle.wgr_core.specs.Network.{NetworkValue, IsNetwork}
+use Rattle.wgr_core.specs.Network.{NetworkValue, IsNetwork, without_peers}
+use Rattle.wgr_core.specs.PeerIndex.{IsAlikeAt, IsKeyedAt}
 use Rattle.wgr_core.specs.Outcome.{Outcome}
-
--- whether the number is one of these
-abbrev pub is_among : List ℕ → ℕ → Bool
-is_among numbers n = list_any (nat_eq n) numbers
 
 abbrev pub put_peers : List Peer → List Peer → List Peer
 put_peers peers [] = peers
@@ -27,13 +23,6 @@ assign_routes routes (r ∷ more) = assign_routes (assign_route routes r.0 r.1) 
 abbrev pub without_routes : Routes → List PrefixValue → Routes
 without_routes routes [] = routes
 without_routes routes (p ∷ more) = without_routes (without_route routes p) more
-
--- the network without the peers of these numbers and the routes to them
-abbrev pub without_peers : NetworkValue → List ℕ → NetworkValue
-without_peers n removed = record n {
-  peers = filter (λ p. not (is_among removed p.number)) n.peers;
-  routes = filter (λ r. not (is_among removed r.1)) n.routes;
-}
 
 -- what a change does once its peers are removed
 abbrev pub changed : Change → NetworkValue → NetworkValue
@@ -59,6 +48,22 @@ pub record OnlyJoins (c : Change) (next : ℕ) : Type 0 where
   pub routes_put : c.routes_put ≡ []
   pub routes_gone : c.routes_gone ≡ []
 
+-- the change only puts one peer in the place of one that has its number, key and address
+pub record OnlyRenews (c : Change) (peers : List Peer) (at : ℕ) : Type 0 where
+  pub removed : c.removed ≡ []
+  pub one : length c.peers ≡ 1
+  pub alike : (d : Peer) → IsAlikeAt peers (slice_index_or c.peers 0 d) at
+  pub routes_put : c.routes_put ≡ []
+  pub routes_gone : c.routes_gone ≡ []
+
+-- the change only puts one peer in the place of one that has its number and key
+pub record OnlyMoves (c : Change) (peers : List Peer) (at : ℕ) : Type 0 where
+  pub removed : c.removed ≡ []
+  pub one : length c.peers ≡ 1
+  pub keyed : (d : Peer) → IsKeyedAt peers (slice_index_or c.peers 0 d) at
+  pub routes_put : c.routes_put ≡ []
+  pub routes_gone : c.routes_gone ≡ []
+
 -- what a given change does, or nothing where none is given
 abbrev pub applied_if : Option Change → NetworkValue → NetworkValue
 applied_if None n = n
@@ -72,17 +77,27 @@ Meets n (Err (Refused why)) (Ok done) = ⊥
 Meets n (Ok given) (Err is) = ⊥
 Meets n (Ok given) (Ok done) = (given.0 ≡ done.0) × (applied_if given.1 n ≡ done.1)
 
--- a reading gives no change; a change removes these peers, and then does the rest to `n`
-abbrev pub GivesChange : Bool → NetworkValue → List ℕ → Option Change → NetworkValue → Type 0
-GivesChange true n removed None after = Unit {0}
-GivesChange true n removed (Some c) after = ⊥
-GivesChange false n removed None after = ⊥
-GivesChange false n removed (Some c) after = (c.removed ≡ removed) × (changed c n ≡ after)
+-- the numbers with that of one more peer that goes, if one does
+abbrev pub with_leaving : List ℕ → Option ℕ → List ℕ
+with_leaving removed None = removed
+with_leaving removed (Some number) = removed ++ number ∷ []
+
+abbrev pub without_leaving : NetworkValue → Option ℕ → NetworkValue
+without_leaving n None = n
+without_leaving n (Some number) = without_peers n (number ∷ [])
+
+-- a reading gives no change; a change removes these peers and the one that the command removes, and
+-- then does the rest
+abbrev pub GivesChange : Bool → Option ℕ → NetworkValue → List ℕ → Option Change → NetworkValue → Type 0
+GivesChange true leaves n removed None after = Unit {0}
+GivesChange true leaves n removed (Some c) after = ⊥
+GivesChange false leaves n removed None after = ⊥
+GivesChange false leaves n removed (Some c) after = (c.removed ≡ with_leaving removed leaves) × (changed c (without_leaving n leaves) ≡ after)
 
 -- the same of a call on a network whose peers are all live, from which `removed` have gone
-abbrev pub MeetsLive : Bool → NetworkValue → List ℕ → Result (Reply × Option Change) ActFault → Outcome → Type 0
-MeetsLive reading n removed (Err NoMemory) outcome = Unit {0}
-MeetsLive reading n removed (Err (Refused why)) (Err is) = why ≡ is
-MeetsLive reading n removed (Err (Refused why)) (Ok done) = ⊥
-MeetsLive reading n removed (Ok given) (Err is) = ⊥
-MeetsLive reading n removed (Ok given) (Ok done) = (given.0 ≡ done.0) × GivesChange reading n removed given.1 done.1
+abbrev pub MeetsLive : Bool → Option ℕ → NetworkValue → List ℕ → Result (Reply × Option Change) ActFault → Outcome → Type 0
+MeetsLive reading leaves n removed (Err NoMemory) outcome = Unit {0}
+MeetsLive reading leaves n removed (Err (Refused why)) (Err is) = why ≡ is
+MeetsLive reading leaves n removed (Err (Refused why)) (Ok done) = ⊥
+MeetsLive reading leaves n removed (Ok given) (Err is) = ⊥
+MeetsLive reading leaves n removed (Ok given) (Ok done) = (given.0 ≡ done.0) × GivesChange reading leaves n removed given.1 done.1

@@ -9,8 +9,10 @@ pub mod Label
 pub mod Peers
 pub mod Routes
 pub mod Network
+pub mod Owner
 pub mod Outcome
 pub mod Change
+pub mod Parts
 pub mod PeerIndex
 pub mod HeldSpans
 pub mod Rising

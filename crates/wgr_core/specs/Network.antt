@@ -1,6 +1,6 @@
 -- One network as a value: its peers are a finite map by number and its routes one by prefix, each
 -- a list in the order of its keys.
-use Rattle.std.specs.Prelude.{ℕ, ◌≡◌, ◌+◌, ◌<◌, ◌≤◌, Bool, true, false, ◌&&◌, ◌||◌, List, length, Option, is_some, All}
+use Rattle.std.specs.Prelude.{ℕ, ◌≡◌, ◌+◌, ◌<◌, ◌≤◌, Bool, true, false, not, ◌&&◌, ◌||◌, nat_eq, List, length, Option, is_some, All}
 use Rattle.std.specs.List.{filter, list_any}
 use Rattle.wgr_text.specs.declared.key.Key.{Key}
 use Rattle.wgr_text.specs.Prefix.{AddrValue, PrefixValue, IsAddr, IsPrefix}
@@ -31,6 +31,17 @@ abbrev pub live_at : NetworkValue → ℕ → NetworkValue
 live_at n now =
     let peers = filter (is_live now) n.peers in
     record n { peers = peers; routes = filter (λ r. is_some (peer_of peers r.1)) n.routes }
+
+-- whether the number is one of these
+abbrev pub is_among : List ℕ → ℕ → Bool
+is_among numbers n = list_any (nat_eq n) numbers
+
+-- the network without the peers of these numbers, and without the routes to them
+abbrev pub without_peers : NetworkValue → List ℕ → NetworkValue
+without_peers n removed = record n {
+  peers = filter (λ p. not (is_among removed p.number)) n.peers;
+  routes = filter (λ r. not (is_among removed r.1)) n.routes;
+}
 
 -- whether the address is a peer's own, or lies in a route that lies wholly in the pool
 abbrev pub is_held : NetworkValue → AddrValue → Bool

@@ -1,21 +1,22 @@
 -- What a command does to a network: a refusal, or a reply and the network after it.
-use Rattle.std.specs.Prelude.{ℕ, ◌+◌, Bool, true, false, not, cond, nat_lt, List, [], ◌∷◌, ◌++◌, length, map, Option, Some, None, Result, Ok, Err, is_some}
+use Rattle.std.specs.Prelude.{ℕ, ◌+◌, Bool, true, false, not, ◌&&◌, cond, nat_lt, List, [], ◌∷◌, ◌++◌, length, map, Option, Some, None, Result, Ok, Err, is_some}
 use Rattle.wgr_text.specs.declared.key.Key.{Key}
-use Rattle.wgr_text.specs.Prefix.{AddrValue}
+use Rattle.wgr_text.specs.Prefix.{AddrValue, PrefixValue, IsAddr, IsPrefix}
 use Rattle.wgr_core.specs.declared.peer.Peer.{Peer}
 use Rattle.wgr_core.specs.declared.command.Command.{Command}
 use Rattle.wgr_core.specs.declared.command.Command.TheVariants as command
 use Rattle.wgr_core.specs.declared.refusal.Refusal.{Refusal}
-use Rattle.wgr_core.specs.declared.refusal.Refusal.TheVariants.{KeyHeld, AddressHeld, OutsidePool, PoolFull, CapacityReached, NumbersSpent, LeaseOver, ServerKey}
+use Rattle.wgr_core.specs.declared.refusal.Refusal.TheVariants.{NoSuchPeer, KeyHeld, AddressHeld, OutsidePool, PoolFull, CapacityReached, NumbersSpent, IsAddress, NoSuchRoute, RoutesFull, NobodysAddress, LeaseOver, ServerKey}
 use Rattle.wgr_core.specs.declared.reply.Reply.{Reply}
 use Rattle.wgr_core.specs.declared.reply.Reply.TheVariants as reply
 use Rattle.wgr_core.specs.declared.reply.PeerView.{PeerView}
 use Rattle.wgr_core.specs.PrefixTests.{full}
 use Rattle.wgr_core.specs.Allot.{is_assignable}
 use Rattle.wgr_core.specs.Limits.{is_over}
-use Rattle.wgr_core.specs.Peers.{is_own, key_holder, same_key}
-use Rattle.wgr_core.specs.Routes.{Routes, route_of, routes_to}
-use Rattle.wgr_core.specs.Network.{NetworkValue, live_at, lowest_free}
+use Rattle.wgr_core.specs.Peers.{is_own, key_holder, peer_of, put_peer, same_key, without_peer}
+use Rattle.wgr_core.specs.Routes.{Routes, assign_route, route_of, routes_to, without_route}
+use Rattle.wgr_core.specs.Network.{NetworkValue, is_address, live_at, lowest_free, without_peers}
+use Rattle.wgr_core.specs.Owner.{owner_of}
 
 abbrev pub Outcome : Type 0
 Outcome = Result (Reply × NetworkValue) Refusal
@@ -81,16 +82,100 @@ add n now key label wanted until keepalive =
     (at_place (place n wanted)
     (λ a. joined n (record { number = n.next; key = key; label = label; address = a; until = until; keepalive = keepalive; status = None })))
 
+-- ---- a peer that moves, leaves, or has another lease
+
+-- what follows for the peer, where it stands
+abbrev pub if_stands : Option Peer → (Peer → Outcome) → Outcome
+if_stands None next = Err NoSuchPeer
+if_stands (Some p) next = next p
+
+-- the peer in place of the one of its number
+abbrev pub replaced : NetworkValue → Peer → Outcome
+replaced n p = Ok (reply.Peer (view_of n.routes p), record n { peers = put_peer n.peers p })
+
+-- the network in which the peer that moves, if one does, holds no address; its routes stay
+abbrev pub vacated : NetworkValue → Option ℕ → NetworkValue
+vacated n None = n
+vacated n (Some number) = record n { peers = without_peer n.peers number }
+
+abbrev pub move : NetworkValue → ℕ → Option AddrValue → Outcome
+move n number wanted =
+    if_stands (peer_of n.peers number)
+    (λ p. at_place (place (vacated n (Some number)) wanted) (λ a. replaced n (record p { address = a })))
+
+abbrev pub revoke : NetworkValue → ℕ → Outcome
+revoke n number = if_stands (peer_of n.peers number) (λ p. Ok (reply.Revoked number, without_peers n (number ∷ [])))
+
+abbrev pub lease_refusal : ℕ → ℕ → Option Refusal
+lease_refusal now until = cond (is_over now until) (Some LeaseOver) None
+
+abbrev pub renew : NetworkValue → ℕ → ℕ → ℕ → Outcome
+renew n now number until =
+    if_stands (peer_of n.peers number)
+    (λ p. unless (lease_refusal now until) (replaced n (record p { until = until })))
+
+-- ---- routes
+
+-- the peer with the routes to it, and the network with these routes
+abbrev pub rerouted : NetworkValue → Peer → Routes → Outcome
+rerouted n p routes = Ok (reply.Peer (view_of routes p), record n { routes = routes })
+
+-- why the prefix can't be a route; one that is a route already takes no more room
+abbrev pub route_refusal : NetworkValue → PrefixValue → Option Refusal
+route_refusal n prefix =
+    cond (is_address n prefix) (Some IsAddress)
+    (cond (not (is_some (route_of n.routes prefix)) && not (nat_lt (length n.routes) 4096)) (Some RoutesFull) None)
+
+abbrev pub route : NetworkValue → ℕ → PrefixValue → Outcome
+route n number prefix =
+    if_stands (peer_of n.peers number)
+    (λ p. unless (route_refusal n prefix) (rerouted n p (assign_route n.routes prefix number)))
+
+-- what follows for the peer to which the prefix leads
+abbrev pub if_routed : NetworkValue → Option ℕ → (Peer → Outcome) → Outcome
+if_routed n None next = Err NoSuchRoute
+if_routed n (Some number) next = if_stands (peer_of n.peers number) next
+
+abbrev pub unroute : NetworkValue → PrefixValue → Outcome
+unroute n prefix = if_routed n (route_of n.routes prefix) (λ p. rerouted n p (without_route n.routes prefix))
+
+abbrev pub or_nobodys : NetworkValue → Option ℕ → Outcome
+or_nobodys n None = Err NobodysAddress
+or_nobodys n (Some number) = Ok (reply.Owner number, n)
+
 -- ---- each command, on the live network
 
 abbrev pub live_outcome : NetworkValue → ℕ → Command → Outcome
 live_outcome n now (command.Add key label wanted until keepalive) = add n now key label wanted until keepalive
+live_outcome n now (command.Move number wanted) = move n number wanted
+live_outcome n now (command.Revoke number) = revoke n number
+live_outcome n now (command.Route number prefix) = route n number prefix
+live_outcome n now (command.Unroute prefix) = unroute n prefix
+live_outcome n now (command.Renew number until) = renew n now number until
 live_outcome n now command.List = Ok (reply.List (map (view_of n.routes) n.peers), n)
+live_outcome n now (command.Owner address) = or_nobodys n (owner_of n address)
 
 -- whether the command only reads
 abbrev pub is_reading : Command → Bool
 is_reading (command.Add key label wanted until keepalive) = false
+is_reading (command.Move number wanted) = false
+is_reading (command.Revoke number) = false
+is_reading (command.Route number prefix) = false
+is_reading (command.Unroute prefix) = false
+is_reading (command.Renew number until) = false
 is_reading command.List = true
+is_reading (command.Owner address) = true
+
+-- the peer that the command itself removes
+abbrev pub leaving : Command → Option ℕ
+leaving (command.Add key label wanted until keepalive) = None
+leaving (command.Move number wanted) = None
+leaving (command.Revoke number) = Some number
+leaving (command.Route number prefix) = None
+leaving (command.Unroute prefix) = None
+leaving (command.Renew number until) = None
+leaving command.List = None
+leaving (command.Owner address) = None
 
 -- a change leaves the changed live network; a reading leaves the network as it is
 abbrev pub kept_if : Bool → NetworkValue → Outcome → Outcome
@@ -99,3 +184,14 @@ kept_if reading n (Ok done) = Ok (done.0, cond reading n done.1)
 
 abbrev pub outcome_of : NetworkValue → ℕ → Command → Outcome
 outcome_of n now asked = kept_if (is_reading asked) n (live_outcome (live_at n now) now asked)
+
+-- a prefix that is asked for is one: its number fits the family, and its host bits are zero
+abbrev pub IsAsked : Command → Type 0
+IsAsked (command.Add key label wanted until keepalive) = Unit {0}
+IsAsked (command.Move number wanted) = Unit {0}
+IsAsked (command.Revoke number) = Unit {0}
+IsAsked (command.Route number prefix) = IsAddr prefix.address × IsPrefix prefix
+IsAsked (command.Unroute prefix) = Unit {0}
+IsAsked (command.Renew number until) = Unit {0}
+IsAsked command.List = Unit {0}
+IsAsked (command.Owner address) = Unit {0}

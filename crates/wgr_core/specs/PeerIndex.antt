@@ -1,5 +1,5 @@
 -- The indexes of a table of peers.
-use Rattle.std.specs.Prelude.{ℕ, ◌≡◌, ◌≤◌, ◌⊎◌, ◌↔◌, true, List, All}
+use Rattle.std.specs.Prelude.{ℕ, ◌≡◌, ◌<◌, ◌≤◌, ◌⊎◌, ◌↔◌, true, List, length, slice_index_or, All}
 use Rattle.std.specs.HashMap.{HashMap, get}
 use Rattle.std.specs.declared.hash.FoldHasher.{FoldHasher}
 use Rattle.std.specs.declared.hash.BuildHasherDefault.{BuildHasherDefault}
@@ -21,3 +21,16 @@ pub record IsIndexed (peers : List Peer) (numbers : HashMap Key ℕ (BuildHasher
   pub by_key : (key : Key) → get same_key numbers key ≡ key_holder peers key
   pub by_address : (b : AddrValue) → IsAddr b → IsHeld runs b ↔ (is_own peers b ≡ true)
   pub ends : All (EndsFrom soonest) peers
+
+-- the peer that stands at the place has the number, the key and the address of `p`
+pub record IsAlikeAt (peers : List Peer) (p : Peer) (at : ℕ) : Type 0 where
+  pub within : at < length peers
+  pub number : (d : Peer) → (slice_index_or peers at d).number ≡ p.number
+  pub key : (d : Peer) → (slice_index_or peers at d).key ≡ p.key
+  pub address : (d : Peer) → (slice_index_or peers at d).address ≡ p.address
+
+-- the peer that stands at the place has the number and the key of `p`
+pub record IsKeyedAt (peers : List Peer) (p : Peer) (at : ℕ) : Type 0 where
+  pub within : at < length peers
+  pub number : (d : Peer) → (slice_index_or peers at d).number ≡ p.number
+  pub key : (d : Peer) → (slice_index_or peers at d).key ≡ p.key

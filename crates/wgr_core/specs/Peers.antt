@@ -29,6 +29,10 @@ abbrev pub peer_of : List Peer → ℕ → Option Peer
 peer_of [] number = None
 peer_of (p ∷ peers) number = cond (nat_eq p.number number) (Some p) (peer_of peers number)
 
+-- the peers without that of the number
+abbrev pub without_peer : List Peer → ℕ → List Peer
+without_peer peers number = filter (λ p. not (nat_eq p.number number)) peers
+
 -- whether a peer has the address as its own
 abbrev pub is_own : List Peer → AddrValue → Bool
 is_own peers a = list_any (λ p. same_address p.address a) peers

@@ -1,6 +1,6 @@
 ghost use Rattle.std.specs.Prelude.{IfOk, IfSome};
 ghost use Rattle.wgr_core.specs.Change.{Fits, Meets, MeetsLive};
-ghost use Rattle.wgr_core.specs.Outcome.{is_reading, live_outcome, outcome_of};
+ghost use Rattle.wgr_core.specs.Outcome.{IsAsked, is_reading, leaving, live_outcome, outcome_of};
 
 use crate::change::Change;
 use crate::command::Command;
@@ -8,6 +8,7 @@ use crate::fault::ActFault;
 use crate::items::Items;
 use crate::network::Network;
 use crate::peer::Peer;
+use crate::refusal::Refusal;
 use crate::reply::Reply;
 use std::alloc::Global;
 
@@ -26,6 +27,7 @@ impl Network {
         ensures outcome { Meets self.now result (outcome_of self.now now command.now) }
         ensures fits { IfOk result (λ given. IfSome given.1 (λ c. Fits c self.now)) }
     {
+        tell_asked(command);
         let removed = self.peers.expired(alloc, now)?;
         if removed.is_empty() {
             return self.act_live(alloc, now, command, removed);
@@ -42,7 +44,7 @@ impl Network {
         command: &Command,
         removed: Items<u32>,
     ) -> Result<(Reply, Option<Change>), ActFault>
-        ensures { MeetsLive (is_reading command.now) self.now removed result (live_outcome self.now now command.now) }
+        ensures { MeetsLive (is_reading command.now) (leaving command.now) self.now removed result (live_outcome self.now now command.now) }
     {
         match command {
             Command::Add {
@@ -55,7 +57,7 @@ impl Network {
                 if let Some(why) = self.join_refusal(now, key, *until) {
                     return Err(ActFault::Refused(why));
                 }
-                let address = match self.place(*address) {
+                let address = match self.place(None, *address) {
                     Ok(address) => address,
                     Err(why) => return Err(ActFault::Refused(why)),
                 };
@@ -70,7 +72,26 @@ impl Network {
                 };
                 self.joined(alloc, peer, removed)
             }
+            Command::Move { number, address } => self.moved(alloc, *number, *address, removed),
+            Command::Revoke { number } => self.revoked(alloc, *number, removed),
+            Command::Route { number, prefix } => self.routed(alloc, *number, *prefix, removed),
+            Command::Unroute { prefix } => self.unrouted(alloc, prefix, removed),
+            Command::Renew { number, until } => self.renewed(alloc, now, *number, *until, removed),
             Command::List => Ok((Reply::List(self.views(alloc)?), None)),
+            Command::Owner { address } => match self.owner(address) {
+                Some(number) => Ok((Reply::Owner(number), None)),
+                None => Err(ActFault::Refused(Refusal::NobodysAddress)),
+            },
         }
+    }
+}
+
+// Does nothing: what the prefix's calls tell of it is what each command keeps.
+fn tell_asked(command: &Command)
+    ensures { IsAsked command.now }
+{
+    if let Command::Route { prefix, .. } = command {
+        let _address = prefix.address();
+        let _length = prefix.length();
     }
 }

@@ -1,13 +1,13 @@
-ghost use Rattle.std.specs.Prelude.{◌≡◌, ℕ, ◌+◌, ◌-◌, ◌<◌, ◌≤◌, ◌↔◌, ◌⊎◌, true, false, List, [], length, slice_index_or, IsTrue, OnOk, OnErr};
+ghost use Rattle.std.specs.Prelude.{◌≡◌, ℕ, ◌+◌, ◌-◌, ◌<◌, ◌≤◌, ◌↔◌, ◌⊎◌, true, false, List, [], length, slice_index_or, IsTrue, IfOk, OnOk, OnErr};
 ghost use Rattle.wgr_text.specs.Prefix.{AddrValue, IsAddr, rank};
 ghost use Rattle.wgr_text.specs.declared.prefix.Span.{Span, Span as SpanValue};
 ghost use Rattle.wgr_core.specs.PrefixTests.{same_address};
-ghost use Rattle.wgr_core.specs.Spans.{IsHeld, RisesFrom};
-ghost use Rattle.wgr_core.specs.Runs.{AreRunsFrom};
+ghost use Rattle.wgr_core.specs.Spans.{IsWithin, IsHeld, RisesFrom};
+ghost use Rattle.wgr_core.specs.Runs.{AreRunsFrom, IsPartBelow, IsPartAbove};
 
 use std::alloc::{AllocError, Global};
 use std::marker::Model;
-use wgr_text::{Addr, Span};
+use wgr_text::{Addr, Family, Span};
 
 /// A set of addresses, kept as its runs of consecutive addresses.
 ///
@@ -82,6 +82,112 @@ impl AddressSet {
         }
         Ok(())
     }
+}
+
+impl AddressSet {
+    /// The same set again.
+    pub fn copy(&self) -> Result<AddressSet, AllocError>
+        ensures { IfOk result (λ copy. copy ≡ self.now) }
+    {
+        Ok(AddressSet {
+            runs: Vec::from_slice(*self.runs.allocator(), &self.runs)?,
+        })
+    }
+
+    /// Takes the address out of the set, where the run that has it grows shorter or is split in
+    /// two.
+    pub fn remove(&mut self, address: &Addr) -> Result<(), AllocError>
+        ensures held { OnOk result ((b : AddrValue) → IsAddr b → IsHeld self.new b ↔ ((same_address address.now b ≡ false) × IsHeld self.old b)) }
+        ensures unchanged { OnErr result (self.new ≡ self.old) }
+    {
+        let _number = address.number();
+        let runs = self.runs.as_slice();
+        let place = place_above(runs, address);
+        if !is_in_last(runs, place, address) {
+            return Ok(());
+        }
+        let run = runs[place - 1];
+        match (part_below(&run, address), part_above(&run, address)) {
+            (None, None) => {
+                self.runs.remove(place - 1);
+            }
+            (Some(below), None) => self.runs[place - 1] = below,
+            (None, Some(above)) => self.runs[place - 1] = above,
+            (Some(below), Some(above)) => {
+                self.runs.insert(place, above)?;
+                self.runs[place - 1] = below;
+            }
+        }
+        Ok(())
+    }
+}
+
+// What the run has below the address.
+fn part_below(run: &Span, address: &Addr) -> Option<Span>
+    requires { IsWithin run.now address.now }
+    ensures { IsPartBelow run.now address.now result }
+{
+    if address.is_at_most(&run.lo) {
+        return None;
+    }
+    Some(Span {
+        lo: run.lo,
+        hi: before(address, &run.lo),
+    })
+}
+
+// What the run has above the address.
+fn part_above(run: &Span, address: &Addr) -> Option<Span>
+    requires { IsWithin run.now address.now }
+    ensures { IsPartAbove run.now address.now result }
+{
+    if run.hi.is_at_most(address) {
+        return None;
+    }
+    Some(Span {
+        lo: after(address, &run.hi),
+        hi: run.hi,
+    })
+}
+
+// The last address below this one, where another is below it.
+fn before(address: &Addr, other: &Addr) -> Addr
+    requires { rank other.now < rank address.now }
+    ensures from { rank other.now ≤ rank result }
+    ensures below { rank result < rank address.now }
+    ensures last { (b : AddrValue) → IsAddr b → rank b < rank address.now → rank b ≤ rank result }
+{
+    let _number = other.number();
+    let number = address.number();
+    let (family, last) = if number == 0 {
+        (Family::V4, u128::from(u32::MAX))
+    } else {
+        (address.family(), number - 1)
+    };
+    let Some(before) = Addr::new(family, last) else {
+        unreachable!();
+    };
+    before
+}
+
+// The first address above this one, where another is above it.
+fn after(address: &Addr, other: &Addr) -> Addr
+    requires { rank address.now < rank other.now }
+    ensures above { rank address.now < rank result }
+    ensures to { rank result ≤ rank other.now }
+    ensures first { (b : AddrValue) → IsAddr b → rank address.now < rank b → rank result ≤ rank b }
+{
+    let _number = other.number();
+    let number = address.number();
+    let (family, first) = if address.family() == Family::V4 && number == u128::from(u32::MAX) {
+        (Family::V6, 0)
+    } else {
+        (address.family(), number + 1)
+    };
+    let Some(after) = Addr::new(family, first) else {
+        unreachable!();
+    };
+    after
 }
 
 // The place of the first run that begins above the address, or the end.

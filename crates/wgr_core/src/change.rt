@@ -1,7 +1,8 @@
-ghost use Rattle.std.specs.Prelude.{◌≡◌, ℕ, ◌≤◌, List, [], length, not, ◌&&◌, nat_eq, All, IfOk, OnOk, OnErr, IsTrue};
+ghost use Rattle.std.specs.Prelude.{◌≡◌, ℕ, ◌≤◌, ◌↔◌, List, [], ◌∷◌, length, not, ◌&&◌, nat_eq, All, IfOk, IfSome, OnOk, OnErr, IsTrue};
 ghost use Rattle.std.specs.List.{filter};
 ghost use Rattle.std.specs.HashSet.{contains};
-ghost use Rattle.wgr_core.specs.Change.{Fits, OnlyJoins, applied, is_among, without_peers, without_routes};
+ghost use Rattle.wgr_core.specs.Change.{Fits, OnlyJoins, OnlyRenews, OnlyMoves, applied, without_routes};
+ghost use Rattle.wgr_core.specs.Network.{is_among, without_peers};
 ghost use Rattle.wgr_core.specs.Routes.{AreOrdered, HasAddr};
 
 use crate::items::Items;
@@ -96,6 +97,80 @@ impl Change {
         Ok(routes)
     }
 
+    // The one peer that goes, where nothing else changes.
+    fn sole_removal(&self) -> Option<u32>
+        ensures { IfSome result (λ number. self.now ≡ record { removed = number ∷ []; peers = []; routes_put = []; routes_gone = []; next = self.now.next }) }
+    {
+        let is_removal = self.peers.is_empty()
+            && self.routes_put.is_empty()
+            && self.routes_gone.is_empty();
+        match self.removed.as_slice() {
+            [number] if is_removal => Some(*number),
+            _ => None,
+        }
+    }
+
+    // The one route that comes, where nothing else changes.
+    fn sole_route(&self) -> Option<(Prefix, u32)>
+        ensures { IfSome result (λ route. self.now ≡ record { removed = []; peers = []; routes_put = route ∷ []; routes_gone = []; next = self.now.next }) }
+    {
+        if !self.is_for_routes() || !self.routes_gone.is_empty() {
+            return None;
+        }
+        match self.routes_put.as_slice() {
+            [route] => Some(*route),
+            _ => None,
+        }
+    }
+
+    // The one route that goes, where nothing else changes.
+    fn sole_unroute(&self) -> Option<Prefix>
+        ensures { IfSome result (λ prefix. self.now ≡ record { removed = []; peers = []; routes_put = []; routes_gone = prefix ∷ []; next = self.now.next }) }
+    {
+        if !self.is_for_routes() || !self.routes_put.is_empty() {
+            return None;
+        }
+        match self.routes_gone.as_slice() {
+            [prefix] => Some(*prefix),
+            _ => None,
+        }
+    }
+
+    // Whether no peers change.
+    fn is_for_routes(&self) -> bool
+        ensures { IsTrue result ↔ ((self.now.removed ≡ []) × (self.now.peers ≡ [])) }
+    {
+        self.removed.is_empty() && self.peers.is_empty()
+    }
+
+    // The place of the peer that the change replaces by one of the same number, key and address,
+    // where it does nothing else.
+    fn renewed_place(&self, peers: &PeerTable) -> Option<usize>
+        ensures { IfSome result (λ at. OnlyRenews self.now peers.now at) }
+    {
+        let is_for_one = self.removed.is_empty()
+            && self.routes_put.is_empty()
+            && self.routes_gone.is_empty();
+        match self.peers.as_slice() {
+            [peer] if is_for_one => peers.place_alike(peer),
+            _ => None,
+        }
+    }
+
+    // The place of the peer that the change replaces by one of the same number and key, where it
+    // does nothing else.
+    fn moved_place(&self, peers: &PeerTable) -> Option<usize>
+        ensures { IfSome result (λ at. OnlyMoves self.now peers.now at) }
+    {
+        let is_move = self.removed.is_empty()
+            && self.routes_put.is_empty()
+            && self.routes_gone.is_empty();
+        match self.peers.as_slice() {
+            [peer] if is_move => peers.place_keyed(peer),
+            _ => None,
+        }
+    }
+
     // Whether the change only brings one peer, whose number is `next` or above it.
     fn only_joins(&self, next: u32) -> bool
         ensures { IsTrue result → OnlyJoins self.now next }
@@ -113,8 +188,8 @@ impl Change {
 }
 
 impl Network {
-    /// Makes the change; for want of memory the network is as before. A change that only brings
-    /// one new peer is made in place.
+    /// Makes the change; for want of memory the network is as before. A change by which
+    /// one peer comes, is renewed, moves or goes, or one route comes or goes, is made in place.
     pub fn apply(&mut self, alloc: Global, change: Change) -> Result<(), AllocError>
         requires { Fits change self.old }
         ensures ok { OnOk result (self.new ≡ applied change self.old) }
@@ -126,8 +201,44 @@ impl Network {
             };
             return self.join(peer, change.next);
         }
+        if let Some(place) = change.renewed_place(&self.peers) {
+            let Some(peer) = change.peers.into_vec().pop() else {
+                unreachable!();
+            };
+            self.replace(place, peer, change.next);
+            return Ok(());
+        }
+        if let Some(place) = change.moved_place(&self.peers) {
+            let Some(peer) = change.peers.into_vec().pop() else {
+                unreachable!();
+            };
+            return self.relocate(place, peer, change.next);
+        }
+        if let Some(number) = change.sole_removal() {
+            return self.leave(number, change.next);
+        }
+        if let Some(route) = change.sole_route() {
+            return self.assign_route(route.0, route.1, change.next);
+        }
+        if let Some(prefix) = change.sole_unroute() {
+            self.drop_route(&prefix, change.next);
+            return Ok(());
+        }
         *self = change.apply(alloc, self)?;
         Ok(())
+    }
+
+    // The change that only removes these peers.
+    pub(crate) fn removal(&self, alloc: Global, removed: Items<u32>) -> Change
+        ensures { result ≡ record { removed = removed; peers = []; routes_put = []; routes_gone = []; next = self.now.next } }
+    {
+        Change {
+            removed,
+            peers: Items::new(alloc),
+            routes_put: Items::new(alloc),
+            routes_gone: Items::new(alloc),
+            next: self.next(),
+        }
     }
 }
 

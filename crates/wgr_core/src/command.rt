@@ -1,6 +1,6 @@
 use crate::label::Label;
 use crate::limits::LeaseEnd;
-use wgr_text::{Addr, Key};
+use wgr_text::{Addr, Key, Prefix};
 
 /// What is asked of a network.
 #[derive(Debug, Drop)]
@@ -13,6 +13,33 @@ pub enum Command {
         until: LeaseEnd,
         keepalive: u16,
     },
+    /// The peer gets the named address or the lowest that is free without it; its routes stay.
+    Move {
+        number: u32,
+        address: Option<Addr>,
+    },
+    /// The peer and the routes to it go.
+    Revoke {
+        number: u32,
+    },
+    /// The prefix leads to the peer from now on, and no longer to another.
+    Route {
+        number: u32,
+        prefix: Prefix,
+    },
+    /// The route of this very prefix goes.
+    Unroute {
+        prefix: Prefix,
+    },
+    /// The peer's lease ends at another moment.
+    Renew {
+        number: u32,
+        until: LeaseEnd,
+    },
     /// The live peers by number.
     List,
+    /// The peer to which the longest allowed prefix with the address leads.
+    Owner {
+        address: Addr,
+    },
 }

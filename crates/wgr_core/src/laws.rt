@@ -1,6 +1,17 @@
 //! What follows of the definitions that the calls on a network meet. Each function does nothing:
 //! its contract is the law.
-ghost use Rattle.wgr_core.specs.Laws.{CommandsKeepTheRules, LivePeersKeepTheRules, LowestIsFree, LowestIsLeast, PeersAreAMap, RoutesAreAMap};
+ghost use Rattle.wgr_core.specs.Laws.{PeersAreAMap, RoutesAreAMap};
+ghost use Rattle.wgr_core.specs.Laws.{AssignedLeads, AssignedOthers, PutOthers, PutStands, RemovedGone, RemovedOthers};
+ghost use Rattle.wgr_core.specs.Laws.{LowestIsFree, LowestIsLeast};
+ghost use Rattle.wgr_core.specs.Laws.{LongestOwns, MatchIsLongest, NoMatchIsNone, NobodyOwns, OwnerHasLongest, PeersOwnTheirs};
+ghost use Rattle.wgr_core.specs.Laws.{RoutesElsewhere, RoutesGoElsewhere, RoutesLead, RoutesYield};
+ghost use Rattle.wgr_core.specs.Laws.{LiveIsFound, LiveRoutesLead, LiveUntil, OverStaysOver, SweepsAreUnseen};
+ghost use Rattle.wgr_core.specs.Laws.{ChangesLeaveLive, OverNeverReturns, OwnersStand, RepliesShowLive};
+ghost use Rattle.wgr_core.specs.Laws.{CommandsKeepTheRules, LivePeersKeepTheRules, ReadingChangesNothing};
+ghost use Rattle.wgr_core.specs.Laws.{OtherPeersStay, OtherRoutesStay, SettingsStay};
+ghost use Rattle.wgr_core.specs.Laws.{AddressesAreOwn, KeysAreOwn, RunsKeepTheRules};
+ghost use Rattle.wgr_core.specs.Laws.{RevokedIsGone, RevokedOwnsNothing};
+ghost use Rattle.wgr_core.specs.Laws.{NextOnlyRises, NumbersAreGivenOnce, NumbersKeepTheirKeys};
 
 /// The lists of a network are finite maps: where all look-ups agree, they are equal.
 pub fn lists_are_maps()
@@ -18,4 +29,85 @@ pub fn commands_keep_the_rules()
 pub fn lowest_is_least()
     ensures free { LowestIsFree }
     ensures least { LowestIsLeast }
+{}
+
+/// The owner of an address is the peer of the longest allowed prefix that has it.
+pub fn owner_is_longest()
+    ensures found { MatchIsLongest }
+    ensures none { NoMatchIsNone }
+    ensures owner { OwnerHasLongest }
+    ensures nobody { NobodyOwns }
+    ensures unique { LongestOwns }
+    ensures own { PeersOwnTheirs }
+{}
+
+/// A change at one key of a list is found there, and leaves all other keys as they were.
+pub fn changes_are_at_one_key()
+    ensures assigned { AssignedLeads }
+    ensures assigned_others { AssignedOthers }
+    ensures removed { RemovedGone }
+    ensures removed_others { RemovedOthers }
+    ensures put { PutStands }
+    ensures put_others { PutOthers }
+{}
+
+/// The live network has the peers whose lease has no end or ends later, and the routes to them.
+/// Whether others were removed before makes no difference to a change.
+pub fn live_until_the_end()
+    ensures found { LiveIsFound }
+    ensures routes { LiveRoutesLead }
+    ensures until { LiveUntil }
+    ensures later { OverStaysOver }
+    ensures unseen { SweepsAreUnseen }
+{}
+
+/// What only reads leaves the network as it is.
+pub fn readings_change_nothing()
+    ensures { ReadingChangesNothing }
+{}
+
+/// An accepted command leaves what it isn't on: the settings, the other live peers and their routes.
+pub fn others_stay()
+    ensures settings { SettingsStay }
+    ensures peers { OtherPeersStay }
+    ensures routes { OtherRoutesStay }
+{}
+
+/// After any commands, refused ones among them, the network keeps the rules: above all, no two
+/// peers have an address or a key in common.
+pub fn runs_keep_the_rules()
+    ensures rules { RunsKeepTheRules }
+    ensures addresses { AddressesAreOwn }
+    ensures keys { KeysAreOwn }
+{}
+
+/// A number is given once, and to one key.
+pub fn numbers_are_given_once()
+    ensures next { NextOnlyRises }
+    ensures once { NumbersAreGivenOnce }
+    ensures keys { NumbersKeepTheirKeys }
+{}
+
+/// Whatever commands follow, a peer that was revoked neither stands nor owns an address again.
+pub fn revoked_is_gone()
+    ensures stands { RevokedIsGone }
+    ensures owns { RevokedOwnsNothing }
+{}
+
+/// A peer whose lease is over is in no reply and owns no address; an accepted change removes it
+/// for good.
+pub fn over_is_over()
+    ensures replies { RepliesShowLive }
+    ensures owners { OwnersStand }
+    ensures changes { ChangesLeaveLive }
+    ensures numbers { OverNeverReturns }
+{}
+
+/// A route changes the owners of its own addresses alone, and of those only where no longer
+/// allowed prefix has the address.
+pub fn routes_change_their_own()
+    ensures elsewhere { RoutesElsewhere }
+    ensures lead { RoutesLead }
+    ensures yield_to { RoutesYield }
+    ensures go_elsewhere { RoutesGoElsewhere }
 {}

@@ -1,19 +1,21 @@
-ghost use Rattle.std.specs.Prelude.{◌≡◌, ℕ, ◌+◌, ◌≤◌, List, [], ◌∷◌, ◌++◌, IfOk, OnOk, OnErr, is_some};
+ghost use Rattle.std.specs.Prelude.{◌≡◌, ℕ, ◌≤◌, [], ◌∷◌, ◌++◌, ◌↔◌, IsSome, IfSome, IfOk, OnOk, OnErr, is_some};
 ghost use Rattle.std.specs.List.{filter};
-ghost use Rattle.wgr_core.specs.Peers.{peer_of};
-ghost use Rattle.wgr_core.specs.Network.{NetworkValue, IsNetwork, live_at};
-ghost use Rattle.wgr_core.specs.PrefixTests.{full};
-ghost use Rattle.wgr_core.specs.Routes.{route_of, routes_to};
+ghost use Rattle.wgr_core.specs.Peers.{peer_of, put_peer};
+ghost use Rattle.wgr_core.specs.PeerIndex.{IsAlikeAt, IsKeyedAt};
+ghost use Rattle.wgr_core.specs.Network.{NetworkValue, IsNetwork, live_at, without_peers};
+ghost use Rattle.wgr_core.specs.Parts.{network_of};
+ghost use Rattle.wgr_core.specs.Routes.{assign_route, without_route};
 
 use crate::host::Host;
-use crate::items::Items;
 use crate::limits::{Capacity, Port};
+use crate::order::{drop_route, drop_routes_to, put_route};
+use crate::parts::{Parts, are_ordered, are_routes};
 use crate::peer::Peer;
 use crate::peer_table::PeerTable;
 use crate::pool::Pool;
 use std::alloc::{AllocError, Global};
 use std::marker::Model;
-use wgr_text::{Addr, Key, Prefix};
+use wgr_text::{Key, Prefix};
 
 /// One network: a pool, an endpoint, a server key and a capacity; its peers by number, and its
 /// routes, which are prefixes that each lead to one peer.
@@ -62,6 +64,36 @@ impl Network {
             peers: PeerTable::new(alloc),
             routes: Vec::new(alloc),
         }
+    }
+
+    /// The network of these parts, if they keep the rules of a network. Peers that aren't in the
+    /// order of their numbers, and routes that aren't in the order of their prefixes, don't.
+    pub fn of(alloc: Global, parts: Parts) -> Result<Option<Network>, AllocError>
+        ensures some { IfOk result (λ made. IfSome made (λ n. n ≡ network_of parts)) }
+        ensures exact { IfOk result (λ made. IsSome made ↔ IsNetwork (network_of parts)) }
+    {
+        if !parts.is_within_limits() || !parts.has_members() || !are_ordered(&parts.routes) {
+            return Ok(None);
+        }
+        let Some(peers) = PeerTable::of(alloc, parts.peers)? else {
+            return Ok(None);
+        };
+        if !are_routes(&parts.pool, &peers, &parts.routes) {
+            return Ok(None);
+        }
+        let _pool = parts.pool.prefix();
+        let _port = parts.port.number();
+        let _capacity = parts.capacity.peers();
+        Ok(Some(Network {
+            pool: parts.pool,
+            host: parts.host,
+            port: parts.port,
+            server: parts.server,
+            capacity: parts.capacity,
+            next: parts.next,
+            peers,
+            routes: parts.routes,
+        }))
     }
 
     /// The pool from which addresses are given.
@@ -166,6 +198,68 @@ impl Network {
         Ok(())
     }
 
+    // Puts a peer in the place of one that has its number, key and address, and goes on at `next`.
+    pub(crate) fn replace(&mut self, place: usize, peer: Peer, next: u32)
+        requires alike { IsAlikeAt self.old.peers peer place }
+        requires fits { IsNetwork (record self.old { peers = put_peer self.old.peers peer; next = next }) }
+        ensures { self.new ≡ record self.old { peers = put_peer self.old.peers peer; next = next } }
+    {
+        self.peers.replace(place, peer);
+        self.next = next;
+    }
+
+    // Puts a peer in the place of one that has its number and key, and goes on at `next`; for want
+    // of memory the network is as before.
+    pub(crate) fn relocate(&mut self, place: usize, peer: Peer, next: u32) -> Result<(), AllocError>
+        requires keyed { IsKeyedAt self.old.peers peer place }
+        requires fits { IsNetwork (record self.old { peers = put_peer self.old.peers peer; next = next }) }
+        ensures ok { OnOk result (self.new ≡ record self.old { peers = put_peer self.old.peers peer; next = next }) }
+        ensures err { OnErr result (self.new ≡ self.old) }
+    {
+        self.peers.relocate(place, peer)?;
+        self.next = next;
+        Ok(())
+    }
+
+    // Takes away the peer of this number and the routes to it, and goes on at `next`; for want of
+    // memory the network is as before.
+    pub(crate) fn leave(&mut self, number: u32, next: u32) -> Result<(), AllocError>
+        requires { IsNetwork (record (without_peers self.old (number ∷ [])) { next = next }) }
+        ensures ok { OnOk result (self.new ≡ record (without_peers self.old (number ∷ [])) { next = next }) }
+        ensures err { OnErr result (self.new ≡ self.old) }
+    {
+        self.peers.remove(number)?;
+        drop_routes_to(&mut self.routes, number);
+        self.next = next;
+        Ok(())
+    }
+
+    // Leads a prefix to the peer of this number, and goes on at `next`; for want of memory the
+    // network is as before.
+    pub(crate) fn assign_route(
+        &mut self,
+        prefix: Prefix,
+        number: u32,
+        next: u32,
+    ) -> Result<(), AllocError>
+        requires { IsNetwork (record self.old { routes = assign_route self.old.routes prefix number; next = next }) }
+        ensures ok { OnOk result (self.new ≡ record self.old { routes = assign_route self.old.routes prefix number; next = next }) }
+        ensures err { OnErr result (self.new ≡ self.old) }
+    {
+        put_route(&mut self.routes, prefix, number)?;
+        self.next = next;
+        Ok(())
+    }
+
+    // Takes away the route of a prefix, and goes on at `next`.
+    pub(crate) fn drop_route(&mut self, prefix: &Prefix, next: u32)
+        requires { IsNetwork (record self.old { routes = without_route self.old.routes prefix.now; next = next }) }
+        ensures { self.new ≡ record self.old { routes = without_route self.old.routes prefix.now; next = next } }
+    {
+        drop_route(&mut self.routes, prefix);
+        self.next = next;
+    }
+
     // The routes that lead to one of these peers.
     fn routes_within(
         &self,
@@ -181,37 +275,5 @@ impl Network {
             }
         }
         Ok(routes)
-    }
-
-    /// The prefixes that lead to the peer of this number.
-    pub fn routes_to(&self, alloc: Global, number: u32) -> Result<Items<Prefix>, AllocError>
-        ensures { IfOk result (λ routes. routes ≡ routes_to self.now.routes number) }
-    {
-        let mut prefixes = Items::new(alloc);
-        for route in &self.routes {
-            if route.1 == number {
-                prefixes.push(route.0)?;
-            }
-        }
-        Ok(prefixes)
-    }
-
-    /// The peer to which this prefix leads.
-    pub fn route(&self, prefix: &Prefix) -> Option<u32>
-        ensures { result ≡ route_of self.now.routes prefix.now }
-    {
-        for route in &self.routes {
-            if route.0 == *prefix {
-                return Some(route.1);
-            }
-        }
-        None
-    }
-
-    // Whether the address alone is a route.
-    pub(crate) fn is_route_at(&self, address: &Addr) -> bool
-        ensures { result ≡ is_some (route_of self.now.routes (full address.now)) }
-    {
-        self.route(&Prefix::full(*address)).is_some()
     }
 }

@@ -1,5 +1,6 @@
 //! Peers in the order of their numbers, and routes in the order of their prefixes.
-ghost use Rattle.std.specs.Prelude.{◌≡◌, ℕ, ◌<◌, ◌≤◌, nat_eq, nat_lt, OnOk, All};
+ghost use Rattle.std.specs.Prelude.{◌≡◌, ℕ, ◌<◌, ◌≤◌, nat_eq, nat_lt, not, OnOk, OnErr, All};
+ghost use Rattle.std.specs.List.{filter};
 ghost use Rattle.wgr_text.specs.Prefix.{IsAddr};
 ghost use Rattle.wgr_core.specs.Ordered.{EndsAt};
 ghost use Rattle.wgr_core.specs.Peers.{AreNumbered, put_peer};
@@ -10,8 +11,8 @@ use crate::peer::Peer;
 use std::alloc::AllocError;
 use wgr_text::Prefix;
 
-// The place of the peer of this number, or else the one that it would have.
-fn peer_place(peers: &[Peer], number: u32) -> Result<usize, usize>
+/// The place of the peer of this number, or else the one that it would have.
+pub(crate) fn peer_place(peers: &[Peer], number: u32) -> Result<usize, usize>
     requires { AreNumbered peers.now }
     ensures { EndsAt (λ p. nat_lt p.number number) (λ p. nat_eq p.number number) peers.now result }
 {
@@ -45,15 +46,15 @@ pub(crate) fn comes_before(one: &Prefix, other: &Prefix) -> bool
     !second.is_at_most(&first) || (first.is_at_most(&second) && one.length() < other.length())
 }
 
-// Whether the two prefixes are the same.
-fn is_same(one: &Prefix, other: &Prefix) -> bool
+/// Whether the two prefixes are the same.
+pub(crate) fn is_same(one: &Prefix, other: &Prefix) -> bool
     ensures { result ≡ same_prefix one.now other.now }
 {
     one == other
 }
 
-// The place of the prefix's route, or else the one that it would have.
-fn route_place(routes: &[(Prefix, u32)], prefix: &Prefix) -> Result<usize, usize>
+/// The place of the prefix's route, or else the one that it would have.
+pub(crate) fn route_place(routes: &[(Prefix, u32)], prefix: &Prefix) -> Result<usize, usize>
     requires ordered { AreOrdered routes.now }
     ensures found { EndsAt (λ r. is_before r.0 prefix.now) (λ r. same_prefix r.0 prefix.now) routes.now result }
     ensures masked { IsAddr prefix.now.address }
@@ -67,7 +68,7 @@ fn route_place(routes: &[(Prefix, u32)], prefix: &Prefix) -> Result<usize, usize
     }
 }
 
-/// Leads a prefix to the peer of this number.
+/// Leads a prefix to the peer of this number; for want of memory the routes are as before.
 pub(crate) fn put_route(
     routes: &mut Vec<(Prefix, u32)>,
     prefix: Prefix,
@@ -78,6 +79,7 @@ pub(crate) fn put_route(
     ensures put { OnOk result (routes.new.items ≡ assign_route routes.old.items prefix number) }
     ensures ordered { OnOk result (AreOrdered routes.new.items) }
     ensures masked { OnOk result (All HasAddr routes.new.items) }
+    ensures err { OnErr result (routes.new.items ≡ routes.old.items) }
 {
     match route_place(routes, &prefix) {
         Ok(place) => routes[place] = (prefix, number),
@@ -94,4 +96,18 @@ pub(crate) fn drop_route(routes: &mut Vec<(Prefix, u32)>, prefix: &Prefix)
     if let Ok(place) = route_place(routes, prefix) {
         routes.remove(place);
     }
+}
+
+// Whether the route leads to the peer of this number.
+fn leads_to(route: &(Prefix, u32), number: u32) -> bool
+    ensures { result ≡ nat_eq route.now.1 number }
+{
+    route.1 == number
+}
+
+/// Takes away the routes to the peer of this number.
+pub(crate) fn drop_routes_to(routes: &mut Vec<(Prefix, u32)>, number: u32)
+    ensures { routes.new.items ≡ filter (λ r. not (nat_eq r.1 number)) routes.old.items }
+{
+    routes.retain(|route| !leads_to(route, number));
 }

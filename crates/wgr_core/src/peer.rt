@@ -1,4 +1,4 @@
-ghost use Rattle.std.specs.Prelude.{◌≡◌, IfOk};
+ghost use Rattle.std.specs.Prelude.{◌≡◌, IfOk, IsTrue};
 
 use crate::label::Label;
 use crate::limits::{Count, LeaseEnd};
@@ -37,12 +37,34 @@ pub struct Peer {
 
 impl Peer {
     ghost use Rattle.wgr_core.specs.Peers.{is_live};
+    ghost use Rattle.wgr_core.specs.PrefixTests.{same_address};
 
     /// Whether the peer's lease runs at this moment.
     pub fn is_live(&self, now: u64) -> bool
         ensures { result ≡ is_live now self.now }
     {
         !self.until.is_over(now)
+    }
+
+    /// Whether the address is the peer's own.
+    pub(crate) fn is_at(&self, address: &Addr) -> bool
+        ensures { result ≡ same_address self.now.address address.now }
+    {
+        self.address == *address
+    }
+
+    /// Whether the other peer has the same key and the same address.
+    pub(crate) fn is_alike(&self, other: &Peer) -> bool
+        ensures { IsTrue result → (self.now.key ≡ other.now.key) × (self.now.address ≡ other.now.address) }
+    {
+        self.key == other.key && self.is_at(&other.address)
+    }
+
+    /// Whether the key is the peer's.
+    pub(crate) fn has_key(&self, key: &Key) -> bool
+        ensures { IsTrue result → self.now.key ≡ key.now }
+    {
+        self.key == *key
     }
 
     /// The same peer again.

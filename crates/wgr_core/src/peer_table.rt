@@ -1,13 +1,15 @@
-ghost use Rattle.std.specs.Prelude.{◌≡◌, ℕ, ◌+◌, ◌<◌, ◌≤◌, ◌↔◌, ◌⊎◌, List, [], ◌∷◌, ◌++◌, length, IsTrue, IfOk, OnOk, OnErr, All, None, false, true};
+ghost use Rattle.std.specs.Prelude.{◌≡◌, ℕ, ◌+◌, ◌<◌, ◌≤◌, ◌↔◌, ◌⊎◌, List, [], ◌∷◌, ◌++◌, length, IsTrue, IsSome, IfSome, IfOk, OnOk, OnErr, All, None, false, true};
 ghost use Rattle.std.specs.List.{filter};
 ghost use Rattle.std.specs.Option.{option_copied};
 ghost use Rattle.wgr_text.specs.Prefix.{AddrValue, IsAddr};
 ghost use Rattle.wgr_core.specs.Spans.{IsHeld};
-ghost use Rattle.wgr_core.specs.Peers.{is_live, is_own, expired, key_holder, peer_of, AreNumbered, AreApart};
+ghost use Rattle.wgr_core.specs.Peers.{is_live, is_own, expired, key_holder, peer_of, put_peer, without_peer, AreNumbered, IsApart, AreApart};
+ghost use Rattle.wgr_core.specs.PeerIndex.{IsAlikeAt, IsKeyedAt};
 
 use crate::address_set::AddressSet;
 use crate::items::Items;
 use crate::limits::LeaseEnd;
+use crate::order::peer_place;
 use crate::peer::Peer;
 use std::alloc::{AllocError, Global};
 use std::collections::HashMap;
@@ -117,6 +119,74 @@ impl PeerTable {
 }
 
 impl PeerTable {
+    /// The place of the peer that has this peer's number, key and address.
+    pub fn place_alike(&self, peer: &Peer) -> Option<usize>
+        ensures { IfSome result (λ at. IsAlikeAt self.now peer.now at) }
+    {
+        match peer_place(&self.peers, peer.number) {
+            Ok(place) if self.peers[place].is_alike(peer) => Some(place),
+            _ => None,
+        }
+    }
+
+    /// Puts a peer in the place of one that has its number, key and address, so that the indexes
+    /// stay as they are.
+    pub fn replace(&mut self, place: usize, peer: Peer)
+        requires { IsAlikeAt self.old peer place }
+        ensures { self.new ≡ put_peer self.old peer }
+    {
+        let until = peer.until;
+        self.peers[place] = peer;
+        self.soonest_end = sooner(self.soonest_end, until);
+    }
+
+    /// The place of the peer that has this peer's number and key.
+    pub fn place_keyed(&self, peer: &Peer) -> Option<usize>
+        ensures { IfSome result (λ at. IsKeyedAt self.now peer.now at) }
+    {
+        match peer_place(&self.peers, peer.number) {
+            Ok(place) if self.peers[place].has_key(&peer.key) => Some(place),
+            _ => None,
+        }
+    }
+
+    /// Puts a peer in the place of one that has its number and key, at another address; for want of
+    /// memory the table is as before.
+    pub fn relocate(&mut self, at: usize, peer: Peer) -> Result<(), AllocError>
+        requires keyed { IsKeyedAt self.old peer at }
+        requires apart { AreApart self.old }
+        ensures ok { OnOk result (self.new ≡ put_peer self.old peer) }
+        ensures err { OnErr result (self.new ≡ self.old) }
+    {
+        let mut addresses = self.addresses.copy()?;
+        addresses.remove(&self.peers[at].address)?;
+        addresses.insert(peer.address)?;
+        self.addresses = addresses;
+        self.soonest_end = sooner(self.soonest_end, peer.until);
+        self.peers[at] = peer;
+        Ok(())
+    }
+
+    /// Takes away the peer of this number, if there is one; for want of memory the table is as
+    /// before.
+    pub fn remove(&mut self, number: u32) -> Result<(), AllocError>
+        requires { AreApart self.old }
+        ensures ok { OnOk result (self.new ≡ without_peer self.old number) }
+        ensures err { OnErr result (self.new ≡ self.old) }
+    {
+        let Ok(place) = peer_place(&self.peers, number) else {
+            return Ok(());
+        };
+        let peer = &self.peers[place];
+        let (key, address) = (peer.key, peer.address);
+        self.addresses.remove(&address)?;
+        self.numbers.remove(&key);
+        self.peers.remove(place);
+        Ok(())
+    }
+}
+
+impl PeerTable {
     /// The table of these peers, whose numbers rise and of which no two have a key or an address
     /// in common.
     pub fn collect(alloc: Global, peers: Vec<Peer>) -> Result<PeerTable, AllocError>
@@ -129,6 +199,46 @@ impl PeerTable {
             table.push(peer)?;
         }
         Ok(table)
+    }
+
+    /// The table of these peers, if their numbers rise and no two of them have a key or an address
+    /// in common.
+    pub fn of(alloc: Global, peers: Vec<Peer>) -> Result<Option<PeerTable>, AllocError>
+        ensures some { IfOk result (λ made. IfSome made (λ table. table ≡ peers.items)) }
+        ensures exact { IfOk result (λ made. IsSome made ↔ (AreNumbered peers.items × AreApart peers.items)) }
+    {
+        let mut table = PeerTable::new(alloc);
+        for peer in peers {
+            if !table.takes(&peer) {
+                return Ok(None);
+            }
+            table.push(peer)?;
+        }
+        Ok(Some(table))
+    }
+
+    // Whether the peer's number is above all numbers, and its key and its address are no peer's.
+    fn takes(&self, peer: &Peer) -> bool
+        ensures { IsTrue result ↔ (All (λ q. q.number < peer.now.number) self.now × All (λ q. IsApart q peer.now) self.now) }
+    {
+        self.is_below(peer.number) && self.is_apart(peer)
+    }
+
+    // Whether no peer has the key or the address of this one.
+    fn is_apart(&self, peer: &Peer) -> bool
+        ensures { IsTrue result ↔ All (λ q. IsApart q peer.now) self.now }
+    {
+        self.key_holder(&peer.key).is_none() && !self.owns(&peer.address)
+    }
+
+    // Whether all numbers are below this one.
+    fn is_below(&self, number: u32) -> bool
+        ensures { IsTrue result ↔ All (λ q. q.number < number) self.now }
+    {
+        match self.peers.last() {
+            Some(last) => last.number < number,
+            None => true,
+        }
     }
 
     /// The peers that are live at this moment.

@@ -1,8 +1,10 @@
 //! The commands on peers.
-ghost use Rattle.std.specs.Prelude.{◌≡◌, ℕ, ◌+◌, ◌<◌, ◌≤◌, List, [], ◌∷◌, ◌++◌, false, map, IfOk, Option, is_some};
+ghost use Rattle.std.specs.Prelude.{◌≡◌, ◌≤◌, [], false, Some, None, IfSome, option_map};
+ghost use Rattle.wgr_core.specs.Allot.{lower};
 ghost use Rattle.wgr_core.specs.Change.{MeetsLive};
-ghost use Rattle.wgr_core.specs.Network.{lowest_free};
-ghost use Rattle.wgr_core.specs.Outcome.{address_refusal, join_refusal, joined, place, view_of};
+ghost use Rattle.wgr_core.specs.Network.{IsNetwork, lowest_free};
+ghost use Rattle.wgr_core.specs.Peers.{is_own, peer_of};
+ghost use Rattle.wgr_core.specs.Outcome.{address_refusal, join_refusal, joined, move, place, renew, replaced, revoke, vacated};
 
 use crate::change::Change;
 use crate::fault::ActFault;
@@ -13,7 +15,7 @@ use crate::network::Network;
 use crate::peer::Peer;
 use crate::refusal::Refusal;
 use crate::reply::{PeerView, Reply};
-use std::alloc::{AllocError, Global};
+use std::alloc::Global;
 use wgr_text::{Addr, Key};
 
 impl Network {
@@ -39,36 +41,65 @@ impl Network {
         None
     }
 
-    // Why the named address can't be taken.
-    fn address_refusal(&self, address: &Addr) -> Option<Refusal>
-        ensures { result ≡ address_refusal self.now address.now }
+    // Whether a peer other than `mover` has the address.
+    fn is_others(&self, mover: Option<&Peer>, address: &Addr) -> bool
+        requires { IfSome mover (λ p. peer_of self.now.peers p.now.number ≡ Some p.now) }
+        ensures { result ≡ is_own (vacated self.now (option_map (λ p. p.now.number) mover.entry)).peers address.now }
+    {
+        let Some(peer) = mover else {
+            return self.peers.owns(address);
+        };
+        !peer.is_at(address) && self.peers.owns(address)
+    }
+
+    // Why the named address can't be taken by a new peer or by `mover`.
+    fn address_refusal(&self, mover: Option<&Peer>, address: &Addr) -> Option<Refusal>
+        requires { IfSome mover (λ p. peer_of self.now.peers p.now.number ≡ Some p.now) }
+        ensures { result ≡ address_refusal (vacated self.now (option_map (λ p. p.now.number) mover.entry)) address.now }
     {
         if !self.pool().gives(address) {
             return Some(Refusal::OutsidePool);
         }
-        if self.peers.owns(address) || self.is_route_at(address) {
+        if self.is_others(mover, address) || self.is_route_at(address) {
             return Some(Refusal::AddressHeld);
         }
         None
     }
 
-    // The lowest address that is free.
+    // The lowest address that nobody holds.
     fn lowest_free(&self) -> Option<Addr>
-        ensures { result ≡ lowest_free self.now }
+        ensures value { result ≡ lowest_free self.now }
+        ensures rules { IsNetwork self.now }
     {
         lowest_address(&self.pool(), self.peers.addresses(), self.routes())
     }
 
-    // The address that a peer takes: the named one, or the lowest that is free.
-    pub(crate) fn place(&self, wanted: Option<Addr>) -> Result<Addr, Refusal>
-        ensures { result ≡ place self.now wanted }
+    // The lowest address that nobody holds, or that `mover` alone does.
+    fn lowest_for(&self, mover: Option<&Peer>) -> Option<Addr>
+        requires { IfSome mover (λ p. peer_of self.now.peers p.now.number ≡ Some p.now) }
+        ensures { result ≡ lowest_free (vacated self.now (option_map (λ p. p.now.number) mover.entry)) }
+    {
+        let lowest = self.lowest_free();
+        let Some(peer) = mover else {
+            return lowest;
+        };
+        if self.is_routed(&peer.address) {
+            return lowest;
+        }
+        Some(lower(lowest, peer.address))
+    }
+
+    // The address that a new peer or `mover` takes: the named one, or the lowest that is free.
+    pub(crate) fn place(&self, mover: Option<&Peer>, wanted: Option<Addr>) -> Result<Addr, Refusal>
+        requires { IfSome mover (λ p. peer_of self.now.peers p.now.number ≡ Some p.now) }
+        ensures { result ≡ place (vacated self.now (option_map (λ p. p.now.number) mover.entry)) wanted }
     {
         match wanted {
-            Some(address) => match self.address_refusal(&address) {
+            Some(address) => match self.address_refusal(mover, &address) {
                 Some(why) => Err(why),
                 None => Ok(address),
             },
-            None => self.lowest_free().ok_or(Refusal::PoolFull),
+            None => self.lowest_for(mover).ok_or(Refusal::PoolFull),
         }
     }
 
@@ -81,36 +112,104 @@ impl Network {
     ) -> Result<(Reply, Option<Change>), ActFault>
         requires next { peer.number ≡ self.now.next }
         requires left { self.now.next ≤ 1000000 }
-        ensures { MeetsLive false self.now removed result (joined self.now peer) }
+        ensures { MeetsLive false None self.now removed result (joined self.now peer) }
     {
         let view = PeerView {
             peer: peer.copy()?,
             routes: Items::new(alloc),
         };
-        let mut peers = Items::new(alloc);
-        peers.push(peer)?;
-        let change = Change {
-            removed,
-            peers,
-            routes_put: Items::new(alloc),
-            routes_gone: Items::new(alloc),
-            next: self.next() + 1,
-        };
+        let mut change = self.removal(alloc, removed);
+        change.peers.push(peer)?;
+        change.next = self.next() + 1;
         Ok((Reply::Peer(view), Some(change)))
     }
 
-    // Each peer with the routes to it.
-    pub(crate) fn views(&self, alloc: Global) -> Result<Items<PeerView>, AllocError>
-        ensures { IfOk result (λ views. views ≡ map (view_of self.now.routes) self.now.peers) }
+    // The peer's view, and the change by which it takes the place of the one of its number.
+    fn replaced(
+        &self,
+        alloc: Global,
+        peer: Peer,
+        removed: Items<u32>,
+    ) -> Result<(Reply, Option<Change>), ActFault>
+        ensures { MeetsLive false None self.now removed result (replaced self.now peer) }
     {
-        let mut views = Items::new(alloc);
-        for peer in self.peers() {
-            let routes = self.routes_to(alloc, peer.number)?;
-            views.push(PeerView {
-                peer: peer.copy()?,
-                routes,
-            })?;
+        let view = PeerView {
+            peer: peer.copy()?,
+            routes: self.routes_to(alloc, peer.number)?,
+        };
+        let mut change = self.removal(alloc, removed);
+        change.peers.push(peer)?;
+        Ok((Reply::Peer(view), Some(change)))
+    }
+
+    // The peer gets another address.
+    pub(crate) fn moved(
+        &self,
+        alloc: Global,
+        number: u32,
+        wanted: Option<Addr>,
+        removed: Items<u32>,
+    ) -> Result<(Reply, Option<Change>), ActFault>
+        ensures { MeetsLive false None self.now removed result (move self.now number wanted) }
+    {
+        let Some(peer) = self.peers.peer(number) else {
+            return Err(ActFault::Refused(Refusal::NoSuchPeer));
+        };
+        let address = match self.place(Some(peer), wanted) {
+            Ok(address) => address,
+            Err(why) => return Err(ActFault::Refused(why)),
+        };
+        let mut moved = peer.copy()?;
+        moved.address = address;
+        self.replaced(alloc, moved, removed)
+    }
+
+    // The peer and the routes to it go.
+    pub(crate) fn revoked(
+        &self,
+        alloc: Global,
+        number: u32,
+        removed: Items<u32>,
+    ) -> Result<(Reply, Option<Change>), ActFault>
+        ensures { MeetsLive false (Some number) self.now removed result (revoke self.now number) }
+    {
+        if self.peers.peer(number).is_none() {
+            return Err(ActFault::Refused(Refusal::NoSuchPeer));
         }
-        Ok(views)
+        let mut change = self.removal(alloc, removed);
+        change.removed.push(number)?;
+        Ok((Reply::Revoked(number), Some(change)))
+    }
+
+    // The peer's lease ends at another moment.
+    pub(crate) fn renewed(
+        &self,
+        alloc: Global,
+        now: u64,
+        number: u32,
+        until: LeaseEnd,
+        removed: Items<u32>,
+    ) -> Result<(Reply, Option<Change>), ActFault>
+        ensures { MeetsLive false None self.now removed result (renew self.now now number until) }
+    {
+        let Some(peer) = self.peers.peer(number) else {
+            return Err(ActFault::Refused(Refusal::NoSuchPeer));
+        };
+        if until.is_over(now) {
+            return Err(ActFault::Refused(Refusal::LeaseOver));
+        }
+        let mut renewed = peer.copy()?;
+        renewed.until = until;
+        self.replaced(alloc, renewed, removed)
+    }
+}
+
+// The lower of two addresses of one family, where there is a first.
+fn lower(found: Option<Addr>, own: Addr) -> Addr
+    ensures { result ≡ lower found own }
+{
+    match found {
+        Some(address) if address.number() < own.number() => address,
+        _ => own,
     }
 }

@@ -18,6 +18,8 @@ impl fmt::Display for Field {
 /// Why a command is refused, with the fact that it turns on.
 #[derive(Clone, Copy, Debug, Drop, PartialEq, Eq)]
 pub enum Refusal {
+    /// No live peer has the number.
+    NoSuchPeer,
     /// The peer of this number has the key.
     KeyHeld { number: u32 },
     /// The named address is a peer's, or a route at full length.
@@ -30,8 +32,16 @@ pub enum Refusal {
     CapacityReached,
     /// The next number would be above 1,000,000.
     NumbersSpent,
+    /// The prefix is a peer's or the server's address at full length.
+    IsAddress,
+    /// The prefix is no route.
+    NoSuchRoute,
     /// A field isn't of its form.
     BadField { field: Field },
+    /// As many routes stand as a network may have.
+    RoutesFull,
+    /// No allowed prefix has the address.
+    NobodysAddress,
     /// The lease would have ended already.
     LeaseOver,
     /// The key is the server's own.
@@ -42,13 +52,18 @@ impl fmt::Display for Refusal {
     /// The refusal's name, followed by a blank and its fact where it carries one.
     fn fmt<W: fmt::Write>(&self, f: &mut fmt::Formatter<W>) -> fmt::Result {
         match self {
+            Refusal::NoSuchPeer => f.write_str("no_such_peer"),
             Refusal::KeyHeld { number } => write!(f, "key_held {number}"),
             Refusal::AddressHeld => f.write_str("address_held"),
             Refusal::OutsidePool => f.write_str("outside_pool"),
             Refusal::PoolFull => f.write_str("pool_full"),
             Refusal::CapacityReached => f.write_str("capacity_reached"),
             Refusal::NumbersSpent => f.write_str("numbers_spent"),
+            Refusal::IsAddress => f.write_str("is_address"),
+            Refusal::NoSuchRoute => f.write_str("no_such_route"),
             Refusal::BadField { field } => write!(f, "bad_field {field}"),
+            Refusal::RoutesFull => f.write_str("routes_full"),
+            Refusal::NobodysAddress => f.write_str("nobodys_address"),
             Refusal::LeaseOver => f.write_str("lease_over"),
             Refusal::ServerKey => f.write_str("server_key"),
         }

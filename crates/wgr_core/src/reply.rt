@@ -14,6 +14,10 @@ pub struct PeerView {
 pub enum Reply {
     /// The peer after the change.
     Peer(PeerView),
+    /// The number of the peer that went.
+    Revoked(u32),
     /// The live peers by number.
     List(Items<PeerView>),
+    /// The number of the peer that has the address.
+    Owner(u32),
 }

@@ -153,7 +153,7 @@ fn join(alloc: Global, network: &mut Network, key: Key) -> Result<PeerView, ActF
     }
     match reply {
         Reply::Peer(view) => Ok(view),
-        Reply::List(_) => unreachable!(),
+        _ => unreachable!(),
     }
 }
 

@@ -1,11 +1,6 @@
 use super::*;
 use crate::order::{comes_before, drop_route, put_peer, put_route};
-use wgr_text::{Prefix, Span};
-
-fn prefix(text: &str) -> Result<Prefix, Fail> {
-    let (address, length) = read_loose(text.as_bytes()).ok_or("no prefix")?;
-    Ok(Prefix::masked(address, length).ok_or("no mask")?)
-}
+use wgr_text::Span;
 
 #[test]
 fn keeps_limits(rt: HostRuntime) -> Result<(), Fail> {
@@ -61,6 +56,7 @@ fn keeps_limits(rt: HostRuntime) -> Result<(), Fail> {
 #[test]
 fn prints_refusals(rt: HostRuntime) -> Result<(), Fail> {
     for (refusal, text) in [
+        (Refusal::NoSuchPeer, "no_such_peer"),
         (Refusal::KeyHeld { number: 1 }, "key_held 1"),
         (Refusal::KeyHeld { number: 1_000_000 }, "key_held 1000000"),
         (Refusal::AddressHeld, "address_held"),
@@ -68,7 +64,11 @@ fn prints_refusals(rt: HostRuntime) -> Result<(), Fail> {
         (Refusal::PoolFull, "pool_full"),
         (Refusal::CapacityReached, "capacity_reached"),
         (Refusal::NumbersSpent, "numbers_spent"),
+        (Refusal::IsAddress, "is_address"),
+        (Refusal::NoSuchRoute, "no_such_route"),
         (Refusal::BadField { field: Field::Key }, "bad_field key"),
+        (Refusal::RoutesFull, "routes_full"),
+        (Refusal::NobodysAddress, "nobodys_address"),
         (Refusal::LeaseOver, "lease_over"),
         (Refusal::ServerKey, "server_key"),
     ] {

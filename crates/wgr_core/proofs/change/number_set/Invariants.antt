@@ -1,6 +1,6 @@
 use Rattle.std.proofs.Common.{◌≡◌, ℕ, nat_eq, take}
 use Rattle.std.specs.HashSet.{contains}
-use Rattle.wgr_core.specs.Change.{is_among}
+use Rattle.wgr_core.specs.Network.{is_among}
 use Rattle.wgr_core.proofs.change.number_set.Given as goal
 
 abbrev pub invariant-loop-number : goal.invariant-loop-number

@@ -18,7 +18,7 @@ pub returns-then-is_empty-clause-fits : goal.returns-then-is_empty-clause-fits
 returns-then-is_empty-clause-fits c =
     let n = c.args.self.now in
     let is = subst IsNetwork c.self.view_is c.self.invariant in
-    meets_fits n c.act_live.result (outcome_of n c.args.now c.args.command.now) (returns-then-is_empty-clause-outcome c) (outcome_keeps n c.args.now c.args.command.now is)
+    meets_fits n c.act_live.result (outcome_of n c.args.now c.args.command.now) (returns-then-is_empty-clause-outcome c) (outcome_keeps n c.args.now c.args.command.now is c.tell_asked.ensures)
 
 pub returns-clause-outcome : goal.returns-clause-outcome
 returns-clause-outcome c =
@@ -31,4 +31,4 @@ pub returns-clause-fits : goal.returns-clause-fits
 returns-clause-fits c =
     let n = c.args.self.now in
     let is = subst IsNetwork c.self.view_is c.self.invariant in
-    meets_fits n c.act_live-3.result (outcome_of n c.args.now c.args.command.now) (returns-clause-outcome c) (outcome_keeps n c.args.now c.args.command.now is)
+    meets_fits n c.act_live-3.result (outcome_of n c.args.now c.args.command.now) (returns-clause-outcome c) (outcome_keeps n c.args.now c.args.command.now is c.tell_asked.ensures)

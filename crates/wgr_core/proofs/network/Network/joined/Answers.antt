@@ -1,9 +1,10 @@
-use Rattle.std.proofs.Common.{◌≡◌, ℕ, ◌<◌, ◌+◌, List, [], ◌∷◌, ◌++◌, refl, sym, ◌∙◌, ap, arith}
+use Rattle.std.proofs.Common.{◌≡◌, ℕ, ◌<◌, ◌+◌, List, [], ◌∷◌, ◌++◌, sym, ◌∙◌, ap, arith}
 use Rattle.std.specs.List.{All}
 use Rattle.wgr_text.specs.Prefix.{PrefixValue}
 use Rattle.wgr_core.specs.declared.peer.Peer.{Peer}
+use Rattle.wgr_core.specs.declared.change.Change.{Change}
 use Rattle.wgr_core.specs.declared.reply.Reply.TheVariants as reply
-use Rattle.wgr_core.specs.Routes.{Routes, routes_to}
+use Rattle.wgr_core.specs.Routes.{routes_to}
 use Rattle.wgr_core.specs.Change.{put_peers, assign_routes, without_routes}
 use Rattle.wgr_core.proofs.CommandLemmas.{put_peer_above, none_to_next}
 use Rattle.wgr_core.proofs.network.Network.joined.Goals as goal
@@ -13,16 +14,16 @@ returns c =
     let n = c.args.self.now in
     let p = c.args.peer in
     let is = c.next.ensures.rules in
+    let begun = c.removal-change.ensures in
     let none : routes_to n.routes p.number ≡ [] = ap (routes_to n.routes) c.requires.next ∙ none_to_next n is in
     let above : All (λ q. q.number < p.number) n.peers = λ k d h. omega (arith, (is.members k d h).numbered.1, c.requires.next) in
-    let one : c.push.new.self ≡ p ∷ [] = c.in_ok-push.ensures.ok ∙ ap (λ (ps : List Peer). ps ++ p ∷ []) c.new-peers.ensures in (
+    let one : c.push.new.self ≡ p ∷ [] = c.in_ok-push.ensures.ok ∙ ap (λ (change : Change). change.peers ++ p ∷ []) begun in (
       ap (λ (q : Peer). reply.Peer (record { peer = q; routes = c.new.result })) c.in_ok-copy.ensures ∙ ap (λ (rs : List PrefixValue). reply.Peer (record { peer = p; routes = rs })) (c.new.ensures ∙ sym none),
       (
-        refl,
-        ap (λ (m : ℕ). record n { next = m; peers = put_peers n.peers c.push.new.self; routes = assign_routes (without_routes n.routes c.new-3.result) c.new-2.result }) (ap (λ (m : ℕ). m + 1) c.next.ensures.value)
-            ∙ ap (λ (ps : List Peer). record n { next = n.next + 1; peers = put_peers n.peers ps; routes = assign_routes (without_routes n.routes c.new-3.result) c.new-2.result }) one
-            ∙ ap (λ (ps : List Peer). record n { next = n.next + 1; peers = ps; routes = assign_routes (without_routes n.routes c.new-3.result) c.new-2.result }) (put_peer_above n.peers p above)
-            ∙ ap (λ (gone : List PrefixValue). record n { next = n.next + 1; peers = n.peers ++ p ∷ []; routes = assign_routes (without_routes n.routes gone) c.new-2.result }) c.new-3.ensures
-            ∙ ap (λ (put : Routes). record n { next = n.next + 1; peers = n.peers ++ p ∷ []; routes = assign_routes n.routes put }) c.new-2.ensures,
+        ap (λ (change : Change). change.removed) begun,
+        ap (λ (change : Change). record n { next = c.next.result + 1; peers = put_peers n.peers c.push.new.self; routes = assign_routes (without_routes n.routes change.routes_gone) change.routes_put }) begun
+            ∙ ap (λ (m : ℕ). record n { next = m + 1; peers = put_peers n.peers c.push.new.self }) c.next.ensures.value
+            ∙ ap (λ (ps : List Peer). record n { next = n.next + 1; peers = put_peers n.peers ps }) one
+            ∙ ap (λ (ps : List Peer). record n { next = n.next + 1; peers = ps }) (put_peer_above n.peers p above),
       ),
     )

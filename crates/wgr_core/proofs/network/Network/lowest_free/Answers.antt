@@ -6,8 +6,8 @@ use Rattle.wgr_core.specs.Network.{NetworkValue, is_held}
 use Rattle.wgr_core.proofs.CommandLemmas.{held_iff}
 use Rattle.wgr_core.proofs.network.Network.lowest_free.Goals as goal
 
-pub returns : goal.returns
-returns c =
+pub returns-clause-value : goal.returns-clause-value
+returns-clause-value c =
     let n = c.args.self.now in
     let found = rw (c.pool.ensures.value, c.routes.ensures) at c.lowest_address.ensures in
     let owners = ap (λ (n : NetworkValue). n.peers) c.self.view_is in

@@ -2,5 +2,5 @@ use Rattle.std.proofs.Common.{◌≡◌, take, map}
 use Rattle.wgr_core.specs.Outcome.{view_of}
 use Rattle.wgr_core.proofs.network.Network.views.Given as goal
 
-abbrev pub invariant-loop-peer : goal.invariant-loop-peer
-invariant-loop-peer l = (l.views ≡ map (view_of l.self.routes) (take l.peer-index l.peer-items)) × (l.peer-items ≡ l.self.peers)
+abbrev pub invariant-loop-route : goal.invariant-loop-route
+invariant-loop-route l = (l.views.items ≡ map (view_of (take l.route-index l.route-items)) l.self.peers) × (l.route-items ≡ l.self.routes)

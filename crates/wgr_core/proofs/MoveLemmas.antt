@@ -1,0 +1,216 @@
+-- A peer that moves: the network in which it holds no address.
+use Rattle.std.proofs.Common.{◌≡◌, ℕ, zero, suc, ◌+◌, ◌-◌, ◌<◌, ◌≤◌, inl, inr, Bool, true, false, not, ◌&&◌, ◌||◌, cond, nat_eq, nat_lt, List, [], ◌∷◌, get_or, Option, Some, None, refl, sym, ap, ◌∙◌, subst, arith}
+use Rattle.std.specs.List.{All}
+use Rattle.std.specs.Prelude.{Result}
+use Rattle.std.proofs.lemmas.Bool.{cases_lt}
+use Rattle.std.proofs.lemmas.Bool.Decides.{nat_tests}
+use Rattle.std.proofs.lemmas.List.Folds.{list_any_none}
+use Rattle.wgr_text.specs.declared.addr.Family.{Family}
+use Rattle.wgr_text.specs.Prefix.{AddrValue, block}
+use Rattle.wgr_core.specs.declared.peer.Peer.{Peer}
+use Rattle.wgr_core.specs.declared.refusal.Refusal.{Refusal}
+use Rattle.wgr_core.specs.PrefixTests.{same_address, has}
+use Rattle.wgr_core.specs.Pool.{reserved}
+use Rattle.wgr_core.specs.Allot.{is_assignable, first_from, lower}
+use Rattle.wgr_core.specs.Peers.{is_own, peer_of, without_peer, IsNumberedBelow, IsApart, AreNumbered, AreApart}
+use Rattle.wgr_core.specs.HeldSpans.{is_routed}
+use Rattle.wgr_core.specs.Network.{NetworkValue, IsNetwork, IsMember, is_held, lowest_free}
+use Rattle.wgr_core.specs.Outcome.{at_place, if_stands, move, place, replaced, vacated}
+use Rattle.wgr_core.proofs.Lists.{AllPairs-head, AllPairs-tail, filter_each}
+use Rattle.wgr_core.proofs.Bools.{decide, and_true, or_left, or_right}
+use Rattle.wgr_core.proofs.ReplaceLemmas.{peer_is, peer_number}
+use Rattle.wgr_core.proofs.PrefixLemmas.{same_address_is, same_address_self, same_family_is}
+
+-- ---- an address without the peer that moves
+
+above_not : (m n : ℕ) → m < n → not (nat_eq n m) ≡ true
+above_not m n l = grind (arith, nat_tests)
+
+-- addresses that are not the same leave no third that is both
+apart_from : (q p a : AddrValue) → same_address q p ≡ false → same_address p a ≡ true → same_address q a ≡ false
+apart_from q p a apart same = subst (λ x. same_address q x ≡ false) (same_address_is p a same) apart
+
+apart_too : (q r a : AddrValue) → same_address q r ≡ false → same_address q a ≡ true → same_address r a ≡ false
+apart_too q r a apart same = elim (decide (same_address r a)) [
+  | inr f ↦ f
+  | inl t ↦
+      let one = same_address_is q a same in
+      let other = same_address_is r a t in
+      let bad : true ≡ false = sym (same_address_self q) ∙ ap (same_address q) (one ∙ sym other) ∙ apart in cc
+]
+
+-- who owns an address without the peer: the others do
+pub own_without : (peers : List Peer) (number : ℕ) (p : Peer) (a : AddrValue) → AreNumbered peers → AreApart peers → peer_of peers number ≡ Some p
+    → is_own (without_peer peers number) a ≡ cond (same_address p.address a) false (is_own peers a)
+own_without [] number p a numbered apart h = cc
+own_without (q ∷ peers) number p a numbered apart h = by (nat_eq q.number number) refl h (λ rest. own_without peers number p a (AllPairs-tail IsNumberedBelow q peers numbered) (AllPairs-tail IsApart q peers apart) rest)
+  where
+    others : All (IsApart q) peers
+    others = AllPairs-head IsApart q peers apart
+
+    goal : Bool → Type 0
+    goal b = is_own (cond (not b) (q ∷ without_peer peers number) (without_peer peers number)) a ≡ cond (same_address p.address a) false (same_address q.address a || is_own peers a)
+
+    here : nat_eq q.number number ≡ true → q ≡ p → goal true
+    here n e =
+        let is : q.number ≡ number = grind (arith, nat_tests) in
+        let kept : without_peer peers number ≡ peers = filter_each (λ (r : Peer). not (nat_eq r.number number)) peers (λ k d l. subst (λ m. not (nat_eq (get_or peers k d).number m) ≡ true) is (above_not q.number (get_or peers k d).number (AllPairs-head IsNumberedBelow q peers numbered k d l))) in
+        ap (λ ps. is_own ps a) kept ∙ mine (same_address q.address a) refl ∙ ap (λ (r : Peer). cond (same_address r.address a) false (same_address q.address a || is_own peers a)) e
+      where
+        mine : (b : Bool) → same_address q.address a ≡ b → is_own peers a ≡ cond (same_address q.address a) false (same_address q.address a || is_own peers a)
+        mine true s = list_any_none (λ (r : Peer). same_address r.address a) peers (λ k d l. apart_too q.address (get_or peers k d).address a (others k d l).1 s) ∙ sym (ap (λ b. cond b false (b || is_own peers a)) s)
+        mine false s = sym (ap (λ b. cond b false (b || is_own peers a)) s)
+
+    later : peer_of peers number ≡ Some p → is_own (without_peer peers number) a ≡ cond (same_address p.address a) false (is_own peers a) → goal false
+    later h rest =
+        ap (λ b. same_address q.address a || b) rest
+        ∙ mine (same_address p.address a) refl
+      where
+        mine : (b : Bool) → same_address p.address a ≡ b → same_address q.address a || cond (same_address p.address a) false (is_own peers a) ≡ cond (same_address p.address a) false (same_address q.address a || is_own peers a)
+        mine true s =
+            let not_q = apart_from q.address p.address a (peer_is (IsApart q) peers number p others h).0.1 s in
+            ap (λ b. same_address q.address a || cond b false (is_own peers a)) s ∙ ap (λ b. b || false) not_q ∙ sym (ap (λ b. cond b false (same_address q.address a || is_own peers a)) s)
+        mine false s = ap (λ b. same_address q.address a || cond b false (is_own peers a)) s ∙ sym (ap (λ b. cond b false (same_address q.address a || is_own peers a)) s)
+
+    by : (b : Bool) → nat_eq q.number number ≡ b → cond b (Some q) (peer_of peers number) ≡ Some p → (peer_of peers number ≡ Some p → is_own (without_peer peers number) a ≡ cond (same_address p.address a) false (is_own peers a)) → goal b
+    by true n h rest = here n (let e : q ≡ p = cc in e)
+    by false n h rest = later h (rest h)
+
+-- an address is held without the peer: by a route where it is the peer's own, and else as before
+pub held_without : (n : NetworkValue) (number : ℕ) (p : Peer) (a : AddrValue) → IsNetwork n → peer_of n.peers number ≡ Some p
+    → is_held (vacated n (Some number)) a ≡ cond (same_address p.address a) (is_routed n.pool n.routes a) (is_held n a)
+held_without n number p a is h =
+    ap (λ b. b || is_routed n.pool n.routes a) (own_without n.peers number p a is.numbered is.apart h) ∙ split (same_address p.address a)
+  where
+    split : (b : Bool) → cond b false (is_own n.peers a) || is_routed n.pool n.routes a ≡ cond b (is_routed n.pool n.routes a) (is_own n.peers a || is_routed n.pool n.routes a)
+    split true = refl
+    split false = refl
+
+-- the outcome of a move, from the peer and the place that it takes
+pub move_by : (n : NetworkValue) (number : ℕ) (p : Peer) (wanted : Option AddrValue) (at : Result AddrValue Refusal) → peer_of n.peers number ≡ Some p → place (vacated n (Some p.number)) wanted ≡ at
+    → move n number wanted ≡ at_place at (λ a. replaced n (record p { address = a }))
+move_by n number p wanted at found placed =
+    ap (λ o. if_stands o (λ q. at_place (place (vacated n (Some number)) wanted) (λ a. replaced n (record q { address = a })))) found
+    ∙ ap (λ m. at_place (place (vacated n (Some m)) wanted) (λ a. replaced n (record p { address = a }))) (sym (peer_number n.peers number p found))
+    ∙ ap (λ r. at_place r (λ a. replaced n (record p { address = a }))) placed
+
+-- ---- the search with one more address that passes
+
+searched : Family → (AddrValue → Bool) → ℕ → ℕ → Bool → Option AddrValue
+searched f passes start count b = elim b as (λ _. Option AddrValue) [ true ↦ Some (record { family = f; number = start }) | false ↦ first_from f passes (start + 1) count ]
+
+pub first_agrees : (f : Family) (p q : AddrValue → Bool) (start count : ℕ) → ((a : AddrValue) → p a ≡ q a) → first_from f p start count ≡ first_from f q start count
+first_agrees f p q start zero same = refl
+first_agrees f p q start (suc count) same =
+    ap (λ b. elim b as (λ _. Option AddrValue) [ true ↦ Some (record { family = f; number = start }) | false ↦ first_from f p (start + 1) count ]) (same (record { family = f; number = start }))
+    ∙ ap (λ o. elim (q (record { family = f; number = start })) as (λ _. Option AddrValue) [ true ↦ Some (record { family = f; number = start }) | false ↦ o ]) (first_agrees f p q (start + 1) count same)
+
+-- what a search finds lies at its start or above
+first_above : (f : Family) (p : AddrValue → Bool) (start count : ℕ) (a : AddrValue) → first_from f p start count ≡ Some a → start ≤ a.number
+first_above f p start zero a h = cc
+first_above f p start (suc count) a h = by (p (record { family = f; number = start })) (λ rest. first_above f p (start + 1) count a rest) h
+  where
+    by : (b : Bool) → (first_from f p (start + 1) count ≡ Some a → start + 1 ≤ a.number) → (elim b as (λ _. Option AddrValue) [ true ↦ Some (record { family = f; number = start }) | false ↦ first_from f p (start + 1) count ]) ≡ Some a → start ≤ a.number
+    by true later h = let e : record { family = f; number = start } ≡ a = cc in let same = ap (λ (x : AddrValue). x.number) e in omega (arith, same)
+    by false later h = let l = later h in omega (arith, l)
+
+lower_than : (o : Option AddrValue) (b : AddrValue) → ((a : AddrValue) → o ≡ Some a → b.number < a.number) → lower o b ≡ b
+lower_than None b above = refl
+lower_than (Some a) b above = ap (λ t. cond t a b) (past a.number b.number (above a refl))
+  where
+    past : (m n : ℕ) → n < m → nat_lt m n ≡ false
+    past m n l = grind (arith, nat_tests)
+
+pub first_with : (f : Family) (p q : AddrValue → Bool) (b : AddrValue) (start count : ℕ) → f ≡ b.family → start ≤ b.number → b.number < start + count
+    → q b ≡ true → p b ≡ false → ((a : AddrValue) → same_address b a ≡ false → q a ≡ p a) → first_from f q start count ≡ Some (lower (first_from f p start count) b)
+first_with f p q b start zero family from to hit miss same = absurd (omega (arith, from, to))
+first_with f p q b start (suc count) family from to hit miss same = elim (cases_lt start b.number) [
+  | inl l ↦ before l (p (record { family = f; number = start })) refl (first_with f p q b (start + 1) count family (omega (arith, l)) (omega (arith, to)) hit miss same)
+  | inr g ↦ here (omega (arith, from, g))
+]
+  where
+    step : (AddrValue → Bool) → Bool → Option AddrValue
+    step passes t = elim t as (λ _. Option AddrValue) [ true ↦ Some (record { family = f; number = start }) | false ↦ first_from f passes (start + 1) count ]
+
+    less : (m n : ℕ) → m < n → nat_lt m n ≡ true
+    less m n l = grind (arith, nat_tests)
+
+    elsewhere : (b : AddrValue) (m : ℕ) (g : Family) → m < b.number → same_address b (record { family = g; number = m }) ≡ false
+    elsewhere b m g l = elim (decide (same_address b (record { family = g; number = m }))) [
+      | inr f ↦ f
+      | inl t ↦ let same = ap (λ (x : AddrValue). x.number) (same_address_is b (record { family = g; number = m }) t) in absurd (omega (arith, l, same))
+    ]
+
+    here : b.number ≡ start → first_from f q start (suc count) ≡ Some (lower (first_from f p start (suc count)) b)
+    here e =
+        let is : b ≡ record { family = f; number = start } = ap (λ g. record { family = g; number = b.number }) (sym family) ∙ ap (λ m. record { family = f; number = m }) e in
+        let found = ap (step q) (subst (λ a. q a ≡ true) is hit) in
+        let skipped = ap (step p) (subst (λ a. p a ≡ false) is miss) in
+        found ∙ ap (λ a. Some a) (sym is) ∙ sym (ap (λ o. Some (lower o b)) skipped ∙ ap (λ a. Some a) (lower_than (first_from f p (start + 1) count) b (λ a h. let later = first_above f p (start + 1) count a h in omega (arith, later, e))))
+
+    before : start < b.number → (t : Bool) → p (record { family = f; number = start }) ≡ t → first_from f q (start + 1) count ≡ Some (lower (first_from f p (start + 1) count) b) → first_from f q start (suc count) ≡ Some (lower (first_from f p start (suc count)) b)
+    before l true t later =
+        let alike = ap (step q) (same (record { family = f; number = start }) (elsewhere b start f l) ∙ t) in
+        alike ∙ sym (ap (λ o. Some (lower o b)) (ap (step p) t) ∙ ap (λ s. Some (cond s (record { family = f; number = start }) b)) (less start b.number l))
+    before l false t later =
+        let alike = ap (step q) (same (record { family = f; number = start }) (elsewhere b start f l) ∙ t) in
+        alike ∙ later ∙ sym (ap (λ o. Some (lower o b)) (ap (step p) t))
+
+-- ---- the lowest address for a peer that moves
+
+own_of : (peers : List Peer) (number : ℕ) (p : Peer) → peer_of peers number ≡ Some p → is_own peers p.address ≡ true
+own_of [] number p h = cc
+own_of (q ∷ peers) number p h = by (nat_eq q.number number) (λ rest. own_of peers number p rest) h
+  where
+    by : (b : Bool) → (peer_of peers number ≡ Some p → is_own peers p.address ≡ true) → cond b (Some q) (peer_of peers number) ≡ Some p → same_address q.address p.address || is_own peers p.address ≡ true
+    by true later h = let e : q ≡ p = cc in or_left (same_address q.address p.address) (is_own peers p.address) (subst (λ (r : Peer). same_address r.address p.address ≡ true) (sym e) (same_address_self p.address))
+    by false later h = or_right (same_address q.address p.address) (is_own peers p.address) (later h)
+
+-- a peer's address is one of the pool's
+pub own_in_pool : (n : NetworkValue) (p : Peer) → IsNetwork n → peer_of n.peers p.number ≡ Some p → has n.pool p.address ≡ true
+own_in_pool n p is h = (and_true (has n.pool p.address) _ (and_true _ _ (peer_is (IsMember n) n.peers p.number p is.members h).0.assignable).0).0
+
+-- where a route has the peer's address too, it stays held
+pub lowest_where_routed : (n : NetworkValue) (number : ℕ) (p : Peer) → IsNetwork n → peer_of n.peers number ≡ Some p → is_routed n.pool n.routes p.address ≡ true
+    → lowest_free (vacated n (Some number)) ≡ lowest_free n
+lowest_where_routed n number p is h routed =
+    first_agrees n.pool.address.family _ _ n.pool.address.number (block n.pool.address.family n.pool.length) (λ a. ap (λ b. is_assignable n.pool a && not b) (held_without n number p a is h ∙ alike a (same_address p.address a) refl))
+  where
+    alike : (a : AddrValue) (b : Bool) → same_address p.address a ≡ b → cond (same_address p.address a) (is_routed n.pool n.routes a) (is_held n a) ≡ is_held n a
+    alike a true s =
+        let here : is_routed n.pool n.routes a ≡ true = subst (λ x. is_routed n.pool n.routes x ≡ true) (same_address_is p.address a s) routed in
+        ap (λ b. cond b (is_routed n.pool n.routes a) (is_held n a)) s ∙ here ∙ sym (or_right (is_own n.peers a) (is_routed n.pool n.routes a) here)
+    alike a false s = ap (λ b. cond b (is_routed n.pool n.routes a) (is_held n a)) s
+
+-- else it is free for the peer, which takes it where none below it is
+pub lowest_where_unrouted : (n : NetworkValue) (number : ℕ) (p : Peer) → IsNetwork n → peer_of n.peers number ≡ Some p → is_routed n.pool n.routes p.address ≡ false
+    → lowest_free (vacated n (Some number)) ≡ Some (lower (lowest_free n) p.address)
+lowest_where_unrouted n number p is h unrouted =
+    first_with n.pool.address.family (λ a. is_assignable n.pool a && not (is_held n a)) (λ a. is_assignable n.pool a && not (is_held (vacated n (Some number)) a)) p.address n.pool.address.number (block n.pool.address.family n.pool.length)
+    (same_family_is n.pool.address.family p.address.family (and_true _ _ both.0).0)
+    (within_from p.address.number n.pool.address.number (and_true (has n.pool p.address) _ parts.0).1)
+    (within_to p.address.number n.pool.address.number (block n.pool.address.family n.pool.length) (reserved n.pool.address.family) parts.1)
+    (ap (λ b. b && not (is_held (vacated n (Some number)) p.address)) given ∙ ap not freed)
+    (ap (λ b. b && not (is_held n p.address)) given ∙ ap not held)
+    (λ a apart. ap (λ b. is_assignable n.pool a && not b) (held_without n number p a is h ∙ ap (λ b. cond b (is_routed n.pool n.routes a) (is_held n a)) apart))
+  where
+    given : is_assignable n.pool p.address ≡ true
+    given = (peer_is (IsMember n) n.peers number p is.members h).0.assignable
+
+    parts : (has n.pool p.address && not (nat_lt p.address.number (n.pool.address.number + 2)) ≡ true) × (nat_lt p.address.number (n.pool.address.number + block n.pool.address.family n.pool.length - reserved n.pool.address.family) ≡ true)
+    parts = and_true _ _ given
+
+    both : (has n.pool p.address ≡ true) × (not (nat_lt p.address.number (n.pool.address.number + 2)) ≡ true)
+    both = and_true _ _ parts.0
+
+    freed : is_held (vacated n (Some number)) p.address ≡ false
+    freed = held_without n number p p.address is h ∙ ap (λ b. cond b (is_routed n.pool n.routes p.address) (is_held n p.address)) (same_address_self p.address) ∙ unrouted
+
+    held : is_held n p.address ≡ true
+    held = or_left (is_own n.peers p.address) (is_routed n.pool n.routes p.address) (own_of n.peers number p h)
+
+    within_from : (a s : ℕ) → not (nat_lt a (s + 2)) ≡ true → s ≤ a
+    within_from a s h = grind (arith, nat_tests)
+
+    within_to : (a s size last : ℕ) → nat_lt a (s + size - last) ≡ true → a < s + size
+    within_to a s size last h = grind (arith, nat_tests)

@@ -1,0 +1,183 @@
+-- A peer in place of the one of its number leaves a network that keeps the rules.
+use Rattle.std.proofs.Common.{◌≡◌, ℕ, ◌<◌, ◌≤◌, inl, inr, true, false, ◌&&◌, ◌||◌, cond, nat_eq, nat_lt, List, [], ◌∷◌, get_or, map, Some, is_some, refl, sym, ap, ◌∙◌, subst, arith}
+use Rattle.std.proofs.lemmas.Cmp.{nat_eq_equiv, nat_list_eq_equiv}
+use Rattle.std.specs.List.{All, list_any}
+use Rattle.std.proofs.lemmas.Bool.Decides.{nat_tests}
+use Rattle.std.proofs.lemmas.List.{length-map}
+use Rattle.std.proofs.lemmas.List.Elements.{All-cons, All-head, All-tail, All-map}
+use Rattle.std.proofs.lemmas.List.Folds.{list_any_none}
+use Rattle.wgr_text.specs.declared.addr.Family.{Family}
+use Rattle.wgr_text.specs.declared.addr.Family.TheVariants.{V4, V6}
+use Rattle.wgr_text.specs.Prefix.{AddrValue}
+use Rattle.wgr_core.specs.declared.peer.Peer.{Peer}
+use Rattle.wgr_core.specs.PrefixTests.{same_address, same_family, same_prefix, full}
+use Rattle.wgr_core.specs.Allot.{is_assignable}
+use Rattle.wgr_core.specs.Peers.{peer_of, put_peer, same_key, IsNumberedBelow, IsApart, AreApart, AreNumbered}
+use Rattle.wgr_core.specs.Network.{NetworkValue, IsNetwork, IsMember, server_address}
+use Rattle.wgr_core.proofs.Lists.{AllPairs-head, AllPairs-tail, list_any-none}
+use Rattle.wgr_core.proofs.Bools.{decide, or_false}
+use Rattle.wgr_core.proofs.PrefixLemmas.{nat_eq_is}
+use Rattle.wgr_core.proofs.PlaceLemmas.{below_test}
+use Rattle.wgr_core.proofs.PutLemmas.{swapped, put_is_map, map_pairs}
+
+-- ---- the peer that stands at a number
+
+pub peer_is : (P : Peer → Type 0) (peers : List Peer) (i : ℕ) (p : Peer) → All P peers → peer_of peers i ≡ Some p → P p × (p.number ≡ i)
+peer_is P [] i p all found = cc
+peer_is P (q ∷ peers) i p all found = elim (decide (nat_eq q.number i)) [
+  | inl here ↦
+      let some : Some q ≡ Some p = sym (ap (λ b. cond b (Some q) (peer_of peers i)) here) ∙ found in
+      let is : q ≡ p = cc in
+      (subst P is (All-head P q peers all), ap (λ (p : Peer). p.number) (sym is) ∙ nat_eq_is q.number i here)
+  | inr apart ↦ peer_is P peers i p (All-tail P q peers all) (sym (ap (λ b. cond b (Some q) (peer_of peers i)) apart) ∙ found)
+]
+
+pub peer_number : (peers : List Peer) (i : ℕ) (p : Peer) → peer_of peers i ≡ Some p → p.number ≡ i
+peer_number peers i p h = (peer_is (λ q. Unit {0}) peers i p (λ k d l. tt) h).1
+
+pub some_stands : (peers : List Peer) (i : ℕ) → is_some (peer_of peers i) ≡ true → list_any (λ p. nat_eq p.number i) peers ≡ true
+some_stands [] i h = cc
+some_stands (p ∷ peers) i h =
+    elim (nat_eq p.number i) as (λ b. is_some (cond b (Some p) (peer_of peers i)) ≡ true → (b || list_any (λ (p : Peer). nat_eq p.number i) peers) ≡ true) [
+      | true ↦ (λ h. refl)
+      | false ↦ (λ h. some_stands peers i h)
+    ] h
+
+-- ---- two peers are apart either way
+
+same_address_turn : (a b : AddrValue) → same_address a b ≡ same_address b a
+same_address_turn a b =
+    ap (λ s. s && nat_eq a.number b.number) (same_family_turn a.family b.family) ∙ ap (λ s. same_family b.family a.family && s) (nat_eq_turn a.number b.number)
+  where
+    same_family_turn : (f g : Family) → same_family f g ≡ same_family g f
+    same_family_turn V4 V4 = refl
+    same_family_turn V4 V6 = refl
+    same_family_turn V6 V4 = refl
+    same_family_turn V6 V6 = refl
+
+    nat_eq_turn : (x y : ℕ) → nat_eq x y ≡ nat_eq y x
+    nat_eq_turn x y = nat_eq_equiv.symm x y
+
+pub apart_turn : (p q : Peer) → IsApart p q → IsApart q p
+apart_turn p q is = (nat_list_eq_equiv.symm q.key.0 p.key.0 ∙ is.0, same_address_turn q.address p.address ∙ is.1)
+
+-- each peer of another number is apart from the one at this number
+pub others_apart : (peers : List Peer) (i : ℕ) (p : Peer) → AreApart peers → peer_of peers i ≡ Some p → All (λ e. nat_eq e.number i ≡ false → IsApart e p) peers
+others_apart [] i p pairs found = cc
+others_apart (q ∷ peers) i p pairs found =
+    let first = AllPairs-head IsApart q peers pairs in
+    elim (decide (nat_eq q.number i)) [
+      | inl here ↦
+          let some : Some q ≡ Some p = sym (ap (λ b. cond b (Some q) (peer_of peers i)) here) ∙ found in
+          let is : q ≡ p = cc in
+          All-cons (λ e. nat_eq e.number i ≡ false → IsApart e p) q peers (λ apart. let bad : true ≡ false = sym here ∙ apart in cc)
+          (λ k d h other. subst (IsApart (get_or peers k d)) is (apart_turn q (get_or peers k d) (first k d h)))
+      | inr apart ↦
+          let later = sym (ap (λ b. cond b (Some q) (peer_of peers i)) apart) ∙ found in
+          All-cons (λ e. nat_eq e.number i ≡ false → IsApart e p) q peers (λ other. (peer_is (IsApart q) peers i p first later).0)
+          (others_apart peers i p (AllPairs-tail IsApart q peers pairs) later)
+    ]
+
+-- ---- the peers with another in the place
+
+-- the peer in the place of the one of its number
+abbrev pub renewed : Peer → Peer → Peer
+renewed q = swapped (λ e. nat_eq e.number q.number) q
+
+not_below : (m n : ℕ) → nat_eq m n ≡ true → nat_lt m n ≡ false
+not_below m n h = grind (arith, nat_tests)
+
+pub put_stands : (peers : List Peer) (q : Peer) → AreNumbered peers → is_some (peer_of peers q.number) ≡ true → put_peer peers q ≡ map (renewed q) peers
+put_stands peers q pairs some =
+    put_is_map IsNumberedBelow (λ e. nat_lt e.number q.number) (λ e. nat_eq e.number q.number) peers q pairs
+    (λ y h. not_below y.number q.number h)
+    (λ y z l h. below_test y.number q.number (subst (λ (m : ℕ). y.number < m) (nat_eq_is z.number q.number h) l))
+    (some_stands peers q.number some)
+
+renewed_number : (q e : Peer) → (renewed q e).number ≡ e.number
+renewed_number q e =
+    elim (decide (nat_eq e.number q.number)) [
+      | inl here ↦ ap (λ b. (cond b q e).number) here ∙ sym (nat_eq_is e.number q.number here)
+      | inr apart ↦ ap (λ b. (cond b q e).number) apart
+    ]
+
+-- whether a peer stands at a number is as it was
+pub renewed_stands : (q : Peer) (peers : List Peer) (i : ℕ) → is_some (peer_of (map (renewed q) peers) i) ≡ is_some (peer_of peers i)
+renewed_stands q [] i = refl
+renewed_stands q (e ∷ peers) i =
+    ap (λ (m : ℕ). is_some (cond (nat_eq m i) (Some (renewed q e)) (peer_of (map (renewed q) peers) i))) (renewed_number q e)
+    ∙ elim (nat_eq e.number i) as (λ b. is_some (cond b (Some (renewed q e)) (peer_of (map (renewed q) peers) i)) ≡ is_some (cond b (Some e) (peer_of peers i))) [
+      | true ↦ refl
+      | false ↦ renewed_stands q peers i
+    ]
+
+-- what holds of each peer and of the new one
+pub renewed_all : (P : Peer → Type 0) (q : Peer) (peers : List Peer) → All P peers → P q → All P (map (renewed q) peers)
+renewed_all P q peers all here = All-map P (renewed q) peers (λ k d h. elim (nat_eq (get_or peers k d).number q.number) as (λ b. P (cond b q (get_or peers k d))) [ true ↦ here | false ↦ all k d h ])
+
+renewed_numbered : (q : Peer) (peers : List Peer) → AreNumbered peers → AreNumbered (map (renewed q) peers)
+renewed_numbered q peers pairs =
+    map_pairs (renewed q) IsNumberedBelow peers (λ i j d l h. subst (λ (m : ℕ). m < (renewed q (get_or peers j d)).number) (sym (renewed_number q (get_or peers i d))) (subst (λ (m : ℕ). (get_or peers i d).number < m) (sym (renewed_number q (get_or peers j d))) (pairs i j d l h)))
+
+renewed_apart : (q : Peer) (peers : List Peer) → AreNumbered peers → AreApart peers → All (λ e. nat_eq e.number q.number ≡ false → IsApart e q) peers → AreApart (map (renewed q) peers)
+renewed_apart q peers numbered pairs others =
+    map_pairs (renewed q) IsApart peers (λ i j d l h. two (get_or peers i d) (get_or peers j d) (numbered i j d l h) (pairs i j d l h) (others i d (omega (arith, l, h))) (others j d h))
+  where
+    behind : (m n k : ℕ) → m < n → nat_eq m k ≡ true → nat_eq n k ≡ false
+    behind m n k l h = grind (arith, nat_tests)
+
+    two : (y z : Peer) → y.number < z.number → IsApart y z → (nat_eq y.number q.number ≡ false → IsApart y q) → (nat_eq z.number q.number ≡ false → IsApart z q) → IsApart (renewed q y) (renewed q z)
+    two y z l is of_y of_z = elim (decide (nat_eq y.number q.number)) [
+      | inl here ↦
+          let apart = behind y.number z.number q.number l here in
+          subst (λ b. IsApart (cond b q y) (renewed q z)) (sym here) (subst (λ b. IsApart q (cond b q z)) (sym apart) (apart_turn z q (of_z apart)))
+      | inr apart ↦
+          subst (λ b. IsApart (cond b q y) (renewed q z)) (sym apart)
+          (elim (nat_eq z.number q.number) as (λ b. IsApart y (cond b q z)) [ true ↦ of_y apart | false ↦ is ])
+    ]
+
+-- ---- the network with another peer in the place
+
+-- what a peer needs to stand in the place of the one of its number
+pub record MayReplace (n : NetworkValue) (p q : Peer) : Type 0 where
+  pub stands : peer_of n.peers q.number ≡ Some p
+  pub key : q.key ≡ p.key
+  pub assignable : is_assignable n.pool q.address ≡ true
+  pub unowned : All (λ e. nat_eq e.number q.number ≡ false → same_address e.address q.address ≡ false) n.peers
+  pub no_route : All (λ r. same_prefix r.0 (full q.address) ≡ false) n.routes
+
+pub replaced_is_network : (n : NetworkValue) (p q : Peer) → IsNetwork n → MayReplace n p q → IsNetwork (record n { peers = put_peer n.peers q })
+replaced_is_network n p q is may =
+    let member = peer_is (IsMember n) n.peers q.number p is.members may.stands in
+    let others = others_apart n.peers q.number p is.apart may.stands in
+    let there : is_some (peer_of n.peers q.number) ≡ true = ap is_some may.stands in
+    let now : NetworkValue = record n { peers = map (renewed q) n.peers } in
+    let after : IsNetwork now = record {
+      pool = is.pool;
+      port = is.port;
+      capacity = is.capacity;
+      next = is.next;
+      room = subst (λ (m : ℕ). m ≤ n.capacity) (sym (length-map n.peers (renewed q))) is.room;
+      members = renewed_all (IsMember now) q n.peers
+          (λ k d h. let m = is.members k d h in record { numbered = m.numbered; not_server = m.not_server; assignable = m.assignable })
+          (record {
+            numbered = subst (λ (m : ℕ). (1 ≤ m) × (m < n.next)) member.1 member.0.numbered;
+            not_server = ap (λ k. same_key k n.server) may.key ∙ member.0.not_server;
+            assignable = may.assignable;
+          });
+      numbered = renewed_numbered q n.peers is.numbered;
+      apart = renewed_apart q n.peers is.numbered is.apart (λ k d h other. (ap (same_key (get_or n.peers k d).key) may.key ∙ (others k d h other).0, may.unowned k d h other));
+      few_routes = is.few_routes;
+      routes = λ k d h. let r = is.routes k d h in
+          record {
+            masked = r.masked;
+            leads = renewed_stands q n.peers (get_or n.routes k d).1 ∙ r.leads;
+            no_address =
+                let parts = or_false (list_any (λ (e : Peer). same_prefix (get_or n.routes k d).0 (full e.address)) n.peers) (same_prefix (get_or n.routes k d).0 (full (server_address n.pool))) r.no_address in
+                let rest = list_any_none (λ (e : Peer). same_prefix (get_or n.routes k d).0 (full e.address)) (map (renewed q) n.peers)
+                (renewed_all (λ (e : Peer). same_prefix (get_or n.routes k d).0 (full e.address) ≡ false) q n.peers (list_any-none (λ (e : Peer). same_prefix (get_or n.routes k d).0 (full e.address)) n.peers parts.0) (may.no_route k d h)) in
+                ap (λ b. b || same_prefix (get_or n.routes k d).0 (full (server_address n.pool))) rest ∙ parts.1;
+          };
+      ordered = is.ordered;
+    } in
+    subst (λ (ps : List Peer). IsNetwork (record n { peers = ps })) (sym (put_stands n.peers q is.numbered there)) after

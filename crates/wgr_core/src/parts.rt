@@ -1,0 +1,96 @@
+//! The parts of a network, and whether they keep its rules.
+ghost use Rattle.std.specs.Prelude.{◌≡◌, ◌≤◌, ◌↔◌, IsTrue, All, length};
+ghost use Rattle.wgr_core.specs.Network.{NetworkValue, IsMember, IsRoute};
+ghost use Rattle.wgr_core.specs.Parts.{network_of};
+ghost use Rattle.wgr_core.specs.Routes.{AreOrdered};
+
+use crate::host::Host;
+use crate::limits::{Capacity, Port};
+use crate::order::comes_before;
+use crate::peer::Peer;
+use crate::peer_table::PeerTable;
+use crate::pool::Pool;
+use crate::routes::{MAX_ROUTES, is_address};
+use wgr_text::{Key, Prefix};
+
+/// The parts of which a network is made.
+#[derive(Drop)]
+pub struct Parts {
+    /// The pool from which addresses are given.
+    pub pool: Pool,
+    /// The endpoint's host.
+    pub host: Host,
+    /// The endpoint's port.
+    pub port: Port,
+    /// The server's public key.
+    pub server: Key,
+    /// How many peers the network may have.
+    pub capacity: Capacity,
+    /// The number that the next peer gets: 1 to 1,000,001.
+    pub next: u32,
+    /// The peers, in the order of their numbers.
+    pub peers: Vec<Peer>,
+    /// The routes, each with its peer's number: IPv4 before IPv6, then by address, then by length.
+    pub routes: Vec<(Prefix, u32)>,
+}
+
+impl Parts {
+    // Whether the next number can be one, and there is room for the peers and the routes.
+    pub(crate) fn is_within_limits(&self) -> bool
+        ensures { IsTrue result ↔ ((1 ≤ self.now.next) × (self.now.next ≤ 1000001) × (length self.now.peers.items ≤ self.now.capacity) × (length self.now.routes.items ≤ 4096)) }
+    {
+        1 <= self.next
+            && self.next <= 1_000_001
+            && self.peers.len() <= usize::from(self.capacity.peers())
+            && self.routes.len() <= MAX_ROUTES
+    }
+
+    // Whether each peer may be one of this network's.
+    pub(crate) fn has_members(&self) -> bool
+        ensures { IsTrue result ↔ All (IsMember (network_of self.now)) self.now.peers.items }
+    {
+        for peer in &self.peers {
+            if !self.is_member(peer) {
+                return false;
+            }
+        }
+        true
+    }
+
+    // Whether the peer's number is given already, its key isn't the server's, and the pool may give
+    // its address.
+    fn is_member(&self, peer: &Peer) -> bool
+        ensures { IsTrue result ↔ IsMember (network_of self.now) peer.now }
+    {
+        1 <= peer.number
+            && peer.number < self.next
+            && peer.key != self.server
+            && self.pool.gives(&peer.address)
+    }
+}
+
+// Whether each route leads to one of these peers, and isn't an address of theirs or the server's.
+pub(crate) fn are_routes(pool: &Pool, peers: &PeerTable, routes: &[(Prefix, u32)]) -> bool
+    ensures { (n : NetworkValue) → n.pool ≡ pool.now → n.peers ≡ peers.now → IsTrue result ↔ All (IsRoute n) routes.now }
+{
+    for route in routes {
+        if !is_route(pool, peers, route) {
+            return false;
+        }
+    }
+    true
+}
+
+fn is_route(pool: &Pool, peers: &PeerTable, route: &(Prefix, u32)) -> bool
+    ensures { (n : NetworkValue) → n.pool ≡ pool.now → n.peers ≡ peers.now → IsTrue result ↔ IsRoute n route.now }
+{
+    let (_address, _length) = (route.0.address(), route.0.length());
+    peers.peer(route.1).is_some() && !is_address(pool, peers, &route.0)
+}
+
+// Whether each prefix comes before the next one.
+pub(crate) fn are_ordered(routes: &[(Prefix, u32)]) -> bool
+    ensures { IsTrue result ↔ AreOrdered routes.now }
+{
+    routes.is_sorted_by(|one, other| comes_before(&one.0, &other.0))
+}

@@ -1,0 +1,265 @@
+//! The commands on routes, and what routes say of addresses.
+ghost use Rattle.std.specs.Prelude.{◌≡◌, ◌≤◌, true, false, [], ◌∷◌, ◌++◌, length, map, nat_eq, Some, None, IfOk, OnOk, is_some, option_map};
+ghost use Rattle.std.specs.List.{filter};
+ghost use Rattle.wgr_text.specs.Prefix.{width, mask};
+ghost use Rattle.wgr_core.specs.Change.{MeetsLive};
+ghost use Rattle.wgr_core.specs.HeldSpans.{is_routed};
+ghost use Rattle.wgr_core.specs.Network.{NetworkValue, is_address};
+ghost use Rattle.wgr_core.specs.Owner.{longest_match, longer, owner_of, own_prefixes};
+ghost use Rattle.wgr_core.specs.Outcome.{route, route_refusal, unroute, view_of};
+ghost use Rattle.wgr_core.specs.Peers.{AreNumbered};
+ghost use Rattle.wgr_core.specs.PrefixTests.{full, has};
+ghost use Rattle.wgr_core.specs.Routes.{Routes, route_of, routes_to};
+
+use crate::change::Change;
+use crate::fault::ActFault;
+use crate::items::Items;
+use crate::network::Network;
+use crate::order::{drop_route, is_same, peer_place, put_route, route_place};
+use crate::peer::Peer;
+use crate::peer_table::PeerTable;
+use crate::pool::Pool;
+use crate::refusal::Refusal;
+use crate::reply::{PeerView, Reply};
+use std::alloc::{AllocError, Global};
+use wgr_text::{Addr, Prefix};
+
+// How many routes a network may have.
+pub(crate) const MAX_ROUTES: usize = 4096;
+
+impl Network {
+    // The prefix leads to the peer from now on.
+    pub(crate) fn routed(
+        &self,
+        alloc: Global,
+        number: u32,
+        prefix: Prefix,
+        removed: Items<u32>,
+    ) -> Result<(Reply, Option<Change>), ActFault>
+        ensures { MeetsLive false None self.now removed result (route self.now number prefix) }
+    {
+        let Some(peer) = self.peers.peer(number) else {
+            return Err(ActFault::Refused(Refusal::NoSuchPeer));
+        };
+        if let Some(why) = self.route_refusal(&prefix) {
+            return Err(ActFault::Refused(why));
+        }
+        let mut own = self.own_routes(alloc, number)?;
+        put_route(&mut own, prefix, number)?;
+        let view = PeerView {
+            peer: peer.copy()?,
+            routes: prefixes_of(alloc, &own)?,
+        };
+        let mut change = self.removal(alloc, removed);
+        change.routes_put.push((prefix, number))?;
+        Ok((Reply::Peer(view), Some(change)))
+    }
+
+    // The route of this very prefix goes.
+    pub(crate) fn unrouted(
+        &self,
+        alloc: Global,
+        prefix: &Prefix,
+        removed: Items<u32>,
+    ) -> Result<(Reply, Option<Change>), ActFault>
+        ensures { MeetsLive false None self.now removed result (unroute self.now prefix.now) }
+    {
+        let Some(number) = self.route(prefix) else {
+            return Err(ActFault::Refused(Refusal::NoSuchRoute));
+        };
+        let Some(peer) = self.peers.peer(number) else {
+            return Err(ActFault::Refused(Refusal::NoSuchPeer));
+        };
+        let mut own = self.own_routes(alloc, number)?;
+        drop_route(&mut own, prefix);
+        let view = PeerView {
+            peer: peer.copy()?,
+            routes: prefixes_of(alloc, &own)?,
+        };
+        let mut change = self.removal(alloc, removed);
+        change.routes_gone.push(*prefix)?;
+        Ok((Reply::Peer(view), Some(change)))
+    }
+
+    // Why the prefix can't be a route.
+    fn route_refusal(&self, prefix: &Prefix) -> Option<Refusal>
+        ensures { result ≡ route_refusal self.now prefix.now }
+    {
+        if is_address(&self.pool(), &self.peers, prefix) {
+            return Some(Refusal::IsAddress);
+        }
+        if self.route(prefix).is_none() && self.routes.len() >= MAX_ROUTES {
+            return Some(Refusal::RoutesFull);
+        }
+        None
+    }
+
+    /// The peer to which the longest allowed prefix with the address leads.
+    pub fn owner(&self, address: &Addr) -> Option<u32>
+        ensures { result ≡ owner_of self.now address.now }
+    {
+        // No route is longer than a peer's own address, and of equals the peer's comes first.
+        if self.peers.owns(address) {
+            return own_holder(self.peers(), address);
+        }
+        let (_, number) = longest_route(&self.routes, address)?;
+        Some(number)
+    }
+
+    // Each peer with the routes to it: one walk over the peers and one over the routes.
+    pub(crate) fn views(&self, alloc: Global) -> Result<Items<PeerView>, AllocError>
+        ensures { IfOk result (λ views. views ≡ map (view_of self.now.routes) self.now.peers) }
+    {
+        let mut views = bare_views(alloc, self.peers())?;
+        for route in &self.routes {
+            show_route(&mut views, self.peers(), route)?;
+        }
+        Ok(Items::of(views))
+    }
+
+    /// The prefixes that lead to the peer of this number.
+    pub fn routes_to(&self, alloc: Global, number: u32) -> Result<Items<Prefix>, AllocError>
+        ensures { IfOk result (λ routes. routes ≡ routes_to self.now.routes number) }
+    {
+        prefixes_of(alloc, &self.own_routes(alloc, number)?)
+    }
+
+    // The routes that lead to the peer of this number.
+    fn own_routes(&self, alloc: Global, number: u32) -> Result<Vec<(Prefix, u32)>, AllocError>
+        ensures { IfOk result (λ own. own.items ≡ filter (λ r. nat_eq r.1 number) self.now.routes) }
+    {
+        let mut own = Vec::new(alloc);
+        for route in &self.routes {
+            if route.1 == number {
+                own.push(*route)?;
+            }
+        }
+        Ok(own)
+    }
+
+    /// The peer to which this prefix leads.
+    pub fn route(&self, prefix: &Prefix) -> Option<u32>
+        ensures { result ≡ route_of self.now.routes prefix.now }
+    {
+        match route_place(&self.routes, prefix) {
+            Ok(place) => Some(self.routes[place].1),
+            Err(_) => None,
+        }
+    }
+
+    // Whether the address alone is a route.
+    pub(crate) fn is_route_at(&self, address: &Addr) -> bool
+        ensures { result ≡ is_some (route_of self.now.routes (full address.now)) }
+    {
+        self.route(&Prefix::full(*address)).is_some()
+    }
+
+    // Whether a route that lies wholly in the pool has this address of the pool.
+    pub(crate) fn is_routed(&self, address: &Addr) -> bool
+        requires { has self.now.pool address.now ≡ true }
+        ensures { result ≡ is_routed self.now.pool self.now.routes address.now }
+    {
+        for length in self.pool().prefix().length()..=address.family().width() {
+            if self.is_route_of_length(address, length) {
+                return true;
+            }
+        }
+        false
+    }
+
+    // Whether the prefix of this length that has the address is a route.
+    fn is_route_of_length(&self, address: &Addr, length: u8) -> bool
+        requires { length ≤ width address.now.family }
+        ensures { result ≡ is_some (route_of self.now.routes (mask address.now length)) }
+    {
+        match Prefix::masked(*address, length) {
+            Some(prefix) => self.route(&prefix).is_some(),
+            None => false,
+        }
+    }
+}
+
+// Whether the prefix is the address of one of these peers, or the server's.
+pub(crate) fn is_address(pool: &Pool, peers: &PeerTable, prefix: &Prefix) -> bool
+    ensures { (n : NetworkValue) → n.pool ≡ pool.now → n.peers ≡ peers.now → result ≡ is_address n prefix.now }
+{
+    let address = prefix.address();
+    (is_same(prefix, &Prefix::full(address)) && peers.owns(&address))
+        || is_same(prefix, &Prefix::full(pool.server()))
+}
+
+// Each peer without routes.
+fn bare_views(alloc: Global, peers: &[Peer]) -> Result<Vec<PeerView>, AllocError>
+    ensures { IfOk result (λ views. views.items ≡ map (view_of []) peers.now) }
+{
+    let mut views = Vec::new(alloc);
+    for peer in peers {
+        views.push(PeerView {
+            peer: peer.copy()?,
+            routes: Items::new(alloc),
+        })?;
+    }
+    Ok(views)
+}
+
+// Puts one more route into the view of its peer.
+fn show_route(
+    views: &mut Vec<PeerView>,
+    peers: &[Peer],
+    route: &(Prefix, u32),
+) -> Result<(), AllocError>
+    requires numbered { AreNumbered peers.now }
+    requires of_peers { length views.old.items ≡ length peers.now }
+    ensures { OnOk result ((shown : Routes) → views.old.items ≡ map (view_of shown) peers.now → views.new.items ≡ map (view_of (shown ++ route.now ∷ [])) peers.now) }
+{
+    if let Ok(place) = peer_place(peers, route.1) {
+        views[place].routes.push(route.0)?;
+    }
+    Ok(())
+}
+
+// The prefixes of these routes.
+fn prefixes_of(alloc: Global, routes: &[(Prefix, u32)]) -> Result<Items<Prefix>, AllocError>
+    ensures { IfOk result (λ prefixes. prefixes ≡ map (λ r. r.0) routes.now) }
+{
+    let mut prefixes = Items::new(alloc);
+    for route in routes {
+        prefixes.push(route.0)?;
+    }
+    Ok(prefixes)
+}
+
+// The number of the peer that has the address as its own.
+fn own_holder(peers: &[Peer], address: &Addr) -> Option<u32>
+    ensures { result ≡ option_map (λ r. r.1) (longest_match (own_prefixes peers.now) address.now) }
+{
+    for peer in peers {
+        if peer.is_at(address) {
+            return Some(peer.number);
+        }
+    }
+    None
+}
+
+// The longest of the routes that has the address.
+fn longest_route(routes: &[(Prefix, u32)], address: &Addr) -> Option<(Prefix, u32)>
+    ensures { result ≡ longest_match routes.now address.now }
+{
+    let mut longest = None;
+    for route in routes {
+        if route.0.contains(address) {
+            longest = longer(longest, *route);
+        }
+    }
+    longest
+}
+
+// The longer of what is found and one more route; of two of one length the first.
+fn longer(found: Option<(Prefix, u32)>, route: (Prefix, u32)) -> Option<(Prefix, u32)>
+    ensures { result ≡ longer found (Some route) }
+{
+    match found {
+        Some(first) if first.0.length() >= route.0.length() => Some(first),
+        _ => Some(route),
+    }
+}
