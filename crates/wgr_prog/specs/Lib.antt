@@ -1,4 +1,6 @@
+pub mod CommandLine
 pub mod Lines
 pub mod Plan
 pub mod PlanFault
 pub mod PlanLaws
+pub mod Status

@@ -2,6 +2,11 @@
 //!
 //! A first check of a command takes long, so this file has nothing else. A further subcommand is a
 //! function beside [`plan_command`], a variant of [`Request`] and an arm in [`request_of`].
+ghost use Rattle.std.specs.Prelude.{◌≡◌, true, Some, IfErr, IfOk, is_some, option_and_then, option_map};
+ghost use Rattle.clap.specs.Walk.{texts};
+ghost use Rattle.clap.specs.Words.{HasKind, app_of, kind_of, subcommand_rows_of};
+ghost use Rattle.wgr_prog.specs.CommandLine.{plan_app, plan_pool, pool_asked, pool_of, wgr_app, wrong_with};
+
 use clap::error::ErrorKind;
 use clap::{Arg, ArgMatches, Command, Error};
 use std::alloc::Global;
@@ -35,7 +40,10 @@ Example:
   $ printf '%s\\n' AAAAAAAAAAAAAAAAAAAAAAAAAAAAAAAAAAAAAAAAAAA= | wgr plan 10.8.0.0/24
   1\tAAAAAAAAAAAAAAAAAAAAAAAAAAAAAAAAAAAAAAAAAAA=\t10.8.0.2/32";
 
-fn plan_command<'a>(alloc: Global) -> Result<Command<'a>, Error> {
+fn plan_command<'a>(alloc: Global) -> Result<Command<'a>, Error>
+    ensures app { IfOk result (λ command. app_of command ≡ plan_app) }
+    ensures memory { IfErr result (λ error. kind_of error ≡ ErrorKind.OutOfMemory) }
+{
     let pool = Arg::new(alloc, "pool")
         .value_name("POOL")
         .required(true)
@@ -46,7 +54,10 @@ fn plan_command<'a>(alloc: Global) -> Result<Command<'a>, Error> {
     Ok(command.arg(pool)?)
 }
 
-fn wgr_command<'a>(alloc: Global) -> Result<Command<'a>, Error> {
+fn wgr_command<'a>(alloc: Global) -> Result<Command<'a>, Error>
+    ensures app { IfOk result (λ command. app_of command ≡ wgr_app) }
+    ensures memory { IfErr result (λ error. kind_of error ≡ ErrorKind.OutOfMemory) }
+{
     let command = Command::new(alloc, "wgr")
         .version("0.1.0")
         .about("A register of WireGuard peers and their tunnel addresses")
@@ -56,7 +67,9 @@ fn wgr_command<'a>(alloc: Global) -> Result<Command<'a>, Error> {
     Ok(command.subcommand(plan_command(alloc)?)?)
 }
 
-fn request_of<'a>(matches: &ArgMatches<'a>) -> Option<Request<'a>> {
+fn request_of<'a>(matches: &ArgMatches<'a>) -> Option<Request<'a>>
+    ensures pool { option_map pool_of result ≡ option_and_then plan_pool (subcommand_rows_of matches.now) }
+{
     match matches.subcommand()? {
         ("plan", found) => Some(Request::Plan {
             pool: found.get_str("pool")?,
@@ -66,7 +79,13 @@ fn request_of<'a>(matches: &ArgMatches<'a>) -> Option<Request<'a>> {
 }
 
 /// What the words ask for. An error is also the text of `--help` and of `--version`.
-pub fn read_words<'a>(alloc: Global, words: &'a [&'a str]) -> Result<Request<'a>, Error> {
+///
+/// Words that ask for something are refused only for want of memory.
+pub fn read_words<'a>(alloc: Global, words: &'a [&'a str]) -> Result<Request<'a>, Error>
+    ensures ok { IfOk result (λ request. pool_asked (texts words.now) ≡ Some (pool_of request)) }
+    ensures err { IfErr result (λ error. is_some (pool_asked (texts words.now)) ≡ true → kind_of error ≡ ErrorKind.OutOfMemory) }
+    ensures kinds { IfErr result (HasKind (wrong_with (texts words.now))) }
+{
     let mut command = wgr_command(alloc)?;
     let matches = command.try_get_matches_from_mut(words)?;
     match request_of(&matches) {

@@ -1,11 +1,18 @@
 //! The program over any streams.
-ghost use Rattle.std.specs.Prelude.{◌≡◌, ◌≤◌};
+ghost use Rattle.std.specs.Prelude.{◌≡◌, ◌≢◌, ◌⊎◌, true, IfNone, IfSome};
+ghost use Rattle.std.specs.IoError.{error_kind};
+ghost use Rattle.std.specs.declared.io.ErrorKind.TheVariants.{InvalidData};
+ghost use Rattle.clap.specs.Walk.{texts};
+ghost use Rattle.clap.specs.Words.{kind_of};
+ghost use Rattle.wgr_prog.specs.CommandLine.{pool_asked, wrong_with};
+ghost use Rattle.wgr_prog.specs.Status.{RunsPlan, ServesPool, TellsError, fault_status, kind_status, streams};
 
 use crate::command_line::{Request, read_words};
 use crate::plan::{PlanFault, plan};
 use clap::error::ErrorKind;
-use std::alloc::{AllocError, Global};
-use std::io;
+use std::alloc::Global;
+use std::fmt::Write as _;
+use std::{fmt, io};
 use wgr_core::Pool;
 use wgr_io::{Read, Write, write_all};
 use wgr_text::read_loose;
@@ -27,7 +34,8 @@ pub fn program<H: AllocGlobal, R: Read, W: Write, E: Write>(
     out: &mut W,
     err: &mut E,
 ) -> u8
-    ensures status { result ≤ REFUSED }
+    ensures planned { IfSome (pool_asked (texts words.now)) (λ pool. ServesPool pool (streams R.remaining R.failed W.contents W.failed input.old out.old) (streams R.remaining R.failed W.contents W.failed input.new out.new) result) }
+    ensures told { IfNone (pool_asked (texts words.now)) (TellsError (wrong_with (texts words.now)) (streams R.remaining R.failed W.contents W.failed input.old out.old) (streams R.remaining R.failed W.contents W.failed input.new out.new) result) }
 {
     let alloc = rt.alloc();
     match read_words(alloc, words) {
@@ -45,7 +53,8 @@ pub fn no_memory<E: Write>(err: &mut E) -> u8
 
 /// Says why the words of the command line can't be had.
 pub fn no_words<E: Write>(error: &io::Error, err: &mut E) -> u8
-    ensures status { result ≤ REFUSED }
+    ensures encoding { error_kind error.now ≡ InvalidData → result ≡ REFUSED }
+    ensures memory { error_kind error.now ≢ InvalidData → result ≡ FAULT }
 {
     if error.kind() == io::ErrorKind::InvalidData {
         refusal(err, b"wgr: the command line is not UTF-8\n")
@@ -74,24 +83,29 @@ fn device<E: Write>(err: &mut E) -> u8
     fault(err, b"wgr: device\n")
 }
 
-/// Prints the help or the version, or what is wrong with the command line.
+/// Prints the help or the version, or says what is wrong with the command line.
 fn no_request<W: Write, E: Write>(
     alloc: Global,
     answer: &clap::Error,
     out: &mut W,
     err: &mut E,
 ) -> u8
-    ensures status { result ≤ REFUSED }
+    ensures status { (result ≡ FAULT) ⊎ (result ≡ kind_status (kind_of answer.now)) }
+    ensures mistake { kind_status (kind_of answer.now) ≡ REFUSED → result ≡ REFUSED }
+    ensures kept { kind_status (kind_of answer.now) ≢ DONE → out.new ≡ out.old }
+    ensures sound { result ≢ FAULT → W.failed out.new ≡ W.failed out.old }
+    ensures fault { result ≡ FAULT → (out.new ≡ out.old) ⊎ (W.failed out.new ≡ true) }
 {
     if answer.kind() == ErrorKind::OutOfMemory {
         return no_memory(err);
     }
+    if answer.use_stderr() {
+        let _ = write!(Text { err }, "{answer}");
+        return REFUSED;
+    }
     let Ok(text) = format!(in alloc; "{answer}") else {
         return no_memory(err);
     };
-    if answer.use_stderr() {
-        return refusal(err, text.as_bytes());
-    }
     match write_all(out, text.as_bytes()) {
         Ok(()) => DONE,
         Err(_) => device(err),
@@ -105,7 +119,7 @@ fn run_plan<R: Read, W: Write, E: Write>(
     out: &mut W,
     err: &mut E,
 ) -> u8
-    ensures status { result ≤ REFUSED }
+    ensures { RunsPlan pool.now (streams R.remaining R.failed W.contents W.failed input.old out.old) (streams R.remaining R.failed W.contents W.failed input.new out.new) result }
 {
     let Some((address, length)) = read_loose(pool.as_bytes()) else {
         return refusal(err, b"wgr: bad_field pool\n");
@@ -115,12 +129,12 @@ fn run_plan<R: Read, W: Write, E: Write>(
     };
     match plan(alloc, &pool, input, out) {
         Ok(()) => DONE,
-        Err(why) => plan_fault(alloc, &why, err),
+        Err(why) => plan_fault(&why, err),
     }
 }
 
-fn plan_fault<E: Write>(alloc: Global, why: &PlanFault, err: &mut E) -> u8
-    ensures status { result ≤ REFUSED }
+fn plan_fault<E: Write>(why: &PlanFault, err: &mut E) -> u8
+    ensures status { result ≡ fault_status why.now }
 {
     match why {
         PlanFault::NoMemory => no_memory(err),
@@ -128,9 +142,24 @@ fn plan_fault<E: Write>(alloc: Global, why: &PlanFault, err: &mut E) -> u8
         PlanFault::Refused {
             line,
             refusal: reason,
-        } => match format!(in alloc; "wgr: line {line}: {reason}\n") {
-            Ok(text) => refusal(err, text.as_bytes()),
-            Err(_) => no_memory(err),
-        },
+        } => {
+            let _ = write!(Text { err }, "wgr: line {line}: {reason}\n");
+            REFUSED
+        }
+    }
+}
+
+/// Standard error as a sink of text: what is told needs no memory.
+#[derive(Drop)]
+struct Text<'a, E> {
+    err: &'a mut E,
+}
+
+impl<E: Write> fmt::Write for Text<'_, E> {
+    fn write_str(&mut self, text: &str) -> fmt::Result {
+        match write_all(self.err, text.as_bytes()) {
+            Ok(()) => Ok(()),
+            Err(_) => Err(fmt::Error),
+        }
     }
 }

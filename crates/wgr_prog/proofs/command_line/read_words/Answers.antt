@@ -1,0 +1,56 @@
+use Rattle.std.proofs.Common.{◌≡◌, ◌∙◌, true, List, [], ◌∷◌, Option, is_some, inl, inr, option_and_then, refl, sym, ap, ap₂, subst}
+use Rattle.clap.specs.Walk.{texts}
+use Rattle.clap.specs.Words.{App, HasKind, Kinds, Text, fault_of, is_simple, is_simple_and_free, subcommand_of, kind_of}
+use Rattle.clap.specs.Kinds.{or_else}
+use Rattle.clap.specs.declared.error.Error.{Error}
+use Rattle.clap.specs.declared.error.kind.ErrorKind.TheVariants.{OutOfMemory}
+use Rattle.clap.proofs.OnLiterals.{clap_on_literals}
+use Rattle.clap.proofs.TakesLemmas.{passed_up}
+use Rattle.wgr_prog.specs.CommandLine.{plan_named, plan_pool, unless_wrong, wgr_app}
+use Rattle.wgr_prog.proofs.command_line.read_words.Goals as goal
+
+simple : is_simple wgr_app ≡ true
+unfolding clap_on_literals
+simple = refl
+
+simple_and_free : is_simple_and_free wgr_app ≡ true
+unfolding clap_on_literals
+simple_and_free = refl
+
+-- what a parse says of the kinds of its error
+has_fault : (app : App) (words : List Text) (error : Error) → app ≡ wgr_app → (is_simple_and_free app ≡ true → HasKind (fault_of app words) error) → HasKind (fault_of wgr_app words) error
+has_fault app words error is kinds = subst (λ (a : App). HasKind (fault_of a words) error) is (kinds (ap is_simple_and_free is ∙ simple_and_free))
+
+-- where something is asked for, memory alone can be wanting
+memory_alone : (kinds : Kinds) (asked : Option Text) (error : Error) → HasKind kinds error → is_some (unless_wrong kinds asked) ≡ true → kind_of error ≡ OutOfMemory
+memory_alone [] asked error (inl memory) some = memory
+memory_alone [] asked error (inr none) some = absurd none
+memory_alone (kind ∷ kinds) asked error has some = cc some
+
+first_kinds : (kinds next : Kinds) (error : Error) → HasKind kinds error → HasKind (or_else kinds next) error
+first_kinds [] next error (inl memory) = inl memory
+first_kinds [] next error (inr none) = absurd none
+first_kinds (kind ∷ kinds) next error has = has
+
+pub returns-in_err-matches-clause-err : goal.returns-in_err-matches-clause-err
+returns-in_err-matches-clause-err c =
+    let words = texts c.args.words.now in
+    let error = c.in_err-matches.field-0.0 in
+    let fault = has_fault _ words error c.in_ok-command.ensures.app c.in_err-matches.ensures.kinds in
+    passed_up _ _ _ c.from_residual-in_err-matches.ensures.1 (memory_alone (fault_of wgr_app words) (plan_named words) error fault)
+
+pub returns-in_err-matches-clause-kinds : goal.returns-in_err-matches-clause-kinds
+returns-in_err-matches-clause-kinds c =
+    let words = texts c.args.words.now in
+    let error = c.in_err-matches.field-0.0 in
+    let fault = has_fault _ words error c.in_ok-command.ensures.app c.in_err-matches.ensures.kinds in
+    passed_up _ _ _ c.from_residual-in_err-matches.ensures.1 (first_kinds (fault_of wgr_app words) _ error fault)
+
+pub returns-in-Some-clause-ok : goal.returns-in-Some-clause-ok
+returns-in-Some-clause-ok c =
+    let words = texts c.args.words.now in
+    let app = c.in_ok-command.ensures.app in
+    let fault : fault_of wgr_app words ≡ [] = sym (ap (λ (a : App). fault_of a words) app) ∙ c.in_ok-matches.ensures.kinds (ap is_simple_and_free app ∙ simple_and_free) in
+    let rows = (c.in_ok-matches.ensures.ok.2 (ap is_simple app ∙ simple)).1 in
+    let named = ap (option_and_then plan_pool) (rows ∙ ap (λ (a : App). subcommand_of a words) app) in
+    ap₂ unless_wrong fault (sym named) ∙ sym c.in-Some.ensures.pool

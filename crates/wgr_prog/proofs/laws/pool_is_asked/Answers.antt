@@ -1,0 +1,29 @@
+use Rattle.std.proofs.Common.{◌≡◌, ◌≢◌, ℕ, [], ◌∷◌, Some, None, ◌==◌, false, codes, refl, ap}
+use Rattle.std.specs.Prelude.{slice_get}
+use Rattle.std.proofs.lemmas.Bool.{ne_eqb}
+use Rattle.clap.specs.Lexer.{long_of, short_of}
+use Rattle.clap.specs.Words.{Text}
+use Rattle.clap.proofs.OnLiterals.{clap_on_literals}
+use Rattle.wgr_prog.specs.CommandLine.{pool_asked}
+use Rattle.wgr_prog.proofs.laws.pool_is_asked.Goals as goal
+
+no_text : pool_asked (codes "plan" ∷ [] ∷ []) ≡ Some []
+unfolding clap_on_literals
+no_text = refl
+
+no_long : (first : ℕ) (rest : Text) → (first == 45) ≡ false → long_of (first ∷ rest) ≡ None
+no_long first rest is = rw is refl
+
+no_short : (first : ℕ) (rest : Text) → (first == 45) ≡ false → short_of (first ∷ rest) ≡ None
+no_short first rest is = rw is refl
+
+no_flag : (first : ℕ) (rest : Text) → (first == 45) ≡ false → pool_asked (codes "plan" ∷ (first ∷ rest) ∷ []) ≡ Some (first ∷ rest)
+unfolding clap_on_literals
+no_flag first rest is = rw (no_long first rest is, no_short first rest is, is) refl
+
+asked : (pool : Text) → slice_get pool 0 ≢ Some 45 → pool_asked (codes "plan" ∷ pool ∷ []) ≡ Some pool
+asked [] plain = no_text
+asked (first ∷ rest) plain = no_flag first rest (ne_eqb first 45 (λ (is : first ≡ 45). plain (ap (λ (byte : ℕ). Some byte) is)))
+
+pub returns : goal.returns
+returns c = asked
