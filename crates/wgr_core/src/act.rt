@@ -86,7 +86,8 @@ impl Network {
     }
 }
 
-// Does nothing: what the prefix's calls tell of it is what each command keeps.
+// Does nothing but ask the prefix of Route for its parts, since their contracts say that it is masked
+// and fits its family.
 fn tell_asked(command: &Command)
     ensures { IsAsked command.now }
 {

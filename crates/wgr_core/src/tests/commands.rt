@@ -56,7 +56,8 @@ fn command(alloc: Global, line: &str) -> Result<Command, Fail> {
         "owner" => Ok(Command::Owner {
             address: address(words.next().ok_or("no address")?)?,
         }),
-        _ => Ok(Command::List),
+        "list" => Ok(Command::List),
+        _ => Err(Fail::from("no such command")),
     }
 }
 
