@@ -2,14 +2,14 @@
 use Rattle.std.proofs.Common.{◌≡◌, ℕ, ◌<◌, ◌≤◌, Bool, not, List, [], ◌∷◌, ◌++◌, length, get_or, sym, ap, subst, ◌∙◌, arith}
 use Rattle.std.specs.List.{All, filter}
 use Rattle.wgr_text.specs.Prefix.{PrefixValue}
-use Rattle.wgr_core.specs.declared.peer.Peer.{Peer}
+use Rattle.wgr_peers.specs.declared.peer.Peer.{Peer}
 use Rattle.wgr_core.specs.declared.change.Change.{Change}
-use Rattle.wgr_core.specs.Peers.{put_peer}
-use Rattle.wgr_core.specs.PeerIndex.{IsAlikeAt, IsKeyedAt}
-use Rattle.wgr_core.specs.Routes.{Routes}
+use Rattle.wgr_peers.specs.Peers.{put_peer}
+use Rattle.wgr_peers.specs.PeerIndex.{IsAlikeAt, IsKeyedAt}
+use Rattle.wgr_peers.specs.Routes.{Routes}
 use Rattle.wgr_core.specs.Network.{NetworkValue, IsNetwork, is_among, without_peers}
 use Rattle.wgr_core.specs.Change.{put_peers, assign_routes, without_routes, changed, applied, OnlyJoins, OnlyRenews, OnlyMoves}
-use Rattle.wgr_core.proofs.Lists.{filter_agree_on}
+use Rattle.wgr_pool.proofs.Lists.{filter_agree_on}
 use Rattle.wgr_core.proofs.CommandLemmas.{put_peer_above, without_none}
 
 -- what a set of numbers leaves is what the list of them leaves

@@ -6,23 +6,23 @@ use Rattle.std.proofs.lemmas.Bool.Decides.{nat_tests}
 use Rattle.std.proofs.lemmas.List.Elements.{All-weaker}
 use Rattle.std.proofs.lemmas.List.Folds.{list_any-append}
 use Rattle.wgr_text.specs.Prefix.{PrefixValue}
-use Rattle.wgr_core.specs.declared.peer.Peer.{Peer}
+use Rattle.wgr_peers.specs.declared.peer.Peer.{Peer}
 use Rattle.wgr_core.specs.declared.command.Command.{Command}
 use Rattle.wgr_core.specs.declared.change.Change.{Change}
 use Rattle.wgr_core.specs.declared.reply.Reply.{Reply}
 use Rattle.wgr_core.specs.declared.fault.ActFault.{ActFault}
 use Rattle.wgr_core.specs.declared.fault.ActFault.TheVariants.{Refused, NoMemory}
-use Rattle.wgr_core.specs.Peers.{expired, peer_of, put_peer}
-use Rattle.wgr_core.specs.Routes.{routes_to}
+use Rattle.wgr_peers.specs.Peers.{expired, peer_of, put_peer}
+use Rattle.wgr_peers.specs.Routes.{routes_to}
 use Rattle.wgr_core.specs.Network.{NetworkValue, IsNetwork, IsRoute, is_among, live_at, without_peers}
 use Rattle.wgr_core.specs.Outcome.{Outcome, live_outcome, is_reading, kept_if, leaving, outcome_of}
 use Rattle.wgr_core.specs.Change.{changed, applied_if, with_leaving, without_leaving, Fits, GivesChange, Meets, MeetsLive}
-use Rattle.wgr_core.proofs.Lists.{filter_all, filter_none, filter_twice}
-use Rattle.wgr_core.proofs.Bools.{or_cases, or_left, or_right}
-use Rattle.wgr_core.proofs.OrderedLemmas.{put_above}
+use Rattle.wgr_pool.proofs.Lists.{filter_all, filter_none, filter_twice}
+use Rattle.wgr_pool.proofs.Bools.{or_cases, or_left, or_right}
+use Rattle.wgr_peers.proofs.OrderedLemmas.{put_above}
 use Rattle.wgr_core.proofs.LiveLemmas.{without_expired}
 use Rattle.wgr_core.proofs.OutcomeLemmas.{Keeps}
-use Rattle.wgr_core.proofs.TableLemmas.{peer_absent}
+use Rattle.wgr_peers.proofs.TableLemmas.{peer_absent}
 
 -- ---- a new peer
 

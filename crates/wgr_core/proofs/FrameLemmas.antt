@@ -4,19 +4,19 @@ use Rattle.std.specs.Prelude.{IfOk}
 use Rattle.std.proofs.lemmas.Bool.Decides.{nat_tests}
 use Rattle.std.proofs.lemmas.Result.{IfOk-weaker}
 use Rattle.wgr_text.specs.Prefix.{PrefixValue}
-use Rattle.wgr_core.specs.declared.peer.Peer.{Peer}
+use Rattle.wgr_peers.specs.declared.peer.Peer.{Peer}
 use Rattle.wgr_core.specs.declared.command.Command.{Command}
 use Rattle.wgr_core.specs.declared.command.Command.TheVariants as command
 use Rattle.wgr_core.specs.declared.reply.Reply.{Reply}
-use Rattle.wgr_core.specs.Peers.{peer_of, put_peer}
-use Rattle.wgr_core.specs.Routes.{Routes, assign_route, route_of, without_route}
+use Rattle.wgr_peers.specs.Peers.{peer_of, put_peer}
+use Rattle.wgr_peers.specs.Routes.{Routes, assign_route, route_of, without_route}
 use Rattle.wgr_core.specs.Network.{NetworkValue, IsNetwork, is_among, live_at, without_peers}
 use Rattle.wgr_core.specs.Owner.{owner_of}
 use Rattle.wgr_core.specs.Outcome.{join_refusal, place, vacated, lease_refusal, route_refusal, live_outcome, is_reading, outcome_of}
 use Rattle.wgr_core.specs.Laws.{HasSettingsOf, is_on, is_on_route}
 use Rattle.wgr_core.proofs.KeptLemmas.{kept_stands}
 use Rattle.wgr_core.proofs.LiveLemmas.{live_is_network}
-use Rattle.wgr_core.proofs.ReplaceLemmas.{peer_is}
+use Rattle.wgr_peers.proofs.PeerLemmas.{peer_is}
 use Rattle.wgr_core.proofs.LookLemmas.{assigned_others, put_others, removed_others, route_kept}
 use Rattle.wgr_core.proofs.OutcomeCases.{unless_if, place_if, stands_if, routed_if, owner_if, kept_if_reading}
 use Rattle.wgr_core.proofs.NextLemmas.{appended_absent, appended_found}

@@ -9,19 +9,19 @@ use Rattle.std.proofs.lemmas.List.Quantifiers.{all_pairs_push}
 use Rattle.wgr_text.specs.declared.addr.Family.{Family}
 use Rattle.wgr_text.specs.declared.key.Key.{Key}
 use Rattle.wgr_text.specs.Prefix.{AddrValue, PrefixValue, block, width}
-use Rattle.wgr_core.specs.declared.peer.Peer.{Peer}
+use Rattle.wgr_peers.specs.declared.peer.Peer.{Peer}
 use Rattle.wgr_core.specs.declared.refusal.Refusal.{Refusal}
 use Rattle.wgr_core.specs.declared.refusal.Refusal.TheVariants.{AddressHeld, OutsidePool}
-use Rattle.wgr_core.specs.PrefixTests.{same_address, same_prefix, has, covers, full}
-use Rattle.wgr_core.specs.Pool.{IsPool}
-use Rattle.wgr_core.specs.Allot.{is_assignable, first_from}
-use Rattle.wgr_core.specs.Peers.{is_own, key_holder, peer_of, same_key, IsNumberedBelow, IsApart}
-use Rattle.wgr_core.specs.Routes.{Routes, route_of}
+use Rattle.wgr_pool.specs.PrefixTests.{same_address, same_prefix, has, covers, full}
+use Rattle.wgr_pool.specs.Pool.{IsPool}
+use Rattle.wgr_pool.specs.Allot.{is_assignable, first_from}
+use Rattle.wgr_peers.specs.Peers.{is_own, key_holder, peer_of, same_key, IsNumberedBelow, IsApart}
+use Rattle.wgr_peers.specs.Routes.{Routes, route_of}
 use Rattle.wgr_core.specs.Network.{NetworkValue, IsNetwork, IsMember, is_held, lowest_free, server_address}
 use Rattle.wgr_core.specs.Outcome.{address_refusal, unless_refused, or_full, place}
-use Rattle.wgr_core.proofs.Lists.{list_any-none}
-use Rattle.wgr_core.proofs.Bools.{decide, and_true, and_false, or_false, not_true, not_false}
-use Rattle.wgr_core.proofs.PrefixLemmas.{same_prefix_is, full_has, covers_full, same_family_is}
+use Rattle.wgr_pool.proofs.Lists.{list_any-none}
+use Rattle.wgr_pool.proofs.Bools.{decide, and_true, and_false, or_false, not_true, not_false}
+use Rattle.wgr_pool.proofs.PrefixLemmas.{same_prefix_is, full_has, covers_full, same_family_is}
 
 -- nobody has the key
 pub key_free : (peers : List Peer) (key : Key) → key_holder peers key ≡ None → All (λ p. same_key p.key key ≡ false) peers

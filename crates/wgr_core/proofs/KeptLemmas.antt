@@ -4,14 +4,14 @@ use Rattle.std.specs.List.{filter, list_any}
 use Rattle.std.proofs.lemmas.List.Elements.{All-filter, All-weaker, filter_passes}
 use Rattle.std.proofs.lemmas.List.Filters.{length-filter_both}
 use Rattle.wgr_text.specs.Prefix.{PrefixValue}
-use Rattle.wgr_core.specs.declared.peer.Peer.{Peer}
-use Rattle.wgr_core.specs.PrefixTests.{same_prefix, full}
-use Rattle.wgr_core.specs.Peers.{peer_of, IsNumberedBelow, IsApart}
-use Rattle.wgr_core.specs.Routes.{ComesBefore, without_route}
+use Rattle.wgr_peers.specs.declared.peer.Peer.{Peer}
+use Rattle.wgr_pool.specs.PrefixTests.{same_prefix, full}
+use Rattle.wgr_peers.specs.Peers.{peer_of, IsNumberedBelow, IsApart}
+use Rattle.wgr_peers.specs.Routes.{ComesBefore, without_route}
 use Rattle.wgr_core.specs.Network.{NetworkValue, IsNetwork, IsMember, IsRoute, is_address, is_among, server_address, without_peers}
-use Rattle.wgr_core.proofs.Lists.{AllPairs-filter, filter_all, list_any-filter_none}
-use Rattle.wgr_core.proofs.Bools.{decide, or_false}
-use Rattle.wgr_core.proofs.PrefixLemmas.{nat_eq_is}
+use Rattle.wgr_pool.proofs.Lists.{AllPairs-filter, filter_all, list_any-filter_none}
+use Rattle.wgr_pool.proofs.Bools.{decide, or_false}
+use Rattle.wgr_pool.proofs.PrefixLemmas.{nat_eq_is}
 
 -- the network with the peers and the routes that pass these tests
 abbrev pub kept : NetworkValue → (Peer → Bool) → (PrefixValue × ℕ → Bool) → NetworkValue

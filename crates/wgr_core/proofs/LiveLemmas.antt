@@ -4,12 +4,12 @@ use Rattle.std.specs.List.{All, filter}
 use Rattle.std.proofs.lemmas.Bool.Decides.{nat_tests}
 use Rattle.std.proofs.lemmas.List.Elements.{All-cons, All-head, All-weaker}
 use Rattle.wgr_text.specs.Prefix.{PrefixValue}
-use Rattle.wgr_core.specs.declared.peer.Peer.{Peer}
-use Rattle.wgr_core.specs.Peers.{is_live, expired, peer_of, AreNumbered}
-use Rattle.wgr_core.specs.Routes.{Routes}
+use Rattle.wgr_peers.specs.declared.peer.Peer.{Peer}
+use Rattle.wgr_peers.specs.Peers.{is_live, expired, peer_of, AreNumbered}
+use Rattle.wgr_peers.specs.Routes.{Routes}
 use Rattle.wgr_core.specs.Network.{NetworkValue, IsNetwork, is_among, live_at, without_peers}
-use Rattle.wgr_core.proofs.Lists.{AllPairs-head, AllPairs-tail, filter_agree_on}
-use Rattle.wgr_core.proofs.Bools.{decide}
+use Rattle.wgr_pool.proofs.Lists.{AllPairs-head, AllPairs-tail, filter_agree_on}
+use Rattle.wgr_pool.proofs.Bools.{decide}
 use Rattle.wgr_core.proofs.KeptLemmas.{kept_is_network}
 
 -- ---- the live network keeps the rules

@@ -5,19 +5,19 @@ use Rattle.std.specs.List.{All, AllPairs, filter}
 use Rattle.std.proofs.lemmas.Bool.Decides.{nat_tests}
 use Rattle.std.proofs.lemmas.List.Elements.{All-head, All-tail}
 use Rattle.wgr_text.specs.Prefix.{PrefixValue}
-use Rattle.wgr_core.specs.declared.peer.Peer.{Peer}
+use Rattle.wgr_peers.specs.declared.peer.Peer.{Peer}
 use Rattle.wgr_core.specs.declared.command.Command.{Command}
-use Rattle.wgr_core.specs.PrefixTests.{is_before, same_prefix}
-use Rattle.wgr_core.specs.Ordered.{put_in_order}
-use Rattle.wgr_core.specs.Limits.{is_over}
-use Rattle.wgr_core.specs.Peers.{is_live, peer_of, put_peer, AreNumbered}
-use Rattle.wgr_core.specs.Routes.{Routes, route_of, assign_route, without_route, AreOrdered}
+use Rattle.wgr_pool.specs.PrefixTests.{is_before, same_prefix}
+use Rattle.wgr_peers.specs.Ordered.{put_in_order}
+use Rattle.wgr_peers.specs.Limits.{is_over}
+use Rattle.wgr_peers.specs.Peers.{is_live, peer_of, put_peer, AreNumbered}
+use Rattle.wgr_peers.specs.Routes.{Routes, route_of, assign_route, without_route, AreOrdered}
 use Rattle.wgr_core.specs.Network.{NetworkValue, IsNetwork, live_at}
 use Rattle.wgr_core.specs.Outcome.{Outcome, is_reading, kept_if, live_outcome, outcome_of}
-use Rattle.wgr_core.proofs.Lists.{AllPairs-head, AllPairs-tail, filter_twice}
-use Rattle.wgr_core.proofs.Bools.{decide}
-use Rattle.wgr_core.proofs.PrefixLemmas.{nat_eq_is, nat_eq_self, same_prefix_is, same_prefix_self}
-use Rattle.wgr_core.proofs.PlaceLemmas.{not_before_self, routes_level}
+use Rattle.wgr_pool.proofs.Lists.{AllPairs-head, AllPairs-tail, filter_twice}
+use Rattle.wgr_pool.proofs.Bools.{decide}
+use Rattle.wgr_pool.proofs.PrefixLemmas.{nat_eq_is, nat_eq_self, same_prefix_is, same_prefix_self}
+use Rattle.wgr_peers.proofs.PlaceLemmas.{not_before_self, routes_level}
 
 -- ---- a list looked up by keys
 

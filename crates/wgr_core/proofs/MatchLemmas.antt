@@ -5,12 +5,12 @@ use Rattle.std.specs.List.{All, Contains}
 use Rattle.std.proofs.lemmas.Bool.Decides.{nat_tests}
 use Rattle.std.proofs.lemmas.List.Elements.{All-nil, All-cons}
 use Rattle.wgr_text.specs.Prefix.{AddrValue, PrefixValue}
-use Rattle.wgr_core.specs.PrefixTests.{has}
-use Rattle.wgr_core.specs.Routes.{Routes}
+use Rattle.wgr_pool.specs.PrefixTests.{has}
+use Rattle.wgr_peers.specs.Routes.{Routes}
 use Rattle.wgr_core.specs.Network.{NetworkValue}
 use Rattle.wgr_core.specs.Owner.{allowed, longer, longest_match, owner_of}
 use Rattle.wgr_core.specs.Laws.{IsLongestMatch}
-use Rattle.wgr_core.proofs.Bools.{decide}
+use Rattle.wgr_pool.proofs.Bools.{decide}
 
 pub Contains-here : {X : Type 0} (x : X) (xs : List X) → Contains (x ∷ xs) x
 Contains-here x xs = (0, omega arith, refl)

@@ -1,80 +1,22 @@
 -- A peer that moves: the network in which it holds no address.
-use Rattle.std.proofs.Common.{◌≡◌, ℕ, zero, suc, ◌+◌, ◌-◌, ◌<◌, ◌≤◌, inl, inr, Bool, true, false, not, ◌&&◌, ◌||◌, cond, nat_eq, nat_lt, List, [], ◌∷◌, get_or, Option, Some, None, refl, sym, ap, ◌∙◌, subst, arith}
-use Rattle.std.specs.List.{All}
+use Rattle.std.proofs.Common.{◌≡◌, ℕ, zero, suc, ◌+◌, ◌-◌, ◌<◌, ◌≤◌, inl, inr, Bool, true, false, not, ◌&&◌, ◌||◌, cond, nat_eq, nat_lt, List, [], ◌∷◌, Option, Some, None, refl, sym, ap, ◌∙◌, subst, arith}
 use Rattle.std.specs.Prelude.{Result}
 use Rattle.std.proofs.lemmas.Bool.{cases_lt}
 use Rattle.std.proofs.lemmas.Bool.Decides.{nat_tests}
-use Rattle.std.proofs.lemmas.List.Folds.{list_any_none}
 use Rattle.wgr_text.specs.declared.addr.Family.{Family}
 use Rattle.wgr_text.specs.Prefix.{AddrValue, block}
-use Rattle.wgr_core.specs.declared.peer.Peer.{Peer}
+use Rattle.wgr_peers.specs.declared.peer.Peer.{Peer}
 use Rattle.wgr_core.specs.declared.refusal.Refusal.{Refusal}
-use Rattle.wgr_core.specs.PrefixTests.{same_address, has}
-use Rattle.wgr_core.specs.Pool.{reserved}
-use Rattle.wgr_core.specs.Allot.{is_assignable, first_from, lower}
-use Rattle.wgr_core.specs.Peers.{is_own, peer_of, without_peer, IsNumberedBelow, IsApart, AreNumbered, AreApart}
-use Rattle.wgr_core.specs.HeldSpans.{is_routed}
+use Rattle.wgr_pool.specs.PrefixTests.{same_address, has}
+use Rattle.wgr_pool.specs.Pool.{reserved}
+use Rattle.wgr_pool.specs.Allot.{is_assignable, first_from, lower}
+use Rattle.wgr_peers.specs.Peers.{is_own, peer_of}
+use Rattle.wgr_pool.specs.HeldSpans.{is_routed}
 use Rattle.wgr_core.specs.Network.{NetworkValue, IsNetwork, IsMember, is_held, lowest_free}
 use Rattle.wgr_core.specs.Outcome.{at_place, if_stands, move, place, replaced, vacated}
-use Rattle.wgr_core.proofs.Lists.{AllPairs-head, AllPairs-tail, filter_each}
-use Rattle.wgr_core.proofs.Bools.{decide, and_true, or_left, or_right}
-use Rattle.wgr_core.proofs.ReplaceLemmas.{peer_is, peer_number}
-use Rattle.wgr_core.proofs.PrefixLemmas.{same_address_is, same_address_self, same_family_is}
-
--- ---- an address without the peer that moves
-
-above_not : (m n : ℕ) → m < n → not (nat_eq n m) ≡ true
-above_not m n l = grind (arith, nat_tests)
-
--- addresses that are not the same leave no third that is both
-apart_from : (q p a : AddrValue) → same_address q p ≡ false → same_address p a ≡ true → same_address q a ≡ false
-apart_from q p a apart same = subst (λ x. same_address q x ≡ false) (same_address_is p a same) apart
-
-apart_too : (q r a : AddrValue) → same_address q r ≡ false → same_address q a ≡ true → same_address r a ≡ false
-apart_too q r a apart same = elim (decide (same_address r a)) [
-  | inr f ↦ f
-  | inl t ↦
-      let one = same_address_is q a same in
-      let other = same_address_is r a t in
-      let bad : true ≡ false = sym (same_address_self q) ∙ ap (same_address q) (one ∙ sym other) ∙ apart in cc
-]
-
--- who owns an address without the peer: the others do
-pub own_without : (peers : List Peer) (number : ℕ) (p : Peer) (a : AddrValue) → AreNumbered peers → AreApart peers → peer_of peers number ≡ Some p
-    → is_own (without_peer peers number) a ≡ cond (same_address p.address a) false (is_own peers a)
-own_without [] number p a numbered apart h = cc
-own_without (q ∷ peers) number p a numbered apart h = by (nat_eq q.number number) refl h (λ rest. own_without peers number p a (AllPairs-tail IsNumberedBelow q peers numbered) (AllPairs-tail IsApart q peers apart) rest)
-  where
-    others : All (IsApart q) peers
-    others = AllPairs-head IsApart q peers apart
-
-    goal : Bool → Type 0
-    goal b = is_own (cond (not b) (q ∷ without_peer peers number) (without_peer peers number)) a ≡ cond (same_address p.address a) false (same_address q.address a || is_own peers a)
-
-    here : nat_eq q.number number ≡ true → q ≡ p → goal true
-    here n e =
-        let is : q.number ≡ number = grind (arith, nat_tests) in
-        let kept : without_peer peers number ≡ peers = filter_each (λ (r : Peer). not (nat_eq r.number number)) peers (λ k d l. subst (λ m. not (nat_eq (get_or peers k d).number m) ≡ true) is (above_not q.number (get_or peers k d).number (AllPairs-head IsNumberedBelow q peers numbered k d l))) in
-        ap (λ ps. is_own ps a) kept ∙ mine (same_address q.address a) refl ∙ ap (λ (r : Peer). cond (same_address r.address a) false (same_address q.address a || is_own peers a)) e
-      where
-        mine : (b : Bool) → same_address q.address a ≡ b → is_own peers a ≡ cond (same_address q.address a) false (same_address q.address a || is_own peers a)
-        mine true s = list_any_none (λ (r : Peer). same_address r.address a) peers (λ k d l. apart_too q.address (get_or peers k d).address a (others k d l).1 s) ∙ sym (ap (λ b. cond b false (b || is_own peers a)) s)
-        mine false s = sym (ap (λ b. cond b false (b || is_own peers a)) s)
-
-    later : peer_of peers number ≡ Some p → is_own (without_peer peers number) a ≡ cond (same_address p.address a) false (is_own peers a) → goal false
-    later h rest =
-        ap (λ b. same_address q.address a || b) rest
-        ∙ mine (same_address p.address a) refl
-      where
-        mine : (b : Bool) → same_address p.address a ≡ b → same_address q.address a || cond (same_address p.address a) false (is_own peers a) ≡ cond (same_address p.address a) false (same_address q.address a || is_own peers a)
-        mine true s =
-            let not_q = apart_from q.address p.address a (peer_is (IsApart q) peers number p others h).0.1 s in
-            ap (λ b. same_address q.address a || cond b false (is_own peers a)) s ∙ ap (λ b. b || false) not_q ∙ sym (ap (λ b. cond b false (same_address q.address a || is_own peers a)) s)
-        mine false s = ap (λ b. same_address q.address a || cond b false (is_own peers a)) s ∙ sym (ap (λ b. cond b false (same_address q.address a || is_own peers a)) s)
-
-    by : (b : Bool) → nat_eq q.number number ≡ b → cond b (Some q) (peer_of peers number) ≡ Some p → (peer_of peers number ≡ Some p → is_own (without_peer peers number) a ≡ cond (same_address p.address a) false (is_own peers a)) → goal b
-    by true n h rest = here n (let e : q ≡ p = cc in e)
-    by false n h rest = later h (rest h)
+use Rattle.wgr_pool.proofs.Bools.{decide, and_true, or_left, or_right}
+use Rattle.wgr_peers.proofs.PeerLemmas.{own_without, peer_is, peer_number}
+use Rattle.wgr_pool.proofs.PrefixLemmas.{same_address_is, same_address_self, same_family_is}
 
 -- an address is held without the peer: by a route where it is the peer's own, and else as before
 pub held_without : (n : NetworkValue) (number : ℕ) (p : Peer) (a : AddrValue) → IsNetwork n → peer_of n.peers number ≡ Some p

@@ -6,27 +6,27 @@ use Rattle.std.proofs.lemmas.Bool.Decides.{nat_tests}
 use Rattle.std.proofs.lemmas.Result.{IfOk-weaker}
 use Rattle.std.proofs.lemmas.List.Elements.{All-append, All-contains, All-filter, All-map, All-push, filter_passes}
 use Rattle.wgr_text.specs.Prefix.{AddrValue, PrefixValue}
-use Rattle.wgr_core.specs.declared.peer.Peer.{Peer}
+use Rattle.wgr_peers.specs.declared.peer.Peer.{Peer}
 use Rattle.wgr_core.specs.declared.command.Command.{Command}
 use Rattle.wgr_core.specs.declared.command.Command.TheVariants as command
 use Rattle.wgr_core.specs.declared.refusal.Refusal.TheVariants.{LeaseOver}
 use Rattle.wgr_core.specs.declared.reply.Reply.{Reply}
 use Rattle.wgr_core.specs.declared.reply.Reply.TheVariants as reply
-use Rattle.wgr_core.specs.PrefixTests.{full}
-use Rattle.wgr_core.specs.Limits.{is_over}
-use Rattle.wgr_core.specs.Peers.{is_live, peer_of, put_peer}
-use Rattle.wgr_core.specs.Routes.{route_of}
+use Rattle.wgr_pool.specs.PrefixTests.{full}
+use Rattle.wgr_peers.specs.Limits.{is_over}
+use Rattle.wgr_peers.specs.Peers.{is_live, peer_of, put_peer}
+use Rattle.wgr_peers.specs.Routes.{route_of}
 use Rattle.wgr_core.specs.Network.{NetworkValue, IsNetwork, is_among, live_at, without_peers}
 use Rattle.wgr_core.specs.Owner.{allowed, owner_of, own_prefixes}
 use Rattle.wgr_core.specs.Outcome.{join_refusal, place, vacated, lease_refusal, route_refusal, view_of, live_outcome, is_reading, outcome_of}
 use Rattle.wgr_core.specs.Laws.{ShowsLive}
-use Rattle.wgr_core.proofs.Bools.{decide, not_true}
-use Rattle.wgr_core.proofs.TableLemmas.{peer_absent}
-use Rattle.wgr_core.proofs.PrefixLemmas.{nat_eq_is}
+use Rattle.wgr_pool.proofs.Bools.{decide, not_true}
+use Rattle.wgr_peers.proofs.TableLemmas.{peer_absent}
+use Rattle.wgr_pool.proofs.PrefixLemmas.{nat_eq_is}
 use Rattle.wgr_core.proofs.KeptLemmas.{kept_stands}
 use Rattle.wgr_core.proofs.LiveLemmas.{live_is_network, peer_stands}
-use Rattle.wgr_core.proofs.OrderedLemmas.{put_all}
-use Rattle.wgr_core.proofs.ReplaceLemmas.{peer_is}
+use Rattle.wgr_peers.proofs.OrderedLemmas.{put_all}
+use Rattle.wgr_peers.proofs.PeerLemmas.{peer_is}
 use Rattle.wgr_core.proofs.LookLemmas.{absent_kept, put_others, put_stands_there}
 use Rattle.wgr_core.proofs.MatchLemmas.{owner_has_longest}
 use Rattle.wgr_core.proofs.OutcomeCases.{unless_if, place_if, stands_if, routed_if, owner_if, kept_if_reading}

@@ -7,26 +7,27 @@ use Rattle.std.proofs.lemmas.List.Elements.{All-cons}
 use Rattle.std.proofs.lemmas.Result.{IfOk-weaker}
 use Rattle.wgr_text.specs.declared.key.Key.{Key}
 use Rattle.wgr_text.specs.Prefix.{AddrValue, PrefixValue, IsAddr, IsPrefix}
-use Rattle.wgr_core.specs.declared.peer.Peer.{Peer}
+use Rattle.wgr_peers.specs.declared.peer.Peer.{Peer}
 use Rattle.wgr_core.specs.declared.command.Command.{Command}
 use Rattle.wgr_core.specs.declared.command.Command.TheVariants as command
 use Rattle.wgr_core.specs.declared.refusal.Refusal.{Refusal}
 use Rattle.wgr_core.specs.declared.refusal.Refusal.TheVariants.{CapacityReached, IsAddress, NumbersSpent, LeaseOver, RoutesFull, ServerKey}
 use Rattle.wgr_core.specs.declared.reply.Reply.{Reply}
-use Rattle.wgr_core.specs.PrefixTests.{full, same_address, same_prefix}
-use Rattle.wgr_core.specs.Limits.{is_over}
-use Rattle.wgr_core.specs.Peers.{is_own, key_holder, peer_of, same_key, without_peer}
-use Rattle.wgr_core.specs.Routes.{route_of}
+use Rattle.wgr_pool.specs.PrefixTests.{full, same_address, same_prefix}
+use Rattle.wgr_peers.specs.Limits.{is_over}
+use Rattle.wgr_peers.specs.Peers.{is_own, key_holder, peer_of, same_key, without_peer}
+use Rattle.wgr_peers.specs.Routes.{route_of}
 use Rattle.wgr_core.specs.Network.{NetworkValue, IsNetwork, IsMember, is_address, live_at, server_address}
 use Rattle.wgr_core.specs.Owner.{owner_of}
 use Rattle.wgr_core.specs.Outcome.{Outcome, held_or, join_refusal, place, add, vacated, move, revoke, lease_refusal, renew, route_refusal, route, unroute, live_outcome, is_reading, outcome_of, IsAsked}
-use Rattle.wgr_core.proofs.Lists.{list_any-none}
-use Rattle.wgr_core.proofs.Bools.{decide, or_false}
+use Rattle.wgr_pool.proofs.Lists.{list_any-none}
+use Rattle.wgr_pool.proofs.Bools.{decide, or_false}
 use Rattle.wgr_core.proofs.KeptLemmas.{without_is_network, unrouted_is_network}
 use Rattle.wgr_core.proofs.OutcomeCases.{unless_if, place_if, stands_if, routed_if, owner_if, kept_if_reading}
 use Rattle.wgr_core.proofs.LiveLemmas.{live_is_network}
 use Rattle.wgr_core.proofs.JoinLemmas.{place_is_open, joined_is_network}
-use Rattle.wgr_core.proofs.ReplaceLemmas.{others_apart, peer_is, replaced_is_network}
+use Rattle.wgr_peers.proofs.PeerLemmas.{others_apart, peer_is}
+use Rattle.wgr_core.proofs.ReplaceLemmas.{replaced_is_network}
 use Rattle.wgr_core.proofs.RoutedKeeps.{MayRoute, routed_is_network}
 
 -- where a command is accepted, the network after it keeps the rules

@@ -6,14 +6,14 @@ use Rattle.std.proofs.lemmas.Bool.Decides.{nat_tests}
 use Rattle.std.proofs.lemmas.List.Elements.{All-cons, All-head, All-tail}
 use Rattle.wgr_text.specs.declared.addr.Family.{Family}
 use Rattle.wgr_text.specs.Prefix.{AddrValue, PrefixValue, block, width}
-use Rattle.wgr_core.specs.declared.peer.Peer.{Peer}
-use Rattle.wgr_core.specs.PrefixTests.{same_family, same_address, has, full}
-use Rattle.wgr_core.specs.Peers.{is_own}
-use Rattle.wgr_core.specs.Routes.{Routes}
+use Rattle.wgr_peers.specs.declared.peer.Peer.{Peer}
+use Rattle.wgr_pool.specs.PrefixTests.{same_family, same_address, has, full}
+use Rattle.wgr_peers.specs.Peers.{is_own}
+use Rattle.wgr_peers.specs.Routes.{Routes}
 use Rattle.wgr_core.specs.Owner.{own_prefixes, longer, longest_match, owner_of}
 use Rattle.wgr_core.specs.Network.{NetworkValue, IsNetwork}
-use Rattle.wgr_core.proofs.Bools.{decide, and_true, or_false}
-use Rattle.wgr_core.proofs.PrefixLemmas.{same_address_is, same_family_is}
+use Rattle.wgr_pool.proofs.Bools.{decide, and_true, or_false}
+use Rattle.wgr_pool.proofs.PrefixLemmas.{same_address_is, same_family_is}
 
 -- ---- the longer of two
 

@@ -1,25 +1,19 @@
 -- The tests that tell whether parts make a network.
-use Rattle.std.proofs.Common.{◌≡◌, ℕ, zero, suc, ◌+◌, ◌-◌, ◌<◌, ◌≤◌, ◌↔◌, inl, inr, Bool, true, false, not, ◌&&◌, ◌||◌, cond, nat_lt, List, [], ◌∷◌, length, get_or, Option, Some, None, refl, sym, ap, subst, ◌∙◌, arith}
-use Rattle.std.specs.Prelude.{IsTrue, is_some}
+use Rattle.std.proofs.Common.{◌≡◌, ℕ, zero, suc, ◌+◌, ◌-◌, ◌<◌, ◌≤◌, ◌↔◌, inl, inr, Bool, true, false, ◌&&◌, ◌||◌, List, [], ◌∷◌, length, get_or, refl, sym, ap, subst, ◌∙◌, arith}
+use Rattle.std.specs.Prelude.{IsTrue}
 use Rattle.std.specs.List.{All, AllPairs, list_any, AllAdjacentBelow, IsAllAdjacentAnswer, HoldsAt}
 use Rattle.std.proofs.lemmas.List.{get_or_default}
-use Rattle.std.proofs.lemmas.Bool.{cases_lt}
-use Rattle.std.proofs.lemmas.Bool.Decides.{nat_tests}
-use Rattle.std.proofs.lemmas.List.Elements.{All-cons}
-use Rattle.wgr_text.specs.declared.key.Key.{Key}
 use Rattle.wgr_text.specs.Prefix.{AddrValue, PrefixValue}
-use Rattle.wgr_core.specs.declared.peer.Peer.{Peer}
-use Rattle.wgr_core.specs.PrefixTests.{same_address, same_prefix, is_before, full}
-use Rattle.wgr_core.specs.Pool.{IsPool}
-use Rattle.wgr_core.specs.Limits.{IsPort, IsCapacity}
-use Rattle.wgr_core.specs.Peers.{is_own, key_holder, same_key, AreNumbered, IsApart, AreApart}
-use Rattle.wgr_core.specs.Routes.{Routes, ComesBefore, AreOrdered}
+use Rattle.wgr_peers.specs.declared.peer.Peer.{Peer}
+use Rattle.wgr_pool.specs.PrefixTests.{same_address, same_prefix, is_before, full}
+use Rattle.wgr_pool.specs.Pool.{IsPool}
+use Rattle.wgr_peers.specs.Limits.{IsPort, IsCapacity}
+use Rattle.wgr_peers.specs.Peers.{is_own, AreNumbered, AreApart}
+use Rattle.wgr_peers.specs.Routes.{Routes, ComesBefore, AreOrdered}
 use Rattle.wgr_core.specs.Network.{NetworkValue, IsMember, IsRoute, IsNetwork, is_address, server_address}
-use Rattle.wgr_core.proofs.Bools.{decide, and_false_last, not_true}
-use Rattle.wgr_core.proofs.Lists.{list_any-none}
-use Rattle.wgr_core.proofs.PlaceLemmas.{before_joins}
-use Rattle.wgr_core.proofs.PrefixLemmas.{same_address_is, same_address_self, same_prefix_is}
-use Rattle.wgr_core.proofs.TableLemmas.{holder_absent}
+use Rattle.wgr_pool.proofs.Bools.{decide, and_false_last}
+use Rattle.wgr_peers.proofs.PlaceLemmas.{before_joins}
+use Rattle.wgr_pool.proofs.PrefixLemmas.{same_address_is, same_address_self, same_prefix_is}
 
 -- ---- lists in order
 
@@ -46,56 +40,6 @@ ordered_iff (r ∷ routes) false bad = (
   (λ h. cc),
   (λ pairs. let wrong : false ≡ true = bad.2 r ∙ pairs bad.0 (bad.0 + 1) r (omega arith) bad.1 in cc),
 )
-
--- all numbers are below one that is above the last
-pub below_iff : (peers : List Peer) (last : Peer) (n : ℕ) → AreNumbered peers → 0 < length peers → ((d : Peer) → last ≡ get_or peers (length peers - 1) d) → IsTrue (nat_lt last.number n) ↔ All (λ q. q.number < n) peers
-below_iff peers last n rise some is = (
-  (λ h k d l. elim (cases_lt k (length peers - 1)) [
-    | inl before ↦
-        let up : (get_or peers k d).number < last.number = subst (λ (q : Peer). (get_or peers k d).number < q.number) (sym (is d)) (rise k (length peers - 1) d before (omega (arith, some))) in
-        let under : last.number < n = tested last.number n h in
-        omega (arith, up, under)
-    | inr from ↦
-        let at : length peers - 1 ≡ k = omega (arith, from, l) in
-        subst (λ (q : Peer). q.number < n) (is d ∙ ap (λ (i : ℕ). get_or peers i d) at) (tested last.number n h)
-  ]),
-  (λ all. test last.number n (subst (λ (q : Peer). q.number < n) (sym (is last)) (all (length peers - 1) last (omega (arith, some))))),
-)
-  where
-    tested : (a b : ℕ) → nat_lt a b ≡ true → a < b
-    tested a b h = grind (arith, nat_tests)
-
-    test : (a b : ℕ) → a < b → nat_lt a b ≡ true
-    test a b l = grind (arith, nat_tests)
-
--- ---- peers that are apart
-
-holder_none : (peers : List Peer) (key : Key) → key_holder peers key ≡ None → All (λ q. same_key q.key key ≡ false) peers
-holder_none [] key none = λ k d l. absurd (omega (arith, l))
-holder_none (q ∷ peers) key none = elim (decide (same_key q.key key)) [
-  | inl same ↦ let bad : Some q.number ≡ None = sym (ap (λ b. cond b (Some q.number) (key_holder peers key)) same) ∙ none in cc
-  | inr other ↦ All-cons (λ q. same_key q.key key ≡ false) q peers other (holder_none peers key (sym (ap (λ b. cond b (Some q.number) (key_holder peers key)) other) ∙ none))
-]
-
-own_absent : (peers : List Peer) (a : AddrValue) → All (λ q. same_address q.address a ≡ false) peers → is_own peers a ≡ false
-own_absent [] a all = refl
-own_absent (q ∷ peers) a all = ap (λ b. b || is_own peers a) (all 0 q (omega arith)) ∙ own_absent peers a (λ k d l. all (suc k) d (omega (arith, l)))
-
--- a peer stands apart where no peer has its key, and none its address
-pub apart_iff : (peers : List Peer) (p : Peer) (owned : Bool) → is_some (key_holder peers p.key) ≡ false → owned ≡ is_own peers p.address → IsTrue (not owned) ↔ All (λ q. IsApart q p) peers
-apart_iff peers p owned free is = (
-  (λ h k d l. (holder_none peers p.key (none (key_holder peers p.key) free) k d l, list_any-none (λ q. same_address q.address p.address) peers (sym is ∙ not_true owned h) k d l)),
-  (λ all. ap not (is ∙ own_absent peers p.address (λ k d l. (all k d l).1))),
-)
-  where
-    none : (o : Option ℕ) → is_some o ≡ false → o ≡ None
-    none None h = refl
-    none (Some n) h = cc
-
--- and not where a peer has its key
-pub not_apart : (peers : List Peer) (p : Peer) → is_some (key_holder peers p.key) ≡ true → All (λ q. IsApart q p) peers → ⊥
-not_apart peers p held all =
-    let bad : true ≡ false = sym held ∙ ap is_some (holder_absent peers p.key (λ k d l. (all k d l).0)) in cc
 
 -- ---- addresses of peers and of the server
 

@@ -1,82 +1,21 @@
 -- A peer in place of the one of its number leaves a network that keeps the rules.
-use Rattle.std.proofs.Common.{◌≡◌, ℕ, ◌<◌, ◌≤◌, inl, inr, true, false, ◌&&◌, ◌||◌, cond, nat_eq, nat_lt, List, [], ◌∷◌, get_or, map, Some, is_some, refl, sym, ap, ◌∙◌, subst, arith}
-use Rattle.std.proofs.lemmas.Cmp.{nat_eq_equiv, nat_list_eq_equiv}
+use Rattle.std.proofs.Common.{◌≡◌, ℕ, ◌<◌, ◌≤◌, inl, inr, true, false, ◌||◌, cond, nat_eq, nat_lt, List, [], ◌∷◌, get_or, map, Some, is_some, refl, sym, ap, ◌∙◌, subst, arith}
 use Rattle.std.specs.List.{All, list_any}
 use Rattle.std.proofs.lemmas.Bool.Decides.{nat_tests}
 use Rattle.std.proofs.lemmas.List.{length-map}
-use Rattle.std.proofs.lemmas.List.Elements.{All-cons, All-head, All-tail, All-map}
+use Rattle.std.proofs.lemmas.List.Elements.{All-map}
 use Rattle.std.proofs.lemmas.List.Folds.{list_any_none}
-use Rattle.wgr_text.specs.declared.addr.Family.{Family}
-use Rattle.wgr_text.specs.declared.addr.Family.TheVariants.{V4, V6}
-use Rattle.wgr_text.specs.Prefix.{AddrValue}
-use Rattle.wgr_core.specs.declared.peer.Peer.{Peer}
-use Rattle.wgr_core.specs.PrefixTests.{same_address, same_family, same_prefix, full}
-use Rattle.wgr_core.specs.Allot.{is_assignable}
-use Rattle.wgr_core.specs.Peers.{peer_of, put_peer, same_key, IsNumberedBelow, IsApart, AreApart, AreNumbered}
+use Rattle.wgr_peers.specs.declared.peer.Peer.{Peer}
+use Rattle.wgr_pool.specs.PrefixTests.{same_address, same_prefix, full}
+use Rattle.wgr_pool.specs.Allot.{is_assignable}
+use Rattle.wgr_peers.specs.Peers.{peer_of, put_peer, same_key, IsNumberedBelow, IsApart, AreApart, AreNumbered}
 use Rattle.wgr_core.specs.Network.{NetworkValue, IsNetwork, IsMember, server_address}
-use Rattle.wgr_core.proofs.Lists.{AllPairs-head, AllPairs-tail, list_any-none}
-use Rattle.wgr_core.proofs.Bools.{decide, or_false}
-use Rattle.wgr_core.proofs.PrefixLemmas.{nat_eq_is}
-use Rattle.wgr_core.proofs.PlaceLemmas.{below_test}
-use Rattle.wgr_core.proofs.PutLemmas.{swapped, put_is_map, map_pairs}
-
--- ---- the peer that stands at a number
-
-pub peer_is : (P : Peer → Type 0) (peers : List Peer) (i : ℕ) (p : Peer) → All P peers → peer_of peers i ≡ Some p → P p × (p.number ≡ i)
-peer_is P [] i p all found = cc
-peer_is P (q ∷ peers) i p all found = elim (decide (nat_eq q.number i)) [
-  | inl here ↦
-      let some : Some q ≡ Some p = sym (ap (λ b. cond b (Some q) (peer_of peers i)) here) ∙ found in
-      let is : q ≡ p = cc in
-      (subst P is (All-head P q peers all), ap (λ (p : Peer). p.number) (sym is) ∙ nat_eq_is q.number i here)
-  | inr apart ↦ peer_is P peers i p (All-tail P q peers all) (sym (ap (λ b. cond b (Some q) (peer_of peers i)) apart) ∙ found)
-]
-
-pub peer_number : (peers : List Peer) (i : ℕ) (p : Peer) → peer_of peers i ≡ Some p → p.number ≡ i
-peer_number peers i p h = (peer_is (λ q. Unit {0}) peers i p (λ k d l. tt) h).1
-
-pub some_stands : (peers : List Peer) (i : ℕ) → is_some (peer_of peers i) ≡ true → list_any (λ p. nat_eq p.number i) peers ≡ true
-some_stands [] i h = cc
-some_stands (p ∷ peers) i h =
-    elim (nat_eq p.number i) as (λ b. is_some (cond b (Some p) (peer_of peers i)) ≡ true → (b || list_any (λ (p : Peer). nat_eq p.number i) peers) ≡ true) [
-      | true ↦ (λ h. refl)
-      | false ↦ (λ h. some_stands peers i h)
-    ] h
-
--- ---- two peers are apart either way
-
-same_address_turn : (a b : AddrValue) → same_address a b ≡ same_address b a
-same_address_turn a b =
-    ap (λ s. s && nat_eq a.number b.number) (same_family_turn a.family b.family) ∙ ap (λ s. same_family b.family a.family && s) (nat_eq_turn a.number b.number)
-  where
-    same_family_turn : (f g : Family) → same_family f g ≡ same_family g f
-    same_family_turn V4 V4 = refl
-    same_family_turn V4 V6 = refl
-    same_family_turn V6 V4 = refl
-    same_family_turn V6 V6 = refl
-
-    nat_eq_turn : (x y : ℕ) → nat_eq x y ≡ nat_eq y x
-    nat_eq_turn x y = nat_eq_equiv.symm x y
-
-pub apart_turn : (p q : Peer) → IsApart p q → IsApart q p
-apart_turn p q is = (nat_list_eq_equiv.symm q.key.0 p.key.0 ∙ is.0, same_address_turn q.address p.address ∙ is.1)
-
--- each peer of another number is apart from the one at this number
-pub others_apart : (peers : List Peer) (i : ℕ) (p : Peer) → AreApart peers → peer_of peers i ≡ Some p → All (λ e. nat_eq e.number i ≡ false → IsApart e p) peers
-others_apart [] i p pairs found = cc
-others_apart (q ∷ peers) i p pairs found =
-    let first = AllPairs-head IsApart q peers pairs in
-    elim (decide (nat_eq q.number i)) [
-      | inl here ↦
-          let some : Some q ≡ Some p = sym (ap (λ b. cond b (Some q) (peer_of peers i)) here) ∙ found in
-          let is : q ≡ p = cc in
-          All-cons (λ e. nat_eq e.number i ≡ false → IsApart e p) q peers (λ apart. let bad : true ≡ false = sym here ∙ apart in cc)
-          (λ k d h other. subst (IsApart (get_or peers k d)) is (apart_turn q (get_or peers k d) (first k d h)))
-      | inr apart ↦
-          let later = sym (ap (λ b. cond b (Some q) (peer_of peers i)) apart) ∙ found in
-          All-cons (λ e. nat_eq e.number i ≡ false → IsApart e p) q peers (λ other. (peer_is (IsApart q) peers i p first later).0)
-          (others_apart peers i p (AllPairs-tail IsApart q peers pairs) later)
-    ]
+use Rattle.wgr_pool.proofs.Lists.{list_any-none}
+use Rattle.wgr_pool.proofs.Bools.{decide, or_false}
+use Rattle.wgr_pool.proofs.PrefixLemmas.{nat_eq_is}
+use Rattle.wgr_peers.proofs.PeerLemmas.{peer_is, some_stands, apart_turn, others_apart}
+use Rattle.wgr_peers.proofs.PlaceLemmas.{below_test}
+use Rattle.wgr_peers.proofs.PutLemmas.{swapped, put_is_map, map_pairs}
 
 -- ---- the peers with another in the place
 

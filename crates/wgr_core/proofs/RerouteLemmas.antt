@@ -4,18 +4,18 @@ use Rattle.std.specs.Prelude.{Ok}
 use Rattle.std.specs.List.{All, filter}
 use Rattle.std.proofs.lemmas.List.Elements.{All-filter}
 use Rattle.wgr_text.specs.Prefix.{PrefixValue}
-use Rattle.wgr_core.specs.declared.peer.Peer.{Peer}
+use Rattle.wgr_peers.specs.declared.peer.Peer.{Peer}
 use Rattle.wgr_core.specs.declared.change.Change.{Change}
 use Rattle.wgr_core.specs.declared.refusal.Refusal.{Refusal}
 use Rattle.wgr_core.specs.declared.reply.Reply.TheVariants as reply
-use Rattle.wgr_core.specs.Peers.{peer_of}
-use Rattle.wgr_core.specs.Routes.{Routes, AreOrdered, ComesBefore, HasAddr, assign_route, route_of, routes_to, without_route}
+use Rattle.wgr_peers.specs.Peers.{peer_of}
+use Rattle.wgr_peers.specs.Routes.{Routes, AreOrdered, ComesBefore, HasAddr, assign_route, route_of, routes_to, without_route}
 use Rattle.wgr_core.specs.Network.{NetworkValue, IsNetwork}
 use Rattle.wgr_core.specs.Change.{MeetsLive, changed}
 use Rattle.wgr_core.specs.Outcome.{if_routed, if_stands, rerouted, route, route_refusal, unless, unroute}
-use Rattle.wgr_core.proofs.Lists.{AllPairs-filter}
-use Rattle.wgr_core.proofs.ReplaceLemmas.{peer_number}
-use Rattle.wgr_core.proofs.RouteLemmas.{filter_assign, filter_without}
+use Rattle.wgr_pool.proofs.Lists.{AllPairs-filter}
+use Rattle.wgr_peers.proofs.PeerLemmas.{peer_number}
+use Rattle.wgr_peers.proofs.RouteLemmas.{filter_assign, filter_without}
 
 -- ---- the routes to one peer
 

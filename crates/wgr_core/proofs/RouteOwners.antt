@@ -5,21 +5,21 @@ use Rattle.std.specs.List.{All, Contains}
 use Rattle.std.proofs.lemmas.List.{get_or-map, length-map}
 use Rattle.std.proofs.lemmas.List.Elements.{All-append, All-cons, All-head, All-tail, All-weaker, Contains-append_cases, Contains-append_left, Contains-append_right}
 use Rattle.wgr_text.specs.Prefix.{AddrValue, PrefixValue, IsPrefix, width}
-use Rattle.wgr_core.specs.declared.peer.Peer.{Peer}
+use Rattle.wgr_peers.specs.declared.peer.Peer.{Peer}
 use Rattle.wgr_core.specs.declared.command.Command.TheVariants as command
 use Rattle.wgr_core.specs.declared.reply.Reply.{Reply}
-use Rattle.wgr_core.specs.PrefixTests.{full, has, is_before, same_prefix}
-use Rattle.wgr_core.specs.Peers.{peer_of}
-use Rattle.wgr_core.specs.Routes.{Routes, assign_route, route_of, without_route}
+use Rattle.wgr_pool.specs.PrefixTests.{full, has, is_before, same_prefix}
+use Rattle.wgr_peers.specs.Peers.{peer_of}
+use Rattle.wgr_peers.specs.Routes.{Routes, assign_route, route_of, without_route}
 use Rattle.wgr_core.specs.Network.{NetworkValue, IsNetwork, live_at}
 use Rattle.wgr_core.specs.Owner.{allowed, longer, longest_match, owner_of, own_prefixes}
 use Rattle.wgr_core.specs.Outcome.{route_refusal, route, unroute, outcome_of, IsAsked}
 use Rattle.wgr_core.specs.Laws.{IsLongestMatch}
-use Rattle.wgr_core.proofs.Bools.{decide}
-use Rattle.wgr_core.proofs.Bridge.{has_iff}
-use Rattle.wgr_core.proofs.PrefixLemmas.{full_has, same_prefix_is}
+use Rattle.wgr_pool.proofs.Bools.{decide}
+use Rattle.wgr_pool.proofs.Bridge.{has_iff}
+use Rattle.wgr_pool.proofs.PrefixLemmas.{full_has, same_prefix_is}
 use Rattle.wgr_core.proofs.LiveLemmas.{live_is_network}
-use Rattle.wgr_core.proofs.OrderedLemmas.{put_all}
+use Rattle.wgr_peers.proofs.OrderedLemmas.{put_all}
 use Rattle.wgr_core.proofs.MatchLemmas.{Contains-here, Contains-later}
 use Rattle.wgr_core.proofs.OwnerLemmas.{longest_skip}
 use Rattle.wgr_core.proofs.UniqueMatch.{all_prefixes, longest_owns}

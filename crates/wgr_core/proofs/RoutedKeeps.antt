@@ -4,14 +4,14 @@ use Rattle.std.specs.List.{list_any}
 use Rattle.std.proofs.lemmas.Bool.Decides.{nat_tests}
 use Rattle.std.proofs.lemmas.List.{length-map}
 use Rattle.wgr_text.specs.Prefix.{PrefixValue, IsAddr, IsPrefix}
-use Rattle.wgr_core.specs.PrefixTests.{is_before, same_prefix}
-use Rattle.wgr_core.specs.Peers.{peer_of}
-use Rattle.wgr_core.specs.Routes.{Routes, route_of, assign_route, HasAddr, ComesBefore, AreOrdered}
+use Rattle.wgr_pool.specs.PrefixTests.{is_before, same_prefix}
+use Rattle.wgr_peers.specs.Peers.{peer_of}
+use Rattle.wgr_peers.specs.Routes.{Routes, route_of, assign_route, HasAddr, ComesBefore, AreOrdered}
 use Rattle.wgr_core.specs.Network.{NetworkValue, IsNetwork, IsRoute, is_address}
-use Rattle.wgr_core.proofs.Bools.{decide}
-use Rattle.wgr_core.proofs.OrderedLemmas.{put_all, put_pairs}
-use Rattle.wgr_core.proofs.PlaceLemmas.{routes_level, routes_lead, routes_placed}
-use Rattle.wgr_core.proofs.PutLemmas.{swapped, put_is_map, length-put}
+use Rattle.wgr_pool.proofs.Bools.{decide}
+use Rattle.wgr_peers.proofs.OrderedLemmas.{put_all, put_pairs}
+use Rattle.wgr_peers.proofs.PlaceLemmas.{routes_level, routes_lead, routes_placed}
+use Rattle.wgr_peers.proofs.PutLemmas.{swapped, put_is_map, length-put}
 
 some_routed : (routes : Routes) (p : PrefixValue) → is_some (route_of routes p) ≡ true → list_any (λ r. same_prefix r.0 p) routes ≡ true
 some_routed [] p h = cc

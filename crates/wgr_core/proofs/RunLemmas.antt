@@ -7,20 +7,20 @@ use Rattle.std.proofs.lemmas.Result.{IfOk-weaker}
 use Rattle.std.proofs.lemmas.List.Elements.{All-head, All-tail}
 use Rattle.wgr_text.specs.declared.key.Key.{Key}
 use Rattle.wgr_text.specs.Prefix.{AddrValue}
-use Rattle.wgr_core.specs.declared.peer.Peer.{Peer}
+use Rattle.wgr_peers.specs.declared.peer.Peer.{Peer}
 use Rattle.wgr_core.specs.declared.command.Command.{Command}
 use Rattle.wgr_core.specs.declared.command.Command.TheVariants as command
 use Rattle.wgr_core.specs.declared.reply.Reply.{Reply}
-use Rattle.wgr_core.specs.PrefixTests.{same_address}
-use Rattle.wgr_core.specs.Peers.{is_live, peer_of, same_key}
+use Rattle.wgr_pool.specs.PrefixTests.{same_address}
+use Rattle.wgr_peers.specs.Peers.{is_live, peer_of, same_key}
 use Rattle.wgr_core.specs.Network.{NetworkValue, IsNetwork, IsMember, live_at, without_peers}
 use Rattle.wgr_core.specs.Owner.{owner_of}
 use Rattle.wgr_core.specs.Outcome.{Outcome, revoke, live_outcome, is_reading, outcome_of, IsAsked}
 use Rattle.wgr_core.specs.Laws.{AreAsked, HaveOwn, after, after_commands}
-use Rattle.wgr_core.proofs.PrefixLemmas.{nat_eq_self, same_address_self}
+use Rattle.wgr_pool.proofs.PrefixLemmas.{nat_eq_self, same_address_self}
 use Rattle.wgr_core.proofs.KeptLemmas.{without_is_network}
 use Rattle.wgr_core.proofs.LiveLemmas.{live_is_network}
-use Rattle.wgr_core.proofs.ReplaceLemmas.{peer_is}
+use Rattle.wgr_peers.proofs.PeerLemmas.{peer_is}
 use Rattle.wgr_core.proofs.LookLemmas.{absent_kept, found_kept}
 use Rattle.wgr_core.proofs.OutcomeCases.{stands_if, kept_if_reading}
 use Rattle.wgr_core.proofs.OutcomeLemmas.{outcome_keeps}

@@ -7,18 +7,18 @@ use Rattle.std.proofs.lemmas.List.{get_or_default}
 use Rattle.std.proofs.lemmas.List.Elements.{All-append, All-contains, All-head, All-map, All-tail}
 use Rattle.wgr_text.specs.Prefix.{AddrValue, PrefixValue, IsPrefix, block, width}
 use Rattle.wgr_text.proofs.Blocks.{block_start}
-use Rattle.wgr_core.specs.declared.peer.Peer.{Peer}
-use Rattle.wgr_core.specs.PrefixTests.{has, full, same_prefix}
-use Rattle.wgr_core.specs.Routes.{Routes, ComesBefore}
+use Rattle.wgr_peers.specs.declared.peer.Peer.{Peer}
+use Rattle.wgr_pool.specs.PrefixTests.{has, full, same_prefix}
+use Rattle.wgr_peers.specs.Routes.{Routes, ComesBefore}
 use Rattle.wgr_core.specs.Network.{NetworkValue, IsNetwork, is_address, server_address}
 use Rattle.wgr_core.specs.Owner.{allowed, longest_match, owner_of, own_prefixes}
 use Rattle.wgr_core.specs.Laws.{IsLongestMatch}
-use Rattle.wgr_core.proofs.Lists.{AllPairs-cons, AllPairs-head, AllPairs-tail, list_any-none}
-use Rattle.wgr_core.proofs.Bools.{decide, or_false}
-use Rattle.wgr_core.proofs.PrefixLemmas.{same_prefix_is, same_prefix_self}
-use Rattle.wgr_core.proofs.PlaceLemmas.{not_before_self}
-use Rattle.wgr_core.proofs.Bridge.{has_iff}
-use Rattle.wgr_core.proofs.PutLemmas.{map_pairs}
+use Rattle.wgr_pool.proofs.Lists.{AllPairs-cons, AllPairs-head, AllPairs-tail, list_any-none}
+use Rattle.wgr_pool.proofs.Bools.{decide, or_false}
+use Rattle.wgr_pool.proofs.PrefixLemmas.{same_prefix_is, same_prefix_self}
+use Rattle.wgr_peers.proofs.PlaceLemmas.{not_before_self}
+use Rattle.wgr_pool.proofs.Bridge.{has_iff}
+use Rattle.wgr_peers.proofs.PutLemmas.{map_pairs}
 use Rattle.wgr_core.proofs.MatchLemmas.{match_is_longest, no_match_is_none}
 
 -- ---- no allowed prefix stands twice

@@ -4,15 +4,15 @@ use Rattle.std.specs.List.{All, filter}
 use Rattle.std.proofs.lemmas.Bool.Decides.{nat_tests}
 use Rattle.std.proofs.lemmas.List.Elements.{All-head, All-tail, All-weaker, filter_passes}
 use Rattle.wgr_text.specs.Prefix.{PrefixValue}
-use Rattle.wgr_core.specs.declared.peer.Peer.{Peer}
+use Rattle.wgr_peers.specs.declared.peer.Peer.{Peer}
 use Rattle.wgr_core.specs.declared.reply.PeerView.{PeerView}
-use Rattle.wgr_core.specs.Ordered.{EndsAt}
-use Rattle.wgr_core.specs.Peers.{IsNumberedBelow, AreNumbered}
-use Rattle.wgr_core.specs.Routes.{Routes, routes_to}
+use Rattle.wgr_peers.specs.Ordered.{EndsAt}
+use Rattle.wgr_peers.specs.Peers.{IsNumberedBelow, AreNumbered}
+use Rattle.wgr_peers.specs.Routes.{Routes, routes_to}
 use Rattle.wgr_core.specs.Outcome.{view_of}
-use Rattle.wgr_core.proofs.Bools.{not_true}
-use Rattle.wgr_core.proofs.Lists.{AllPairs-head, AllPairs-tail}
-use Rattle.wgr_core.proofs.OrderedLemmas.{drop_absent}
+use Rattle.wgr_pool.proofs.Bools.{not_true}
+use Rattle.wgr_pool.proofs.Lists.{AllPairs-head, AllPairs-tail}
+use Rattle.wgr_peers.proofs.OrderedLemmas.{drop_absent}
 
 -- ---- one more route
 

@@ -1,15 +1,15 @@
 -- What a change does to a network, and when an answer is that of the definition.
 use Rattle.std.specs.Prelude.{ℕ, ◌≡◌, ◌≤◌, Bool, true, false, List, [], ◌∷◌, ◌++◌, length, slice_index_or, Option, Some, None, Result, Ok, Err}
 use Rattle.wgr_text.specs.Prefix.{PrefixValue}
-use Rattle.wgr_core.specs.declared.peer.Peer.{Peer}
+use Rattle.wgr_peers.specs.declared.peer.Peer.{Peer}
 use Rattle.wgr_core.specs.declared.change.Change.{Change}
 use Rattle.wgr_core.specs.declared.reply.Reply.{Reply}
 use Rattle.wgr_core.specs.declared.fault.ActFault.{ActFault}
 use Rattle.wgr_core.specs.declared.fault.ActFault.TheVariants.{Refused, NoMemory}
-use Rattle.wgr_core.specs.Peers.{put_peer}
-use Rattle.wgr_core.specs.Routes.{Routes, assign_route, without_route}
+use Rattle.wgr_peers.specs.Peers.{put_peer}
+use Rattle.wgr_peers.specs.Routes.{Routes, assign_route, without_route}
 use Rattle.wgr_core.specs.Network.{NetworkValue, IsNetwork, without_peers}
-use Rattle.wgr_core.specs.PeerIndex.{IsAlikeAt, IsKeyedAt}
+use Rattle.wgr_peers.specs.PeerIndex.{IsAlikeAt, IsKeyedAt}
 use Rattle.wgr_core.specs.Outcome.{Outcome}
 
 abbrev pub put_peers : List Peer → List Peer → List Peer

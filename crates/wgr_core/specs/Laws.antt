@@ -2,15 +2,15 @@
 use Rattle.std.specs.Prelude.{ℕ, ◌≡◌, ◌≢◌, ◌<◌, ◌≤◌, ◌⊎◌, ◌↔◌, Bool, true, false, nat_eq, List, [], ◌∷◌, length, slice_index_or, Some, None, is_some, Ok, Err, IfOk, All}
 use Rattle.std.specs.List.{Contains}
 use Rattle.wgr_text.specs.Prefix.{AddrValue, PrefixValue}
-use Rattle.wgr_core.specs.declared.peer.Peer.{Peer}
+use Rattle.wgr_peers.specs.declared.peer.Peer.{Peer}
 use Rattle.wgr_core.specs.declared.command.Command.{Command}
 use Rattle.wgr_core.specs.declared.command.Command.TheVariants as command
 use Rattle.wgr_core.specs.declared.reply.Reply.{Reply}
 use Rattle.wgr_core.specs.declared.reply.Reply.TheVariants as reply
-use Rattle.wgr_core.specs.PrefixTests.{has, same_prefix}
-use Rattle.wgr_core.specs.Allot.{is_assignable}
-use Rattle.wgr_core.specs.Peers.{is_live, peer_of, put_peer, AreNumbered}
-use Rattle.wgr_core.specs.Routes.{Routes, route_of, assign_route, without_route, AreOrdered}
+use Rattle.wgr_pool.specs.PrefixTests.{has, same_prefix}
+use Rattle.wgr_pool.specs.Allot.{is_assignable}
+use Rattle.wgr_peers.specs.Peers.{is_live, peer_of, put_peer, AreNumbered}
+use Rattle.wgr_peers.specs.Routes.{Routes, route_of, assign_route, without_route, AreOrdered}
 use Rattle.wgr_core.specs.Network.{NetworkValue, IsNetwork, is_held, live_at, lowest_free}
 use Rattle.wgr_core.specs.Owner.{allowed, longest_match, owner_of}
 use Rattle.wgr_core.specs.Outcome.{Outcome, IsAsked, is_reading, outcome_of}

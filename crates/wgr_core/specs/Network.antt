@@ -4,13 +4,13 @@ use Rattle.std.specs.Prelude.{ℕ, ◌≡◌, ◌+◌, ◌<◌, ◌≤◌, Bool,
 use Rattle.std.specs.List.{filter, list_any}
 use Rattle.wgr_text.specs.declared.key.Key.{Key}
 use Rattle.wgr_text.specs.Prefix.{AddrValue, PrefixValue, IsAddr, IsPrefix}
-use Rattle.wgr_core.specs.declared.peer.Peer.{Peer}
-use Rattle.wgr_core.specs.PrefixTests.{has, covers, same_prefix, full}
-use Rattle.wgr_core.specs.Pool.{IsPool}
-use Rattle.wgr_core.specs.Allot.{is_assignable, lowest_where}
-use Rattle.wgr_core.specs.Limits.{IsPort, IsCapacity}
-use Rattle.wgr_core.specs.Peers.{is_live, is_own, peer_of, same_key, AreNumbered, AreApart}
-use Rattle.wgr_core.specs.Routes.{Routes, AreOrdered}
+use Rattle.wgr_peers.specs.declared.peer.Peer.{Peer}
+use Rattle.wgr_pool.specs.PrefixTests.{has, covers, same_prefix, full}
+use Rattle.wgr_pool.specs.Pool.{IsPool}
+use Rattle.wgr_pool.specs.Allot.{is_assignable, lowest_where}
+use Rattle.wgr_peers.specs.Limits.{IsPort, IsCapacity}
+use Rattle.wgr_peers.specs.Peers.{is_live, is_own, peer_of, same_key, AreNumbered, AreApart}
+use Rattle.wgr_peers.specs.Routes.{Routes, AreOrdered}
 
 pub record NetworkValue : Type 0 where
   pub pool : PrefixValue

@@ -2,7 +2,7 @@
 use Rattle.std.specs.Prelude.{ℕ, ◌+◌, Bool, true, false, not, ◌&&◌, cond, nat_lt, List, [], ◌∷◌, ◌++◌, length, map, Option, Some, None, Result, Ok, Err, is_some}
 use Rattle.wgr_text.specs.declared.key.Key.{Key}
 use Rattle.wgr_text.specs.Prefix.{AddrValue, PrefixValue, IsAddr, IsPrefix}
-use Rattle.wgr_core.specs.declared.peer.Peer.{Peer}
+use Rattle.wgr_peers.specs.declared.peer.Peer.{Peer}
 use Rattle.wgr_core.specs.declared.command.Command.{Command}
 use Rattle.wgr_core.specs.declared.command.Command.TheVariants as command
 use Rattle.wgr_core.specs.declared.refusal.Refusal.{Refusal}
@@ -10,11 +10,11 @@ use Rattle.wgr_core.specs.declared.refusal.Refusal.TheVariants.{NoSuchPeer, KeyH
 use Rattle.wgr_core.specs.declared.reply.Reply.{Reply}
 use Rattle.wgr_core.specs.declared.reply.Reply.TheVariants as reply
 use Rattle.wgr_core.specs.declared.reply.PeerView.{PeerView}
-use Rattle.wgr_core.specs.PrefixTests.{full}
-use Rattle.wgr_core.specs.Allot.{is_assignable}
-use Rattle.wgr_core.specs.Limits.{is_over}
-use Rattle.wgr_core.specs.Peers.{is_own, key_holder, peer_of, put_peer, same_key, without_peer}
-use Rattle.wgr_core.specs.Routes.{Routes, assign_route, route_of, routes_to, without_route}
+use Rattle.wgr_pool.specs.PrefixTests.{full}
+use Rattle.wgr_pool.specs.Allot.{is_assignable}
+use Rattle.wgr_peers.specs.Limits.{is_over}
+use Rattle.wgr_peers.specs.Peers.{is_own, key_holder, peer_of, put_peer, same_key, without_peer}
+use Rattle.wgr_peers.specs.Routes.{Routes, assign_route, route_of, routes_to, without_route}
 use Rattle.wgr_core.specs.Network.{NetworkValue, is_address, live_at, lowest_free, without_peers}
 use Rattle.wgr_core.specs.Owner.{owner_of}
 

@@ -1,9 +1,9 @@
 -- Who owns an address: longest-prefix match over the allowed IPs of wg(8).
 use Rattle.std.specs.Prelude.{ℕ, cond, nat_lt, List, [], ◌∷◌, ◌++◌, map, Option, Some, None, option_map}
 use Rattle.wgr_text.specs.Prefix.{AddrValue, PrefixValue}
-use Rattle.wgr_core.specs.declared.peer.Peer.{Peer}
-use Rattle.wgr_core.specs.PrefixTests.{has, full}
-use Rattle.wgr_core.specs.Routes.{Routes}
+use Rattle.wgr_peers.specs.declared.peer.Peer.{Peer}
+use Rattle.wgr_pool.specs.PrefixTests.{has, full}
+use Rattle.wgr_peers.specs.Routes.{Routes}
 use Rattle.wgr_core.specs.Network.{NetworkValue}
 
 -- each peer's address at full length

@@ -5,12 +5,11 @@ ghost use Rattle.wgr_core.specs.Outcome.{IsAsked, is_reading, leaving, live_outc
 use crate::change::Change;
 use crate::command::Command;
 use crate::fault::ActFault;
-use crate::items::Items;
 use crate::network::Network;
-use crate::peer::Peer;
 use crate::refusal::Refusal;
 use crate::reply::Reply;
 use std::alloc::Global;
+use wgr_peers::{Items, Peer};
 
 impl Network {
     /// What the command answers at this moment, and what it changes. The network itself stays as

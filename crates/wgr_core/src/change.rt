@@ -3,15 +3,13 @@ ghost use Rattle.std.specs.List.{filter};
 ghost use Rattle.std.specs.HashSet.{contains};
 ghost use Rattle.wgr_core.specs.Change.{Fits, OnlyJoins, OnlyRenews, OnlyMoves, applied, without_routes};
 ghost use Rattle.wgr_core.specs.Network.{is_among, without_peers};
-ghost use Rattle.wgr_core.specs.Routes.{AreOrdered, HasAddr};
+ghost use Rattle.wgr_peers.specs.Routes.{AreOrdered, HasAddr};
 
-use crate::items::Items;
 use crate::network::Network;
-use crate::order::{drop_route, put_peer, put_route};
-use crate::peer::Peer;
-use crate::peer_table::PeerTable;
 use std::alloc::{AllocError, Global};
 use std::collections::HashSet;
+use wgr_peers::order::{drop_route, put_peer, put_route};
+use wgr_peers::{Items, Peer, PeerTable};
 use wgr_text::Prefix;
 
 /// What an accepted command changes of a network, in the order in which it is made.

@@ -1,5 +1,4 @@
-use crate::label::Label;
-use crate::limits::LeaseEnd;
+use wgr_peers::{Label, LeaseEnd};
 use wgr_text::{Addr, Key, Prefix};
 
 /// What is asked of a network.

@@ -1,20 +1,17 @@
 ghost use Rattle.std.specs.Prelude.{◌≡◌, ℕ, ◌≤◌, [], ◌∷◌, ◌++◌, ◌↔◌, IsSome, IfSome, IfOk, OnOk, OnErr, is_some};
 ghost use Rattle.std.specs.List.{filter};
-ghost use Rattle.wgr_core.specs.Peers.{peer_of, put_peer};
-ghost use Rattle.wgr_core.specs.PeerIndex.{IsAlikeAt, IsKeyedAt};
+ghost use Rattle.wgr_peers.specs.Peers.{peer_of, put_peer};
+ghost use Rattle.wgr_peers.specs.PeerIndex.{IsAlikeAt, IsKeyedAt};
 ghost use Rattle.wgr_core.specs.Network.{NetworkValue, IsNetwork, live_at, without_peers};
 ghost use Rattle.wgr_core.specs.Parts.{network_of};
-ghost use Rattle.wgr_core.specs.Routes.{assign_route, without_route};
+ghost use Rattle.wgr_peers.specs.Routes.{assign_route, without_route};
 
-use crate::host::Host;
-use crate::limits::{Capacity, Port};
-use crate::order::{drop_route, drop_routes_to, put_route};
 use crate::parts::{Parts, are_ordered, are_routes};
-use crate::peer::Peer;
-use crate::peer_table::PeerTable;
-use crate::pool::Pool;
 use std::alloc::{AllocError, Global};
 use std::marker::Model;
+use wgr_peers::order::{drop_route, drop_routes_to, put_route};
+use wgr_peers::{Capacity, Host, Peer, PeerTable, Port};
+use wgr_pool::Pool;
 use wgr_text::{Key, Prefix};
 
 /// One network: a pool, an endpoint, a server key and a capacity; its peers by number, and its

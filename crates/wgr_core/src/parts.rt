@@ -2,15 +2,12 @@
 ghost use Rattle.std.specs.Prelude.{◌≡◌, ◌≤◌, ◌↔◌, IsTrue, All, length};
 ghost use Rattle.wgr_core.specs.Network.{NetworkValue, IsMember, IsRoute};
 ghost use Rattle.wgr_core.specs.Parts.{network_of};
-ghost use Rattle.wgr_core.specs.Routes.{AreOrdered};
+ghost use Rattle.wgr_peers.specs.Routes.{AreOrdered};
 
-use crate::host::Host;
-use crate::limits::{Capacity, Port};
-use crate::order::comes_before;
-use crate::peer::Peer;
-use crate::peer_table::PeerTable;
-use crate::pool::Pool;
 use crate::routes::{MAX_ROUTES, is_address};
+use wgr_peers::order::comes_before;
+use wgr_peers::{Capacity, Host, Peer, PeerTable, Port};
+use wgr_pool::Pool;
 use wgr_text::{Key, Prefix};
 
 /// The parts of which a network is made.

@@ -1,21 +1,19 @@
 //! The commands on peers.
 ghost use Rattle.std.specs.Prelude.{◌≡◌, ◌≤◌, [], false, Some, None, IfSome, option_map};
-ghost use Rattle.wgr_core.specs.Allot.{lower};
+ghost use Rattle.wgr_pool.specs.Allot.{lower};
 ghost use Rattle.wgr_core.specs.Change.{MeetsLive};
 ghost use Rattle.wgr_core.specs.Network.{IsNetwork, lowest_free};
-ghost use Rattle.wgr_core.specs.Peers.{is_own, peer_of};
+ghost use Rattle.wgr_peers.specs.Peers.{is_own, peer_of};
 ghost use Rattle.wgr_core.specs.Outcome.{address_refusal, join_refusal, joined, move, place, renew, replaced, revoke, vacated};
 
 use crate::change::Change;
 use crate::fault::ActFault;
-use crate::held_spans::lowest_address;
-use crate::items::Items;
-use crate::limits::LeaseEnd;
 use crate::network::Network;
-use crate::peer::Peer;
 use crate::refusal::Refusal;
 use crate::reply::{PeerView, Reply};
 use std::alloc::Global;
+use wgr_peers::{Items, LeaseEnd, Peer};
+use wgr_pool::lowest_address;
 use wgr_text::{Addr, Key};
 
 impl Network {

@@ -1,5 +1,4 @@
-use crate::items::Items;
-use crate::peer::Peer;
+use wgr_peers::{Items, Peer};
 use wgr_text::Prefix;
 
 /// A peer with the routes that lead to it, in their order.

@@ -3,25 +3,23 @@ ghost use Rattle.std.specs.Prelude.{◌≡◌, ◌≤◌, true, false, [], ◌�
 ghost use Rattle.std.specs.List.{filter};
 ghost use Rattle.wgr_text.specs.Prefix.{width, mask};
 ghost use Rattle.wgr_core.specs.Change.{MeetsLive};
-ghost use Rattle.wgr_core.specs.HeldSpans.{is_routed};
+ghost use Rattle.wgr_pool.specs.HeldSpans.{is_routed};
 ghost use Rattle.wgr_core.specs.Network.{NetworkValue, is_address};
 ghost use Rattle.wgr_core.specs.Owner.{longest_match, longer, owner_of, own_prefixes};
 ghost use Rattle.wgr_core.specs.Outcome.{route, route_refusal, unroute, view_of};
-ghost use Rattle.wgr_core.specs.Peers.{AreNumbered};
-ghost use Rattle.wgr_core.specs.PrefixTests.{full, has};
-ghost use Rattle.wgr_core.specs.Routes.{Routes, route_of, routes_to};
+ghost use Rattle.wgr_peers.specs.Peers.{AreNumbered};
+ghost use Rattle.wgr_pool.specs.PrefixTests.{full, has};
+ghost use Rattle.wgr_peers.specs.Routes.{Routes, route_of, routes_to};
 
 use crate::change::Change;
 use crate::fault::ActFault;
-use crate::items::Items;
 use crate::network::Network;
-use crate::order::{drop_route, is_same, peer_place, put_route, route_place};
-use crate::peer::Peer;
-use crate::peer_table::PeerTable;
-use crate::pool::Pool;
 use crate::refusal::Refusal;
 use crate::reply::{PeerView, Reply};
 use std::alloc::{AllocError, Global};
+use wgr_peers::order::{drop_route, is_same, peer_place, put_route, route_place};
+use wgr_peers::{Items, Peer, PeerTable};
+use wgr_pool::Pool;
 use wgr_text::{Addr, Prefix};
 
 // How many routes a network may have.

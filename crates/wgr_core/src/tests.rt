@@ -2,7 +2,7 @@
 //! written by hand.
 mod commands;
 mod parts;
-mod values;
+mod refusals;
 
 use super::*;
 use std::alloc::Global;

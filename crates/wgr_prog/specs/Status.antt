@@ -5,7 +5,7 @@ use Rattle.clap.specs.declared.error.kind.ErrorKind.{ErrorKind}
 use Rattle.clap.specs.declared.error.kind.ErrorKind.TheVariants.{DisplayHelp, DisplayVersion, OutOfMemory}
 use Rattle.wgr_text.specs.Prefix.{PrefixValue}
 use Rattle.wgr_text.specs.PrefixText.{Spells}
-use Rattle.wgr_core.specs.Pool.{IsPool}
+use Rattle.wgr_pool.specs.Pool.{IsPool}
 use Rattle.wgr_prog.specs.declared.plan.PlanFault.{PlanFault}
 use Rattle.wgr_prog.specs.declared.plan.PlanFault.TheVariants.{Refused, NoMemory, Read, Write}
 use Rattle.wgr_prog.specs.declared.program.TheConstants.{DONE, FAULT, REFUSED}

@@ -2,12 +2,10 @@ ghost use Rattle.wgr_core.specs.Change.{Fits};
 
 use super::*;
 use crate::command::Command;
-use crate::host::Host;
-use crate::label::Label;
-use crate::limits::{Capacity, LeaseEnd, Port};
-use crate::pool::Pool;
 use std::process::Abort;
 use std::test::Fail;
+use wgr_peers::{Capacity, Host, Label, LeaseEnd, Port};
+use wgr_pool::Pool;
 use wgr_text::{Addr, Key};
 
 // A network without peers, whose pool is 10.8.0.0/24.

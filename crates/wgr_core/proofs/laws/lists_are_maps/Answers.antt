@@ -1,4 +1,4 @@
-use Rattle.wgr_core.proofs.MapLemmas.{same_peers, same_routes}
+use Rattle.wgr_peers.proofs.MapLemmas.{same_peers, same_routes}
 use Rattle.wgr_core.proofs.laws.lists_are_maps.Goals as goal
 
 pub returns : goal.returns

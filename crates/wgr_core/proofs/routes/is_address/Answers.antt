@@ -1,9 +1,9 @@
 use Rattle.std.proofs.Common.{◌≡◌, false, ◌&&◌, ◌||◌, sym, ap, ◌∙◌}
 use Rattle.wgr_text.specs.Prefix.{AddrValue}
-use Rattle.wgr_core.specs.PrefixTests.{same_prefix, full}
-use Rattle.wgr_core.specs.Peers.{is_own}
+use Rattle.wgr_pool.specs.PrefixTests.{same_prefix, full}
+use Rattle.wgr_peers.specs.Peers.{is_own}
 use Rattle.wgr_core.specs.Network.{server_address}
-use Rattle.wgr_core.proofs.Bools.{and_false_last}
+use Rattle.wgr_pool.proofs.Bools.{and_false_last}
 use Rattle.wgr_core.proofs.PartsLemmas.{address_is}
 use Rattle.wgr_core.proofs.routes.is_address.Goals as goal
 use Rattle.wgr_core.proofs.routes.is_address.Goals.{then-is_same, else-is_same}

@@ -1,9 +1,9 @@
 use Rattle.std.proofs.Common.{ℕ, ◌+◌, List, drop, sym, ap, ◌∙◌}
 use Rattle.std.specs.Prelude.{option_map}
 use Rattle.wgr_text.specs.Prefix.{PrefixValue}
-use Rattle.wgr_core.specs.declared.peer.Peer.{Peer}
+use Rattle.wgr_peers.specs.declared.peer.Peer.{Peer}
 use Rattle.wgr_core.specs.Owner.{longest_match, own_prefixes}
-use Rattle.wgr_core.proofs.Lists.{drop_next}
+use Rattle.wgr_pool.proofs.Lists.{drop_next}
 use Rattle.wgr_core.proofs.OwnerLemmas.{own_here}
 use Rattle.wgr_core.proofs.routes.own_holder.Goals as goal
 

@@ -3,7 +3,7 @@ use Rattle.clap.specs.Words.{Text}
 use Rattle.wgr_text.specs.Prefix.{AddrValue, PrefixValue}
 use Rattle.wgr_text.specs.PrefixText.{Spells}
 use Rattle.wgr_text.proofs.RoundTrips.{Spells_unique}
-use Rattle.wgr_core.specs.Pool.{IsPool}
+use Rattle.wgr_pool.specs.Pool.{IsPool}
 use Rattle.wgr_prog.specs.Status.{SpellsPool}
 use Rattle.wgr_prog.proofs.program.run_plan.Goals as goal
 

@@ -1,7 +1,7 @@
 use Rattle.std.proofs.Common.{◌∙◌, sym, subst}
 use Rattle.std.specs.List.{AllPairs}
 use Rattle.std.proofs.lemmas.Result.{IfOk-weaker}
-use Rattle.wgr_core.specs.Peers.{IsNumberedBelow, IsApart}
+use Rattle.wgr_peers.specs.Peers.{IsNumberedBelow, IsApart}
 use Rattle.wgr_core.specs.Network.{IsNetwork}
 use Rattle.wgr_core.proofs.ApplyLemmas.{applied_is}
 use Rattle.wgr_core.proofs.change.Change.apply.Goals as goal

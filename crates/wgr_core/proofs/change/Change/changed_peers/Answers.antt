@@ -1,11 +1,11 @@
 use Rattle.std.proofs.Common.{◌∙◌, sym, ap, subst, nat_eq, not, List}
 use Rattle.std.specs.HashSet.{contains}
 use Rattle.std.specs.List.{AllPairs, filter}
-use Rattle.wgr_core.specs.declared.peer.Peer.{Peer}
-use Rattle.wgr_core.specs.Peers.{IsNumberedBelow}
+use Rattle.wgr_peers.specs.declared.peer.Peer.{Peer}
+use Rattle.wgr_peers.specs.Peers.{IsNumberedBelow}
 use Rattle.wgr_core.specs.Network.{is_among}
 use Rattle.wgr_core.specs.Change.{put_peers}
-use Rattle.wgr_core.proofs.Lists.{AllPairs-filter}
+use Rattle.wgr_pool.proofs.Lists.{AllPairs-filter}
 use Rattle.wgr_core.proofs.ApplyLemmas.{kept_peers}
 use Rattle.wgr_core.proofs.change.Change.changed_peers.Goals as goal
 

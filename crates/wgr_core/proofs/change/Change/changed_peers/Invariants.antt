@@ -1,5 +1,5 @@
 use Rattle.std.proofs.Common.{◌≡◌, drop}
-use Rattle.wgr_core.specs.Peers.{AreNumbered}
+use Rattle.wgr_peers.specs.Peers.{AreNumbered}
 use Rattle.wgr_core.specs.Change.{applied, put_peers}
 use Rattle.wgr_core.proofs.change.Change.changed_peers.Given as goal
 

@@ -3,11 +3,11 @@ use Rattle.std.specs.HashSet.{contains}
 use Rattle.std.specs.List.{All, AllPairs, filter}
 use Rattle.std.proofs.lemmas.List.Elements.{All-filter}
 use Rattle.wgr_text.specs.Prefix.{PrefixValue}
-use Rattle.wgr_core.specs.PrefixTests.{same_prefix}
-use Rattle.wgr_core.specs.Routes.{Routes, ComesBefore, HasAddr}
+use Rattle.wgr_pool.specs.PrefixTests.{same_prefix}
+use Rattle.wgr_peers.specs.Routes.{Routes, ComesBefore, HasAddr}
 use Rattle.wgr_core.specs.Network.{is_among}
 use Rattle.wgr_core.specs.Change.{without_routes}
-use Rattle.wgr_core.proofs.Lists.{AllPairs-filter, drop_next}
+use Rattle.wgr_pool.proofs.Lists.{AllPairs-filter, drop_next}
 use Rattle.wgr_core.proofs.ApplyLemmas.{kept_routes}
 use Rattle.wgr_core.proofs.change.Change.routes_left.Goals as goal
 

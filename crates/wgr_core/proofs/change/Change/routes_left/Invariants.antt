@@ -1,6 +1,6 @@
 use Rattle.std.proofs.Common.{◌≡◌, drop}
 use Rattle.std.specs.List.{All}
-use Rattle.wgr_core.specs.Routes.{AreOrdered, HasAddr}
+use Rattle.wgr_peers.specs.Routes.{AreOrdered, HasAddr}
 use Rattle.wgr_core.specs.Network.{without_peers}
 use Rattle.wgr_core.specs.Change.{without_routes}
 use Rattle.wgr_core.proofs.change.Change.routes_left.Given as goal

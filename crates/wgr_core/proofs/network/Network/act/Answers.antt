@@ -1,5 +1,5 @@
 use Rattle.std.proofs.Common.{refl, ◌∙◌, ap, subst}
-use Rattle.wgr_core.specs.Peers.{expired}
+use Rattle.wgr_peers.specs.Peers.{expired}
 use Rattle.wgr_core.specs.Network.{NetworkValue, IsNetwork}
 use Rattle.wgr_core.specs.Outcome.{outcome_of}
 use Rattle.wgr_core.proofs.OutcomeLemmas.{outcome_keeps}

@@ -1,9 +1,9 @@
 use Rattle.std.proofs.Common.{◌≡◌, not, cond, false, Some, ap, ◌∙◌, sym, subst, option_map}
 use Rattle.std.specs.Prelude.{IfSome}
-use Rattle.wgr_core.specs.Peers.{is_own, peer_of}
+use Rattle.wgr_peers.specs.Peers.{is_own, peer_of}
 use Rattle.wgr_core.specs.Network.{NetworkValue, IsNetwork}
 use Rattle.wgr_core.specs.Outcome.{vacated}
-use Rattle.wgr_core.proofs.MoveLemmas.{own_without}
+use Rattle.wgr_peers.proofs.PeerLemmas.{own_without}
 use Rattle.wgr_core.proofs.network.Network.is_others.Goals as goal
 
 pub returns-then-not-is_at : goal.returns-then-not-is_at

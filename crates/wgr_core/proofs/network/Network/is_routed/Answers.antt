@@ -1,5 +1,5 @@
 use Rattle.std.proofs.Common.{sym, ◌∙◌, arith}
-use Rattle.wgr_core.proofs.RouteLengths.{found_routed, absent_unrouted, absent_next}
+use Rattle.wgr_peers.proofs.RouteLengths.{found_routed, absent_unrouted, absent_next}
 use Rattle.wgr_core.proofs.network.Network.is_routed.Goals as goal
 
 pub returns-then-is_route_of_length : goal.returns-then-is_route_of_length

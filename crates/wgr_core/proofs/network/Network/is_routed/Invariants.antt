@@ -1,6 +1,6 @@
 use Rattle.std.proofs.Common.{◌≡◌, false, ℕ, ◌<◌, ◌≤◌, is_some}
 use Rattle.wgr_text.specs.Prefix.{width, mask}
-use Rattle.wgr_core.specs.Routes.{route_of}
+use Rattle.wgr_peers.specs.Routes.{route_of}
 use Rattle.wgr_core.proofs.network.Network.is_routed.Given as goal
 
 -- the prefixes of the lengths so far lead nowhere

@@ -1,7 +1,7 @@
 use Rattle.std.proofs.Common.{ap, ◌∙◌, []}
-use Rattle.wgr_core.specs.Peers.{key_holder}
+use Rattle.wgr_peers.specs.Peers.{key_holder}
 use Rattle.wgr_core.specs.Network.{NetworkValue}
-use Rattle.wgr_core.proofs.TableLemmas.{new_key}
+use Rattle.wgr_peers.proofs.TableLemmas.{new_key}
 use Rattle.wgr_core.proofs.network.Network.join.Goals as goal
 
 pub push-requires-clause-new_key : goal.push-requires-clause-new_key

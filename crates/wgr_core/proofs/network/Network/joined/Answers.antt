@@ -1,10 +1,10 @@
 use Rattle.std.proofs.Common.{◌≡◌, ℕ, ◌<◌, ◌+◌, List, [], ◌∷◌, ◌++◌, sym, ◌∙◌, ap, arith}
 use Rattle.std.specs.List.{All}
 use Rattle.wgr_text.specs.Prefix.{PrefixValue}
-use Rattle.wgr_core.specs.declared.peer.Peer.{Peer}
+use Rattle.wgr_peers.specs.declared.peer.Peer.{Peer}
 use Rattle.wgr_core.specs.declared.change.Change.{Change}
 use Rattle.wgr_core.specs.declared.reply.Reply.TheVariants as reply
-use Rattle.wgr_core.specs.Routes.{routes_to}
+use Rattle.wgr_peers.specs.Routes.{routes_to}
 use Rattle.wgr_core.specs.Change.{put_peers, assign_routes, without_routes}
 use Rattle.wgr_core.proofs.CommandLemmas.{put_peer_above, none_to_next}
 use Rattle.wgr_core.proofs.network.Network.joined.Goals as goal

@@ -1,9 +1,9 @@
 use Rattle.std.proofs.Common.{◌≡◌, sym, ◌∙◌, ap, subst}
 use Rattle.std.specs.List.{AllPairs, filter}
 use Rattle.std.proofs.lemmas.Result.{IfOk-weaker}
-use Rattle.wgr_core.specs.Peers.{is_live, IsNumberedBelow, IsApart}
+use Rattle.wgr_peers.specs.Peers.{is_live, IsNumberedBelow, IsApart}
 use Rattle.wgr_core.specs.Network.{NetworkValue, IsNetwork}
-use Rattle.wgr_core.proofs.Lists.{AllPairs-filter}
+use Rattle.wgr_pool.proofs.Lists.{AllPairs-filter}
 use Rattle.wgr_core.proofs.LiveLemmas.{live_is_network, live_is}
 use Rattle.wgr_core.proofs.network.Network.live_at.Goals as goal
 

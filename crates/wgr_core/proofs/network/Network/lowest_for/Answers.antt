@@ -1,7 +1,7 @@
 use Rattle.std.proofs.Common.{◌≡◌, Some, ap, ◌∙◌, sym, subst, option_map}
 use Rattle.std.specs.Prelude.{IfSome}
-use Rattle.wgr_core.specs.Allot.{lower}
-use Rattle.wgr_core.specs.Peers.{peer_of}
+use Rattle.wgr_pool.specs.Allot.{lower}
+use Rattle.wgr_peers.specs.Peers.{peer_of}
 use Rattle.wgr_core.specs.Network.{lowest_free}
 use Rattle.wgr_core.specs.Outcome.{vacated}
 use Rattle.wgr_core.proofs.MoveLemmas.{own_in_pool, lowest_where_routed, lowest_where_unrouted}

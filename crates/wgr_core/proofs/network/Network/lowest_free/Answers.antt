@@ -1,7 +1,7 @@
 use Rattle.std.proofs.Common.{◌≡◌, true, ◌↔◌, ap, subst}
-use Rattle.wgr_core.specs.Spans.{IsHeld}
-use Rattle.wgr_core.specs.Peers.{is_own}
-use Rattle.wgr_core.specs.HeldSpans.{is_routed}
+use Rattle.wgr_pool.specs.Spans.{IsHeld}
+use Rattle.wgr_peers.specs.Peers.{is_own}
+use Rattle.wgr_pool.specs.HeldSpans.{is_routed}
 use Rattle.wgr_core.specs.Network.{NetworkValue, is_held}
 use Rattle.wgr_core.proofs.CommandLemmas.{held_iff}
 use Rattle.wgr_core.proofs.network.Network.lowest_free.Goals as goal

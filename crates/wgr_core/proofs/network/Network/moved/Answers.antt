@@ -1,12 +1,12 @@
 use Rattle.std.proofs.Common.{◌≡◌, false, None, Some, Ok, Err, refl, sym, ap, ◌∙◌, subst}
-use Rattle.wgr_core.specs.declared.peer.Peer.{Peer}
+use Rattle.wgr_peers.specs.declared.peer.Peer.{Peer}
 use Rattle.wgr_core.specs.declared.fault.ActFault.TheVariants.{Refused}
-use Rattle.wgr_core.specs.Peers.{peer_of}
+use Rattle.wgr_peers.specs.Peers.{peer_of}
 use Rattle.wgr_core.specs.Network.{NetworkValue}
 use Rattle.wgr_core.specs.Outcome.{replaced}
 use Rattle.wgr_core.specs.Change.{MeetsLive}
 use Rattle.wgr_core.proofs.MoveLemmas.{move_by}
-use Rattle.wgr_core.proofs.ReplaceLemmas.{peer_number}
+use Rattle.wgr_peers.proofs.PeerLemmas.{peer_number}
 use Rattle.wgr_core.proofs.network.Network.moved.Goals as goal
 
 pub place-requires : goal.place-requires

@@ -1,7 +1,7 @@
 use Rattle.std.proofs.Common.{List, refl, sym, ◌∙◌, subst}
 use Rattle.std.specs.List.{All, AllPairs}
-use Rattle.wgr_core.specs.declared.peer.Peer.{Peer}
-use Rattle.wgr_core.specs.Routes.{ComesBefore}
+use Rattle.wgr_peers.specs.declared.peer.Peer.{Peer}
+use Rattle.wgr_peers.specs.Routes.{ComesBefore}
 use Rattle.wgr_core.specs.Network.{IsRoute, IsNetwork}
 use Rattle.wgr_core.specs.Parts.{network_of}
 use Rattle.wgr_core.proofs.PartsLemmas.{network_is}

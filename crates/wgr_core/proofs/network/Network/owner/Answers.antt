@@ -1,7 +1,7 @@
 use Rattle.std.proofs.Common.{◌≡◌, ℕ, true, false, Some, None, sym, ap, subst, ◌∙◌}
 use Rattle.std.specs.Prelude.{option_map}
 use Rattle.wgr_text.specs.Prefix.{PrefixValue}
-use Rattle.wgr_core.specs.Peers.{is_own}
+use Rattle.wgr_peers.specs.Peers.{is_own}
 use Rattle.wgr_core.specs.Network.{NetworkValue, IsNetwork}
 use Rattle.wgr_core.specs.Owner.{longest_match, own_prefixes}
 use Rattle.wgr_core.proofs.OwnerLemmas.{owner_own, owner_routed}

@@ -1,8 +1,8 @@
 use Rattle.std.proofs.Common.{ℕ, Some, sym, ap, ◌∙◌}
 use Rattle.wgr_text.specs.Prefix.{PrefixValue}
 use Rattle.wgr_core.specs.Network.{NetworkValue}
-use Rattle.wgr_core.specs.Routes.{route_of}
-use Rattle.wgr_core.proofs.RouteLemmas.{route_found, route_absent}
+use Rattle.wgr_peers.specs.Routes.{route_of}
+use Rattle.wgr_peers.proofs.RouteLemmas.{route_found, route_absent}
 use Rattle.wgr_core.proofs.network.Network.route.Goals as goal
 
 pub returns-in-Ok : goal.returns-in-Ok

@@ -2,8 +2,8 @@ use Rattle.std.proofs.Common.{◌≡◌, ℕ, [], ◌∷◌, ◌++◌, map, Some
 use Rattle.std.specs.List.{All}
 use Rattle.wgr_text.specs.Prefix.{PrefixValue}
 use Rattle.wgr_core.specs.declared.change.Change.{Change}
-use Rattle.wgr_core.specs.Peers.{peer_of}
-use Rattle.wgr_core.specs.Routes.{Routes, AreOrdered, HasAddr, assign_route}
+use Rattle.wgr_peers.specs.Peers.{peer_of}
+use Rattle.wgr_peers.specs.Routes.{Routes, AreOrdered, HasAddr, assign_route}
 use Rattle.wgr_core.specs.Network.{NetworkValue, IsNetwork}
 use Rattle.wgr_core.specs.Outcome.{route_refusal}
 use Rattle.wgr_core.proofs.RerouteLemmas.{own_ordered, own_masked, meets_routed}

@@ -1,6 +1,6 @@
 use Rattle.std.proofs.Common.{◌≡◌, take, is_some}
 use Rattle.std.specs.List.{filter}
-use Rattle.wgr_core.specs.Peers.{peer_of}
+use Rattle.wgr_peers.specs.Peers.{peer_of}
 use Rattle.wgr_core.proofs.network.Network.routes_within.Given as goal
 
 abbrev pub invariant-loop-route : goal.invariant-loop-route

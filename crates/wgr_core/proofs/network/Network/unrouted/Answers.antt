@@ -1,8 +1,8 @@
 use Rattle.std.proofs.Common.{◌≡◌, ℕ, List, [], ◌∷◌, ◌++◌, map, Some, sym, ap, subst, ◌∙◌}
 use Rattle.wgr_text.specs.Prefix.{PrefixValue}
 use Rattle.wgr_core.specs.declared.change.Change.{Change}
-use Rattle.wgr_core.specs.Peers.{peer_of}
-use Rattle.wgr_core.specs.Routes.{Routes, AreOrdered, route_of, without_route}
+use Rattle.wgr_peers.specs.Peers.{peer_of}
+use Rattle.wgr_peers.specs.Routes.{Routes, AreOrdered, route_of, without_route}
 use Rattle.wgr_core.specs.Network.{NetworkValue, IsNetwork}
 use Rattle.wgr_core.proofs.RerouteLemmas.{own_ordered, meets_unrouted}
 use Rattle.wgr_core.proofs.network.Network.unrouted.Goals as goal

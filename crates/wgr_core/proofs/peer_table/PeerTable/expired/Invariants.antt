@@ -1,6 +1,0 @@
-use Rattle.std.proofs.Common.{◌≡◌, take}
-use Rattle.wgr_core.specs.Peers.{expired}
-use Rattle.wgr_core.proofs.peer_table.PeerTable.expired.Given as goal
-
-abbrev pub invariant-loop-peer : goal.invariant-loop-peer
-invariant-loop-peer l = (l.numbers ≡ expired l.now (take l.peer-index l.peer-items)) × (l.peer-items ≡ l.self)

@@ -1,0 +1,11 @@
+pub mod OrderedLemmas
+pub mod PlaceLemmas
+pub mod PutLemmas
+pub mod PeerLemmas
+pub mod TableLemmas
+pub mod IndexLemmas
+pub mod TestLemmas
+pub mod RouteLemmas
+pub mod RouteLengths
+pub mod MapLemmas
+pub mod TextLemmas

@@ -1,0 +1,57 @@
+-- Peers in the order of their numbers.
+use Rattle.std.specs.Prelude.{ℕ, ◌<◌, ◌≡◌, Bool, false, not, cond, nat_eq, nat_lt, List, [], ◌∷◌, map, Option, Some, None, AllPairs}
+use Rattle.std.specs.List.{filter, list_any}
+use Rattle.std.specs.Cmp.Lexicographic.{pointwise}
+use Rattle.wgr_text.specs.declared.key.Key.{Key}
+use Rattle.wgr_text.specs.Prefix.{AddrValue}
+use Rattle.wgr_peers.specs.declared.peer.Peer.{Peer}
+use Rattle.wgr_pool.specs.PrefixTests.{same_address}
+use Rattle.wgr_peers.specs.Ordered.{put_in_order}
+use Rattle.wgr_peers.specs.Limits.{is_over}
+
+abbrev pub is_live : ℕ → Peer → Bool
+is_live now p = not (is_over now p.until)
+
+-- the numbers of the peers whose lease is over
+abbrev pub expired : ℕ → List Peer → List ℕ
+expired now peers = map (λ p. p.number) (filter (λ p. not (is_live now p)) peers)
+
+abbrev pub same_key : Key → Key → Bool
+same_key a b = pointwise nat_eq a.0 b.0
+
+-- the number of the peer that has the key
+abbrev pub key_holder : List Peer → Key → Option ℕ
+key_holder [] key = None
+key_holder (p ∷ peers) key = cond (same_key p.key key) (Some p.number) (key_holder peers key)
+
+-- the peer of the number
+abbrev pub peer_of : List Peer → ℕ → Option Peer
+peer_of [] number = None
+peer_of (p ∷ peers) number = cond (nat_eq p.number number) (Some p) (peer_of peers number)
+
+-- the peers without that of the number
+abbrev pub without_peer : List Peer → ℕ → List Peer
+without_peer peers number = filter (λ p. not (nat_eq p.number number)) peers
+
+-- whether a peer has the address as its own
+abbrev pub is_own : List Peer → AddrValue → Bool
+is_own peers a = list_any (λ p. same_address p.address a) peers
+
+-- the peers with `p` at its number, in the order of numbers
+abbrev pub put_peer : List Peer → Peer → List Peer
+put_peer peers p = put_in_order (λ q. nat_lt q.number p.number) (λ q. nat_eq q.number p.number) peers p
+
+abbrev pub IsNumberedBelow : Peer → Peer → Type 0
+IsNumberedBelow p q = p.number < q.number
+
+-- each number is below the next one
+abbrev pub AreNumbered : List Peer → Type 0
+AreNumbered = AllPairs IsNumberedBelow
+
+-- two peers have neither the key nor the address in common
+abbrev pub IsApart : Peer → Peer → Type 0
+IsApart p q = (same_key p.key q.key ≡ false) × (same_address p.address q.address ≡ false)
+
+-- no key and no address stands twice
+abbrev pub AreApart : List Peer → Type 0
+AreApart = AllPairs IsApart

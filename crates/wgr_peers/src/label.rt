@@ -1,0 +1,100 @@
+ghost use Rattle.std.specs.Prelude.{◌≡◌, ℕ, List, [], IfOk, IfSome, IfNone, IsTrue, ◌↔◌, string_bytes};
+ghost use Rattle.wgr_peers.specs.Label.{IsLabel};
+
+use std::alloc::{AllocError, Global};
+use std::marker::Model;
+use std::str;
+
+/// An operator's note on a peer: 0 to 64 printable ASCII characters.
+#[derive(Debug, Drop)]
+pub struct Label {
+    text: String,
+}
+
+impl Model for Label {
+    ghost Value = { List ℕ };
+
+    ghost view = { λ l. string_bytes l.text };
+
+    ghost invariant = { λ l. IsLabel (string_bytes l.text) };
+}
+
+impl Label {
+    /// The label without characters.
+    pub fn empty(alloc: Global) -> Label
+        ensures { result ≡ [] }
+    {
+        Label {
+            text: String::new(alloc),
+        }
+    }
+
+    /// The label that the text is: 0 to 64 bytes, each from 0x20 to 0x7E. It is kept as it is.
+    pub fn read(alloc: Global, text: &[u8]) -> Result<Option<Label>, AllocError>
+        ensures kept { IfOk result (λ found. IfSome found (λ l. l ≡ text.now)) }
+        ensures valid { IfOk result (λ found. IfSome found (λ _. IsLabel text.now)) }
+        ensures none { IfOk result (λ found. IfNone found (¬ (IsLabel text.now))) }
+    {
+        match str::from_utf8(text) {
+            Ok(note) if is_label(text) => Ok(Some(Label {
+                text: note.to_string(alloc)?,
+            })),
+            _ => Ok(None),
+        }
+    }
+
+    /// The same label again.
+    pub fn copy(&self) -> Result<Label, AllocError>
+        ensures { IfOk result (λ l. l ≡ self.now) }
+    {
+        Ok(Label {
+            text: self.text.clone()?,
+        })
+    }
+
+    /// The text.
+    pub fn as_str(&self) -> &str
+        ensures value { result.now ≡ self.now }
+        ensures valid { IsLabel self.now }
+    {
+        self.text.as_str()
+    }
+}
+
+// Whether a label may have this text.
+fn is_label(text: &[u8]) -> bool
+    ensures { IsTrue result ↔ IsLabel text.now }
+{
+    text.len() <= 64 && text.iter().all(|byte| matches!(byte, b' '..=b'~'))
+}
+
+#[cfg(test)]
+mod tests {
+    use super::*;
+
+    #[test]
+    fn reads_labels(rt: HostRuntime) -> Result<(), AllocError> {
+        let long = [b'a'; 65];
+        let cases: [(&[u8], bool); 9] = [
+            (b"", true),
+            (b"lab 3, rack ~", true),
+            (&long[..64], true),
+            (&long, false),
+            (b"a\x1fb", false),
+            (b"a\x7fb", false),
+            (b"a\tb", false),
+            ("caf\u{e9}".as_bytes(), false),
+            (b"a\xff", false),
+        ];
+        for (text, is_read) in cases {
+            match Label::read(rt.alloc(), text)? {
+                Some(label) => {
+                    assert!(rt; is_read, "at {text:?}");
+                    assert_eq!(rt; label.as_str().as_bytes(), text);
+                }
+                None => assert!(rt; !is_read, "at {text:?}"),
+            }
+        }
+        Ok(())
+    }
+}

@@ -1,0 +1,113 @@
+//! Peers in the order of their numbers, and routes in the order of their prefixes.
+ghost use Rattle.std.specs.Prelude.{◌≡◌, ℕ, ◌<◌, ◌≤◌, nat_eq, nat_lt, not, OnOk, OnErr, All};
+ghost use Rattle.std.specs.List.{filter};
+ghost use Rattle.wgr_text.specs.Prefix.{IsAddr};
+ghost use Rattle.wgr_peers.specs.Ordered.{EndsAt};
+ghost use Rattle.wgr_peers.specs.Peers.{AreNumbered, put_peer};
+ghost use Rattle.wgr_pool.specs.PrefixTests.{is_before, same_prefix};
+ghost use Rattle.wgr_peers.specs.Routes.{AreOrdered, HasAddr, assign_route, without_route};
+
+use crate::peer::Peer;
+use std::alloc::AllocError;
+use wgr_text::Prefix;
+
+/// The place of the peer of this number, or else the one that it would have.
+pub fn peer_place(peers: &[Peer], number: u32) -> Result<usize, usize>
+    requires { AreNumbered peers.now }
+    ensures { EndsAt (λ p. nat_lt p.number number) (λ p. nat_eq p.number number) peers.now result }
+{
+    let place = peers.partition_point(|peer| peer.number < number);
+    if place < peers.len() && peers[place].number == number {
+        Ok(place)
+    } else {
+        Err(place)
+    }
+}
+
+/// Puts a peer in its place, in that of the peer of its number if there is one.
+pub fn put_peer(peers: &mut Vec<Peer>, peer: Peer) -> Result<(), AllocError>
+    requires { AreNumbered peers.old.items }
+    ensures put { OnOk result (peers.new.items ≡ put_peer peers.old.items peer) }
+    ensures numbered { OnOk result (AreNumbered peers.new.items) }
+{
+    match peer_place(peers, peer.number) {
+        Ok(place) => peers[place] = peer,
+        Err(place) => peers.insert(place, peer)?,
+    }
+    Ok(())
+}
+
+/// Whether the one prefix comes before the other: IPv4 before IPv6, then by address, then by
+/// length.
+pub fn comes_before(one: &Prefix, other: &Prefix) -> bool
+    ensures { result ≡ is_before one.now other.now }
+{
+    let (first, second) = (one.address(), other.address());
+    !second.is_at_most(&first) || (first.is_at_most(&second) && one.length() < other.length())
+}
+
+/// Whether the two prefixes are the same.
+pub fn is_same(one: &Prefix, other: &Prefix) -> bool
+    ensures { result ≡ same_prefix one.now other.now }
+{
+    one == other
+}
+
+/// The place of the prefix's route, or else the one that it would have.
+pub fn route_place(routes: &[(Prefix, u32)], prefix: &Prefix) -> Result<usize, usize>
+    requires ordered { AreOrdered routes.now }
+    ensures found { EndsAt (λ r. is_before r.0 prefix.now) (λ r. same_prefix r.0 prefix.now) routes.now result }
+    ensures masked { IsAddr prefix.now.address }
+{
+    let _address = prefix.address();
+    let place = routes.partition_point(|route| comes_before(&route.0, prefix));
+    if place < routes.len() && is_same(&routes[place].0, prefix) {
+        Ok(place)
+    } else {
+        Err(place)
+    }
+}
+
+/// Leads a prefix to the peer of this number; for want of memory the routes are as before.
+pub fn put_route(
+    routes: &mut Vec<(Prefix, u32)>,
+    prefix: Prefix,
+    number: u32,
+) -> Result<(), AllocError>
+    requires ordered { AreOrdered routes.old.items }
+    requires masked { All HasAddr routes.old.items }
+    ensures put { OnOk result (routes.new.items ≡ assign_route routes.old.items prefix number) }
+    ensures ordered { OnOk result (AreOrdered routes.new.items) }
+    ensures masked { OnOk result (All HasAddr routes.new.items) }
+    ensures err { OnErr result (routes.new.items ≡ routes.old.items) }
+{
+    match route_place(routes, &prefix) {
+        Ok(place) => routes[place] = (prefix, number),
+        Err(place) => routes.insert(place, (prefix, number))?,
+    }
+    Ok(())
+}
+
+/// Takes away the route of a prefix, if there is one.
+pub fn drop_route(routes: &mut Vec<(Prefix, u32)>, prefix: &Prefix)
+    requires { AreOrdered routes.old.items }
+    ensures { routes.new.items ≡ without_route routes.old.items prefix.now }
+{
+    if let Ok(place) = route_place(routes, prefix) {
+        routes.remove(place);
+    }
+}
+
+// Whether the route leads to the peer of this number.
+fn leads_to(route: &(Prefix, u32), number: u32) -> bool
+    ensures { result ≡ nat_eq route.now.1 number }
+{
+    route.1 == number
+}
+
+/// Takes away the routes to the peer of this number.
+pub fn drop_routes_to(routes: &mut Vec<(Prefix, u32)>, number: u32)
+    ensures { routes.new.items ≡ filter (λ r. not (nat_eq r.1 number)) routes.old.items }
+{
+    routes.retain(|route| !leads_to(route, number));
+}

@@ -1,0 +1,285 @@
+ghost use Rattle.std.specs.Prelude.{◌≡◌, ℕ, ◌+◌, ◌<◌, ◌≤◌, ◌↔◌, ◌⊎◌, List, [], ◌∷◌, ◌++◌, length, IsTrue, IsSome, IfSome, IfOk, OnOk, OnErr, All, None, false, true};
+ghost use Rattle.std.specs.List.{filter};
+ghost use Rattle.std.specs.Option.{option_copied};
+ghost use Rattle.wgr_text.specs.Prefix.{AddrValue, IsAddr};
+ghost use Rattle.wgr_pool.specs.Spans.{IsHeld};
+ghost use Rattle.wgr_peers.specs.Peers.{is_live, is_own, expired, key_holder, peer_of, put_peer, without_peer, AreNumbered, IsApart, AreApart};
+ghost use Rattle.wgr_peers.specs.PeerIndex.{IsAlikeAt, IsKeyedAt};
+
+use crate::items::Items;
+use crate::limits::LeaseEnd;
+use crate::order::peer_place;
+use crate::peer::Peer;
+use std::alloc::{AllocError, Global};
+use std::collections::HashMap;
+use std::marker::Model;
+use wgr_pool::AddressSet;
+use wgr_text::{Addr, Key};
+
+/// Peers in the order of their numbers, with indexes by key and by address, so that neither is
+/// sought by a walk.
+#[derive(Drop)]
+pub struct PeerTable {
+    peers: Vec<Peer>,
+    numbers: HashMap<Key, u32>,
+    addresses: AddressSet,
+    // No lease ends before this moment; the greatest number where none ends.
+    soonest_end: u64,
+}
+
+impl Model for PeerTable {
+    ghost use Rattle.std.specs.Prelude.{List};
+    ghost use Rattle.wgr_peers.specs.declared.peer.Peer.{Peer};
+
+    ghost Value = { List Peer };
+
+    ghost use Rattle.wgr_peers.specs.PeerIndex.{IsIndexed};
+
+    ghost view = { λ t. t.peers.items };
+
+    ghost invariant = { λ t. IsIndexed t.peers.items t.numbers t.addresses t.soonest_end };
+}
+
+impl PeerTable {
+    /// No peers.
+    pub fn new(alloc: Global) -> PeerTable
+        ensures { result ≡ [] }
+    {
+        PeerTable {
+            peers: Vec::new(alloc),
+            numbers: HashMap::new(alloc),
+            addresses: AddressSet::new(alloc),
+            soonest_end: u64::MAX,
+        }
+    }
+
+    /// The peers.
+    pub fn as_slice(&self) -> &[Peer]
+        ensures { result.now ≡ self.now }
+    {
+        &self.peers
+    }
+
+    /// How many peers there are.
+    pub fn len(&self) -> usize
+        ensures { result ≡ length self.now }
+    {
+        self.peers.len()
+    }
+
+    /// The number of the peer that has this key.
+    pub fn key_holder(&self, key: &Key) -> Option<u32>
+        ensures { result ≡ key_holder self.now key.now }
+    {
+        self.numbers.get(key).copied()
+    }
+
+    /// The peer of this number.
+    pub fn peer(&self, number: u32) -> Option<&Peer>
+        ensures { option_copied result ≡ peer_of self.now number }
+    {
+        match self.peers.binary_search_by_key(&number, |peer| peer.number) {
+            Ok(place) => Some(&self.peers[place]),
+            Err(_) => None,
+        }
+    }
+
+    /// Whether a peer has the address as its own.
+    pub fn owns(&self, address: &Addr) -> bool
+        ensures { result ≡ is_own self.now address.now }
+    {
+        let _number = address.number();
+        self.addresses.contains(address)
+    }
+
+    /// The addresses of the peers.
+    pub fn addresses(&self) -> &AddressSet
+        ensures { (b : AddrValue) → IsAddr b → IsHeld result.now b ↔ (is_own self.now b ≡ true) }
+    {
+        &self.addresses
+    }
+
+    /// Puts a peer at the end, above all numbers; for want of memory the table is as before.
+    pub fn push(&mut self, peer: Peer) -> Result<(), AllocError>
+        requires above { All (λ p. p.number < peer.number) self.old }
+        requires new_key { key_holder self.old peer.key ≡ None }
+        ensures ok { OnOk result (self.new ≡ self.old ++ peer ∷ []) }
+        ensures err { OnErr result (self.new ≡ self.old) }
+    {
+        self.peers.reserve(1)?;
+        self.numbers.reserve(1)?;
+        self.addresses.insert(peer.address)?;
+        let Ok(_) = self.numbers.insert(peer.key, peer.number) else {
+            unreachable!();
+        };
+        self.soonest_end = sooner(self.soonest_end, peer.until);
+        self.peers.push_reserved(peer);
+        Ok(())
+    }
+}
+
+impl PeerTable {
+    /// The place of the peer that has this peer's number, key and address.
+    pub fn place_alike(&self, peer: &Peer) -> Option<usize>
+        ensures { IfSome result (λ at. IsAlikeAt self.now peer.now at) }
+    {
+        match peer_place(&self.peers, peer.number) {
+            Ok(place) if self.peers[place].is_alike(peer) => Some(place),
+            _ => None,
+        }
+    }
+
+    /// Puts a peer in the place of one that has its number, key and address, so that the indexes
+    /// stay as they are.
+    pub fn replace(&mut self, place: usize, peer: Peer)
+        requires { IsAlikeAt self.old peer place }
+        ensures { self.new ≡ put_peer self.old peer }
+    {
+        let until = peer.until;
+        self.peers[place] = peer;
+        self.soonest_end = sooner(self.soonest_end, until);
+    }
+
+    /// The place of the peer that has this peer's number and key.
+    pub fn place_keyed(&self, peer: &Peer) -> Option<usize>
+        ensures { IfSome result (λ at. IsKeyedAt self.now peer.now at) }
+    {
+        match peer_place(&self.peers, peer.number) {
+            Ok(place) if self.peers[place].has_key(&peer.key) => Some(place),
+            _ => None,
+        }
+    }
+
+    /// Puts a peer in the place of one that has its number and key, at another address; for want of
+    /// memory the table is as before.
+    pub fn relocate(&mut self, at: usize, peer: Peer) -> Result<(), AllocError>
+        requires keyed { IsKeyedAt self.old peer at }
+        requires apart { AreApart self.old }
+        ensures ok { OnOk result (self.new ≡ put_peer self.old peer) }
+        ensures err { OnErr result (self.new ≡ self.old) }
+    {
+        let mut addresses = self.addresses.copy()?;
+        addresses.remove(&self.peers[at].address)?;
+        addresses.insert(peer.address)?;
+        self.addresses = addresses;
+        self.soonest_end = sooner(self.soonest_end, peer.until);
+        self.peers[at] = peer;
+        Ok(())
+    }
+
+    /// Takes away the peer of this number, if there is one; for want of memory the table is as
+    /// before.
+    pub fn remove(&mut self, number: u32) -> Result<(), AllocError>
+        requires { AreApart self.old }
+        ensures ok { OnOk result (self.new ≡ without_peer self.old number) }
+        ensures err { OnErr result (self.new ≡ self.old) }
+    {
+        let Ok(place) = peer_place(&self.peers, number) else {
+            return Ok(());
+        };
+        let peer = &self.peers[place];
+        let (key, address) = (peer.key, peer.address);
+        self.addresses.remove(&address)?;
+        self.numbers.remove(&key);
+        self.peers.remove(place);
+        Ok(())
+    }
+}
+
+impl PeerTable {
+    /// The table of these peers, whose numbers rise and of which no two have a key or an address
+    /// in common.
+    pub fn collect(alloc: Global, peers: Vec<Peer>) -> Result<PeerTable, AllocError>
+        requires numbered { AreNumbered peers.items }
+        requires apart { AreApart peers.items }
+        ensures { IfOk result (λ table. table ≡ peers.items) }
+    {
+        let mut table = PeerTable::new(alloc);
+        for peer in peers {
+            table.push(peer)?;
+        }
+        Ok(table)
+    }
+
+    /// The table of these peers, if their numbers rise and no two of them have a key or an address
+    /// in common.
+    pub fn of(alloc: Global, peers: Vec<Peer>) -> Result<Option<PeerTable>, AllocError>
+        ensures some { IfOk result (λ made. IfSome made (λ table. table ≡ peers.items)) }
+        ensures exact { IfOk result (λ made. IsSome made ↔ (AreNumbered peers.items × AreApart peers.items)) }
+    {
+        let mut table = PeerTable::new(alloc);
+        for peer in peers {
+            if !table.takes(&peer) {
+                return Ok(None);
+            }
+            table.push(peer)?;
+        }
+        Ok(Some(table))
+    }
+
+    // Whether the peer's number is above all numbers, and its key and its address are no peer's.
+    fn takes(&self, peer: &Peer) -> bool
+        ensures { IsTrue result ↔ (All (λ q. q.number < peer.now.number) self.now × All (λ q. IsApart q peer.now) self.now) }
+    {
+        self.is_below(peer.number) && self.is_apart(peer)
+    }
+
+    // Whether no peer has the key or the address of this one.
+    fn is_apart(&self, peer: &Peer) -> bool
+        ensures { IsTrue result ↔ All (λ q. IsApart q peer.now) self.now }
+    {
+        self.key_holder(&peer.key).is_none() && !self.owns(&peer.address)
+    }
+
+    // Whether all numbers are below this one.
+    fn is_below(&self, number: u32) -> bool
+        ensures { IsTrue result ↔ All (λ q. q.number < number) self.now }
+    {
+        match self.peers.last() {
+            Some(last) => last.number < number,
+            None => true,
+        }
+    }
+
+    /// The peers that are live at this moment.
+    pub fn live(&self, alloc: Global, now: u64) -> Result<Vec<Peer>, AllocError>
+        ensures { IfOk result (λ peers. peers.items ≡ filter (is_live now) self.now) }
+    {
+        let mut peers = Vec::new(alloc);
+        for peer in &self.peers {
+            if peer.is_live(now) {
+                peers.push(peer.copy()?)?;
+            }
+        }
+        Ok(peers)
+    }
+
+    /// The numbers of the peers whose lease is over at this moment.
+    pub fn expired(&self, alloc: Global, now: u64) -> Result<Items<u32>, AllocError>
+        ensures { IfOk result (λ numbers. numbers ≡ expired now self.now) }
+    {
+        let mut numbers = Items::new(alloc);
+        if now < self.soonest_end {
+            return Ok(numbers);
+        }
+        for peer in &self.peers {
+            if !peer.is_live(now) {
+                numbers.push(peer.number)?;
+            }
+        }
+        Ok(numbers)
+    }
+}
+
+// The sooner of a moment and the end of a lease, if that has one.
+fn sooner(moment: u64, until: LeaseEnd) -> u64
+    ensures at_most { result ≤ moment }
+    ensures ends { (until ≡ 0) ⊎ (result ≤ until) }
+{
+    let seconds = until.seconds();
+    if seconds != 0 && seconds < moment {
+        seconds
+    } else {
+        moment
+    }
+}

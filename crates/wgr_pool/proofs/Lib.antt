@@ -1,0 +1,12 @@
+pub mod Bools
+pub mod Lists
+pub mod PrefixLemmas
+pub mod Ranges
+pub mod Walk
+pub mod First
+pub mod Bridge
+pub mod WithinSpans
+pub mod RunLists
+pub mod Joining
+pub mod Parting
+pub mod Merging

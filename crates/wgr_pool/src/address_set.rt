@@ -1,0 +1,237 @@
+ghost use Rattle.std.specs.Prelude.{◌≡◌, ℕ, ◌+◌, ◌-◌, ◌<◌, ◌≤◌, ◌↔◌, ◌⊎◌, true, false, List, [], length, slice_index_or, IsTrue, IfOk, OnOk, OnErr};
+ghost use Rattle.wgr_text.specs.Prefix.{AddrValue, IsAddr, rank};
+ghost use Rattle.wgr_text.specs.declared.prefix.Span.{Span, Span as SpanValue};
+ghost use Rattle.wgr_pool.specs.PrefixTests.{same_address};
+ghost use Rattle.wgr_pool.specs.Spans.{IsWithin, IsHeld, RisesFrom};
+ghost use Rattle.wgr_pool.specs.Runs.{AreRunsFrom, IsPartBelow, IsPartAbove};
+
+use std::alloc::{AllocError, Global};
+use std::marker::Model;
+use wgr_text::{Addr, Family, Span};
+
+/// A set of addresses, kept as its runs of consecutive addresses.
+///
+/// Addresses that follow one another take one span, however many they are, so the first gap after
+/// them is found at once.
+#[derive(Drop)]
+pub struct AddressSet {
+    runs: Vec<Span>,
+}
+
+impl Model for AddressSet {
+    ghost Value = { List Span };
+
+    ghost view = { λ s. s.runs.items };
+
+    ghost invariant = { λ s. AreRunsFrom 0 s.runs.items };
+}
+
+impl AddressSet {
+    /// The empty set.
+    pub fn new(alloc: Global) -> AddressSet
+        ensures { result ≡ [] }
+    {
+        AddressSet {
+            runs: Vec::new(alloc),
+        }
+    }
+
+    /// The set's runs, in the order of their addresses.
+    pub fn spans(&self) -> &[Span]
+        ensures value { result.now ≡ self.now }
+        ensures in_order { RisesFrom 0 self.now }
+    {
+        self.runs.as_slice()
+    }
+
+    /// Whether the set has the address.
+    pub fn contains(&self, address: &Addr) -> bool
+        ensures { IsTrue result ↔ IsHeld self.now address.now }
+    {
+        let runs = self.runs.as_slice();
+        let place = place_above(runs, address);
+        is_in_last(runs, place, address)
+    }
+
+    /// Puts the address into the set, where it joins the runs that it touches.
+    pub fn insert(&mut self, address: Addr) -> Result<(), AllocError>
+        ensures held { OnOk result ((b : AddrValue) → IsAddr b → IsHeld self.new b ↔ ((same_address address b ≡ true) ⊎ IsHeld self.old b)) }
+        ensures unchanged { OnErr result (self.new ≡ self.old) }
+    {
+        let runs = self.runs.as_slice();
+        let place = place_above(runs, &address);
+        if is_in_last(runs, place, &address) {
+            return Ok(());
+        }
+        let follows = follows_last(runs, place, &address);
+        let leads = leads_next(runs, place, &address);
+        match (follows, leads) {
+            (true, true) => {
+                self.runs[place - 1].hi = self.runs[place].hi;
+                self.runs.remove(place);
+            }
+            (true, false) => self.runs[place - 1].hi = address,
+            (false, true) => self.runs[place].lo = address,
+            (false, false) => self.runs.insert(
+                place,
+                Span {
+                    lo: address,
+                    hi: address,
+                },
+            )?,
+        }
+        Ok(())
+    }
+}
+
+impl AddressSet {
+    /// The same set again.
+    pub fn copy(&self) -> Result<AddressSet, AllocError>
+        ensures { IfOk result (λ copy. copy ≡ self.now) }
+    {
+        Ok(AddressSet {
+            runs: Vec::from_slice(*self.runs.allocator(), &self.runs)?,
+        })
+    }
+
+    /// Takes the address out of the set, where the run that has it grows shorter or is split in
+    /// two.
+    pub fn remove(&mut self, address: &Addr) -> Result<(), AllocError>
+        ensures held { OnOk result ((b : AddrValue) → IsAddr b → IsHeld self.new b ↔ ((same_address address.now b ≡ false) × IsHeld self.old b)) }
+        ensures unchanged { OnErr result (self.new ≡ self.old) }
+    {
+        let _number = address.number();
+        let runs = self.runs.as_slice();
+        let place = place_above(runs, address);
+        if !is_in_last(runs, place, address) {
+            return Ok(());
+        }
+        let run = runs[place - 1];
+        match (part_below(&run, address), part_above(&run, address)) {
+            (None, None) => {
+                self.runs.remove(place - 1);
+            }
+            (Some(below), None) => self.runs[place - 1] = below,
+            (None, Some(above)) => self.runs[place - 1] = above,
+            (Some(below), Some(above)) => {
+                self.runs.insert(place, above)?;
+                self.runs[place - 1] = below;
+            }
+        }
+        Ok(())
+    }
+}
+
+// What the run has below the address.
+fn part_below(run: &Span, address: &Addr) -> Option<Span>
+    requires { IsWithin run.now address.now }
+    ensures { IsPartBelow run.now address.now result }
+{
+    if address.is_at_most(&run.lo) {
+        return None;
+    }
+    Some(Span {
+        lo: run.lo,
+        hi: before(address, &run.lo),
+    })
+}
+
+// What the run has above the address.
+fn part_above(run: &Span, address: &Addr) -> Option<Span>
+    requires { IsWithin run.now address.now }
+    ensures { IsPartAbove run.now address.now result }
+{
+    if run.hi.is_at_most(address) {
+        return None;
+    }
+    Some(Span {
+        lo: after(address, &run.hi),
+        hi: run.hi,
+    })
+}
+
+// The last address below this one, where another is below it.
+fn before(address: &Addr, other: &Addr) -> Addr
+    requires { rank other.now < rank address.now }
+    ensures from { rank other.now ≤ rank result }
+    ensures below { rank result < rank address.now }
+    ensures last { (b : AddrValue) → IsAddr b → rank b < rank address.now → rank b ≤ rank result }
+{
+    let _number = other.number();
+    let number = address.number();
+    let (family, last) = if number == 0 {
+        (Family::V4, u128::from(u32::MAX))
+    } else {
+        (address.family(), number - 1)
+    };
+    let Some(before) = Addr::new(family, last) else {
+        unreachable!();
+    };
+    before
+}
+
+// The first address above this one, where another is above it.
+fn after(address: &Addr, other: &Addr) -> Addr
+    requires { rank address.now < rank other.now }
+    ensures above { rank address.now < rank result }
+    ensures to { rank result ≤ rank other.now }
+    ensures first { (b : AddrValue) → IsAddr b → rank address.now < rank b → rank result ≤ rank b }
+{
+    let _number = other.number();
+    let number = address.number();
+    let (family, first) = if address.family() == Family::V4 && number == u128::from(u32::MAX) {
+        (Family::V6, 0)
+    } else {
+        (address.family(), number + 1)
+    };
+    let Some(after) = Addr::new(family, first) else {
+        unreachable!();
+    };
+    after
+}
+
+// The place of the first run that begins above the address, or the end.
+fn place_above(runs: &[Span], address: &Addr) -> usize
+    requires { AreRunsFrom 0 runs.now }
+    ensures within { result ≤ length runs.now }
+    ensures below { (k : ℕ) (d : SpanValue) → k < result → rank (slice_index_or runs.now k d).lo ≤ rank address.now }
+    ensures above { (k : ℕ) (d : SpanValue) → result ≤ k → k < length runs.now → rank address.now < rank (slice_index_or runs.now k d).lo }
+{
+    runs.partition_point(|run| run.lo.is_at_most(address))
+}
+
+// Whether `after` is the address that follows `before`.
+fn is_next(before: &Addr, after: &Addr) -> bool
+    ensures next { IsTrue result → rank after.now ≡ rank before.now + 1 }
+    ensures fits { IsAddr after.now }
+{
+    before.family() == after.family()
+        && before.number() < after.number()
+        && after.number() - before.number() == 1
+}
+
+// Whether the last run before the place ends no lower than the address.
+fn is_in_last(runs: &[Span], place: usize, address: &Addr) -> bool
+    requires { place ≤ length runs.now }
+    ensures has { IsTrue result → (0 < place) × ((d : SpanValue) → rank address.now ≤ rank (slice_index_or runs.now (place - 1) d).hi) }
+    ensures past { result ≡ false → 0 < place → (d : SpanValue) → rank (slice_index_or runs.now (place - 1) d).hi < rank address.now }
+{
+    place > 0 && address.is_at_most(&runs[place - 1].hi)
+}
+
+// Whether the address follows the last run before the place.
+fn follows_last(runs: &[Span], place: usize, address: &Addr) -> bool
+    requires { place ≤ length runs.now }
+    ensures next { IsTrue result → (0 < place) × ((d : SpanValue) → rank address.now ≡ rank (slice_index_or runs.now (place - 1) d).hi + 1) }
+    ensures fits { IsAddr address.now }
+{
+    let _number = address.number();
+    place > 0 && is_next(&runs[place - 1].hi, address)
+}
+
+// Whether the run at the place follows the address.
+fn leads_next(runs: &[Span], place: usize, address: &Addr) -> bool
+    ensures next { IsTrue result → (place < length runs.now) × ((d : SpanValue) → rank (slice_index_or runs.now place d).lo ≡ rank address.now + 1) }
+{
+    place < runs.len() && is_next(address, &runs[place].lo)
+}

@@ -1,0 +1,76 @@
+ghost use Rattle.std.specs.Prelude.{◌≡◌, ℕ, ◌+◌, ◌^◌, ◌<◌, ◌≤◌, ◌↔◌, List, IsTrue, IfOk, IfErr, IfSome, MatchOption};
+ghost use Rattle.wgr_text.specs.Prefix.{rank, width};
+ghost use Rattle.wgr_text.specs.declared.prefix.Span.{Span};
+ghost use Rattle.wgr_pool.specs.Spans.{RisesFrom, Takes, IsLowestFree, IsFull, StopsAt};
+
+use crate::pool::Pool;
+use wgr_text::{Addr, Span};
+
+/// Why a source of spans gave none.
+#[derive(Clone, Copy, Debug, PartialEq, Eq)]
+pub enum Stop {
+    NoMemory,
+    Store,
+}
+
+/// A source of spans of held addresses, in the order in which they begin.
+pub trait Holds {
+    ghost use Rattle.wgr_pool.specs.declared.allot.Stop.{Stop};
+
+    /// The spans that it still has to give.
+    ghost rest: { Self → List Span };
+
+    /// Whether it gives just these.
+    ghost honest: { Self → Type 0 };
+
+    /// No span that it gives from now on begins below this place.
+    ghost floor: { Self → ℕ };
+
+    /// How many spans it can still give at most.
+    ghost left: { Self → ℕ };
+
+    /// Whether it has stopped, and why.
+    ghost stopped: { Self → Stop → Type 0 };
+
+    fn next_hold(&mut self) -> Result<Option<Span>, Stop>
+        ensures falls { IfOk result (λ given. IfSome given (λ _. left self.new < left self.old)) }
+        ensures rises { IfOk result (λ given. IfSome given (λ s. (floor self.old ≤ rank s.lo) × (floor self.new ≡ rank s.lo))) }
+        ensures first { honest self.new → IfOk result (λ given. Takes (rest self.old) given (rest self.new)) }
+        ensures stops { IfErr result (λ why. stopped self.new why) }
+        ensures was_honest { honest self.new → honest self.old };
+
+    ghost in_order: { (s : Self) → honest s → RisesFrom (floor s) (rest s) };
+}
+
+/// The lowest address that the pool may give and that no span of the source has.
+pub fn lowest_free<H: Holds>(pool: &Pool, holds: &mut H) -> Result<Option<Addr>, Stop>
+    ensures lowest { H.honest holds.new → IfOk result (λ found. MatchOption found (IsFull pool.now (H.rest holds.old)) (IsLowestFree pool.now (H.rest holds.old))) }
+    ensures stop { IfErr result (λ why. H.stopped holds.new why) }
+    ensures taken { H.honest holds.new → IfOk result (λ found. IfSome found (StopsAt (H.rest holds.old) (H.rest holds.new))) }
+{
+    let Span { lo, hi: last } = pool.assignable();
+    let mut candidate = lo;
+    while let Some(span) = holds.next_hold()? {
+        if !span.lo.is_at_most(&candidate) {
+            return Ok(Some(candidate));
+        }
+        if last.is_at_most(&span.hi) {
+            return Ok(None);
+        }
+        if candidate.is_at_most(&span.hi) {
+            candidate = sibling(&last, span.hi.number() + 1);
+        }
+    }
+    Ok(Some(candidate))
+}
+
+// The address with this number, of the same family.
+pub fn sibling(of: &Addr, number: u128) -> Addr
+    requires { number < 2 ^ width of.now.family }
+    ensures { result ≡ record { family = of.now.family; number = number } }
+{
+    match Addr::new(of.family(), number) {
+        Some(sibling) => sibling,
+        None => *of,
+    }
+}

@@ -1,0 +1,145 @@
+ghost use Rattle.std.specs.Prelude.{◌≡◌, ℕ, ◌+◌, ◌<◌, ◌≤◌, ◌↔◌, ◌⊎◌, Bool, true, List, length, [], ◌∷◌, IsTrue, MatchOption};
+ghost use Rattle.std.specs.List.{All, AllPairs};
+ghost use Rattle.wgr_text.specs.Prefix.{AddrValue, PrefixValue, IsAddr, IsPrefix, rank};
+ghost use Rattle.wgr_text.specs.declared.prefix.Span.{Span, Span as SpanValue};
+ghost use Rattle.wgr_pool.specs.PrefixTests.{is_before, covers};
+ghost use Rattle.wgr_pool.specs.Allot.{lowest_where};
+ghost use Rattle.wgr_pool.specs.Pool.{IsPool};
+ghost use Rattle.wgr_pool.specs.Spans.{IsHeld, RisesFrom, Takes, reached};
+ghost use Rattle.wgr_pool.specs.Rising.{RisesFrom-prop};
+ghost use Rattle.wgr_pool.specs.HeldSpans.{span_of, is_routed, route_spans, merged, from_first};
+
+use crate::address_set::AddressSet;
+use crate::allot::{Holds, Stop, lowest_free};
+use crate::pool::Pool;
+use wgr_text::{Addr, Prefix, Span};
+
+/// The spans of the routes that lie wholly in a pool.
+#[derive(Drop)]
+struct RouteSpans<'a> {
+    pool: Prefix,
+    routes: &'a [(Prefix, u32)],
+}
+
+impl RouteSpans<'_> {
+    /// The span of the next route in the pool.
+    fn next(&mut self) -> Option<Span>
+        ensures next { Takes (route_spans self.old.pool self.old.routes.now) result (route_spans self.new.pool self.new.routes.now) }
+        ensures pool { self.new.pool ≡ self.old.pool }
+    {
+        while let Some((route, later)) = self.routes.split_first() {
+            self.routes = later;
+            if is_covered(&self.pool, &route.0) {
+                return Some(whole(&route.0));
+            }
+        }
+        None
+    }
+}
+
+/// The spans of a network's held addresses, in the order in which they begin.
+#[derive(Drop)]
+pub struct HeldSpans<'a> {
+    runs: &'a [Span],
+    // The next route's span, which waits while runs begin before it.
+    route: Option<Span>,
+    routes: RouteSpans<'a>,
+    // Where the span that was given last begins: what is to come begins no lower.
+    last: Option<Addr>,
+    ghost runs_rise: { RisesFrom (reached last) runs.now } by { RisesFrom-prop (reached last) runs.now },
+    ghost routes_rise: { RisesFrom (reached last) (from_first route (route_spans routes.pool routes.routes.now)) } by { RisesFrom-prop (reached last) (from_first route (route_spans routes.pool routes.routes.now)) },
+    ghost all_rise: { RisesFrom (reached last) (merged runs.now (from_first route (route_spans routes.pool routes.routes.now))) } by { RisesFrom-prop (reached last) (merged runs.now (from_first route (route_spans routes.pool routes.routes.now))) },
+}
+
+impl<'a> HeldSpans<'a> {
+    /// The source of the runs and of the routes that lie wholly in the pool.
+    pub fn new(pool: &Pool, runs: &'a [Span], routes: &'a [(Prefix, u32)]) -> HeldSpans<'a>
+        requires runs_rise { RisesFrom 0 runs.now }
+        requires routes_rise { AllPairs (λ r s. is_before r.0 s.0 ≡ true) routes.now }
+        ensures runs { result.runs.now ≡ runs.now }
+        ensures routes { from_first result.route (route_spans result.routes.pool result.routes.routes.now) ≡ route_spans pool.now routes.now }
+        ensures is_pool { IsPool pool.now }
+    {
+        let mut routes = RouteSpans {
+            pool: pool.prefix(),
+            routes,
+        };
+        let route = routes.next();
+        HeldSpans {
+            runs,
+            route,
+            routes,
+            last: None,
+        }
+    }
+
+    // The next run and those after it, unless the next route begins before it.
+    fn next_run(&self) -> Option<(Span, &'a [Span])>
+        ensures { MatchOption result (MatchOption self.now.route (self.now.runs.now ≡ []) (λ r. RisesFrom (rank r.lo + 1) self.now.runs.now)) (λ p. (self.now.runs.now ≡ p.0 ∷ p.1.now) × RisesFrom (rank p.0.lo) (from_first self.now.route (route_spans self.now.routes.pool self.now.routes.routes.now))) }
+    {
+        let (run, later) = self.runs.split_first()?;
+        match self.route {
+            Some(route) if !run.lo.is_at_most(&route.lo) => None,
+            _ => Some((*run, later)),
+        }
+    }
+}
+
+impl Holds for HeldSpans<'_> {
+    ghost rest = { λ s. merged s.runs.now (from_first s.route (route_spans s.routes.pool s.routes.routes.now)) };
+
+    ghost honest = { λ s. Unit {0} };
+
+    ghost floor = { λ s. reached s.last };
+
+    ghost left = { λ s. length (merged s.runs.now (from_first s.route (route_spans s.routes.pool s.routes.routes.now))) };
+
+    ghost stopped = { λ s why. ⊥ };
+
+    fn next_hold(&mut self) -> Result<Option<Span>, Stop> {
+        match (self.next_run(), self.route) {
+            (Some((run, later)), _) => {
+                self.runs = later;
+                self.last = Some(run.lo);
+                Ok(Some(run))
+            }
+            (None, Some(route)) => {
+                self.route = self.routes.next();
+                self.last = Some(route.lo);
+                Ok(Some(route))
+            }
+            (None, None) => Ok(None),
+        }
+    }
+
+    ghost in_order = { λ s h. s.all_rise };
+}
+
+// Whether each address of the route is in the pool.
+fn is_covered(pool: &Prefix, route: &Prefix) -> bool
+    ensures { result ≡ covers pool.now route.now }
+{
+    pool.length() <= route.length() && pool.contains(&route.address())
+}
+
+// The route's span.
+fn whole(route: &Prefix) -> Span
+    ensures { result ≡ span_of route.now }
+{
+    route.span()
+}
+
+/// The lowest address of the pool that may be given and that neither the set has nor a route that
+/// lies wholly in the pool.
+pub fn lowest_address(pool: &Pool, addresses: &AddressSet, routes: &[(Prefix, u32)]) -> Option<Addr>
+    requires in_order { AllPairs (λ r s. is_before r.0 s.0 ≡ true) routes.now }
+    requires prefixes { All (λ r. IsPrefix r.0) routes.now }
+    ensures { (taken : AddrValue → Bool) → ((b : AddrValue) → IsAddr b → (taken b ≡ true) ↔ (IsHeld addresses.now b ⊎ (is_routed pool.now routes.now b ≡ true))) → result ≡ lowest_where pool.now taken }
+{
+    let mut holds = HeldSpans::new(pool, addresses.spans(), routes);
+    match lowest_free(pool, &mut holds) {
+        Ok(found) => found,
+        // A source in memory never stops.
+        Err(_) => None,
+    }
+}
