@@ -1,0 +1,68 @@
+-- How what is told goes from thing to thing.
+use Rattle.std.proofs.Common.{◌≡◌, ℕ, List, [], ◌∷◌, length, drop, Option, Some, None, MatchOption, IfSome, IfNone, sym, ap, subst, ◌∙◌, arith}
+use Rattle.std.specs.Borrow.{Bor}
+use Rattle.std.specs.Coded.{Coded}
+use Rattle.std.specs.Iterator.{MakesProgress, item_count, YieldsFirst}
+use Rattle.std.proofs.Math.Logic.{∥∥₁_elim, ∥∥₁_map}
+use mathlib.Core.HLevel.{⊥_prop}
+use Rattle.wgr_dump.specs.Fields.{Each}
+use Rattle.wgr_dump.specs.Told.{Told, told, SaysOne, told_same}
+
+module _ {A B : Type 0} (R : A → B → Type 0) where
+  each_tail : (x : A) (xs : List A) (ys : List B) → Each R (x ∷ xs) ys → Each R xs (drop 1 ys)
+  each_tail x xs [] e = absurd e
+  each_tail x xs (y ∷ ys) e = e.1
+
+  told_tail : (x : A) (xs : List A) → Told R (x ∷ xs) → Told R xs
+  told_tail x xs t = (drop 1 t.0, ∥∥₁_map t.1 (each_tail x xs t.0))
+
+  -- what is told of the things after the first
+  pub told_after : (x : A) (old new : List A) → old ≡ x ∷ new → Told R old → Told R new
+  told_after x old new is t = told_tail x new (subst (λ xs. Told R xs) is t)
+
+  says_some : (x : A) (xs : List A) → ((y : B) → ¬ (R x y)) → (ys : List B) → Each R (x ∷ xs) ys → ⊥
+  says_some x xs none [] e = e
+  says_some x xs none (y ∷ ys) e = none y e.0
+
+  -- a list that begins with a thing stands beside what the thing says, and so on
+  pub each_first : (x : A) (old new : List A) → old ≡ x ∷ new → (ys : List B) → Each R old ys → (y : B) × R x y
+  each_first x old new is ys e = first ys (subst (λ v. Each R v ys) is e)
+    where
+      first : (ys : List B) → Each R (x ∷ new) ys → (y : B) × R x y
+      first [] e = absurd e
+      first (y ∷ ys) e = (y, e.0)
+
+  pub each_rest : (x : A) (old new : List A) → old ≡ x ∷ new → (ys : List B) → Each R old ys → (zs : List B) × Each R new zs
+  each_rest x old new is ys e = (drop 1 ys, each_tail x new ys (subst (λ v. Each R v ys) is e))
+
+  pub each_more : (x : A) (old new : List A) → old ≡ x ∷ new → (y : B) → R x y → (ys : List B) → Each R new ys → Each R old (y ∷ ys)
+  each_more x old new is y say ys e = subst (λ v. Each R v (y ∷ ys)) (sym is) (say, e)
+
+module _ {B : Type 0} (R : List ℕ → B → Type 0) where
+  -- what is told of the parts after the next
+  pub told_left : (old new : List (List ℕ)) (r : Option (Bor (List ℕ))) → MatchOption r ((old ≡ []) × (new ≡ [])) (λ part. old ≡ part.now ∷ new) → Told R old → Told R new
+  told_left old new None h t = subst (λ xs. Told R xs) (h.0 ∙ sym h.1) t
+  told_left old new (Some part) h t = told_tail R part.now new (subst (λ xs. Told R xs) h t)
+
+module _ {A B : Type 0} (R : A → B → Type 0) (code : Coded B) (one : SaysOne R) where
+  -- nothing is told of no things
+  pub told_none : (xs : List A) → xs ≡ [] → (t : Told R xs) → told R xs t ≡ []
+  told_none xs is t = told_same R code one xs t [] ∣ subst (λ v. Each R v []) (sym is) tt ∣₁
+
+  -- what is told begins with what the first thing says
+  pub told_first : (x : A) (old new : List A) → old ≡ x ∷ new → (t : Told R old) (g : Told R new) (y : B) → R x y → told R old t ≡ y ∷ told R new g
+  unfolding told
+  told_first x old new is t g y say = told_same R code one old t (y ∷ g.0) (subst (λ v. ∥ Each R v (y ∷ g.0) ∥₁) (sym is) (∥∥₁_map g.1 (λ e. (say, e))))
+
+  -- and it says something
+  pub told_some : (x : A) (old new : List A) → old ≡ x ∷ new → Told R old → ((y : B) → ¬ (R x y)) → ⊥
+  told_some x old new is t none = ∥∥₁_elim t.1 ⊥_prop (λ e. says_some R x new none t.0 (subst (λ v. Each R v t.0) is e))
+
+  pub told_step : (x : A) (old new : List A) → old ≡ x ∷ new → (t : Told R old) (g : Told R new) (r : Option B) → IfSome r (R x) → IfNone r ((y : B) → ¬ (R x y)) → MatchOption r ((told R old t ≡ []) × (told R new g ≡ [])) (λ y. told R old t ≡ y ∷ told R new g)
+  told_step x old new is t g None some none = absurd (told_some x old new is t none)
+  told_step x old new is t g (Some y) some none = told_first x old new is t g y some
+
+-- a step along a list makes progress
+pub steps_on : {B : Type 0} (can : List B → Type 0) → ((s : List B) → can s) → (s t : List B) (r : Option B) → YieldsFirst (λ ys. ys) s r t → MakesProgress can (item_count (λ ys. ys)) s r t
+steps_on can may s t None h = record { on = λ _. tt; keeps = tt; rests = λ _. tt }
+steps_on can may s t (Some y) h = record { on = λ _. (may t, tt, omega (arith, ap length h)); keeps = may t; rests = λ _. tt }

@@ -1,0 +1,30 @@
+-- The prefixes that the items of a field spell.
+use Rattle.std.specs.Prelude.{ℕ, true, false, Bool, List, refl, ◌≡◌}
+use Rattle.std.specs.Coded.{Coded, code_by, coded×, coded_ℕ, coded_bool}
+use Rattle.wgr_text.specs.declared.addr.Family.{Family}
+use Rattle.wgr_text.specs.declared.addr.Family.TheVariants.{V4, V6}
+use Rattle.wgr_text.specs.Prefix.{PrefixValue}
+use Rattle.wgr_dump.specs.Fields.{SpellsMasked}
+use Rattle.wgr_dump.specs.Told.{Told, Told-prop}
+use Rattle.wgr_dump.specs.Unique.{one_masked}
+
+abbrev pub is_v4 : Family → Bool
+is_v4 V4 = true
+is_v4 V6 = false
+
+abbrev pub family_of : Bool → Family
+family_of true = V4
+family_of false = V6
+
+pub same_family : (f : Family) → family_of (is_v4 f) ≡ f
+same_family V4 = refl
+same_family V6 = refl
+
+abbrev pub coded_prefix : Coded PrefixValue
+coded_prefix = code_by (Bool × (ℕ × ℕ)) (coded× coded_bool (coded× coded_ℕ coded_ℕ)) (λ p. (is_v4 p.address.family, (p.address.number, p.length))) (λ t. record { address = record { family = family_of t.0; number = t.1.0 }; length = t.1.1 }) (λ p. λ i. record { address = record { family = same_family p.address.family i; number = p.address.number }; length = p.length })
+
+abbrev pub AllowedTold : List (List ℕ) → Type 0
+AllowedTold items = Told SpellsMasked items
+
+pub AllowedTold-prop : (items : List (List ℕ)) → IsProp (AllowedTold items)
+AllowedTold-prop items = Told-prop SpellsMasked coded_prefix one_masked items

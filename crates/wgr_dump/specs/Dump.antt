@@ -1,0 +1,78 @@
+-- The text of `wg show <interface> dump` (wg(8)), and what is read of it: no private or preshared
+-- key, fwmark or endpoint is.
+use Rattle.std.specs.Prelude.{ℕ, ◌≡◌, ◌==◌, cond, List, [], ◌∷◌, Option}
+use Rattle.wgr_text.specs.declared.key.Key.{Key}
+use Rattle.wgr_text.specs.Prefix.{PrefixValue}
+use Rattle.wgr_dump.specs.Fields.{Each, IsOf, a_key_or_none, a_word, fields_of, SpellsKey, SpellsOptionalKey, SpellsPort, SpellsAllowed, SpellsCount, SpellsKeepalive}
+
+-- a byte before the first of some lines, or a line of its own where there is none
+abbrev pub before_lines : ℕ → List (List ℕ) → List (List ℕ)
+before_lines b [] = (b ∷ []) ∷ []
+before_lines b (line ∷ lines) = (b ∷ line) ∷ lines
+
+-- A newline ends a line and is no part of it. What stands after the last one is a line, unless it is empty.
+abbrev pub lines_of : List ℕ → List (List ℕ)
+lines_of [] = []
+lines_of (b ∷ text) = cond (b == 10) ([] ∷ lines_of text) (before_lines b (lines_of text))
+
+-- the lines of a dump: the empty text has one empty line
+abbrev pub dump_lines : List ℕ → List (List ℕ)
+dump_lines [] = [] ∷ []
+dump_lines (b ∷ text) = lines_of (b ∷ text)
+
+-- what is read of the interface's line
+pub record InterfaceValue : Type 0 where
+  pub public_key : Option Key
+  pub port : ℕ
+
+pub record IsInterfaceLine (line : List ℕ) (i : InterfaceValue) : Type 0 where
+  pub private_field : List ℕ
+  pub public_field : List ℕ
+  pub port_field : List ℕ
+  pub mark_field : List ℕ
+  pub fields : fields_of line ≡ private_field ∷ public_field ∷ port_field ∷ mark_field ∷ []
+  pub private_key : IsOf a_key_or_none private_field
+  pub public_key : SpellsOptionalKey public_field i.public_key
+  pub port : SpellsPort port_field i.port
+  pub mark : IsOf a_word mark_field
+
+-- what is read of a peer's line: the handshake in seconds since 1970 or 0, what was received and
+-- sent in bytes, and the seconds between keepalives or 0
+pub record LineValue : Type 0 where
+  pub key : Key
+  pub allowed : List PrefixValue
+  pub handshake : ℕ
+  pub received : ℕ
+  pub sent : ℕ
+  pub keepalive : ℕ
+
+pub record IsPeerLine (line : List ℕ) (v : LineValue) : Type 0 where
+  pub key_field : List ℕ
+  pub preshared_field : List ℕ
+  pub endpoint_field : List ℕ
+  pub allowed_field : List ℕ
+  pub handshake_field : List ℕ
+  pub received_field : List ℕ
+  pub sent_field : List ℕ
+  pub keepalive_field : List ℕ
+  pub fields : fields_of line ≡ key_field ∷ preshared_field ∷ endpoint_field ∷ allowed_field ∷ handshake_field ∷ received_field ∷ sent_field ∷ keepalive_field ∷ []
+  pub key : SpellsKey key_field v.key
+  pub preshared_key : IsOf a_key_or_none preshared_field
+  pub endpoint : IsOf a_word endpoint_field
+  pub allowed : SpellsAllowed allowed_field v.allowed
+  pub handshake : SpellsCount handshake_field v.handshake
+  pub received : SpellsCount received_field v.received
+  pub sent : SpellsCount sent_field v.sent
+  pub keepalive : SpellsKeepalive keepalive_field v.keepalive
+
+pub record DumpValue : Type 0 where
+  pub interface : InterfaceValue
+  pub lines : List LineValue
+
+-- the text's first line is the interface's, and each other line a peer's
+pub record IsDump (text : List ℕ) (i : InterfaceValue) (lines : List LineValue) : Type 0 where
+  pub first : List ℕ
+  pub others : List (List ℕ)
+  pub split : dump_lines text ≡ first ∷ others
+  pub interface : IsInterfaceLine first i
+  pub peers : Each IsPeerLine others lines

@@ -1,0 +1,35 @@
+-- Where a text stops to be a dump.
+use Rattle.std.specs.Prelude.{ℕ, zero, suc, ◌≡◌, ◌+◌, List, [], ◌∷◌}
+use Rattle.wgr_dump.specs.Fields.{Form, IsOf, fields_of, interface_forms, peer_forms}
+use Rattle.wgr_dump.specs.Dump.{dump_lines}
+
+-- the fields are of these forms, one by one
+abbrev pub AreOf : List Form → List (List ℕ) → Type 0
+AreOf [] [] = Unit {0}
+AreOf [] (field ∷ fields) = ⊥
+AreOf (form ∷ forms) [] = ⊥
+AreOf (form ∷ forms) (field ∷ fields) = IsOf form field × AreOf forms fields
+
+-- `n` fields are of their forms, and the next is absent, not of its form, or one too many
+abbrev pub IsBadField : List Form → List (List ℕ) → ℕ → Type 0
+IsBadField [] [] n = ⊥
+IsBadField [] (field ∷ fields) n = n ≡ 0
+IsBadField (form ∷ forms) [] n = n ≡ 0
+IsBadField (form ∷ forms) (field ∷ fields) zero = ¬ (IsOf form field)
+IsBadField (form ∷ forms) (field ∷ fields) (suc n) = IsOf form field × IsBadField forms fields n
+
+-- the first bad one of some peers' lines has `line` good ones before it, and `n` good fields
+abbrev pub IsBadPeer : List (List ℕ) → ℕ → ℕ → Type 0
+IsBadPeer [] line n = ⊥
+IsBadPeer (first ∷ others) zero n = IsBadField peer_forms (fields_of first) n
+IsBadPeer (first ∷ others) (suc line) n = AreOf peer_forms (fields_of first) × IsBadPeer others line n
+
+-- the same of the interface's line and those of the peers
+abbrev pub IsBadLine : List (List ℕ) → ℕ → ℕ → Type 0
+IsBadLine [] line n = ⊥
+IsBadLine (first ∷ others) zero n = IsBadField interface_forms (fields_of first) n
+IsBadLine (first ∷ others) (suc line) n = AreOf interface_forms (fields_of first) × IsBadPeer others line n
+
+-- the first bad line and the least bad field in it, both counted from 1
+abbrev pub IsFirstBad : List ℕ → ℕ → ℕ → Type 0
+IsFirstBad text line field = (good_lines : ℕ) × (good_fields : ℕ) × (line ≡ good_lines + 1) × (field ≡ good_fields + 1) × IsBadLine (dump_lines text) good_lines good_fields

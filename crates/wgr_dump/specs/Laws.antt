@@ -1,0 +1,70 @@
+-- Laws of dumps.
+use Rattle.std.specs.Prelude.{ℕ, ◌≡◌, ◌≢◌, ◌↔◌, ◌⊎◌, List, ◌∷◌, ◌++◌, codes}
+use Rattle.std.specs.List.{AllByRecursion, join_with_byte}
+use Rattle.wgr_dump.specs.Dump.{InterfaceValue, LineValue, IsDump, dump_lines}
+use Rattle.wgr_dump.specs.Fault.{IsFirstBad}
+use Rattle.wgr_dump.specs.Fields.{Each, IsOf, a_key_or_none, fields_of}
+
+-- a text is a dump of one interface and one list of lines at most
+abbrev pub OneDump : Type 0
+OneDump = (text : List ℕ) (i j : InterfaceValue) (lines others : List LineValue) → IsDump text i lines → IsDump text j others → (i ≡ j) × (lines ≡ others)
+
+-- it has one first bad field at most
+abbrev pub OneFault : Type 0
+OneFault = (text : List ℕ) (line field line' field' : ℕ) → IsFirstBad text line field → IsFirstBad text line' field' → (line ≡ line') × (field ≡ field')
+
+-- it isn't a dump and has a bad field too
+abbrev pub NotBoth : Type 0
+NotBoth = (text : List ℕ) (i : InterfaceValue) (lines : List LineValue) (line field : ℕ) → IsDump text i lines → IsFirstBad text line field → ⊥
+
+-- nor is it neither
+abbrev pub NotNeither : Type 0
+NotNeither = (text : List ℕ) → ((i : InterfaceValue) (lines : List LineValue) → ¬ (IsDump text i lines)) → ((line field : ℕ) → ¬ (IsFirstBad text line field)) → ⊥
+
+-- the lines differ in the first field alone, a private key or `(none)` in both
+pub record DifferInPrivateKey (line other : List ℕ) : Type 0 where
+  pub key : List ℕ
+  pub other_key : List ℕ
+  pub rest : List (List ℕ)
+  pub fields : fields_of line ≡ key ∷ rest
+  pub other_fields : fields_of other ≡ other_key ∷ rest
+  pub is_key : IsOf a_key_or_none key
+  pub is_other_key : IsOf a_key_or_none other_key
+
+-- the lines differ in the second field alone, a preshared key or `(none)` in both
+pub record DifferInPresharedKey (line other : List ℕ) : Type 0 where
+  pub peer : List ℕ
+  pub key : List ℕ
+  pub other_key : List ℕ
+  pub rest : List (List ℕ)
+  pub fields : fields_of line ≡ peer ∷ key ∷ rest
+  pub other_fields : fields_of other ≡ peer ∷ other_key ∷ rest
+  pub is_key : IsOf a_key_or_none key
+  pub is_other_key : IsOf a_key_or_none other_key
+
+-- the texts differ in private and preshared keys alone
+pub record DifferInSecrets (text other : List ℕ) : Type 0 where
+  pub first : List ℕ
+  pub other_first : List ℕ
+  pub peers : List (List ℕ)
+  pub other_peers : List (List ℕ)
+  pub split : dump_lines text ≡ first ∷ peers
+  pub other_split : dump_lines other ≡ other_first ∷ other_peers
+  pub interface : DifferInPrivateKey first other_first
+  pub lines : Each DifferInPresharedKey peers other_peers
+
+-- then the same is read of them
+abbrev pub SecretsAreUnread : Type 0
+SecretsAreUnread = (text other : List ℕ) → DifferInSecrets text other → (i : InterfaceValue) (lines : List LineValue) → IsDump text i lines ↔ IsDump other i lines
+
+-- and the same fault is found
+abbrev pub SecretsAreNoFault : Type 0
+SecretsAreNoFault = (text other : List ℕ) → DifferInSecrets text other → (line field : ℕ) → IsFirstBad text line field ↔ IsFirstBad other line field
+
+-- a line is its fields with a tab between each two, and no field has a tab
+abbrev pub FieldsAreJoined : Type 0
+FieldsAreJoined = (line : List ℕ) → (join_with_byte 9 (fields_of line) ≡ line) × AllByRecursion (λ field. AllByRecursion (λ b. b ≢ 9) field) (fields_of line)
+
+-- a text is its lines with a newline between each two, and with a last newline or without; no line has a newline
+abbrev pub LinesAreJoined : Type 0
+LinesAreJoined = (text : List ℕ) → ((join_with_byte 10 (dump_lines text) ≡ text) ⊎ (join_with_byte 10 (dump_lines text) ++ codes "\n" ≡ text)) × AllByRecursion (λ line. AllByRecursion (λ b. b ≢ 10) line) (dump_lines text)

@@ -1,0 +1,10 @@
+pub mod AllowedTold
+pub mod Dump
+pub mod Fault
+pub mod Fields
+pub mod Laws
+pub mod LinesTold
+pub mod PartsLeft
+pub mod Taking
+pub mod Told
+pub mod Unique

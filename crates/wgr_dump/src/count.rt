@@ -1,0 +1,61 @@
+//! Counts and moments.
+ghost use Rattle.std.specs.Prelude.{◌≡◌, ◌≤◌, ℕ, IfSome, IfNone};
+ghost use Rattle.wgr_dump.specs.Fields.{SpellsCount, kept_count};
+
+use crate::numbers::read_number;
+use std::marker::Model;
+
+/// A count of bytes, or a moment in seconds: at most 9,223,372,036,854,775,807. A greater one is
+/// kept as that.
+#[derive(Drop)]
+pub struct Count<'a> {
+    digits: &'a [u8],
+    value: u64,
+}
+
+impl<'a> Model for Count<'a> {
+    ghost Value = { ℕ };
+
+    ghost view = { λ c. c.value };
+
+    ghost invariant = { λ c. SpellsCount c.digits.now c.value };
+}
+
+impl<'a> Count<'a> {
+    /// The count of 1 to 20 digits.
+    pub(crate) fn read(field: &'a [u8]) -> Option<Count<'a>>
+        ensures spelled { IfSome result (SpellsCount field.entry.now) }
+        ensures none { IfNone result ((n : ℕ) → ¬ (SpellsCount field.entry.now n)) }
+    {
+        let written = read_number(field, 20)?;
+        Some(Count {
+            digits: field,
+            value: kept(written),
+        })
+    }
+
+    /// The digits as they stand in the dump.
+    pub fn digits(&self) -> &'a [u8]
+        ensures { SpellsCount result.now self.now }
+    {
+        self.digits
+    }
+
+    /// The number, or the greatest that is kept.
+    pub fn value(&self) -> u64
+        ensures value { result ≡ self.now }
+        ensures kept { result ≤ 9223372036854775807 }
+    {
+        self.value
+    }
+}
+
+/// The number, or the greatest that is kept.
+fn kept(number: u128) -> u64
+    ensures { result ≡ kept_count number }
+{
+    if number > 9_223_372_036_854_775_807 {
+        return 9_223_372_036_854_775_807;
+    }
+    number as u64
+}

@@ -1,0 +1,39 @@
+//! Keys and words.
+ghost use Rattle.std.specs.Prelude.{◌≡◌, ℕ, ◌<◌, ◌↔◌, IsTrue, IfSome, IfNone, slice_index, Option};
+ghost use Rattle.wgr_text.specs.declared.key.Key.{Key};
+ghost use Rattle.wgr_dump.specs.Fields.{SpellsKey, SpellsOptionalKey, IsWord};
+
+use wgr_text::Key;
+
+/// The key that the field spells.
+pub(crate) fn read_key(field: &[u8]) -> Option<Key>
+    ensures spelled { IfSome result (SpellsKey field.now) }
+    ensures none { IfNone result ((key : Key) → ¬ (SpellsKey field.now key)) }
+{
+    let key = Key::read(field)?;
+    are_bytes(&key.0);
+    Some(key)
+}
+
+/// What a slice of bytes holds is known to be bytes.
+fn are_bytes(bytes: &[u8])
+    ensures { (i : ℕ) → slice_index bytes.now i < 256 }
+{}
+
+/// The key that the field spells, or that it is `(none)`.
+pub(crate) fn read_optional_key(field: &[u8]) -> Option<Option<Key>>
+    ensures spelled { IfSome result (SpellsOptionalKey field.now) }
+    ensures none { IfNone result ((key : Option Key) → ¬ (SpellsOptionalKey field.now key)) }
+{
+    if field == b"(none)".as_slice() {
+        return Some(None);
+    }
+    Some(Some(read_key(field)?))
+}
+
+/// Whether the field is read past: 1 to 256 bytes, none of them a blank or a control character.
+pub(crate) fn is_word(field: &[u8]) -> bool
+    ensures { IsTrue result ↔ IsWord field.now }
+{
+    !field.is_empty() && field.len() <= 256 && field.iter().all(|byte| *byte >= 0x21)
+}

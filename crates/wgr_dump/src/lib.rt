@@ -1,0 +1,28 @@
+//! The text of `wg show <interface> dump` (wg(8)), read line by line.
+//!
+//! [`Dump::open`] judges a whole text in one pass. What it hands out are slices of the text, and
+//! values that are read when a line is reached, so no call takes memory. Private and preshared
+//! keys, firewall marks and endpoints have to be of their form, and are in no result.
+#![tactic(auto)]
+
+mod allowed;
+mod count;
+mod dump;
+mod fields;
+mod interface;
+pub mod laws;
+mod lines;
+mod numbers;
+mod parts;
+mod peer_line;
+mod taking;
+
+pub use allowed::Allowed;
+pub use count::Count;
+pub use dump::{BadDump, Dump};
+pub use interface::InterfaceLine;
+pub use lines::Lines;
+pub use peer_line::PeerLine;
+
+#[cfg(test)]
+mod tests;

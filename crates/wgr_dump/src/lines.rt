@@ -1,0 +1,68 @@
+//! The lines of peers.
+ghost use Rattle.std.specs.Prelude.{◌≡◌, ◌==◌, ◌<◌, ◌+◌, ◌∷◌, [], length, position, ◌⊎◌, IfSome, IfNone};
+ghost use Rattle.std.specs.Iterator.{YieldsFirst, item_count};
+ghost use Rattle.wgr_dump.specs.Dump.{LineValue, IsPeerLine, lines_of, dump_lines};
+ghost use Rattle.wgr_dump.specs.LinesTold.{LinesTold, LinesTold-prop};
+
+use crate::peer_line::PeerLine;
+use std::marker::Model;
+
+/// The lines of peers that are still to come.
+#[derive(Drop)]
+pub struct Lines<'a> {
+    pub(crate) rest: &'a [u8],
+    ghost known: { LinesTold (lines_of rest.now) } by { LinesTold-prop (lines_of rest.now) },
+}
+
+impl<'a> Model for Lines<'a> {
+    ghost use Rattle.std.specs.Prelude.{List};
+    ghost use Rattle.wgr_dump.specs.Dump.{LineValue, IsPeerLine, lines_of};
+    ghost use Rattle.wgr_dump.specs.Told.{told};
+
+    ghost Value = { List LineValue };
+
+    ghost view = { λ l. told IsPeerLine (lines_of l.rest.now) l.known };
+}
+
+impl<'a> Iterator for Lines<'a> {
+    type Item = PeerLine<'a>;
+
+    ghost next_gives = { YieldsFirst (λ lines. lines) };
+
+    ghost remaining = { item_count (λ lines. lines) };
+
+    fn next(&mut self) -> Option<PeerLine<'a>> {
+        if self.rest.is_empty() {
+            return None;
+        }
+        let (line, rest) = first_line(self.rest);
+        self.rest = rest;
+        read_peer_line(line)
+    }
+}
+
+/// The line, where it is a peer's.
+fn read_peer_line<'a>(line: &'a [u8]) -> Option<PeerLine<'a>>
+    ensures spelled { IfSome result (IsPeerLine line.entry.now) }
+    ensures none { IfNone result ((v : LineValue) → ¬ (IsPeerLine line.entry.now v)) }
+{
+    PeerLine::read(line).ok()
+}
+
+/// What stands before the first newline and what stands after it, or all and nothing.
+pub(crate) fn first_line(text: &[u8]) -> (&[u8], &[u8])
+    ensures line { dump_lines text.now ≡ result.0.now ∷ lines_of result.1.now }
+    ensures shorter { (length result.1.now < length text.now) ⊎ (result.1.now ≡ []) }
+{
+    match newline(text) {
+        Some(end) => (&text[..end], &text[end + 1..]),
+        None => (text, &[]),
+    }
+}
+
+/// The place of the first newline.
+fn newline(text: &[u8]) -> Option<usize>
+    ensures { result ≡ position (λ byte. byte == 10) text.now }
+{
+    text.iter().position(|byte| *byte == b'\n')
+}
