@@ -12,7 +12,8 @@ use Rattle.wgr_core.specs.declared.change.Change.{Change}
 use Rattle.wgr_core.specs.declared.reply.Reply.{Reply}
 use Rattle.wgr_core.specs.declared.fault.ActFault.{ActFault}
 use Rattle.wgr_core.specs.declared.fault.ActFault.TheVariants.{Refused, NoMemory}
-use Rattle.wgr_peers.specs.Peers.{expired, peer_of, put_peer}
+use Rattle.wgr_peers.specs.Limits.{is_over}
+use Rattle.wgr_peers.specs.Peers.{expired, is_live, peer_of, put_peer}
 use Rattle.wgr_peers.specs.Routes.{routes_to}
 use Rattle.wgr_core.specs.Network.{NetworkValue, IsNetwork, IsRoute, is_among, live_at, without_peers}
 use Rattle.wgr_core.specs.Outcome.{Outcome, live_outcome, is_reading, kept_if, leaving, outcome_of}
@@ -105,6 +106,18 @@ without_none n = ap (λ ps. record n { peers = ps; routes = filter (λ (r : Pref
 pub live_itself : (n : NetworkValue) (now : ℕ) (removed : List ℕ) → IsNetwork n → removed ≡ expired now n.peers → removed ≡ [] → n ≡ live_at n now
 live_itself n now removed is gone none =
     sym (without_none n) ∙ ap (without_peers n) (sym none ∙ gone) ∙ without_expired n now is
+
+-- at the moment 0 no lease is over
+pub none_over : (peers : List Peer) → expired 0 peers ≡ []
+none_over [] = refl
+none_over (p ∷ peers) =
+    ap (λ b. map (λ (q : Peer). q.number) (cond (not b) (p ∷ filter (λ q. not (is_live 0 q)) peers) (filter (λ q. not (is_live 0 q)) peers))) (runs p.until) ∙ none_over peers
+  where
+    runs : (until : ℕ) → not (is_over 0 until) ≡ true
+    runs until = grind (arith, nat_tests)
+
+pub whole_at_first : (n : NetworkValue) → IsNetwork n → live_at n 0 ≡ n
+whole_at_first n is = sym (live_itself n 0 [] is (sym (none_over n.peers)) refl)
 
 pub meets_fits : (n : NetworkValue) (r : Result (Reply × Option Change) ActFault) (o : Outcome) → Meets n r o → Keeps o → IfOk r (λ given. IfSome given.1 (λ c. Fits c n))
 meets_fits n (Err why) o is keeps = tt

@@ -12,17 +12,17 @@ use Rattle.wgr_core.specs.Network.{NetworkValue, live_at}
 use Rattle.wgr_core.specs.Owner.{owner_of}
 use Rattle.wgr_core.specs.Outcome.{outcome_of}
 
-abbrev v4 : ℕ → ℕ → ℕ → ℕ → AddrValue
+abbrev pub v4 : ℕ → ℕ → ℕ → ℕ → AddrValue
 v4 a b c d = record { family = V4; number = a * 2 ^ 24 + b * 2 ^ 16 + c * 2 ^ 8 + d }
 
-abbrev key : ℕ → Key
+abbrev pub key : ℕ → Key
 key byte = record { 0 = replicate 32 byte }
 
 -- an empty network with this pool, whose server key is that of nines
 abbrev office : PrefixValue → NetworkValue
 office pool = record { pool = pool; host = codes "vpn.example.net"; port = 51820; server = key 9; capacity = 4096; next = 1; peers = []; routes = [] }
 
-abbrev ten_eight : ℕ → NetworkValue
+abbrev pub ten_eight : ℕ → NetworkValue
 ten_eight length = office (mask (v4 10 8 0 0) length)
 
 -- a key that joins where it may, a key that joins at an address, and one with an end to its lease
@@ -36,11 +36,11 @@ abbrev add_until : ℕ → ℕ → Command
 add_until byte until = command.Add (key byte) [] None until 0
 
 -- the network after the commands at their moments, as long as they are accepted
-abbrev run : NetworkValue → List (ℕ × Command) → NetworkValue
+abbrev pub run : NetworkValue → List (ℕ × Command) → NetworkValue
 run n [] = n
 run n ((now, asked) ∷ more) = elim (outcome_of n now asked) [ Ok done ↦ run done.1 more | Err why ↦ n ]
 
-abbrev addresses : List Peer → List (ℕ × AddrValue)
+abbrev pub addresses : List Peer → List (ℕ × AddrValue)
 addresses peers = map (λ (p : Peer). (p.number, p.address)) peers
 
 -- a pool of four addresses has one to give, and one of eight has five
@@ -81,10 +81,10 @@ large = refl
 -- ---- peers that move and leave, routes and their owners
 
 -- the network with peers of these keys, from 10.8.0.2 on
-abbrev with_peers : ℕ → List ℕ → NetworkValue
+abbrev pub with_peers : ℕ → List ℕ → NetworkValue
 with_peers length keys = run (ten_eight length) (map (λ byte. (0, add byte)) keys)
 
-abbrev routed : NetworkValue → List (PrefixValue × ℕ)
+abbrev pub routed : NetworkValue → List (PrefixValue × ℕ)
 routed n = n.routes
 
 abbrev owner : NetworkValue → AddrValue → Option ℕ

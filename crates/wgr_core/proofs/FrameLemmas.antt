@@ -1,5 +1,5 @@
 -- What a command leaves as it was.
-use Rattle.std.proofs.Common.{◌≡◌, ℕ, ◌<◌, ◌↔◌, true, false, not, ◌||◌, nat_eq, List, [], ◌∷◌, ◌++◌, Option, Some, None, refl, sym, ap, ◌∙◌, subst, arith}
+use Rattle.std.proofs.Common.{◌≡◌, ℕ, ◌<◌, ◌↔◌, true, false, not, nat_eq, ◌||◌, List, [], ◌∷◌, ◌++◌, Option, Some, None, refl, sym, ap, ◌∙◌, subst, arith}
 use Rattle.std.specs.Prelude.{IfOk}
 use Rattle.std.proofs.lemmas.Bool.Decides.{nat_tests}
 use Rattle.std.proofs.lemmas.Result.{IfOk-weaker}
@@ -12,14 +12,15 @@ use Rattle.wgr_peers.specs.Peers.{peer_of, put_peer}
 use Rattle.wgr_peers.specs.Routes.{Routes, assign_route, route_of, without_route}
 use Rattle.wgr_core.specs.Network.{NetworkValue, IsNetwork, is_among, live_at, without_peers}
 use Rattle.wgr_core.specs.Owner.{owner_of}
-use Rattle.wgr_core.specs.Outcome.{join_refusal, place, vacated, lease_refusal, route_refusal, live_outcome, is_reading, outcome_of}
+use Rattle.wgr_core.specs.Outcome.{join_refusal, place, vacated, lease_refusal, route_refusal, adopt, live_outcome, is_reading, outcome_of}
 use Rattle.wgr_core.specs.Laws.{HasSettingsOf, is_on, is_on_route}
 use Rattle.wgr_core.proofs.KeptLemmas.{kept_stands}
 use Rattle.wgr_core.proofs.LiveLemmas.{live_is_network}
 use Rattle.wgr_peers.proofs.PeerLemmas.{peer_is}
 use Rattle.wgr_core.proofs.LookLemmas.{assigned_others, put_others, removed_others, route_kept}
 use Rattle.wgr_core.proofs.OutcomeCases.{unless_if, place_if, stands_if, routed_if, owner_if, kept_if_reading}
-use Rattle.wgr_core.proofs.NextLemmas.{appended_absent, appended_found}
+use Rattle.wgr_core.proofs.NextSteps.{appended_absent, appended_found}
+use Rattle.wgr_core.proofs.AdoptNext.{adopt_settings}
 
 -- what is left of a live network
 record IsFramed (n : NetworkValue) (asked : Command) (done : Reply × NetworkValue) : Type 0 where
@@ -109,8 +110,13 @@ framed n now (command.Renew number until) is =
     let asked = command.Renew number until in
     stands_if (IsFramed n asked) (peer_of n.peers number) _ (λ p found.
     unless_if (IsFramed n asked) (lease_refusal now until) _ (λ allowed. put_framed n asked _ (record p { until = until }) (at_number n number p found)))
+framed n now (command.Adopt server lines) is =
+    let asked = command.Adopt server lines in
+    IfOk-weaker (adopt n server lines) (λ done. HasSettingsOf n done.1) (IsFramed n asked) (λ done settings. record { settings = settings; peers = λ i l off. cc; routes = λ q i off off'. cc }) (adopt_settings n server lines is)
 framed n now command.List is = unmoved_framed n command.List _
 framed n now (command.Owner address) is = owner_if (IsFramed n (command.Owner address)) n (owner_of n address) (λ number found. unmoved_framed n (command.Owner address) _)
+framed n now (command.ServerFile form) is = unmoved_framed n (command.ServerFile form) _
+framed n now (command.PeerFile number form) is = stands_if (IsFramed n (command.PeerFile number form)) (peer_of n.peers number) _ (λ p found. unmoved_framed n (command.PeerFile number form) _)
 
 -- ---- the whole network
 

@@ -111,7 +111,7 @@ no_refusal true false true x y z h = cc
 no_refusal true false false x y z h = (refl, refl, refl)
 no_refusal false own route x y z h = cc
 
-none_from : {X : Type 0} (o : Option X) → is_some o ≡ false → o ≡ None
+pub none_from : {X : Type 0} (o : Option X) → is_some o ≡ false → o ≡ None
 none_from None h = refl
 none_from (Some x) h = cc
 
@@ -137,7 +137,7 @@ place_is_open n None a pool h = lowest (lowest_free n) refl h
 abbrev pub with_peer : NetworkValue → Peer → NetworkValue
 with_peer n p = record n { next = n.next + 1; peers = n.peers ++ p ∷ [] }
 
-leads_on : (peers : List Peer) (p : Peer) (i : ℕ) → is_some (peer_of peers i) ≡ true → is_some (peer_of (peers ++ p ∷ []) i) ≡ true
+pub leads_on : (peers : List Peer) (p : Peer) (i : ℕ) → is_some (peer_of peers i) ≡ true → is_some (peer_of (peers ++ p ∷ []) i) ≡ true
 leads_on [] p i h = cc
 leads_on (q ∷ peers) p i h = step (nat_eq q.number i) h (λ rest. leads_on peers p i rest)
   where

@@ -99,7 +99,7 @@ peer_stands (p ∷ peers) =
     still p peers i h = elim (nat_eq p.number i) as (λ b. is_some (cond b (Some p) (peer_of peers i)) ≡ true) [ true ↦ refl | false ↦ h ]
 
 -- the live peers, by their numbers
-live_by_number : (now : ℕ) (peers : List Peer) → AreNumbered peers → All (λ p. is_some (peer_of (filter (is_live now) peers) p.number) ≡ is_live now p) peers
+pub live_by_number : (now : ℕ) (peers : List Peer) → AreNumbered peers → All (λ p. is_some (peer_of (filter (is_live now) peers) p.number) ≡ is_live now p) peers
 live_by_number now [] pairs = λ k d h. absurd (omega (arith, h))
 live_by_number now (p ∷ peers) pairs =
     let above = AllPairs-head (λ p q. p.number < q.number) p peers pairs in

@@ -98,6 +98,44 @@ first_with f p q b start (suc count) family from to hit miss same = elim (cases_
         let alike = ap (step q) (same (record { family = f; number = start }) (elsewhere b start f l) ∙ t) in
         alike ∙ later ∙ sym (ap (λ o. Some (lower o b)) (ap (step p) t))
 
+-- the same where it may have passed before
+pub first_with_any : (f : Family) (p q : AddrValue → Bool) (b : AddrValue) (start count : ℕ) → f ≡ b.family → start ≤ b.number → b.number < start + count
+    → q b ≡ true → ((a : AddrValue) → same_address b a ≡ false → q a ≡ p a) → first_from f q start count ≡ Some (lower (first_from f p start count) b)
+first_with_any f p q b start count family from to hit same = elim (decide (p b)) [
+  | inr miss ↦ first_with f p q b start count family from to hit miss same
+  | inl passed ↦
+      -- without `b` the search is another, of which both are the search with `b`
+      let r = λ (a : AddrValue). p a && not (same_address b a) in
+      let r_misses : r b ≡ false = ap (λ t. p b && not t) (same_address_self b) ∙ last (p b) in
+      let r_same = λ (a : AddrValue) (s : same_address b a ≡ false). ap (λ t. p a && not t) s ∙ all (p a) in
+      let with_p = first_with f r p b start count family from to passed r_misses (λ a s. sym (r_same a s)) in
+      let with_q = first_with f r q b start count family from to hit r_misses (λ a s. same a s ∙ sym (r_same a s)) in
+      with_q ∙ ap (λ a. Some a) (sym (again (first_from f r start count) b)) ∙ sym (ap (λ o. Some (lower o b)) with_p)
+]
+  where
+    last : (t : Bool) → (t && false) ≡ false
+    last true = refl
+    last false = refl
+
+    all : (t : Bool) → (t && true) ≡ t
+    all true = refl
+    all false = refl
+
+    -- the lower of two is the lower of it and either
+    again : (o : Option AddrValue) (b : AddrValue) → lower (Some (lower o b)) b ≡ lower o b
+    again None b = ap (λ t. cond t b b) (self b.number)
+      where
+        self : (m : ℕ) → nat_lt m m ≡ false
+        self m = grind (arith, nat_tests)
+    again (Some a) b = by (nat_lt a.number b.number) refl
+      where
+        self : (m : ℕ) → nat_lt m m ≡ false
+        self m = grind (arith, nat_tests)
+
+        by : (t : Bool) → nat_lt a.number b.number ≡ t → cond (nat_lt (cond t a b).number b.number) (cond t a b) b ≡ cond t a b
+        by true e = ap (λ t. cond t a b) e
+        by false e = ap (λ t. cond t b b) (self b.number)
+
 -- ---- the lowest address for a peer that moves
 
 own_of : (peers : List Peer) (number : ℕ) (p : Peer) → peer_of peers number ≡ Some p → is_own peers p.address ≡ true

@@ -1,10 +1,9 @@
 -- What a command leaves of numbers, keys and leases.
-use Rattle.std.proofs.Common.{◌≡◌, ℕ, ◌+◌, ◌<◌, ◌≤◌, inl, inr, Bool, true, false, not, cond, nat_eq, nat_lt, List, [], ◌∷◌, ◌++◌, get_or, Some, None, is_some, refl, sym, ap, ◌∙◌, subst, arith}
+use Rattle.std.proofs.Common.{◌≡◌, ℕ, ◌<◌, inl, inr, Bool, true, false, not, cond, nat_eq, List, [], ◌∷◌, get_or, Some, None, is_some, refl, sym, ap, ◌∙◌, subst, arith}
 use Rattle.std.specs.Prelude.{IfOk}
 use Rattle.std.specs.List.{All, filter}
-use Rattle.std.proofs.lemmas.Bool.Decides.{nat_tests}
 use Rattle.std.proofs.lemmas.Result.{IfOk-weaker}
-use Rattle.std.proofs.lemmas.List.Elements.{All-append, All-contains, All-filter, All-map, All-push, filter_passes}
+use Rattle.std.proofs.lemmas.List.Elements.{All-append, All-contains, All-filter, All-map, filter_passes}
 use Rattle.wgr_text.specs.Prefix.{AddrValue, PrefixValue}
 use Rattle.wgr_peers.specs.declared.peer.Peer.{Peer}
 use Rattle.wgr_core.specs.declared.command.Command.{Command}
@@ -14,7 +13,7 @@ use Rattle.wgr_core.specs.declared.reply.Reply.{Reply}
 use Rattle.wgr_core.specs.declared.reply.Reply.TheVariants as reply
 use Rattle.wgr_pool.specs.PrefixTests.{full}
 use Rattle.wgr_peers.specs.Limits.{is_over}
-use Rattle.wgr_peers.specs.Peers.{is_live, peer_of, put_peer}
+use Rattle.wgr_peers.specs.Peers.{is_live, peer_of}
 use Rattle.wgr_peers.specs.Routes.{route_of}
 use Rattle.wgr_core.specs.Network.{NetworkValue, IsNetwork, is_among, live_at, without_peers}
 use Rattle.wgr_core.specs.Owner.{allowed, owner_of, own_prefixes}
@@ -25,15 +24,13 @@ use Rattle.wgr_peers.proofs.TableLemmas.{peer_absent}
 use Rattle.wgr_pool.proofs.PrefixLemmas.{nat_eq_is}
 use Rattle.wgr_core.proofs.KeptLemmas.{kept_stands}
 use Rattle.wgr_core.proofs.LiveLemmas.{live_is_network, peer_stands}
-use Rattle.wgr_peers.proofs.OrderedLemmas.{put_all}
 use Rattle.wgr_peers.proofs.PeerLemmas.{peer_is}
-use Rattle.wgr_core.proofs.LookLemmas.{absent_kept, put_others, put_stands_there}
+use Rattle.wgr_core.proofs.LookLemmas.{absent_kept}
 use Rattle.wgr_core.proofs.MatchLemmas.{owner_has_longest}
 use Rattle.wgr_core.proofs.OutcomeCases.{unless_if, place_if, stands_if, routed_if, owner_if, kept_if_reading}
 use Rattle.wgr_core.proofs.OutcomeLemmas.{is_admitted}
-
-abbrev pub AllLive : ℕ → List Peer → Type 0
-AllLive now peers = All (λ p. is_live now p ≡ true) peers
+use Rattle.wgr_core.proofs.NextSteps.{AllLive, IsNext, joined_next, replaced_next, same_key_at, unmoved}
+use Rattle.wgr_core.proofs.AdoptNext.{adopt_next}
 
 -- ---- owners
 
@@ -47,86 +44,6 @@ owner_stands n a number is found =
     subst (λ (i : ℕ). is_some (peer_of n.peers i) ≡ true) r.2 (All-contains (λ (r : PrefixValue × ℕ). is_some (peer_of n.peers r.1) ≡ true) (allowed n) r.0 led r.1.is_allowed)
 
 -- ---- one command
-
--- what is left of numbers, keys and leases
-pub record IsNext (n : NetworkValue) (now : ℕ) (done : Reply × NetworkValue) : Type 0 where
-  pub next : n.next ≤ done.1.next
-  pub absent : (i : ℕ) → i < n.next → peer_of n.peers i ≡ None → peer_of done.1.peers i ≡ None
-  pub keys : (i : ℕ) (p q : Peer) → peer_of n.peers i ≡ Some p → peer_of done.1.peers i ≡ Some q → q.key ≡ p.key
-  pub live : AllLive now done.1.peers
-  pub shows : ShowsLive now n.peers done.0
-
-one_peer : (p q : Peer) → Some p ≡ Some q → p ≡ q
-one_peer p q h = cc
-
-pub same_key_at : (peers : List Peer) (i : ℕ) (p q : Peer) → peer_of peers i ≡ Some p → peer_of peers i ≡ Some q → q.key ≡ p.key
-same_key_at peers i p q at_p at_q = ap (λ (p : Peer). p.key) (sym (one_peer p q (sym at_p ∙ at_q)))
-
--- where the peers stay
-unmoved : (n : NetworkValue) (now : ℕ) (done : Reply × NetworkValue) → AllLive now n.peers → done.1.peers ≡ n.peers → done.1.next ≡ n.next → ShowsLive now n.peers done.0 → IsNext n now done
-unmoved n now done live same next shows = record {
-  next = omega (arith, next);
-  absent = λ i l none. ap (λ (ps : List Peer). peer_of ps i) same ∙ none;
-  keys = λ i p q at_p at_q. same_key_at n.peers i p q at_p (sym (ap (λ (ps : List Peer). peer_of ps i) same) ∙ at_q);
-  live = subst (AllLive now) (sym same) live;
-  shows = shows;
-}
-
-pub appended_absent : (peers : List Peer) (p : Peer) (i : ℕ) → peer_of peers i ≡ None → nat_eq p.number i ≡ false → peer_of (peers ++ p ∷ []) i ≡ None
-appended_absent [] p i none apart = ap (λ b. cond b (Some p) None) apart
-appended_absent (q ∷ peers) p i none apart = elim (decide (nat_eq q.number i)) [
-  | inl here ↦ let bad : Some q ≡ None = sym (ap (λ b. cond b (Some q) (peer_of peers i)) here) ∙ none in cc
-  | inr other ↦
-      ap (λ b. cond b (Some q) (peer_of (peers ++ p ∷ []) i)) other
-      ∙ appended_absent peers p i (sym (ap (λ b. cond b (Some q) (peer_of peers i)) other) ∙ none) apart
-]
-
-pub appended_found : (peers : List Peer) (p q : Peer) (i : ℕ) → peer_of peers i ≡ Some q → peer_of (peers ++ p ∷ []) i ≡ Some q
-appended_found [] p q i found = cc
-appended_found (e ∷ peers) p q i found = elim (decide (nat_eq e.number i)) [
-  | inl here ↦
-      ap (λ b. cond b (Some e) (peer_of (peers ++ p ∷ []) i)) here
-      ∙ sym (ap (λ b. cond b (Some e) (peer_of peers i)) here) ∙ found
-  | inr other ↦
-      ap (λ b. cond b (Some e) (peer_of (peers ++ p ∷ []) i)) other
-      ∙ appended_found peers p q i (sym (ap (λ b. cond b (Some e) (peer_of peers i)) other) ∙ found)
-]
-
-joined_next : (n : NetworkValue) (now : ℕ) (p : Peer) → AllLive now n.peers → p.number ≡ n.next → is_live now p ≡ true
-    → IsNext n now (reply.Peer (view_of n.routes p), record n { next = n.next + 1; peers = n.peers ++ p ∷ [] })
-joined_next n now p live number lives = record {
-  next = omega arith;
-  absent = λ i l none. appended_absent n.peers p i none (above i p.number (omega (arith, l, number)));
-  keys = λ i e f at_e at_f. ap (λ (p : Peer). p.key) (sym (one_peer e f (sym (appended_found n.peers p e i at_e) ∙ at_f)));
-  live = All-push (λ p. is_live now p ≡ true) n.peers p live lives;
-  shows = lives;
-}
-  where
-    above : (i m : ℕ) → i < m → nat_eq m i ≡ false
-    above i m l = grind (arith, nat_tests)
-
--- a peer in the place of one of the same key and number
-replaced_next : (n : NetworkValue) (now : ℕ) (p q : Peer) → AllLive now n.peers → peer_of n.peers q.number ≡ Some p → q.key ≡ p.key → is_live now q ≡ true → IsNext n now (reply.Peer (view_of n.routes q), record n { peers = put_peer n.peers q })
-replaced_next n now p q live stands key lives = record {
-  next = omega arith;
-  absent = λ i l none. put_others n.peers q i (elsewhere i none) ∙ none;
-  keys = λ i e f at_e at_f. elim (decide (nat_eq q.number i)) [
-    | inl here ↦
-        let same = nat_eq_is q.number i here in
-        let f_is : q ≡ f = one_peer q f (sym (put_stands_there n.peers q) ∙ ap (peer_of (put_peer n.peers q)) same ∙ at_f) in
-        let e_is : p ≡ e = one_peer p e (sym stands ∙ ap (peer_of n.peers) same ∙ at_e) in
-        ap (λ (p : Peer). p.key) (sym f_is) ∙ key ∙ ap (λ (p : Peer). p.key) e_is
-    | inr apart ↦ same_key_at n.peers i e f at_e (sym (put_others n.peers q i apart) ∙ at_f)
-  ];
-  live = put_all (λ p. is_live now p ≡ true) (λ e. nat_lt e.number q.number) (λ e. nat_eq e.number q.number) n.peers q live lives;
-  shows = lives;
-}
-  where
-    elsewhere : (i : ℕ) → peer_of n.peers i ≡ None → nat_eq q.number i ≡ false
-    elsewhere i none = elim (decide (nat_eq q.number i)) [
-      | inr apart ↦ apart
-      | inl here ↦ let bad : Some p ≡ None = sym stands ∙ ap (peer_of n.peers) (nat_eq_is q.number i here) ∙ none in cc
-    ]
 
 -- nobody is found at a number that a filter leaves out
 none_among : (number : ℕ) (peers : List Peer) (i : ℕ) → is_among (number ∷ []) i ≡ true → All (λ e. not (is_among (number ∷ []) e.number) ≡ true) peers → peer_of peers i ≡ None
@@ -183,8 +100,11 @@ live_outcome_next n now (command.Renew number until) is live =
     unless_if (IsNext n now) (lease_refusal now until) _ (λ allowed.
     let here = peer_is (λ p. is_live now p ≡ true) n.peers number p live found in
     replaced_next n now p (record p { until = until }) live (ap (peer_of n.peers) here.1 ∙ found) refl (ap not (runs_on now until allowed))))
+live_outcome_next n now (command.Adopt server lines) is live = adopt_next n now server lines is live
 live_outcome_next n now command.List is live = unmoved n now _ live refl refl (All-map (λ view. is_live now view.peer ≡ true) (view_of n.routes) n.peers live)
 live_outcome_next n now (command.Owner address) is live = owner_if (IsNext n now) n (owner_of n address) (λ number found. unmoved n now _ live refl refl (owner_stands n address number is found))
+live_outcome_next n now (command.ServerFile form) is live = unmoved n now _ live refl refl tt
+live_outcome_next n now (command.PeerFile number form) is live = stands_if (IsNext n now) (peer_of n.peers number) _ (λ p found. unmoved n now _ live refl refl (ap is_some found))
 
 -- of the whole network
 

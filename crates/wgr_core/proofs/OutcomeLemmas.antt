@@ -1,7 +1,7 @@
 -- A command leaves a network that keeps the rules.
-use Rattle.std.proofs.Common.{◌≡◌, ℕ, ◌<◌, ◌≤◌, inl, inr, Bool, true, false, not, ◌&&◌, cond, nat_eq, nat_lt, List, [], ◌∷◌, length, get_or, Option, Some, None, is_some, refl, sym, ap, ◌∙◌, subst, arith}
+use Rattle.std.proofs.Common.{◌≡◌, ℕ, ◌<◌, ◌≤◌, inl, inr, Bool, true, false, not, ◌&&◌, cond, nat_eq, nat_lt, List, [], ◌∷◌, length, Option, Some, None, is_some, refl, sym, ap, ◌∙◌, subst, arith}
 use Rattle.std.specs.Prelude.{IfOk}
-use Rattle.std.specs.List.{All, list_any}
+use Rattle.std.specs.List.{All}
 use Rattle.std.proofs.lemmas.Bool.Decides.{nat_tests}
 use Rattle.std.proofs.lemmas.List.Elements.{All-cons}
 use Rattle.std.proofs.lemmas.Result.{IfOk-weaker}
@@ -13,22 +13,22 @@ use Rattle.wgr_core.specs.declared.command.Command.TheVariants as command
 use Rattle.wgr_core.specs.declared.refusal.Refusal.{Refusal}
 use Rattle.wgr_core.specs.declared.refusal.Refusal.TheVariants.{CapacityReached, IsAddress, NumbersSpent, LeaseOver, RoutesFull, ServerKey}
 use Rattle.wgr_core.specs.declared.reply.Reply.{Reply}
-use Rattle.wgr_pool.specs.PrefixTests.{full, same_address, same_prefix}
+use Rattle.wgr_pool.specs.PrefixTests.{full, same_address}
 use Rattle.wgr_peers.specs.Limits.{is_over}
 use Rattle.wgr_peers.specs.Peers.{is_own, key_holder, peer_of, same_key, without_peer}
 use Rattle.wgr_peers.specs.Routes.{route_of}
-use Rattle.wgr_core.specs.Network.{NetworkValue, IsNetwork, IsMember, is_address, live_at, server_address}
+use Rattle.wgr_core.specs.Network.{NetworkValue, IsNetwork, IsMember, is_address, live_at}
 use Rattle.wgr_core.specs.Owner.{owner_of}
 use Rattle.wgr_core.specs.Outcome.{Outcome, held_or, join_refusal, place, add, vacated, move, revoke, lease_refusal, renew, route_refusal, route, unroute, live_outcome, is_reading, outcome_of, IsAsked}
-use Rattle.wgr_pool.proofs.Lists.{list_any-none}
 use Rattle.wgr_pool.proofs.Bools.{decide, or_false}
 use Rattle.wgr_core.proofs.KeptLemmas.{without_is_network, unrouted_is_network}
 use Rattle.wgr_core.proofs.OutcomeCases.{unless_if, place_if, stands_if, routed_if, owner_if, kept_if_reading}
 use Rattle.wgr_core.proofs.LiveLemmas.{live_is_network}
 use Rattle.wgr_core.proofs.JoinLemmas.{place_is_open, joined_is_network}
-use Rattle.wgr_peers.proofs.PeerLemmas.{others_apart, peer_is}
-use Rattle.wgr_core.proofs.ReplaceLemmas.{replaced_is_network}
-use Rattle.wgr_core.proofs.RoutedKeeps.{MayRoute, routed_is_network}
+use Rattle.wgr_peers.proofs.PeerLemmas.{peer_is}
+use Rattle.wgr_core.proofs.ReplaceLemmas.{amended_is_network, replaced_is_network}
+use Rattle.wgr_core.proofs.RoutedKeeps.{MayRoute, no_route_refusal, routed_is_network}
+use Rattle.wgr_core.proofs.AdoptKeeps.{adopt_keeps}
 
 -- where a command is accepted, the network after it keeps the rules
 abbrev pub Keeps : Outcome → Type 0
@@ -105,37 +105,17 @@ move_keeps n number wanted is =
       no_route = may.no_route;
     })))
 
--- a route is no peer's address at full length
-no_route_at : (n : NetworkValue) (number : ℕ) (p : Peer) → IsNetwork n → peer_of n.peers number ≡ Some p → All (λ r. same_prefix r.0 (full p.address) ≡ false) n.routes
-no_route_at n number p is found = λ k d h.
-    let r = get_or n.routes k d in
-    let parts = or_false (list_any (λ (e : Peer). same_prefix r.0 (full e.address)) n.peers) (same_prefix r.0 (full (server_address n.pool))) (is.routes k d h).no_address in
-    (peer_is (λ e. same_prefix r.0 (full e.address) ≡ false) n.peers number p (list_any-none (λ (e : Peer). same_prefix r.0 (full e.address)) n.peers parts.0) found).0
-
 pub renew_keeps : (n : NetworkValue) (now number until : ℕ) → IsNetwork n → Keeps (renew n now number until)
 renew_keeps n now number until is =
     stands_if After (peer_of n.peers number) _ (λ p found.
     unless_if After (lease_refusal now until) _ (λ allowed.
-    let member = peer_is (IsMember n) n.peers number p is.members found in
-    let apart = others_apart n.peers number p is.apart found in
-    replaced_is_network n p (record p { until = until }) is
-    (record {
-      stands = ap (peer_of n.peers) member.1 ∙ found;
-      key = refl;
-      assignable = member.0.assignable;
-      unowned = λ k d h other. (apart k d h (ap (nat_eq (get_or n.peers k d).number) (sym member.1) ∙ other)).1;
-      no_route = no_route_at n number p is found;
-    })))
+    let at = (peer_is (IsMember n) n.peers number p is.members found).1 in
+    amended_is_network n p until p.status is (ap (peer_of n.peers) at ∙ found)))
 
 pub revoke_keeps : (n : NetworkValue) (number : ℕ) → IsNetwork n → Keeps (revoke n number)
 revoke_keeps n number is = stands_if After (peer_of n.peers number) _ (λ p found. without_is_network n (number ∷ []) is)
 
 -- ---- routes
-
-no_route_refusal : (address full : Bool) (x y : Refusal) → cond address (Some x) (cond full (Some y) None) ≡ None → (address ≡ false) × (full ≡ false)
-no_route_refusal true full x y h = cc
-no_route_refusal false true x y h = cc
-no_route_refusal false false x y h = (refl, refl)
 
 pub may_route : (n : NetworkValue) (number : ℕ) (prefix : PrefixValue) (p : Peer) → IsAddr prefix.address × IsPrefix prefix → peer_of n.peers number ≡ Some p → route_refusal n prefix ≡ None → MayRoute n prefix number
 may_route n number prefix p masked found allowed =
@@ -159,8 +139,11 @@ live_outcome_keeps n now (command.Revoke number) is fits = revoke_keeps n number
 live_outcome_keeps n now (command.Route number prefix) is fits = route_keeps n number prefix is fits
 live_outcome_keeps n now (command.Unroute prefix) is fits = unroute_keeps n prefix is
 live_outcome_keeps n now (command.Renew number until) is fits = renew_keeps n now number until is
+live_outcome_keeps n now (command.Adopt server lines) is fits = adopt_keeps n server lines is fits
 live_outcome_keeps n now command.List is fits = is
 live_outcome_keeps n now (command.Owner address) is fits = owner_if After n (owner_of n address) (λ number found. is)
+live_outcome_keeps n now (command.ServerFile form) is fits = is
+live_outcome_keeps n now (command.PeerFile number form) is fits = stands_if After (peer_of n.peers number) _ (λ p found. is)
 
 pub outcome_keeps : (n : NetworkValue) (now : ℕ) (asked : Command) → IsNetwork n → IsAsked asked → Keeps (outcome_of n now asked)
 outcome_keeps n now asked is fits =

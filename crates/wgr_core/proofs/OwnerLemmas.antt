@@ -101,7 +101,7 @@ found_stands (Some r) (Some s) length h i = ap (λ b. cond b (Some s) (Some r)) 
 -- ---- peers' own addresses
 
 -- a prefix of full length has its address alone
-full_has_own : (e a : AddrValue) → has (full e) a ≡ same_address e a
+pub full_has_own : (e a : AddrValue) → has (full e) a ≡ same_address e a
 full_has_own e a =
     let none : width e.family - width e.family ≡ 0 = omega arith in
     ap (λ k. same_family e.family a.family && nat_eq (a.number / 2 ^ k) (e.number / 2 ^ k)) none

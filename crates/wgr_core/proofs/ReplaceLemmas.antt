@@ -1,11 +1,12 @@
 -- A peer in place of the one of its number leaves a network that keeps the rules.
-use Rattle.std.proofs.Common.{◌≡◌, ℕ, ◌<◌, ◌≤◌, inl, inr, true, false, ◌||◌, cond, nat_eq, nat_lt, List, [], ◌∷◌, get_or, map, Some, is_some, refl, sym, ap, ◌∙◌, subst, arith}
+use Rattle.std.proofs.Common.{◌≡◌, ℕ, ◌<◌, ◌≤◌, inl, inr, true, false, ◌||◌, cond, nat_eq, nat_lt, List, [], ◌∷◌, get_or, map, Option, Some, is_some, refl, sym, ap, ◌∙◌, subst, arith}
 use Rattle.std.specs.List.{All, list_any}
 use Rattle.std.proofs.lemmas.Bool.Decides.{nat_tests}
 use Rattle.std.proofs.lemmas.List.{length-map}
 use Rattle.std.proofs.lemmas.List.Elements.{All-map}
 use Rattle.std.proofs.lemmas.List.Folds.{list_any_none}
 use Rattle.wgr_peers.specs.declared.peer.Peer.{Peer}
+use Rattle.wgr_peers.specs.declared.peer.Status.{Status}
 use Rattle.wgr_pool.specs.PrefixTests.{same_address, same_prefix, full}
 use Rattle.wgr_pool.specs.Allot.{is_assignable}
 use Rattle.wgr_peers.specs.Peers.{peer_of, put_peer, same_key, IsNumberedBelow, IsApart, AreApart, AreNumbered}
@@ -120,3 +121,24 @@ replaced_is_network n p q is may =
       ordered = is.ordered;
     } in
     subst (λ (ps : List Peer). IsNetwork (record n { peers = ps })) (sym (put_stands n.peers q is.numbered there)) after
+
+-- a route is no peer's address at full length
+no_route_at : (n : NetworkValue) (number : ℕ) (p : Peer) → IsNetwork n → peer_of n.peers number ≡ Some p → All (λ r. same_prefix r.0 (full p.address) ≡ false) n.routes
+no_route_at n number p is found = λ k d h.
+    let r = get_or n.routes k d in
+    let parts = or_false (list_any (λ (e : Peer). same_prefix r.0 (full e.address)) n.peers) (same_prefix r.0 (full (server_address n.pool))) (is.routes k d h).no_address in
+    (peer_is (λ e. same_prefix r.0 (full e.address) ≡ false) n.peers number p (list_any-none (λ (e : Peer). same_prefix r.0 (full e.address)) n.peers parts.0) found).0
+
+-- a peer that keeps its number, its key and its address
+pub amended_is_network : (n : NetworkValue) (p : Peer) (until : ℕ) (status : Option Status) → IsNetwork n → peer_of n.peers p.number ≡ Some p → IsNetwork (record n { peers = put_peer n.peers (record p { until = until; status = status }) })
+amended_is_network n p until status is stands =
+    let member = peer_is (IsMember n) n.peers p.number p is.members stands in
+    let apart = others_apart n.peers p.number p is.apart stands in
+    replaced_is_network n p (record p { until = until; status = status }) is
+    (record {
+      stands = stands;
+      key = refl;
+      assignable = member.0.assignable;
+      unowned = λ k d h other. (apart k d h other).1;
+      no_route = no_route_at n p.number p is stands;
+    })

@@ -2,7 +2,6 @@
 use Rattle.std.proofs.Common.{◌≡◌, ℕ, zero, suc, ◌<◌, ◌≤◌, ◌⊎◌, inl, inr, true, false, not, cond, List, [], ◌∷◌, ◌++◌, length, get_or, Some, None, refl, sym, ap, ◌∙◌, subst, arith}
 use Rattle.std.specs.Prelude.{IfOk, option_map}
 use Rattle.std.specs.List.{All, Contains}
-use Rattle.std.proofs.lemmas.List.{get_or-map, length-map}
 use Rattle.std.proofs.lemmas.List.Elements.{All-append, All-cons, All-head, All-tail, All-weaker, Contains-append_cases, Contains-append_left, Contains-append_right}
 use Rattle.wgr_text.specs.Prefix.{AddrValue, PrefixValue, IsPrefix, width}
 use Rattle.wgr_peers.specs.declared.peer.Peer.{Peer}
@@ -22,7 +21,7 @@ use Rattle.wgr_core.proofs.LiveLemmas.{live_is_network}
 use Rattle.wgr_peers.proofs.OrderedLemmas.{put_all}
 use Rattle.wgr_core.proofs.MatchLemmas.{Contains-here, Contains-later}
 use Rattle.wgr_core.proofs.OwnerLemmas.{longest_skip}
-use Rattle.wgr_core.proofs.UniqueMatch.{all_prefixes, longest_owns}
+use Rattle.wgr_core.proofs.UniqueMatch.{all_prefixes, longest_owns, own_allowed}
 use Rattle.wgr_core.proofs.RoutedKeeps.{routed_is_network}
 use Rattle.wgr_core.proofs.OutcomeCases.{unless_if, stands_if, routed_if, kept_if_reading}
 use Rattle.wgr_core.proofs.OutcomeLemmas.{may_route}
@@ -33,17 +32,11 @@ pub own_is_owned : (n : NetworkValue) (p : Peer) → IsNetwork n → Contains n.
 own_is_owned n p is there =
     longest_owns n p.address (full p.address, p.number) is
     (record {
-      is_allowed = Contains-append_left (own_prefixes n.peers) n.routes (full p.address, p.number) own;
+      is_allowed = own_allowed n p there;
       has_it = full_has p.address;
       longest = All-weaker (λ (s : PrefixValue × ℕ). IsPrefix s.0) (λ s. has s.0 p.address ≡ true → s.0.length ≤ width p.address.family)
           (λ s masked has_it. let f = ap width ((has_iff s.0 p.address).0 has_it).0 in let l = masked.0 in omega (arith, f, l)) (allowed n) (all_prefixes n is);
     })
-  where
-    own : Contains (own_prefixes n.peers) (full p.address, p.number)
-    own =
-        let l = there.1 in
-        let long = length-map {B = PrefixValue × ℕ} n.peers (λ (e : Peer). (full e.address, e.number)) in
-        (there.0, omega (arith, l, long), get_or-map (λ (e : Peer). (full e.address, e.number)) n.peers there.0 p (full p.address, p.number) l ∙ ap (λ (e : Peer). (full e.address, e.number)) there.2)
 
 -- ---- addresses outside the prefix
 

@@ -1,5 +1,5 @@
 -- A route led to a peer leaves a network that keeps the rules.
-use Rattle.std.proofs.Common.{◌≡◌, ℕ, ◌<◌, ◌≤◌, inl, inr, true, false, not, ◌&&◌, ◌||◌, cond, nat_lt, [], ◌∷◌, length, Some, is_some, refl, sym, ap, ◌∙◌, arith}
+use Rattle.std.proofs.Common.{◌≡◌, ℕ, ◌<◌, ◌≤◌, inl, inr, Bool, true, false, not, ◌&&◌, ◌||◌, cond, nat_lt, [], ◌∷◌, length, Some, None, is_some, refl, sym, ap, ◌∙◌, arith}
 use Rattle.std.specs.List.{list_any}
 use Rattle.std.proofs.lemmas.Bool.Decides.{nat_tests}
 use Rattle.std.proofs.lemmas.List.{length-map}
@@ -26,6 +26,12 @@ pub length-assign_again : (routes : Routes) (p : PrefixValue) (number : ℕ) →
 length-assign_again routes p number ordered some =
     ap length (put_is_map ComesBefore (λ r. is_before r.0 p) (λ r. same_prefix r.0 p) routes (p, number) ordered (routes_level p) (routes_lead p) (some_routed routes p some))
     ∙ length-map routes (swapped (λ (r : PrefixValue × ℕ). same_prefix r.0 p) (p, number))
+
+-- what no refusal of a route tells
+pub no_route_refusal : {X : Type 0} (address full : Bool) (x y : X) → cond address (Some x) (cond full (Some y) None) ≡ None → (address ≡ false) × (full ≡ false)
+no_route_refusal true full x y h = cc
+no_route_refusal false true x y h = cc
+no_route_refusal false false x y h = (refl, refl)
 
 -- what a prefix needs to be led to the peer of a number
 pub record MayRoute (n : NetworkValue) (p : PrefixValue) (number : ℕ) : Type 0 where

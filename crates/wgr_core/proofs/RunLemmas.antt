@@ -1,5 +1,5 @@
 -- What whole runs of commands leave.
-use Rattle.std.proofs.Common.{◌≡◌, ◌≢◌, ℕ, ◌<◌, ◌≤◌, inl, inr, true, false, ◌||◌, List, [], ◌∷◌, length, get_or, Option, Some, None, is_some, refl, sym, ap, ◌∙◌, subst, arith}
+use Rattle.std.proofs.Common.{◌≡◌, ◌≢◌, ℕ, ◌<◌, ◌≤◌, inl, inr, true, false, ◌||◌, List, [], ◌∷◌, length, get_or, Some, None, is_some, sym, ap, ◌∙◌, subst, arith}
 use Rattle.std.specs.Prelude.{Ok, Err, IfOk}
 use Rattle.std.proofs.lemmas.Bool.{cases_lt}
 use Rattle.std.proofs.lemmas.Cmp.{nat_list_eq_equiv}
@@ -24,30 +24,8 @@ use Rattle.wgr_peers.proofs.PeerLemmas.{peer_is}
 use Rattle.wgr_core.proofs.LookLemmas.{absent_kept, found_kept}
 use Rattle.wgr_core.proofs.OutcomeCases.{stands_if, kept_if_reading}
 use Rattle.wgr_core.proofs.OutcomeLemmas.{outcome_keeps}
-use Rattle.wgr_core.proofs.NextLemmas.{IsNext, changes_end_numbers, outcome_next, owner_stands, revoked_absent, same_key_at}
-
--- what a later network has of numbers and keys
-record IsLater (n m : NetworkValue) : Type 0 where
-  next : n.next ≤ m.next
-  absent : (i : ℕ) → i < n.next → peer_of n.peers i ≡ None → peer_of m.peers i ≡ None
-  keys : (i : ℕ) (p q : Peer) → peer_of n.peers i ≡ Some p → peer_of m.peers i ≡ Some q → q.key ≡ p.key
-
-later_self : (n : NetworkValue) → IsLater n n
-later_self n = record { next = omega arith; absent = λ i l none. none; keys = λ i p q at_p at_q. same_key_at n.peers i p q at_p at_q }
-
-later_on : (n m o : NetworkValue) → IsNetwork n → IsLater n m → IsLater m o → IsLater n o
-later_on n m o is first then = record {
-  next = omega (arith, first.next, then.next);
-  absent = λ i l none. then.absent i (omega (arith, l, first.next)) (first.absent i l none);
-  keys = λ i p q at_p at_q. by_peer i p q at_p at_q (peer_of m.peers i) refl;
-}
-  where
-    by_peer : (i : ℕ) (p q : Peer) → peer_of n.peers i ≡ Some p → peer_of o.peers i ≡ Some q → (e : Option Peer) → peer_of m.peers i ≡ e → q.key ≡ p.key
-    by_peer i p q at_p at_q (Some e) at_e = then.keys i e q at_e at_q ∙ first.keys i p e at_p at_e
-    by_peer i p q at_p at_q None none =
-        let member = peer_is (IsMember n) n.peers i p is.members at_p in
-        let given : i < n.next = omega (arith, member.0.numbered.1, member.1) in
-        let bad : None ≡ Some q = sym (then.absent i (omega (arith, given, first.next)) none) ∙ at_q in cc
+use Rattle.wgr_core.proofs.NextSteps.{IsLater, IsNext, later_on, later_self, same_key_at}
+use Rattle.wgr_core.proofs.NextLemmas.{changes_end_numbers, outcome_next, owner_stands, revoked_absent}
 
 later_live : (n : NetworkValue) (now : ℕ) → IsNetwork n → IsLater n (live_at n now)
 later_live n now is = record {

@@ -3,8 +3,8 @@ use Rattle.std.proofs.Common.{◌≡◌, ℕ, ◌-◌, ◌*◌, ◌/◌, ◌%◌
 use Rattle.std.specs.Prelude.{option_map}
 use Rattle.std.specs.List.{All, AllPairs, Contains, list_any}
 use Rattle.std.proofs.lemmas.Bool.{cases_lt}
-use Rattle.std.proofs.lemmas.List.{get_or_default}
-use Rattle.std.proofs.lemmas.List.Elements.{All-append, All-contains, All-head, All-map, All-tail}
+use Rattle.std.proofs.lemmas.List.{get_or-map, get_or_default, length-map}
+use Rattle.std.proofs.lemmas.List.Elements.{All-append, All-contains, All-head, All-map, All-tail, Contains-append_left}
 use Rattle.wgr_text.specs.Prefix.{AddrValue, PrefixValue, IsPrefix, block, width}
 use Rattle.wgr_text.proofs.Blocks.{block_start}
 use Rattle.wgr_peers.specs.declared.peer.Peer.{Peer}
@@ -21,15 +21,27 @@ use Rattle.wgr_pool.proofs.Bridge.{has_iff}
 use Rattle.wgr_peers.proofs.PutLemmas.{map_pairs}
 use Rattle.wgr_core.proofs.MatchLemmas.{match_is_longest, no_match_is_none}
 
+-- ---- what is allowed
+
+-- a peer's address at full length leads to the peer
+pub own_allowed : (n : NetworkValue) (p : Peer) → Contains n.peers p → Contains (allowed n) (full p.address, p.number)
+own_allowed n p there = Contains-append_left (own_prefixes n.peers) n.routes (own_prefix p) own
+  where
+    own_prefix : Peer → PrefixValue × ℕ
+    own_prefix e = (full e.address, e.number)
+
+    own : Contains (own_prefixes n.peers) (own_prefix p)
+    own = (there.0, subst (λ (m : ℕ). there.0 < m) (sym (length-map n.peers own_prefix)) there.1, get_or-map own_prefix n.peers there.0 p (own_prefix p) there.1 ∙ ap own_prefix there.2)
+
 -- ---- no allowed prefix stands twice
 
-AllPairs-append : {X : Type 0} (R : X → X → Type 0) (xs ys : List X) → AllPairs R xs → AllPairs R ys → All (λ x. All (R x) ys) xs → AllPairs R (xs ++ ys)
+pub AllPairs-append : {X : Type 0} (R : X → X → Type 0) (xs ys : List X) → AllPairs R xs → AllPairs R ys → All (λ x. All (R x) ys) xs → AllPairs R (xs ++ ys)
 AllPairs-append R [] ys pairs pairs' cross = pairs'
 AllPairs-append R (x ∷ xs) ys pairs pairs' cross =
     AllPairs-cons R x (xs ++ ys) (All-append (R x) xs ys (AllPairs-head R x xs pairs) (All-head (λ x. All (R x) ys) x xs cross))
     (AllPairs-append R xs ys (AllPairs-tail R x xs pairs) pairs' (All-tail (λ x. All (R x) ys) x xs cross))
 
-abbrev Differ : PrefixValue × ℕ → PrefixValue × ℕ → Type 0
+abbrev pub Differ : PrefixValue × ℕ → PrefixValue × ℕ → Type 0
 Differ r s = same_prefix r.0 s.0 ≡ false
 
 differ_turn : (p q : PrefixValue) → same_prefix p q ≡ false → same_prefix q p ≡ false
@@ -38,13 +50,13 @@ differ_turn p q apart = elim (decide (same_prefix q p)) [
   | inr other ↦ other
 ]
 
-before_differs : (r s : PrefixValue × ℕ) → ComesBefore r s → Differ r s
+pub before_differs : (r s : PrefixValue × ℕ) → ComesBefore r s → Differ r s
 before_differs r s before = elim (decide (same_prefix r.0 s.0)) [
   | inl same ↦ let bad : true ≡ false = sym (subst (λ p. ComesBefore (p, r.1) s) (same_prefix_is r.0 s.0 same) before) ∙ not_before_self s.0 in cc
   | inr apart ↦ apart
 ]
 
-all_differ : (n : NetworkValue) → IsNetwork n → AllPairs Differ (allowed n)
+pub all_differ : (n : NetworkValue) → IsNetwork n → AllPairs Differ (allowed n)
 all_differ n is =
     AllPairs-append Differ (own_prefixes n.peers) n.routes
     (map_pairs (λ (e : Peer). (full e.address, e.number)) Differ n.peers (λ i j d l h. ap (λ b. b && nat_eq (width (get_or n.peers i d).address.family) (width (get_or n.peers j d).address.family)) (is.apart i j d l h).1))
@@ -56,7 +68,7 @@ all_differ n is =
     no_own r apart = list_any-none (λ (e : Peer). same_prefix r.0 (full e.address)) n.peers (or_false (list_any (λ (e : Peer). same_prefix r.0 (full e.address)) n.peers) (same_prefix r.0 (full (server_address n.pool))) apart).0
 
 -- two that are the same prefix are one
-same_place : (routes : Routes) (r s : PrefixValue × ℕ) → AllPairs Differ routes → Contains routes r → Contains routes s → r.0 ≡ s.0 → r ≡ s
+pub same_place : (routes : Routes) (r s : PrefixValue × ℕ) → AllPairs Differ routes → Contains routes r → Contains routes s → r.0 ≡ s.0 → r ≡ s
 same_place routes r s differ at_r at_s same = elim (cases_lt at_r.0 at_s.0) [
   | inl before ↦ absurd (clash at_r.0 at_s.0 before at_s.1 at_r.2 (get_or_default routes at_s.0 r s at_s.1 ∙ at_s.2) same)
   | inr from ↦ elim (cases_lt at_s.0 at_r.0) [
@@ -80,7 +92,7 @@ same_place routes r s differ at_r at_s same = elim (cases_lt at_r.0 at_s.0) [
 
 -- ---- two prefixes of one length that have an address are one
 
-full_is_prefix : (a : AddrValue) → IsPrefix (full a)
+pub full_is_prefix : (a : AddrValue) → IsPrefix (full a)
 full_is_prefix a =
     let none : width a.family - width a.family ≡ 0 = omega arith in
     (omega arith, subst (λ (k : ℕ). a.number % 2 ^ k ≡ 0) (sym none) (mod_one a.number))

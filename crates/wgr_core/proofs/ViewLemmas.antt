@@ -1,18 +1,23 @@
 -- The views of peers, as one route after another is put into them.
-use Rattle.std.proofs.Common.{◌≡◌, ℕ, zero, suc, ◌<◌, true, false, not, cond, nat_eq, nat_lt, List, [], ◌∷◌, ◌++◌, length, get_or, set, map, Ok, Err, refl, sym, ap, subst, ◌∙◌, arith}
-use Rattle.std.specs.List.{All, filter}
+use Rattle.std.proofs.Common.{◌≡◌, ℕ, zero, suc, ◌<◌, true, false, not, cond, nat_eq, nat_lt, List, [], ◌∷◌, ◌++◌, length, get_or, set, map, Ok, Err, is_some, refl, sym, ap, subst, ◌∙◌, arith}
+use Rattle.std.specs.Prelude.{Result}
+use Rattle.std.specs.List.{All, AllPairs, filter}
+use Rattle.std.proofs.lemmas.List.{get_or-map, get_or_default, length-map}
 use Rattle.std.proofs.lemmas.Bool.Decides.{nat_tests}
 use Rattle.std.proofs.lemmas.List.Elements.{All-head, All-tail, All-weaker, filter_passes}
 use Rattle.wgr_text.specs.Prefix.{PrefixValue}
 use Rattle.wgr_peers.specs.declared.peer.Peer.{Peer}
 use Rattle.wgr_core.specs.declared.reply.PeerView.{PeerView}
-use Rattle.wgr_peers.specs.Ordered.{EndsAt}
-use Rattle.wgr_peers.specs.Peers.{IsNumberedBelow, AreNumbered}
+use Rattle.wgr_peers.specs.Ordered.{EndsAt, IsPlace}
+use Rattle.wgr_peers.specs.Peers.{peer_of, IsNumberedBelow, AreNumbered}
 use Rattle.wgr_peers.specs.Routes.{Routes, routes_to}
+use Rattle.wgr_core.specs.Network.{NetworkValue, live_at}
 use Rattle.wgr_core.specs.Outcome.{view_of}
 use Rattle.wgr_pool.proofs.Bools.{not_true}
 use Rattle.wgr_pool.proofs.Lists.{AllPairs-head, AllPairs-tail}
 use Rattle.wgr_peers.proofs.OrderedLemmas.{drop_absent}
+use Rattle.wgr_core.proofs.LiveLemmas.{peer_stands}
+use Rattle.wgr_core.proofs.LiveLooks.{routes_led}
 
 -- ---- one more route
 
@@ -100,3 +105,73 @@ shown_nowhere shown r peers at pairs ends =
 
     turned : (m n : ℕ) → nat_eq m n ≡ false → nat_eq n m ≡ false
     turned m n h = grind (arith, nat_tests)
+
+-- ---- the routes of the whole network show what those of the live one do
+
+map_on : {X Y : Type 0} (f g : X → Y) (xs : List X) → All (λ x. f x ≡ g x) xs → map f xs ≡ map g xs
+map_on f g [] same = refl
+map_on f g (x ∷ xs) same = ap (λ y. y ∷ map f xs) (All-head (λ x. f x ≡ g x) x xs same) ∙ ap (λ ys. g x ∷ ys) (map_on f g xs (All-tail (λ x. f x ≡ g x) x xs same))
+
+pub live_views : (n : NetworkValue) (now : ℕ) → map (view_of n.routes) (live_at n now).peers ≡ map (view_of (live_at n now).routes) (live_at n now).peers
+live_views n now =
+    let live = (live_at n now).peers in
+    map_on (view_of n.routes) (view_of (live_at n now).routes) live
+    (All-weaker (λ p. is_some (peer_of live p.number) ≡ true) (λ p. view_of n.routes p ≡ view_of (live_at n now).routes p) (λ p stands.
+    ap (λ (rs : Routes). record { peer = p; routes = map (λ (r : PrefixValue × ℕ). r.0) rs }) (sym (routes_led (λ i. is_some (peer_of live i)) n.routes p.number stands))) live (peer_stands live))
+
+-- ---- the views, by their peers
+
+pub views_numbered : (views : List PeerView) → AreNumbered (map (λ v. v.peer) views) → AllPairs (λ v w. IsNumberedBelow v.peer w.peer) views
+views_numbered views pairs = λ i j d l h.
+    let within : j < length (map (λ (v : PeerView). v.peer) views) = subst (λ (k : ℕ). j < k) (sym (length-map views (λ (v : PeerView). v.peer))) h in
+    subst (λ (p : Peer). IsNumberedBelow p (get_or views j d).peer) (get_or-map (λ (v : PeerView). v.peer) views i d d.peer (omega (arith, l, h)))
+    (subst (λ (q : Peer). IsNumberedBelow (get_or (map (λ (v : PeerView). v.peer) views) i d.peer) q) (get_or-map (λ (v : PeerView). v.peer) views j d d.peer h) (pairs i j d.peer l within))
+
+pub view_there : (views : List PeerView) (n at : ℕ) (d e : PeerView) → at < length views → (get_or views at e).peer.number ≡ n → nat_eq (get_or views at d).peer.number n ≡ true
+view_there views n at d e l h = equal (get_or views at d).peer.number n (ap (λ (v : PeerView). v.peer.number) (get_or_default views at d e l) ∙ h)
+  where
+    equal : (a b : ℕ) → a ≡ b → nat_eq a b ≡ true
+    equal a b e = grind (arith, nat_tests)
+
+pub view_not_there : (views : List PeerView) (n at : ℕ) (d e : PeerView) → at < length views → ((get_or views at e).peer.number ≡ n → ⊥) → nat_eq (get_or views at d).peer.number n ≡ false
+view_not_there views n at d e l h = apart (get_or views at d).peer.number n (λ same. h (sym (ap (λ (v : PeerView). v.peer.number) (get_or_default views at d e l)) ∙ same))
+  where
+    apart : (a b : ℕ) → (a ≡ b → ⊥) → nat_eq a b ≡ false
+    apart a b e = grind (arith, nat_tests)
+
+-- where a search among the views ends, one among their peers does
+pub ends_in_peers : (shown : Routes) (number : ℕ) (views : List PeerView) (peers : List Peer) (r : Result ℕ ℕ) → views ≡ map (view_of shown) peers
+    → EndsAt (λ v. nat_lt v.peer.number number) (λ v. nat_eq v.peer.number number) views r → EndsAt (λ p. nat_lt p.number number) (λ p. nat_eq p.number number) peers r
+ends_in_peers shown number views peers r same ends = by r (subst (λ vs. EndsAt (λ (v : PeerView). nat_lt v.peer.number number) (λ v. nat_eq v.peer.number number) vs r) same ends)
+  where
+    among : List PeerView
+    among = map (view_of shown) peers
+
+    read : (k : ℕ) (d : Peer) → k < length peers → get_or among k (view_of shown d) ≡ view_of shown (get_or peers k d)
+    read k d l = get_or-map (view_of shown) peers k d (view_of shown d) l
+
+    place : (at : ℕ) → IsPlace (λ (v : PeerView). nat_lt v.peer.number number) among at → IsPlace (λ (p : Peer). nat_lt p.number number) peers at
+    place at is =
+        let size = length-map peers (view_of shown) in
+        record {
+          within = omega (arith, is.within, size);
+          before = λ k d h. ap (λ (v : PeerView). nat_lt v.peer.number number) (sym (read k d (omega (arith, h, is.within, size)))) ∙ is.before k (view_of shown d) h;
+          after = λ k d h l. ap (λ (v : PeerView). nat_lt v.peer.number number) (sym (read k d l)) ∙ is.after k (view_of shown d) h (omega (arith, l, size));
+        }
+
+    by : (r : Result ℕ ℕ) → EndsAt (λ (v : PeerView). nat_lt v.peer.number number) (λ v. nat_eq v.peer.number number) among r → EndsAt (λ (p : Peer). nat_lt p.number number) (λ p. nat_eq p.number number) peers r
+    by (Ok at) e =
+        let size = length-map peers (view_of shown) in
+        let l : at < length peers = omega (arith, e.1, size) in
+        (place at e.0, l, λ d. ap (λ (v : PeerView). nat_eq v.peer.number number) (sym (read at d l)) ∙ e.2 (view_of shown d))
+    by (Err at) e =
+        let size = length-map peers (view_of shown) in
+        (place at e.0, λ d l. ap (λ (v : PeerView). nat_eq v.peer.number number) (sym (read at d l)) ∙ e.1 (view_of shown d) (omega (arith, l, size)))
+
+-- the peers of the views are those that are shown
+pub peers_shown : (shown : Routes) (views : List PeerView) (peers : List Peer) → views ≡ map (view_of shown) peers → map (λ v. v.peer) views ≡ peers
+peers_shown shown views peers same = ap (map (λ (v : PeerView). v.peer)) same ∙ back peers
+  where
+    back : (peers : List Peer) → map (λ (v : PeerView). v.peer) (map (view_of shown) peers) ≡ peers
+    back [] = refl
+    back (p ∷ peers) = ap (λ ps. p ∷ ps) (back peers)

@@ -1,6 +1,6 @@
 -- What follows of the definitions.
 use Rattle.std.specs.Prelude.{ℕ, ◌≡◌, ◌≢◌, ◌<◌, ◌≤◌, ◌⊎◌, ◌↔◌, Bool, true, false, nat_eq, List, [], ◌∷◌, length, slice_index_or, Some, None, is_some, Ok, Err, IfOk, All}
-use Rattle.std.specs.List.{Contains}
+use Rattle.std.specs.List.{Contains, list_any}
 use Rattle.wgr_text.specs.Prefix.{AddrValue, PrefixValue}
 use Rattle.wgr_peers.specs.declared.peer.Peer.{Peer}
 use Rattle.wgr_core.specs.declared.command.Command.{Command}
@@ -160,8 +160,11 @@ is_on (command.Revoke number) i = nat_eq number i
 is_on (command.Route number prefix) i = false
 is_on (command.Unroute prefix) i = false
 is_on (command.Renew number until) i = nat_eq number i
+is_on (command.Adopt server lines) i = true
 is_on command.List i = false
 is_on (command.Owner address) i = false
+is_on (command.ServerFile form) i = false
+is_on (command.PeerFile number form) i = false
 
 -- whether the command changes or removes the route of the prefix
 abbrev pub is_on_route : Command → PrefixValue → Bool
@@ -171,8 +174,11 @@ is_on_route (command.Revoke number) q = false
 is_on_route (command.Route number prefix) q = same_prefix prefix q
 is_on_route (command.Unroute prefix) q = same_prefix prefix q
 is_on_route (command.Renew number until) q = false
+is_on_route (command.Adopt server lines) q = list_any (λ line. list_any (λ p. same_prefix p q) line.allowed) lines
 is_on_route command.List q = false
 is_on_route (command.Owner address) q = false
+is_on_route (command.ServerFile form) q = false
+is_on_route (command.PeerFile number form) q = false
 
 -- the pool, the host, the port, the server's key and the capacity are those of `n`
 pub record HasSettingsOf (n m : NetworkValue) : Type 0 where
@@ -255,12 +261,16 @@ RevokedOwnsNothing = (n : NetworkValue) (now number : ℕ) (more : List (ℕ × 
 
 -- ---- the end of a lease
 
--- the peers that a reply shows are live, and the numbers that it names are those of live peers
+-- the peers that a reply shows are live, and the numbers that it names are those of live peers, or
+-- of new ones
 abbrev pub ShowsLive : ℕ → List Peer → Reply → Type 0
 ShowsLive now live (reply.Peer view) = is_live now view.peer ≡ true
 ShowsLive now live (reply.List views) = All (λ view. is_live now view.peer ≡ true) views
 ShowsLive now live (reply.Revoked number) = is_some (peer_of live number) ≡ true
 ShowsLive now live (reply.Owner number) = is_some (peer_of live number) ≡ true
+ShowsLive now live (reply.Adopted added known) = All (λ number. is_some (peer_of live number) ≡ false) added
+ShowsLive now live (reply.Server form) = Unit {0}
+ShowsLive now live (reply.File number form) = is_some (peer_of live number) ≡ true
 
 -- no reply shows or names a peer whose lease is over
 abbrev pub RepliesShowLive : Type 0

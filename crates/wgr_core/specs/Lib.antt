@@ -1,6 +1,12 @@
 pub mod Network
+pub mod Live
 pub mod Owner
+pub mod Adoption
 pub mod Outcome
 pub mod Change
 pub mod Parts
 pub mod Laws
+pub mod AdoptionLaws
+pub mod AdoptedAgain
+pub mod FirstAdoption
+pub mod Draft

@@ -1,12 +1,14 @@
 -- What a command does to a network: a refusal, or a reply and the network after it.
-use Rattle.std.specs.Prelude.{ℕ, ◌+◌, Bool, true, false, not, ◌&&◌, cond, nat_lt, List, [], ◌∷◌, ◌++◌, length, map, Option, Some, None, Result, Ok, Err, is_some}
+use Rattle.std.specs.Prelude.{ℕ, ◌+◌, Bool, true, false, not, ◌&&◌, cond, nat_lt, List, [], ◌∷◌, ◌++◌, length, map, Option, Some, None, Result, Ok, Err, is_some, All}
 use Rattle.wgr_text.specs.declared.key.Key.{Key}
 use Rattle.wgr_text.specs.Prefix.{AddrValue, PrefixValue, IsAddr, IsPrefix}
 use Rattle.wgr_peers.specs.declared.peer.Peer.{Peer}
 use Rattle.wgr_core.specs.declared.command.Command.{Command}
 use Rattle.wgr_core.specs.declared.command.Command.TheVariants as command
 use Rattle.wgr_core.specs.declared.refusal.Refusal.{Refusal}
-use Rattle.wgr_core.specs.declared.refusal.Refusal.TheVariants.{NoSuchPeer, KeyHeld, AddressHeld, OutsidePool, PoolFull, CapacityReached, NumbersSpent, IsAddress, NoSuchRoute, RoutesFull, NobodysAddress, LeaseOver, ServerKey}
+use Rattle.wgr_core.specs.declared.refusal.Refusal.TheVariants.{NoSuchPeer, KeyHeld, AddressHeld, OutsidePool, PoolFull, CapacityReached, NumbersSpent, IsAddress, NoSuchRoute, RoutesFull, NobodysAddress, LeaseOver, ServerKey, WrongServer, InLine}
+use Rattle.wgr_core.specs.declared.refusal.LineRefusal.{LineRefusal}
+use Rattle.wgr_core.specs.declared.seen_peer.SeenPeer.{SeenPeer}
 use Rattle.wgr_core.specs.declared.reply.Reply.{Reply}
 use Rattle.wgr_core.specs.declared.reply.Reply.TheVariants as reply
 use Rattle.wgr_core.specs.declared.reply.PeerView.{PeerView}
@@ -17,6 +19,7 @@ use Rattle.wgr_peers.specs.Peers.{is_own, key_holder, peer_of, put_peer, same_ke
 use Rattle.wgr_peers.specs.Routes.{Routes, assign_route, route_of, routes_to, without_route}
 use Rattle.wgr_core.specs.Network.{NetworkValue, is_address, live_at, lowest_free, without_peers}
 use Rattle.wgr_core.specs.Owner.{owner_of}
+use Rattle.wgr_core.specs.Adoption.{Adoption, adoption_of}
 
 abbrev pub Outcome : Type 0
 Outcome = Result (Reply × NetworkValue) Refusal
@@ -143,6 +146,20 @@ abbrev pub or_nobodys : NetworkValue → Option ℕ → Outcome
 or_nobodys n None = Err NobodysAddress
 or_nobodys n (Some number) = Ok (reply.Owner number, n)
 
+-- ---- the peers of a running interface
+
+-- the interface that was shown is another
+abbrev pub server_refusal : NetworkValue → Option Key → Option Refusal
+server_refusal n None = None
+server_refusal n (Some key) = cond (same_key key n.server) None (Some WrongServer)
+
+abbrev pub adopted : Result Adoption (ℕ × LineRefusal) → Outcome
+adopted (Err e) = Err (InLine e.0 e.1)
+adopted (Ok s) = Ok (reply.Adopted s.added s.known, s.network)
+
+abbrev pub adopt : NetworkValue → Option Key → List SeenPeer → Outcome
+adopt n server lines = unless (server_refusal n server) (adopted (adoption_of n lines))
+
 -- ---- each command, on the live network
 
 abbrev pub live_outcome : NetworkValue → ℕ → Command → Outcome
@@ -152,8 +169,11 @@ live_outcome n now (command.Revoke number) = revoke n number
 live_outcome n now (command.Route number prefix) = route n number prefix
 live_outcome n now (command.Unroute prefix) = unroute n prefix
 live_outcome n now (command.Renew number until) = renew n now number until
+live_outcome n now (command.Adopt server lines) = adopt n server lines
 live_outcome n now command.List = Ok (reply.List (map (view_of n.routes) n.peers), n)
 live_outcome n now (command.Owner address) = or_nobodys n (owner_of n address)
+live_outcome n now (command.ServerFile form) = Ok (reply.Server form, n)
+live_outcome n now (command.PeerFile number form) = if_stands (peer_of n.peers number) (λ p. Ok (reply.File number form, n))
 
 -- whether the command only reads
 abbrev pub is_reading : Command → Bool
@@ -163,8 +183,11 @@ is_reading (command.Revoke number) = false
 is_reading (command.Route number prefix) = false
 is_reading (command.Unroute prefix) = false
 is_reading (command.Renew number until) = false
+is_reading (command.Adopt server lines) = false
 is_reading command.List = true
 is_reading (command.Owner address) = true
+is_reading (command.ServerFile form) = true
+is_reading (command.PeerFile number form) = true
 
 -- the peer that the command itself removes
 abbrev pub leaving : Command → Option ℕ
@@ -174,8 +197,11 @@ leaving (command.Revoke number) = Some number
 leaving (command.Route number prefix) = None
 leaving (command.Unroute prefix) = None
 leaving (command.Renew number until) = None
+leaving (command.Adopt server lines) = None
 leaving command.List = None
 leaving (command.Owner address) = None
+leaving (command.ServerFile form) = None
+leaving (command.PeerFile number form) = None
 
 -- a change leaves the changed live network; a reading leaves the network as it is
 abbrev pub kept_if : Bool → NetworkValue → Outcome → Outcome
@@ -186,12 +212,21 @@ abbrev pub outcome_of : NetworkValue → ℕ → Command → Outcome
 outcome_of n now asked = kept_if (is_reading asked) n (live_outcome (live_at n now) now asked)
 
 -- a prefix that is asked for is one: its number fits the family, and its host bits are zero
+abbrev pub IsPrefixAsked : PrefixValue → Type 0
+IsPrefixAsked p = IsAddr p.address × IsPrefix p
+
+abbrev pub AreLinesAsked : List SeenPeer → Type 0
+AreLinesAsked = All (λ line. All IsPrefixAsked line.allowed)
+
 abbrev pub IsAsked : Command → Type 0
 IsAsked (command.Add key label wanted until keepalive) = Unit {0}
 IsAsked (command.Move number wanted) = Unit {0}
 IsAsked (command.Revoke number) = Unit {0}
-IsAsked (command.Route number prefix) = IsAddr prefix.address × IsPrefix prefix
+IsAsked (command.Route number prefix) = IsPrefixAsked prefix
 IsAsked (command.Unroute prefix) = Unit {0}
 IsAsked (command.Renew number until) = Unit {0}
+IsAsked (command.Adopt server lines) = AreLinesAsked lines
 IsAsked command.List = Unit {0}
 IsAsked (command.Owner address) = Unit {0}
+IsAsked (command.ServerFile form) = Unit {0}
+IsAsked (command.PeerFile number form) = Unit {0}

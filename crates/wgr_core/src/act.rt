@@ -1,22 +1,25 @@
-ghost use Rattle.std.specs.Prelude.{IfOk, IfSome};
+ghost use Rattle.std.specs.Prelude.{All, IfOk, IfSome};
 ghost use Rattle.wgr_core.specs.Change.{Fits, Meets, MeetsLive};
-ghost use Rattle.wgr_core.specs.Outcome.{IsAsked, is_reading, leaving, live_outcome, outcome_of};
+ghost use Rattle.wgr_core.specs.Outcome.{AreLinesAsked, IsAsked, IsPrefixAsked, is_reading, leaving, live_outcome, outcome_of};
 
 use crate::change::Change;
 use crate::command::Command;
 use crate::fault::ActFault;
+use crate::live::Live;
 use crate::network::Network;
 use crate::refusal::Refusal;
 use crate::reply::Reply;
+use crate::seen_peer::SeenPeer;
 use std::alloc::Global;
 use wgr_peers::{Items, Peer};
+use wgr_text::Prefix;
 
 impl Network {
     /// What the command answers at this moment, and what it changes. The network itself stays as
     /// it is: [`Change::apply`] or [`Network::apply`] makes the change. A reading changes nothing;
     /// any other accepted command also removes the peers whose lease is over.
     ///
-    /// Nothing is copied of the network where no lease is over.
+    /// No peer or route is copied but those of the answer.
     pub fn act(
         &self,
         alloc: Global,
@@ -27,16 +30,14 @@ impl Network {
         ensures fits { IfOk result (λ given. IfSome given.1 (λ c. Fits c self.now)) }
     {
         tell_asked(command);
-        let removed = self.peers.expired(alloc, now)?;
-        if removed.is_empty() {
-            return self.act_live(alloc, now, command, removed);
-        }
-        self.live_at(alloc, now)?
-            .act_live(alloc, now, command, removed)
+        let (live, removed) = Live::at(self, alloc, now)?;
+        live.act(alloc, now, command, removed)
     }
+}
 
-    // The same on a network whose peers are all live, from which `removed` have gone.
-    fn act_live(
+impl Live<'_> {
+    // The same of the live network, from which `removed` have gone.
+    fn act(
         &self,
         alloc: Global,
         now: u64,
@@ -76,22 +77,64 @@ impl Network {
             Command::Route { number, prefix } => self.routed(alloc, *number, *prefix, removed),
             Command::Unroute { prefix } => self.unrouted(alloc, prefix, removed),
             Command::Renew { number, until } => self.renewed(alloc, now, *number, *until, removed),
+            Command::Adopt { server, lines } => {
+                let live = self.network.live_at(alloc, self.moment)?;
+                live.adopted(alloc, *server, lines.as_slice(), removed)
+            }
             Command::List => Ok((Reply::List(self.views(alloc)?), None)),
             Command::Owner { address } => match self.owner(address) {
                 Some(number) => Ok((Reply::Owner(number), None)),
                 None => Err(ActFault::Refused(Refusal::NobodysAddress)),
             },
+            Command::ServerFile { form } => Ok((Reply::Server(*form), None)),
+            Command::PeerFile { number, form } => match self.peer(*number) {
+                Some(_) => Ok((
+                    Reply::File {
+                        number: *number,
+                        form: *form,
+                    },
+                    None,
+                )),
+                None => Err(ActFault::Refused(Refusal::NoSuchPeer)),
+            },
         }
     }
 }
 
-// Does nothing but ask the prefix of Route for its parts, since their contracts say that it is masked
-// and fits its family.
+// Does nothing but ask the prefixes of the command for their parts, since the contracts of these say
+// that a prefix is masked and fits its family.
 fn tell_asked(command: &Command)
     ensures { IsAsked command.now }
 {
-    if let Command::Route { prefix, .. } = command {
-        let _address = prefix.address();
-        let _length = prefix.length();
+    match command {
+        Command::Route { prefix, .. } => tell_prefix(prefix),
+        Command::Adopt { lines, .. } => tell_lines(lines.as_slice()),
+        _ => {}
+    }
+}
+
+// The same of one prefix.
+fn tell_prefix(prefix: &Prefix)
+    ensures { IsPrefixAsked prefix.now }
+{
+    let _address = prefix.address();
+    let _length = prefix.length();
+}
+
+// The same of the lines of a dump.
+fn tell_lines(lines: &[SeenPeer])
+    ensures { AreLinesAsked lines.now }
+{
+    for line in lines {
+        tell_prefixes(line.allowed.as_slice());
+    }
+}
+
+// The same of the prefixes of one line.
+fn tell_prefixes(allowed: &[Prefix])
+    ensures { All IsPrefixAsked allowed.now }
+{
+    for prefix in allowed {
+        tell_prefix(prefix);
     }
 }

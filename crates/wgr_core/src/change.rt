@@ -241,7 +241,7 @@ impl Network {
 }
 
 // The set of these numbers.
-fn number_set(alloc: Global, numbers: &[u32]) -> Result<HashSet<u32>, AllocError>
+pub(crate) fn number_set(alloc: Global, numbers: &[u32]) -> Result<HashSet<u32>, AllocError>
     ensures { IfOk result (λ set. (n : ℕ) → contains nat_eq set n ≡ is_among numbers.now n) }
 {
     let mut set = HashSet::new(alloc);

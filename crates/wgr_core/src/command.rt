@@ -1,4 +1,6 @@
-use wgr_peers::{Label, LeaseEnd};
+use crate::form::Form;
+use crate::seen_peer::SeenPeer;
+use wgr_peers::{Items, Label, LeaseEnd};
 use wgr_text::{Addr, Key, Prefix};
 
 /// What is asked of a network.
@@ -35,10 +37,25 @@ pub enum Command {
         number: u32,
         until: LeaseEnd,
     },
+    /// The peers of a running interface are taken over, all or none. Its public key, where it has one,
+    /// has to be the server's.
+    Adopt {
+        server: Option<Key>,
+        lines: Items<SeenPeer>,
+    },
     /// The live peers by number.
     List,
     /// The peer to which the longest allowed prefix with the address leads.
     Owner {
         address: Addr,
+    },
+    /// The server's file, whose text the caller makes.
+    ServerFile {
+        form: Form,
+    },
+    /// The file of a peer, whose text the caller makes.
+    PeerFile {
+        number: u32,
+        form: Form,
     },
 }

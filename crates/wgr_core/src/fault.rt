@@ -1,4 +1,4 @@
-use crate::refusal::Refusal;
+use crate::refusal::{LineRefusal, Refusal};
 use std::alloc::AllocError;
 
 /// Why a command was not done.
@@ -18,5 +18,25 @@ impl From<AllocError> for ActFault {
 
     fn from(_: AllocError) -> ActFault {
         ActFault::NoMemory
+    }
+}
+
+/// Why a line of a dump was not adopted.
+#[derive(Debug, Drop)]
+pub(crate) enum LineFault {
+    /// The network refuses it.
+    Refused(LineRefusal),
+    /// Memory was refused.
+    NoMemory,
+}
+
+impl From<AllocError> for LineFault {
+    ghost use Rattle.std.specs.Prelude.{◌≡◌};
+    ghost use Rattle.wgr_core.specs.declared.fault.LineFault.TheVariants.{NoMemory};
+
+    ghost from_gives = { λ _ r. r ≡ NoMemory };
+
+    fn from(_: AllocError) -> LineFault {
+        LineFault::NoMemory
     }
 }

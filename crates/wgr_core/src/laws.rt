@@ -12,6 +12,11 @@ ghost use Rattle.wgr_core.specs.Laws.{OtherPeersStay, OtherRoutesStay, SettingsS
 ghost use Rattle.wgr_core.specs.Laws.{AddressesAreOwn, KeysAreOwn, RunsKeepTheRules};
 ghost use Rattle.wgr_core.specs.Laws.{RevokedIsGone, RevokedOwnsNothing};
 ghost use Rattle.wgr_core.specs.Laws.{NextOnlyRises, NumbersAreGivenOnce, NumbersKeepTheirKeys};
+ghost use Rattle.wgr_core.specs.AdoptionLaws.{StandingPeersStay, UnnamedRoutesStay, UnseenPeersStay};
+ghost use Rattle.wgr_core.specs.AdoptionLaws.{LinesArePeers, NewPeersAreLines};
+ghost use Rattle.wgr_core.specs.AdoptionLaws.{AdoptRefusals, AdoptionsAreCounted, OtherServersAreRefused};
+ghost use Rattle.wgr_core.specs.AdoptedAgain.{AdoptionRepeats, AdoptionRepeatsLater};
+ghost use Rattle.wgr_core.specs.FirstAdoption.{AdoptionIsFaithful, AdoptionKeepsOwners, AdoptionKeepsUnowned};
 
 /// The lists of a network are finite maps: where all look-ups agree, they are equal.
 pub fn lists_are_maps()
@@ -110,4 +115,46 @@ pub fn routes_change_their_own()
     ensures lead { RoutesLead }
     ensures yield_to { RoutesYield }
     ensures go_elsewhere { RoutesGoElsewhere }
+{}
+
+/// An accepted adoption changes nothing of a peer that stood but its status, and that only where a
+/// line has its key; a prefix that no line has leads where it led.
+pub fn adoptions_keep_what_stands()
+    ensures standing { StandingPeersStay }
+    ensures unseen { UnseenPeersStay }
+    ensures routes { UnnamedRoutesStay }
+{}
+
+/// After an accepted adoption each line's key is a peer's, and each new peer's key is a line's.
+pub fn lines_become_peers()
+    ensures lines { LinesArePeers }
+    ensures new { NewPeersAreLines }
+{}
+
+/// The new peers have the next numbers, in order, and the reply tells each; with the lines whose
+/// key was held they are as many as the lines.
+pub fn adoptions_are_counted()
+    ensures { AdoptionsAreCounted }
+{}
+
+/// An adoption is refused where the interface is another, or by a line of the text, whose number
+/// the refusal tells.
+pub fn adoptions_are_refused()
+    ensures refusals { AdoptRefusals }
+    ensures other { OtherServersAreRefused }
+{}
+
+/// Adopting the same lines again changes nothing, until a lease ends.
+pub fn adoptions_repeat()
+    ensures now { AdoptionRepeats }
+    ensures later { AdoptionRepeatsLater }
+{}
+
+/// A network without live peers that adopts the lines of an interface has their peers, and sends each
+/// address where the interface sent it, but for the addresses that it gave to peers whose line
+/// names none.
+pub fn first_adoptions_are_faithful()
+    ensures peers { AdoptionIsFaithful }
+    ensures owners { AdoptionKeepsOwners }
+    ensures unowned { AdoptionKeepsUnowned }
 {}

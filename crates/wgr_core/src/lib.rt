@@ -2,25 +2,33 @@
 #![tactic(auto)]
 
 mod act;
+mod adopt;
 mod change;
 mod command;
+mod draft;
 mod fault;
+mod form;
 pub mod laws;
+mod line;
+mod live;
 mod network;
 mod parts;
 mod peers;
 mod refusal;
 mod reply;
 mod routes;
+mod seen_peer;
 
 pub use change::Change;
 pub use command::Command;
 pub use fault::ActFault;
+pub use form::Form;
 pub use network::Network;
 pub use parts::Parts;
-pub use refusal::{Field, Refusal};
+pub use refusal::{Field, LineRefusal, Refusal};
 pub use reply::{PeerView, Reply};
-pub use wgr_peers::{Capacity, Count, Host, Items, Label, LeaseEnd, Peer, Port, Status};
+pub use seen_peer::SeenPeer;
+pub use wgr_peers::{Capacity, Count, Host, Items, Label, LeaseEnd, Name, Peer, Port, Status};
 pub use wgr_pool::{AddressSet, BadPool, Holds, Pool, SortedSpans, Stop, lowest_free};
 
 #[cfg(test)]

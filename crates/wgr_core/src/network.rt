@@ -1,5 +1,6 @@
 ghost use Rattle.std.specs.Prelude.{◌≡◌, ℕ, ◌≤◌, [], ◌∷◌, ◌++◌, ◌↔◌, IsSome, IfSome, IfOk, OnOk, OnErr, is_some};
 ghost use Rattle.std.specs.List.{filter};
+ghost use Rattle.std.specs.Option.{option_copied};
 ghost use Rattle.wgr_peers.specs.Peers.{peer_of, put_peer};
 ghost use Rattle.wgr_peers.specs.PeerIndex.{IsAlikeAt, IsKeyedAt};
 ghost use Rattle.wgr_core.specs.Network.{NetworkValue, IsNetwork, live_at, without_peers};
@@ -144,11 +145,26 @@ impl Network {
         self.peers.as_slice()
     }
 
+    /// The peer of this number, whether or not its lease is over.
+    pub fn peer(&self, number: u32) -> Option<&Peer>
+        ensures { option_copied result ≡ peer_of self.now.peers number }
+    {
+        self.peers.peer(number)
+    }
+
     /// The routes in the order of their prefixes, each with its peer's number.
     pub fn routes(&self) -> &[(Prefix, u32)]
         ensures { result.now ≡ self.now.routes }
     {
         &self.routes
+    }
+
+    // The peers and their indexes.
+    pub(crate) fn table(&self) -> &PeerTable
+        ensures value { result.now ≡ self.now.peers }
+        ensures rules { IsNetwork self.now }
+    {
+        &self.peers
     }
 
     /// The network without the peers whose lease is over, and the routes to them.

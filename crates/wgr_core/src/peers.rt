@@ -1,6 +1,9 @@
 //! The commands on peers.
-ghost use Rattle.std.specs.Prelude.{◌≡◌, ◌≤◌, [], false, Some, None, IfSome, option_map};
-ghost use Rattle.wgr_pool.specs.Allot.{lower};
+ghost use Rattle.std.specs.Prelude.{◌≡◌, ◌≤◌, ◌||◌, true, false, cond, nat_eq, Some, None, IfSome, IsTrue, option_map};
+ghost use Rattle.std.specs.HashSet.{contains};
+ghost use Rattle.wgr_pool.specs.Allot.{lower, lowest_where};
+ghost use Rattle.wgr_pool.specs.HeldSpans.{is_routed, standing};
+ghost use Rattle.wgr_pool.specs.PrefixTests.{has};
 ghost use Rattle.wgr_core.specs.Change.{MeetsLive};
 ghost use Rattle.wgr_core.specs.Network.{IsNetwork, lowest_free};
 ghost use Rattle.wgr_peers.specs.Peers.{is_own, peer_of};
@@ -8,15 +11,17 @@ ghost use Rattle.wgr_core.specs.Outcome.{address_refusal, join_refusal, joined, 
 
 use crate::change::Change;
 use crate::fault::ActFault;
+use crate::live::Live;
 use crate::network::Network;
 use crate::refusal::Refusal;
 use crate::reply::{PeerView, Reply};
 use std::alloc::Global;
+use std::collections::HashSet;
 use wgr_peers::{Items, LeaseEnd, Peer};
 use wgr_pool::lowest_address;
 use wgr_text::{Addr, Key};
 
-impl Network {
+impl Live<'_> {
     // Why no peer with this key and this end of its lease may join.
     pub(crate) fn join_refusal(&self, now: u64, key: &Key, until: LeaseEnd) -> Option<Refusal>
         ensures { result ≡ join_refusal self.now now key.now until }
@@ -24,13 +29,13 @@ impl Network {
         if *key == self.server() {
             return Some(Refusal::ServerKey);
         }
-        if let Some(number) = self.peers.key_holder(key) {
+        if let Some(number) = self.key_holder(key) {
             return Some(Refusal::KeyHeld { number });
         }
         if until.is_over(now) {
             return Some(Refusal::LeaseOver);
         }
-        if self.peers.len() >= usize::from(self.capacity().peers()) {
+        if self.len() >= usize::from(self.capacity().peers()) {
             return Some(Refusal::CapacityReached);
         }
         if self.next() > 1_000_000 {
@@ -45,9 +50,10 @@ impl Network {
         ensures { result ≡ is_own (vacated self.now (option_map (λ p. p.now.number) mover.entry)).peers address.now }
     {
         let Some(peer) = mover else {
-            return self.peers.owns(address);
+            return self.owns(address);
         };
-        !peer.is_at(address) && self.peers.owns(address)
+        let _rules = self.pool();
+        !peer.is_at(address) && self.owns(address)
     }
 
     // Why the named address can't be taken by a new peer or by `mover`.
@@ -65,11 +71,30 @@ impl Network {
     }
 
     // The lowest address that nobody holds.
-    fn lowest_free(&self) -> Option<Addr>
+    pub(crate) fn lowest_free(&self) -> Option<Addr>
         ensures value { result ≡ lowest_free self.now }
         ensures rules { IsNetwork self.now }
     {
-        lowest_address(&self.pool(), self.peers.addresses(), self.routes())
+        let mut lowest = lowest_beside(self.network, &self.over);
+        for address in self.addresses.as_slice() {
+            lowest = self.or_freed(lowest, address);
+        }
+        let _whole = self.network.next();
+        lowest
+    }
+
+    // The lower of the lowest free address and one that a peer gives up, if no route has that one.
+    fn or_freed(&self, lowest: Option<Addr>, address: &Addr) -> Option<Addr>
+        requires { has self.now.pool address.now ≡ true }
+        ensures { result ≡ cond (is_routed self.now.pool self.now.routes address.now) lowest (Some (lower lowest address.now)) }
+    {
+        if is_below(&lowest, address) {
+            return lowest;
+        }
+        if self.is_routed(address) {
+            return lowest;
+        }
+        Some(*address)
     }
 
     // The lowest address that nobody holds, or that `mover` alone does.
@@ -81,10 +106,7 @@ impl Network {
         let Some(peer) = mover else {
             return lowest;
         };
-        if self.is_routed(&peer.address) {
-            return lowest;
-        }
-        Some(lower(lowest, peer.address))
+        self.or_freed(lowest, &peer.address)
     }
 
     // The address that a new peer or `mover` takes: the named one, or the lowest that is free.
@@ -150,7 +172,7 @@ impl Network {
     ) -> Result<(Reply, Option<Change>), ActFault>
         ensures { MeetsLive false None self.now removed result (move self.now number wanted) }
     {
-        let Some(peer) = self.peers.peer(number) else {
+        let Some(peer) = self.peer(number) else {
             return Err(ActFault::Refused(Refusal::NoSuchPeer));
         };
         let address = match self.place(Some(peer), wanted) {
@@ -171,7 +193,7 @@ impl Network {
     ) -> Result<(Reply, Option<Change>), ActFault>
         ensures { MeetsLive false (Some number) self.now removed result (revoke self.now number) }
     {
-        if self.peers.peer(number).is_none() {
+        if self.peer(number).is_none() {
             return Err(ActFault::Refused(Refusal::NoSuchPeer));
         }
         let mut change = self.removal(alloc, removed);
@@ -190,7 +212,7 @@ impl Network {
     ) -> Result<(Reply, Option<Change>), ActFault>
         ensures { MeetsLive false None self.now removed result (renew self.now now number until) }
     {
-        let Some(peer) = self.peers.peer(number) else {
+        let Some(peer) = self.peer(number) else {
             return Err(ActFault::Refused(Refusal::NoSuchPeer));
         };
         if until.is_over(now) {
@@ -202,12 +224,31 @@ impl Network {
     }
 }
 
-// The lower of two addresses of one family, where there is a first.
-fn lower(found: Option<Addr>, own: Addr) -> Addr
-    ensures { result ≡ lower found own }
+impl Network {
+    // The lowest address that nobody holds, where all leases run.
+    pub(crate) fn lowest_free(&self, alloc: Global) -> Option<Addr>
+        ensures { result ≡ lowest_free self.now }
+    {
+        lowest_beside(self, &HashSet::new(alloc))
+    }
+}
+
+// The lowest address that no peer has, live or over, and no route but those to the peers of these
+// numbers.
+fn lowest_beside(network: &Network, over: &HashSet<u32>) -> Option<Addr>
+    ensures { result ≡ lowest_where network.now.pool (λ a. is_own network.now.peers a || is_routed network.now.pool (standing (contains nat_eq over.now) network.now.routes) a) }
+{
+    let addresses = network.table().addresses();
+    lowest_address(&network.pool(), addresses, network.routes(), over)
+}
+
+// Whether there is an address and it is below the other, which is of its family.
+fn is_below(found: &Option<Addr>, other: &Addr) -> bool
+    ensures below { IsTrue result → found.now ≡ Some (lower found.now other.now) }
+    ensures not_below { result ≡ false → lower found.now other.now ≡ other.now }
 {
     match found {
-        Some(address) if address.number() < own.number() => address,
-        _ => own,
+        Some(address) => address.number() < other.number(),
+        None => false,
     }
 }

@@ -46,6 +46,43 @@ pub enum Refusal {
     LeaseOver,
     /// The key is the server's own.
     ServerKey,
+    /// The interface that was shown has another public key than the server.
+    WrongServer,
+    /// A line of a dump can't be adopted: the one of this number, the interface's line being 1.
+    InLine { line: usize, why: LineRefusal },
+}
+
+/// Why a line of a dump can't be adopted.
+#[derive(Clone, Copy, Debug, Drop, PartialEq, Eq)]
+pub enum LineRefusal {
+    /// The key is the server's own.
+    ServerKey,
+    /// As many peers stand as the capacity allows.
+    CapacityReached,
+    /// The next number would be above 1,000,000.
+    NumbersSpent,
+    /// The address that the line names is a peer's, or a route at full length.
+    AddressHeld,
+    /// No address is free.
+    PoolFull,
+    /// A prefix is a peer's or the server's address at full length.
+    IsAddress,
+    /// As many routes stand as a network may have.
+    RoutesFull,
+}
+
+impl fmt::Display for LineRefusal {
+    fn fmt<W: fmt::Write>(&self, f: &mut fmt::Formatter<W>) -> fmt::Result {
+        f.write_str(match self {
+            LineRefusal::ServerKey => "server_key",
+            LineRefusal::CapacityReached => "capacity_reached",
+            LineRefusal::NumbersSpent => "numbers_spent",
+            LineRefusal::AddressHeld => "address_held",
+            LineRefusal::PoolFull => "pool_full",
+            LineRefusal::IsAddress => "is_address",
+            LineRefusal::RoutesFull => "routes_full",
+        })
+    }
 }
 
 impl fmt::Display for Refusal {
@@ -66,6 +103,8 @@ impl fmt::Display for Refusal {
             Refusal::NobodysAddress => f.write_str("nobodys_address"),
             Refusal::LeaseOver => f.write_str("lease_over"),
             Refusal::ServerKey => f.write_str("server_key"),
+            Refusal::WrongServer => f.write_str("wrong_server"),
+            Refusal::InLine { why, .. } => write!(f, "{why}"),
         }
     }
 }

@@ -1,3 +1,4 @@
+use crate::form::Form;
 use wgr_peers::{Items, Peer};
 use wgr_text::Prefix;
 
@@ -19,4 +20,10 @@ pub enum Reply {
     List(Items<PeerView>),
     /// The number of the peer that has the address.
     Owner(u32),
+    /// The numbers of the peers that came, upwards, and how many lines found their key held.
+    Adopted { added: Items<u32>, known: u32 },
+    /// The server's file may be made, in this form.
+    Server(Form),
+    /// The file of the peer of this number may be made, in this form.
+    File { number: u32, form: Form },
 }

@@ -1,5 +1,5 @@
 //! The commands on routes, and what routes say of addresses.
-ghost use Rattle.std.specs.Prelude.{◌≡◌, ◌≤◌, true, false, [], ◌∷◌, ◌++◌, length, map, nat_eq, Some, None, IfOk, OnOk, is_some, option_map};
+ghost use Rattle.std.specs.Prelude.{◌≡◌, ◌≤◌, true, false, List, [], ◌∷◌, ◌++◌, map, nat_eq, nat_lt, Some, None, IfOk, OnOk, is_some, option_map};
 ghost use Rattle.std.specs.List.{filter};
 ghost use Rattle.wgr_text.specs.Prefix.{width, mask};
 ghost use Rattle.wgr_core.specs.Change.{MeetsLive};
@@ -7,17 +7,20 @@ ghost use Rattle.wgr_pool.specs.HeldSpans.{is_routed};
 ghost use Rattle.wgr_core.specs.Network.{NetworkValue, is_address};
 ghost use Rattle.wgr_core.specs.Owner.{longest_match, longer, owner_of, own_prefixes};
 ghost use Rattle.wgr_core.specs.Outcome.{route, route_refusal, unroute, view_of};
+ghost use Rattle.wgr_peers.specs.Ordered.{EndsAt};
 ghost use Rattle.wgr_peers.specs.Peers.{AreNumbered};
+ghost use Rattle.wgr_peers.specs.declared.peer.Peer.{Peer};
 ghost use Rattle.wgr_pool.specs.PrefixTests.{full, has};
 ghost use Rattle.wgr_peers.specs.Routes.{Routes, route_of, routes_to};
 
 use crate::change::Change;
 use crate::fault::ActFault;
+use crate::live::Live;
 use crate::network::Network;
 use crate::refusal::Refusal;
 use crate::reply::{PeerView, Reply};
 use std::alloc::{AllocError, Global};
-use wgr_peers::order::{drop_route, is_same, peer_place, put_route, route_place};
+use wgr_peers::order::{drop_route, is_same, put_route, route_place};
 use wgr_peers::{Items, Peer, PeerTable};
 use wgr_pool::Pool;
 use wgr_text::{Addr, Prefix};
@@ -25,7 +28,7 @@ use wgr_text::{Addr, Prefix};
 // How many routes a network may have.
 pub(crate) const MAX_ROUTES: usize = 4096;
 
-impl Network {
+impl Live<'_> {
     // The prefix leads to the peer from now on.
     pub(crate) fn routed(
         &self,
@@ -36,12 +39,13 @@ impl Network {
     ) -> Result<(Reply, Option<Change>), ActFault>
         ensures { MeetsLive false None self.now removed result (route self.now number prefix) }
     {
-        let Some(peer) = self.peers.peer(number) else {
+        let Some(peer) = self.peer(number) else {
             return Err(ActFault::Refused(Refusal::NoSuchPeer));
         };
         if let Some(why) = self.route_refusal(&prefix) {
             return Err(ActFault::Refused(why));
         }
+        let _rules = self.pool();
         let mut own = self.own_routes(alloc, number)?;
         put_route(&mut own, prefix, number)?;
         let view = PeerView {
@@ -65,9 +69,10 @@ impl Network {
         let Some(number) = self.route(prefix) else {
             return Err(ActFault::Refused(Refusal::NoSuchRoute));
         };
-        let Some(peer) = self.peers.peer(number) else {
+        let Some(peer) = self.peer(number) else {
             return Err(ActFault::Refused(Refusal::NoSuchPeer));
         };
+        let _rules = self.pool();
         let mut own = self.own_routes(alloc, number)?;
         drop_route(&mut own, prefix);
         let view = PeerView {
@@ -83,66 +88,74 @@ impl Network {
     fn route_refusal(&self, prefix: &Prefix) -> Option<Refusal>
         ensures { result ≡ route_refusal self.now prefix.now }
     {
-        if is_address(&self.pool(), &self.peers, prefix) {
+        if self.is_address(prefix) {
             return Some(Refusal::IsAddress);
         }
-        if self.route(prefix).is_none() && self.routes.len() >= MAX_ROUTES {
+        if self.route(prefix).is_none() && self.is_full() {
             return Some(Refusal::RoutesFull);
         }
         None
     }
 
-    /// The peer to which the longest allowed prefix with the address leads.
-    pub fn owner(&self, address: &Addr) -> Option<u32>
+    // Whether the prefix is the address of a live peer, or the server's.
+    fn is_address(&self, prefix: &Prefix) -> bool
+        ensures { result ≡ is_address self.now prefix.now }
+    {
+        let address = prefix.address();
+        (is_same(prefix, &Prefix::full(address)) && self.owns(&address))
+            || is_same(prefix, &Prefix::full(self.pool().server()))
+    }
+
+    // The live peer to which the longest allowed prefix with the address leads.
+    pub(crate) fn owner(&self, address: &Addr) -> Option<u32>
         ensures { result ≡ owner_of self.now address.now }
     {
         // No route is longer than a peer's own address, and of equals the peer's comes first.
-        if self.peers.owns(address) {
-            return own_holder(self.peers(), address);
+        if self.owns(address) {
+            return own_holder(self.network.peers(), address);
         }
-        let (_, number) = longest_route(&self.routes, address)?;
+        let (_, number) = self.longest_route(address)?;
         Some(number)
     }
 
-    // Each peer with the routes to it: one walk over the peers and one over the routes.
+    // The longest of the routes that has the address.
+    fn longest_route(&self, address: &Addr) -> Option<(Prefix, u32)>
+        ensures { result ≡ longest_match self.now.routes address.now }
+    {
+        let mut longest = None;
+        for route in self.network.routes() {
+            if route.0.contains(address) && self.peer(route.1).is_some() {
+                longest = longer(longest, *route);
+            }
+        }
+        longest
+    }
+
+    // Each live peer with the routes to it: one walk over the peers and one over the routes.
     pub(crate) fn views(&self, alloc: Global) -> Result<Items<PeerView>, AllocError>
         ensures { IfOk result (λ views. views ≡ map (view_of self.now.routes) self.now.peers) }
     {
-        let mut views = bare_views(alloc, self.peers())?;
-        for route in &self.routes {
-            show_route(&mut views, self.peers(), route)?;
+        let mut views = self.bare_views(alloc)?;
+        for route in self.network.routes() {
+            show_route(&mut views, route)?;
         }
         Ok(Items::of(views))
     }
 
-    /// The prefixes that lead to the peer of this number.
-    pub fn routes_to(&self, alloc: Global, number: u32) -> Result<Items<Prefix>, AllocError>
-        ensures { IfOk result (λ routes. routes ≡ routes_to self.now.routes number) }
+    // Each live peer without routes.
+    fn bare_views(&self, alloc: Global) -> Result<Vec<PeerView>, AllocError>
+        ensures { IfOk result (λ views. views.items ≡ map (view_of []) self.now.peers) }
     {
-        prefixes_of(alloc, &self.own_routes(alloc, number)?)
-    }
-
-    // The routes that lead to the peer of this number.
-    fn own_routes(&self, alloc: Global, number: u32) -> Result<Vec<(Prefix, u32)>, AllocError>
-        ensures { IfOk result (λ own. own.items ≡ filter (λ r. nat_eq r.1 number) self.now.routes) }
-    {
-        let mut own = Vec::new(alloc);
-        for route in &self.routes {
-            if route.1 == number {
-                own.push(*route)?;
+        let mut views = Vec::new(alloc);
+        for peer in self.network.peers() {
+            if peer.is_live(self.moment) {
+                views.push(PeerView {
+                    peer: peer.copy()?,
+                    routes: Items::new(alloc),
+                })?;
             }
         }
-        Ok(own)
-    }
-
-    /// The peer to which this prefix leads.
-    pub fn route(&self, prefix: &Prefix) -> Option<u32>
-        ensures { result ≡ route_of self.now.routes prefix.now }
-    {
-        match route_place(&self.routes, prefix) {
-            Ok(place) => Some(self.routes[place].1),
-            Err(_) => None,
-        }
+        Ok(views)
     }
 
     // Whether the address alone is a route.
@@ -177,6 +190,64 @@ impl Network {
     }
 }
 
+impl Network {
+    /// Each peer with the routes to it, those whose lease is over among them: one walk over the
+    /// peers and one over the routes.
+    pub fn views(&self, alloc: Global) -> Result<Items<PeerView>, AllocError>
+        ensures { IfOk result (λ views. views ≡ map (view_of self.now.routes) self.now.peers) }
+    {
+        // At the moment 0 no lease is over.
+        let (whole, _over) = Live::at(self, alloc, 0)?;
+        whole.views(alloc)
+    }
+
+    /// The peer to which the longest allowed prefix with the address leads.
+    pub fn owner(&self, address: &Addr) -> Option<u32>
+        ensures { result ≡ owner_of self.now address.now }
+    {
+        // No route is longer than a peer's own address, and of equals the peer's comes first.
+        if self.peers.owns(address) {
+            return own_holder(self.peers(), address);
+        }
+        let (_, number) = longest_route(&self.routes, address)?;
+        Some(number)
+    }
+
+    /// The prefixes that lead to the peer of this number.
+    pub fn routes_to(&self, alloc: Global, number: u32) -> Result<Items<Prefix>, AllocError>
+        ensures { IfOk result (λ routes. routes ≡ routes_to self.now.routes number) }
+    {
+        prefixes_of(alloc, &self.own_routes(alloc, number)?)
+    }
+
+    // The routes that lead to the peer of this number.
+    pub(crate) fn own_routes(
+        &self,
+        alloc: Global,
+        number: u32,
+    ) -> Result<Vec<(Prefix, u32)>, AllocError>
+        ensures { IfOk result (λ own. own.items ≡ filter (λ r. nat_eq r.1 number) self.now.routes) }
+    {
+        let mut own = Vec::new(alloc);
+        for route in &self.routes {
+            if route.1 == number {
+                own.push(*route)?;
+            }
+        }
+        Ok(own)
+    }
+
+    /// The peer to which this prefix leads.
+    pub fn route(&self, prefix: &Prefix) -> Option<u32>
+        ensures { result ≡ route_of self.now.routes prefix.now }
+    {
+        match route_place(&self.routes, prefix) {
+            Ok(place) => Some(self.routes[place].1),
+            Err(_) => None,
+        }
+    }
+}
+
 // Whether the prefix is the address of one of these peers, or the server's.
 pub(crate) fn is_address(pool: &Pool, peers: &PeerTable, prefix: &Prefix) -> bool
     ensures { (n : NetworkValue) → n.pool ≡ pool.now → n.peers ≡ peers.now → result ≡ is_address n prefix.now }
@@ -186,38 +257,35 @@ pub(crate) fn is_address(pool: &Pool, peers: &PeerTable, prefix: &Prefix) -> boo
         || is_same(prefix, &Prefix::full(pool.server()))
 }
 
-// Each peer without routes.
-fn bare_views(alloc: Global, peers: &[Peer]) -> Result<Vec<PeerView>, AllocError>
-    ensures { IfOk result (λ views. views.items ≡ map (view_of []) peers.now) }
+// The place of the view of this number's peer.
+fn view_place(views: &[PeerView], number: u32) -> Result<usize, usize>
+    requires { AreNumbered (map (λ v. v.peer) views.now) }
+    ensures { EndsAt (λ v. nat_lt v.peer.number number) (λ v. nat_eq v.peer.number number) views.now result }
 {
-    let mut views = Vec::new(alloc);
-    for peer in peers {
-        views.push(PeerView {
-            peer: peer.copy()?,
-            routes: Items::new(alloc),
-        })?;
+    let place = views.partition_point(|view| view.peer.number < number);
+    if place < views.len() && views[place].peer.number == number {
+        Ok(place)
+    } else {
+        Err(place)
     }
-    Ok(views)
 }
 
-// Puts one more route into the view of its peer.
-fn show_route(
-    views: &mut Vec<PeerView>,
-    peers: &[Peer],
-    route: &(Prefix, u32),
-) -> Result<(), AllocError>
-    requires numbered { AreNumbered peers.now }
-    requires of_peers { length views.old.items ≡ length peers.now }
-    ensures { OnOk result ((shown : Routes) → views.old.items ≡ map (view_of shown) peers.now → views.new.items ≡ map (view_of (shown ++ route.now ∷ [])) peers.now) }
+// Puts one more route into the view of its peer, if there is one.
+fn show_route(views: &mut Vec<PeerView>, route: &(Prefix, u32)) -> Result<(), AllocError>
+    requires { AreNumbered (map (λ v. v.peer) views.old.items) }
+    ensures { OnOk result ((shown : Routes) (peers : List Peer) → views.old.items ≡ map (view_of shown) peers → views.new.items ≡ map (view_of (shown ++ route.now ∷ [])) peers) }
 {
-    if let Ok(place) = peer_place(peers, route.1) {
+    if let Ok(place) = view_place(views, route.1) {
         views[place].routes.push(route.0)?;
     }
     Ok(())
 }
 
 // The prefixes of these routes.
-fn prefixes_of(alloc: Global, routes: &[(Prefix, u32)]) -> Result<Items<Prefix>, AllocError>
+pub(crate) fn prefixes_of(
+    alloc: Global,
+    routes: &[(Prefix, u32)],
+) -> Result<Items<Prefix>, AllocError>
     ensures { IfOk result (λ prefixes. prefixes ≡ map (λ r. r.0) routes.now) }
 {
     let mut prefixes = Items::new(alloc);

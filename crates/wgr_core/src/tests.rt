@@ -1,6 +1,8 @@
 //! What no contract says: that calls succeed, and the texts of refusals. The expected values are
 //! written by hand.
 mod commands;
+mod files;
+mod over;
 mod parts;
 mod refusals;
 

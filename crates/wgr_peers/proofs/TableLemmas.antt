@@ -1,6 +1,6 @@
 -- The indexes after one more peer.
 use Rattle.std.proofs.Common.{◌≡◌, ℕ, zero, suc, nat_eq, nat_lt, set, not, ◌<◌, ◌≤◌, ◌⊎◌, ◌↔◌, inl, inr, Bool, true, false, ◌||◌, cond, List, [], ◌∷◌, ◌++◌, length, get_or, map, Option, Some, None, refl, sym, ap, ◌∙◌, subst, arith}
-use Rattle.std.specs.List.{All, AllPairs}
+use Rattle.std.specs.List.{All, AllPairs, filter}
 use Rattle.std.specs.Cmp.Lexicographic.{same_text}
 use Rattle.std.specs.HashMap.{HashMap, get}
 use Rattle.std.specs.declared.hash.FoldHasher.{FoldHasher}
@@ -19,7 +19,7 @@ use Rattle.wgr_text.specs.Prefix.{AddrValue, IsAddr}
 use Rattle.wgr_peers.specs.declared.peer.Peer.{Peer}
 use Rattle.wgr_pool.specs.PrefixTests.{same_address}
 use Rattle.wgr_pool.specs.Spans.{IsHeld}
-use Rattle.wgr_peers.specs.Peers.{is_own, is_live, expired, key_holder, peer_of, same_key, put_peer, IsNumberedBelow, AreNumbered, IsApart}
+use Rattle.wgr_peers.specs.Peers.{is_own, is_live, expired, expired_addresses, key_holder, peer_of, same_key, put_peer, IsNumberedBelow, AreNumbered, IsApart}
 use Rattle.wgr_peers.specs.PeerIndex.{IsIndexed, IsAlikeAt, IsKeyedAt, EndsFrom}
 use Rattle.wgr_peers.specs.Ordered.{EndsAt}
 use Rattle.wgr_pool.proofs.Lists.{filter_none, AllPairs-before, AllPairs-head, AllPairs-tail}
@@ -169,9 +169,13 @@ live_before : (soonest now : ℕ) (p : Peer) → now < soonest → EndsFrom soon
 live_before soonest now p early (inl never) = grind (arith, nat_tests)
 live_before soonest now p early (inr later) = grind (arith, nat_tests)
 
-pub none_expired : (soonest now : ℕ) (peers : List Peer) → now < soonest → All (EndsFrom soonest) peers → expired now peers ≡ []
+none_over : (soonest now : ℕ) (peers : List Peer) → now < soonest → All (EndsFrom soonest) peers → filter (λ p. not (is_live now p)) peers ≡ []
+none_over soonest now peers early ends =
+    filter_none (λ p. not (is_live now p)) peers (All-weaker (EndsFrom soonest) (λ p. not (is_live now p) ≡ false) (λ p. live_before soonest now p early) peers ends)
+
+pub none_expired : (soonest now : ℕ) (peers : List Peer) → now < soonest → All (EndsFrom soonest) peers → (expired now peers ≡ []) × (expired_addresses now peers ≡ [])
 none_expired soonest now peers early ends =
-    ap (map (λ (p : Peer). p.number)) (filter_none (λ p. not (is_live now p)) peers (All-weaker (EndsFrom soonest) (λ p. not (is_live now p) ≡ false) (λ p. live_before soonest now p early) peers ends))
+    (ap (map (λ (p : Peer). p.number)) (none_over soonest now peers early ends), ap (map (λ (p : Peer). p.address)) (none_over soonest now peers early ends))
 
 -- ---- a peer in the place of one of its number, key and address
 

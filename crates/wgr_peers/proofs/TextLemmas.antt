@@ -1,4 +1,4 @@
--- Labels and hosts are ASCII.
+-- Labels, hosts and names are ASCII.
 use Rattle.std.proofs.Common.{◌≡◌, ℕ, ◌<◌, ◌≤◌, Bool, true, false, List, length, map, IsUtf8, arith, sym, subst, ◌∙◌}
 use Rattle.std.specs.List.{list_all}
 use Rattle.std.specs.Char.{to_ascii_lowercase}
@@ -15,6 +15,7 @@ use Rattle.wgr_text.specs.Prefix.{AddrValue}
 use Rattle.wgr_text.specs.PrefixText.{SpellsNumber, SpellsAddr, canonical_number}
 use Rattle.wgr_peers.specs.Label.{IsLabel}
 use Rattle.wgr_peers.specs.Host.{is_host_byte, is_host_name, IsHostText}
+use Rattle.wgr_peers.specs.Name.{is_name, is_name_byte}
 
 -- a label is text
 pub label_is_utf8 : (text : List ℕ) → IsLabel text → IsUtf8 text
@@ -51,3 +52,18 @@ pub v4_only : (text : List ℕ) (a : AddrValue) (f : Family) → f ≡ a.family 
 v4_only text a f same is spelled n other =
     let dotted = subst (λ g. SpellsNumber text g a.number) (sym same ∙ is) spelled in
     IsDotted-not_colon_hex text _ _ dotted.1 other.1
+
+-- ---- names of networks and tenants
+
+name_byte_small : (b : ℕ) → is_name_byte b ≡ true → b < 128
+name_byte_small b is = grind (arith, nat_tests)
+
+pub own_name_is_utf8 : (text : List ℕ) → is_name text ≡ true → IsUtf8 text
+own_name_is_utf8 text is =
+    let each = AllPass-from_list_all is_name_byte text (and_parts _ _ is).1 in
+    let plain = All-weaker (λ b. is_name_byte b ≡ true) (λ b. b < 128) name_byte_small text each in
+    IsUtf8-from_ascii text (IsAscii-from_all text plain)
+
+-- where the length is right, the bytes decide
+pub own_name_by_bytes : (text : List ℕ) (r : Bool) → 1 ≤ length text → length text ≤ 32 → r ≡ list_all is_name_byte text → r ≡ is_name text
+own_name_by_bytes text r some short is = rw (le-leb 1 (length text) some, le-leb (length text) 32 short) is

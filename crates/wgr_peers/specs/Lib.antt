@@ -5,3 +5,4 @@ pub mod Peers
 pub mod Routes
 pub mod PeerIndex
 pub mod Host
+pub mod Name

@@ -16,6 +16,10 @@ is_live now p = not (is_over now p.until)
 abbrev pub expired : ℕ → List Peer → List ℕ
 expired now peers = map (λ p. p.number) (filter (λ p. not (is_live now p)) peers)
 
+-- their addresses
+abbrev pub expired_addresses : ℕ → List Peer → List AddrValue
+expired_addresses now peers = map (λ p. p.address) (filter (λ p. not (is_live now p)) peers)
+
 abbrev pub same_key : Key → Key → Bool
 same_key a b = pointwise nat_eq a.0 b.0
 

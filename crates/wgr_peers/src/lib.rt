@@ -1,4 +1,4 @@
-//! Peers and routes in order, and what stands in them: keys, labels, hosts, leases and other numbers
+//! Peers and routes in order, and what stands in them: keys, labels, names, hosts, leases and other numbers
 //! with limits.
 #![tactic(auto)]
 
@@ -6,6 +6,7 @@ mod host;
 mod items;
 mod label;
 mod limits;
+mod name;
 pub mod order;
 mod peer;
 mod peer_table;
@@ -14,8 +15,9 @@ pub use host::Host;
 pub use items::Items;
 pub use label::Label;
 pub use limits::{Capacity, Count, LeaseEnd, Port};
+pub use name::Name;
 pub use peer::{Peer, Status};
-pub use peer_table::PeerTable;
+pub use peer_table::{Over, PeerTable};
 
 #[cfg(test)]
 mod tests;

@@ -3,7 +3,7 @@ ghost use Rattle.std.specs.List.{filter};
 ghost use Rattle.std.specs.Option.{option_copied};
 ghost use Rattle.wgr_text.specs.Prefix.{AddrValue, IsAddr};
 ghost use Rattle.wgr_pool.specs.Spans.{IsHeld};
-ghost use Rattle.wgr_peers.specs.Peers.{is_live, is_own, expired, key_holder, peer_of, put_peer, without_peer, AreNumbered, IsApart, AreApart};
+ghost use Rattle.wgr_peers.specs.Peers.{is_live, is_own, expired, expired_addresses, key_holder, peer_of, put_peer, without_peer, AreNumbered, IsApart, AreApart};
 ghost use Rattle.wgr_peers.specs.PeerIndex.{IsAlikeAt, IsKeyedAt};
 
 use crate::items::Items;
@@ -15,6 +15,15 @@ use std::collections::HashMap;
 use std::marker::Model;
 use wgr_pool::AddressSet;
 use wgr_text::{Addr, Key};
+
+/// The peers whose lease is over at a moment.
+#[derive(Debug, Drop)]
+pub struct Over {
+    /// Their numbers, which rise.
+    pub numbers: Items<u32>,
+    /// Their addresses, in the same order.
+    pub addresses: Items<Addr>,
+}
 
 /// Peers in the order of their numbers, with indexes by key and by address, so that neither is
 /// sought by a walk.
@@ -254,20 +263,26 @@ impl PeerTable {
         Ok(peers)
     }
 
-    /// The numbers of the peers whose lease is over at this moment.
-    pub fn expired(&self, alloc: Global, now: u64) -> Result<Items<u32>, AllocError>
-        ensures { IfOk result (λ numbers. numbers ≡ expired now self.now) }
+    /// The peers whose lease is over at this moment; one walk over the peers, and none before the
+    /// soonest end of a lease.
+    pub fn expired(&self, alloc: Global, now: u64) -> Result<Over, AllocError>
+        ensures numbers { IfOk result (λ over. over.numbers ≡ expired now self.now) }
+        ensures addresses { IfOk result (λ over. over.addresses ≡ expired_addresses now self.now) }
     {
-        let mut numbers = Items::new(alloc);
+        let mut over = Over {
+            numbers: Items::new(alloc),
+            addresses: Items::new(alloc),
+        };
         if now < self.soonest_end {
-            return Ok(numbers);
+            return Ok(over);
         }
         for peer in &self.peers {
             if !peer.is_live(now) {
-                numbers.push(peer.number)?;
+                over.numbers.push(peer.number)?;
+                over.addresses.push(peer.address)?;
             }
         }
-        Ok(numbers)
+        Ok(over)
     }
 }
 

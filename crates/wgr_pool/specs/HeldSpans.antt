@@ -1,6 +1,6 @@
 -- The spans of a network's held addresses: its peers' runs and the routes in its pool.
-use Rattle.std.specs.Prelude.{ℕ, ◌+◌, ◌-◌, Bool, ◌&&◌, nat_lt, if◌then◌else◌, List, [], ◌∷◌, Option, Some, None}
-use Rattle.std.specs.List.{list_any}
+use Rattle.std.specs.Prelude.{ℕ, ◌+◌, ◌-◌, Bool, not, ◌&&◌, nat_lt, if◌then◌else◌, List, [], ◌∷◌, Option, Some, None}
+use Rattle.std.specs.List.{filter, list_any}
 use Rattle.wgr_text.specs.declared.prefix.Span.{Span}
 use Rattle.wgr_text.specs.Prefix.{AddrValue, PrefixValue, block, rank}
 use Rattle.wgr_pool.specs.PrefixTests.{has, covers}
@@ -17,6 +17,14 @@ is_routed pool routes a = list_any (λ r. covers pool r.0 && has r.0 a) routes
 abbrev pub route_spans : PrefixValue → List (PrefixValue × ℕ) → List Span
 route_spans pool [] = []
 route_spans pool (r ∷ routes) = if covers pool r.0 then span_of r.0 ∷ route_spans pool routes else route_spans pool routes
+
+-- the routes to peers that aren't over
+abbrev pub standing : (ℕ → Bool) → List (PrefixValue × ℕ) → List (PrefixValue × ℕ)
+standing over routes = filter (λ r. not (over r.1)) routes
+
+-- the spans of those that lie wholly in the pool
+abbrev pub standing_spans : PrefixValue → (ℕ → Bool) → List (PrefixValue × ℕ) → List Span
+standing_spans pool over routes = route_spans pool (standing over routes)
 
 -- a span before the first that begins no lower
 abbrev pub put_span : Span → List Span → List Span

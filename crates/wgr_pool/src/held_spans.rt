@@ -1,4 +1,5 @@
-ghost use Rattle.std.specs.Prelude.{◌≡◌, ℕ, ◌+◌, ◌<◌, ◌≤◌, ◌↔◌, ◌⊎◌, Bool, true, List, length, [], ◌∷◌, IsTrue, MatchOption};
+ghost use Rattle.std.specs.Prelude.{◌≡◌, ℕ, ◌+◌, ◌<◌, ◌≤◌, ◌↔◌, ◌⊎◌, Bool, true, List, length, [], ◌∷◌, nat_eq, IsTrue, MatchOption};
+ghost use Rattle.std.specs.HashSet.{contains};
 ghost use Rattle.std.specs.List.{All, AllPairs};
 ghost use Rattle.wgr_text.specs.Prefix.{AddrValue, PrefixValue, IsAddr, IsPrefix, rank};
 ghost use Rattle.wgr_text.specs.declared.prefix.Span.{Span, Span as SpanValue};
@@ -7,29 +8,31 @@ ghost use Rattle.wgr_pool.specs.Allot.{lowest_where};
 ghost use Rattle.wgr_pool.specs.Pool.{IsPool};
 ghost use Rattle.wgr_pool.specs.Spans.{IsHeld, RisesFrom, Takes, reached};
 ghost use Rattle.wgr_pool.specs.Rising.{RisesFrom-prop};
-ghost use Rattle.wgr_pool.specs.HeldSpans.{span_of, is_routed, route_spans, merged, from_first};
+ghost use Rattle.wgr_pool.specs.HeldSpans.{span_of, is_routed, standing, standing_spans, merged, from_first};
 
 use crate::address_set::AddressSet;
 use crate::allot::{Holds, Stop, lowest_free};
 use crate::pool::Pool;
+use std::collections::HashSet;
 use wgr_text::{Addr, Prefix, Span};
 
-/// The spans of the routes that lie wholly in a pool.
+/// The spans of the routes that lie wholly in a pool, but for those to peers that are over.
 #[derive(Drop)]
 struct RouteSpans<'a> {
     pool: Prefix,
+    over: &'a HashSet<u32>,
     routes: &'a [(Prefix, u32)],
 }
 
 impl RouteSpans<'_> {
     /// The span of the next route in the pool.
     fn next(&mut self) -> Option<Span>
-        ensures next { Takes (route_spans self.old.pool self.old.routes.now) result (route_spans self.new.pool self.new.routes.now) }
+        ensures next { Takes (standing_spans self.old.pool (contains nat_eq self.old.over.now) self.old.routes.now) result (standing_spans self.new.pool (contains nat_eq self.new.over.now) self.new.routes.now) }
         ensures pool { self.new.pool ≡ self.old.pool }
     {
         while let Some((route, later)) = self.routes.split_first() {
             self.routes = later;
-            if is_covered(&self.pool, &route.0) {
+            if is_covered(&self.pool, &route.0) && !self.over.contains(&route.1) {
                 return Some(whole(&route.0));
             }
         }
@@ -47,21 +50,28 @@ pub struct HeldSpans<'a> {
     // Where the span that was given last begins: what is to come begins no lower.
     last: Option<Addr>,
     ghost runs_rise: { RisesFrom (reached last) runs.now } by { RisesFrom-prop (reached last) runs.now },
-    ghost routes_rise: { RisesFrom (reached last) (from_first route (route_spans routes.pool routes.routes.now)) } by { RisesFrom-prop (reached last) (from_first route (route_spans routes.pool routes.routes.now)) },
-    ghost all_rise: { RisesFrom (reached last) (merged runs.now (from_first route (route_spans routes.pool routes.routes.now))) } by { RisesFrom-prop (reached last) (merged runs.now (from_first route (route_spans routes.pool routes.routes.now))) },
+    ghost routes_rise: { RisesFrom (reached last) (from_first route (standing_spans routes.pool (contains nat_eq routes.over.now) routes.routes.now)) } by { RisesFrom-prop (reached last) (from_first route (standing_spans routes.pool (contains nat_eq routes.over.now) routes.routes.now)) },
+    ghost all_rise: { RisesFrom (reached last) (merged runs.now (from_first route (standing_spans routes.pool (contains nat_eq routes.over.now) routes.routes.now))) } by { RisesFrom-prop (reached last) (merged runs.now (from_first route (standing_spans routes.pool (contains nat_eq routes.over.now) routes.routes.now))) },
 }
 
 impl<'a> HeldSpans<'a> {
-    /// The source of the runs and of the routes that lie wholly in the pool.
-    pub fn new(pool: &Pool, runs: &'a [Span], routes: &'a [(Prefix, u32)]) -> HeldSpans<'a>
+    /// The source of the runs and of the routes that lie wholly in the pool, but for those to the
+    /// peers of these numbers.
+    pub fn new(
+        pool: &Pool,
+        runs: &'a [Span],
+        routes: &'a [(Prefix, u32)],
+        over: &'a HashSet<u32>,
+    ) -> HeldSpans<'a>
         requires runs_rise { RisesFrom 0 runs.now }
         requires routes_rise { AllPairs (λ r s. is_before r.0 s.0 ≡ true) routes.now }
         ensures runs { result.runs.now ≡ runs.now }
-        ensures routes { from_first result.route (route_spans result.routes.pool result.routes.routes.now) ≡ route_spans pool.now routes.now }
+        ensures routes { from_first result.route (standing_spans result.routes.pool (contains nat_eq result.routes.over.now) result.routes.routes.now) ≡ standing_spans pool.now (contains nat_eq over.now) routes.now }
         ensures is_pool { IsPool pool.now }
     {
         let mut routes = RouteSpans {
             pool: pool.prefix(),
+            over,
             routes,
         };
         let route = routes.next();
@@ -75,7 +85,7 @@ impl<'a> HeldSpans<'a> {
 
     // The next run and those after it, unless the next route begins before it.
     fn next_run(&self) -> Option<(Span, &'a [Span])>
-        ensures { MatchOption result (MatchOption self.now.route (self.now.runs.now ≡ []) (λ r. RisesFrom (rank r.lo + 1) self.now.runs.now)) (λ p. (self.now.runs.now ≡ p.0 ∷ p.1.now) × RisesFrom (rank p.0.lo) (from_first self.now.route (route_spans self.now.routes.pool self.now.routes.routes.now))) }
+        ensures { MatchOption result (MatchOption self.now.route (self.now.runs.now ≡ []) (λ r. RisesFrom (rank r.lo + 1) self.now.runs.now)) (λ p. (self.now.runs.now ≡ p.0 ∷ p.1.now) × RisesFrom (rank p.0.lo) (from_first self.now.route (standing_spans self.now.routes.pool (contains nat_eq self.now.routes.over.now) self.now.routes.routes.now))) }
     {
         let (run, later) = self.runs.split_first()?;
         match self.route {
@@ -86,13 +96,13 @@ impl<'a> HeldSpans<'a> {
 }
 
 impl Holds for HeldSpans<'_> {
-    ghost rest = { λ s. merged s.runs.now (from_first s.route (route_spans s.routes.pool s.routes.routes.now)) };
+    ghost rest = { λ s. merged s.runs.now (from_first s.route (standing_spans s.routes.pool (contains nat_eq s.routes.over.now) s.routes.routes.now)) };
 
     ghost honest = { λ s. Unit {0} };
 
     ghost floor = { λ s. reached s.last };
 
-    ghost left = { λ s. length (merged s.runs.now (from_first s.route (route_spans s.routes.pool s.routes.routes.now))) };
+    ghost left = { λ s. length (merged s.runs.now (from_first s.route (standing_spans s.routes.pool (contains nat_eq s.routes.over.now) s.routes.routes.now))) };
 
     ghost stopped = { λ s why. ⊥ };
 
@@ -130,13 +140,18 @@ fn whole(route: &Prefix) -> Span
 }
 
 /// The lowest address of the pool that may be given and that neither the set has nor a route that
-/// lies wholly in the pool.
-pub fn lowest_address(pool: &Pool, addresses: &AddressSet, routes: &[(Prefix, u32)]) -> Option<Addr>
+/// lies wholly in the pool. Routes to the peers of the numbers in `over` don't count.
+pub fn lowest_address(
+    pool: &Pool,
+    addresses: &AddressSet,
+    routes: &[(Prefix, u32)],
+    over: &HashSet<u32>,
+) -> Option<Addr>
     requires in_order { AllPairs (λ r s. is_before r.0 s.0 ≡ true) routes.now }
     requires prefixes { All (λ r. IsPrefix r.0) routes.now }
-    ensures { (taken : AddrValue → Bool) → ((b : AddrValue) → IsAddr b → (taken b ≡ true) ↔ (IsHeld addresses.now b ⊎ (is_routed pool.now routes.now b ≡ true))) → result ≡ lowest_where pool.now taken }
+    ensures { (taken : AddrValue → Bool) → ((b : AddrValue) → IsAddr b → (taken b ≡ true) ↔ (IsHeld addresses.now b ⊎ (is_routed pool.now (standing (contains nat_eq over.now) routes.now) b ≡ true))) → result ≡ lowest_where pool.now taken }
 {
-    let mut holds = HeldSpans::new(pool, addresses.spans(), routes);
+    let mut holds = HeldSpans::new(pool, addresses.spans(), routes, over);
     match lowest_free(pool, &mut holds) {
         Ok(found) => found,
         // A source in memory never stops.

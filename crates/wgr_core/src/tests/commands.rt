@@ -13,7 +13,7 @@ fn number(word: Option<&str>) -> Result<u32, Fail> {
     Ok(word.ok_or("no number")?.parse::<u32>()?)
 }
 
-fn end(word: &str) -> Result<LeaseEnd, Fail> {
+pub(super) fn end(word: &str) -> Result<LeaseEnd, Fail> {
     Ok(LeaseEnd::new(word.parse::<u64>()?).ok_or("no end")?)
 }
 
@@ -89,12 +89,29 @@ fn shown(alloc: Global, reply: &Reply) -> Result<Vec<u8>, Fail> {
                 show_peer(view, &mut text)?;
             }
         }
+        Reply::Adopted { .. } | Reply::Server(_) | Reply::File { .. } => {
+            return Err(Fail::from("no such answer"));
+        }
     }
     Ok(text)
 }
 
-// What the command answers; a change is made.
+// Both networks have the same peers and routes.
+fn assert_same(rt: &impl Abort, one: &Network, other: &Network) {
+    assert_eq!(rt; one.next(), other.next());
+    assert_eq!(rt; one.routes(), other.routes());
+    assert_eq!(rt; one.peers().len(), other.peers().len());
+    for (first, second) in one.peers().iter().zip(other.peers()) {
+        assert_eq!(rt; first.number, second.number);
+        assert_eq!(rt; first.key, second.key);
+        assert_eq!(rt; first.address, second.address);
+        assert_eq!(rt; first.until, second.until);
+    }
+}
+
+// What the command answers; a change is made both ways.
 fn answer(
+    rt: &impl Abort,
     alloc: Global,
     network: &mut Network,
     now: u64,
@@ -103,7 +120,9 @@ fn answer(
     match network.act(alloc, now, command) {
         Ok((reply, given)) => {
             if let Some(change) = given {
+                let copy = change.apply(alloc, network)?;
                 network.apply(alloc, change)?;
+                assert_same(rt, &copy, network);
             }
             shown(alloc, &reply)
         }
@@ -113,7 +132,7 @@ fn answer(
 }
 
 // Runs the lines, each at its moment, on the network of these parts.
-fn check(
+pub(super) fn check(
     rt: &impl Abort,
     alloc: Global,
     parts: Parts,
@@ -121,7 +140,7 @@ fn check(
 ) -> Result<(), Fail> {
     let mut network = Network::of(alloc, parts)?.ok_or("no network")?;
     for (now, line, want) in script {
-        let said = answer(alloc, &mut network, *now, &command(alloc, line)?)?;
+        let said = answer(rt, alloc, &mut network, *now, &command(alloc, line)?)?;
         assert_eq!(rt; said.as_slice(), want.as_bytes(), "{line}");
     }
     Ok(())

@@ -1,9 +1,10 @@
-use Rattle.std.proofs.Common.{◌≡◌, length}
-use Rattle.wgr_pool.specs.HeldSpans.{route_spans}
+use Rattle.std.proofs.Common.{◌≡◌, nat_eq, length}
+use Rattle.std.specs.HashSet.{contains}
+use Rattle.wgr_pool.specs.HeldSpans.{standing_spans}
 use Rattle.wgr_pool.proofs.held_spans.RouteSpans.next.Given as goal
 
 abbrev pub invariant-loop-route : goal.invariant-loop-route
-invariant-loop-route l = (route_spans l.self.pool l.self.routes.now ≡ route_spans l.initial.self.pool l.initial.self.routes.now) × (l.self.pool ≡ l.initial.self.pool)
+invariant-loop-route l = (standing_spans l.self.pool (contains nat_eq l.self.over.now) l.self.routes.now ≡ standing_spans l.initial.self.pool (contains nat_eq l.initial.self.over.now) l.initial.self.routes.now) × (l.self.pool ≡ l.initial.self.pool)
 
 abbrev pub decreases-loop-route : goal.decreases-loop-route
 decreases-loop-route l = length l.self.routes.now

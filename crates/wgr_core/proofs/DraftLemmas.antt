@@ -1,0 +1,38 @@
+-- The steps of an adoption: what each leaves of the network, and of the change that leads to it.
+use Rattle.std.proofs.Common.{◌≡◌, ℕ, List, [], ◌∷◌, ◌++◌, refl, ap, ◌∙◌}
+use Rattle.wgr_text.specs.Prefix.{PrefixValue}
+use Rattle.wgr_peers.specs.declared.peer.Peer.{Peer}
+use Rattle.wgr_core.specs.declared.change.Change.{Change}
+use Rattle.wgr_peers.specs.Peers.{put_peer}
+use Rattle.wgr_peers.specs.Routes.{Routes, assign_route}
+use Rattle.wgr_core.specs.Network.{NetworkValue, without_peers}
+use Rattle.wgr_core.specs.Change.{applied, changed, put_peers, assign_routes, without_routes}
+use Rattle.wgr_core.proofs.CommandLemmas.{without_none}
+
+-- ---- the change grows at its end
+
+pub put_peers_push : (peers more : List Peer) (p : Peer) → put_peers peers (more ++ p ∷ []) ≡ put_peer (put_peers peers more) p
+put_peers_push peers [] p = refl
+put_peers_push peers (q ∷ more) p = put_peers_push (put_peer peers q) more p
+
+pub assign_routes_push : (routes more : Routes) (r : PrefixValue × ℕ) → assign_routes routes (more ++ r ∷ []) ≡ assign_route (assign_routes routes more) r.0 r.1
+assign_routes_push routes [] r = refl
+assign_routes_push routes (s ∷ more) r = assign_routes_push (assign_route routes s.0 s.1) more r
+
+pub changed_peer : (c : Change) (start n : NetworkValue) (p : Peer) (peers : List Peer) (next : ℕ) → changed c start ≡ n → peers ≡ c.peers ++ p ∷ []
+    → changed (record c { peers = peers; next = next }) start ≡ record n { peers = put_peer n.peers p; next = next }
+changed_peer c start n p peers next is more =
+    ap (λ (ps : List Peer). changed (record c { peers = ps; next = next }) start) more
+    ∙ ap (λ (ps : List Peer). record start { peers = ps; routes = assign_routes (without_routes start.routes c.routes_gone) c.routes_put; next = next }) (put_peers_push start.peers c.peers p)
+    ∙ ap (λ (n : NetworkValue). record n { peers = put_peer n.peers p; next = next }) is
+
+pub changed_route : (c : Change) (start n : NetworkValue) (p : PrefixValue) (number : ℕ) (routes : Routes) → changed c start ≡ n → routes ≡ c.routes_put ++ (p, number) ∷ []
+    → changed (record c { routes_put = routes }) start ≡ record n { routes = assign_route n.routes p number }
+changed_route c start n p number routes is more =
+    ap (λ (rs : Routes). changed (record c { routes_put = rs }) start) more
+    ∙ ap (λ (rs : Routes). record start { peers = put_peers start.peers c.peers; routes = rs; next = c.next }) (assign_routes_push (without_routes start.routes c.routes_gone) c.routes_put (p, number))
+    ∙ ap (λ (n : NetworkValue). record n { routes = assign_route n.routes p number }) is
+
+-- a change of nothing
+pub nothing_applied : (c : Change) (n : NetworkValue) (removed : List ℕ) → c ≡ record { removed = removed; peers = []; routes_put = []; routes_gone = []; next = n.next } → removed ≡ [] → applied c n ≡ n
+nothing_applied c n removed is none = ap (λ (c : Change). applied c n) is ∙ ap (without_peers n) none ∙ without_none n

@@ -1,0 +1,14 @@
+use Rattle.std.proofs.Common.{◌≡◌, true, sym, ◌∙◌}
+use Rattle.wgr_core.specs.Adoption.{adopt_lines, names_address}
+use Rattle.wgr_core.specs.Draft.{is_asked_for, lines_of}
+use Rattle.wgr_core.proofs.AdoptingLemmas.{lines_go_on}
+use Rattle.wgr_core.proofs.adopt.Adopting.adopt_lines.Goals as goal
+
+pub loop-index-preserved : goal.loop-index-preserved
+loop-index-preserved c =
+    let line = c.index-lines-index.result in
+    let so = c.loop-index.invariant in
+    let asked : is_asked_for c.args.naming (names_address c.args.pool.now line) ≡ true = sym c.is_asked_for.ensures ∙ c.if-not-is_asked_for.false in
+    let on = lines_go_on c.args.self c.loop-index.adopting c.in-Ok.after c.args.pool.now c.args.naming c.args.lines.now c.loop-index.index line (adopt_lines c.args.self.so_far (lines_of c.args.pool.now c.args.naming 2 c.args.lines.now))
+    c.loop-index-test.true c.index-lines-index.is asked (record { left = so.left; kept = so.kept }) c.in-Ok.ensures in
+    record { left = on.left; kept = on.kept }

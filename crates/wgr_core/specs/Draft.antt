@@ -1,0 +1,67 @@
+-- A network that is changed step by step, and what the steps of an adoption answer.
+use Rattle.std.specs.Prelude.{ℕ, ◌≡◌, Bool, true, false, not, List, Result, Ok, Err}
+use Rattle.std.specs.List.{filter}
+use Rattle.wgr_text.specs.Prefix.{AddrValue, PrefixValue}
+use Rattle.wgr_core.specs.declared.fault.ActFault.{ActFault}
+use Rattle.wgr_core.specs.declared.fault.ActFault.TheVariants as fault
+use Rattle.wgr_core.specs.declared.fault.LineFault.{LineFault}
+use Rattle.wgr_core.specs.declared.fault.LineFault.TheVariants as line_fault
+use Rattle.wgr_core.specs.declared.refusal.Refusal.TheVariants.{InLine}
+use Rattle.wgr_core.specs.declared.refusal.LineRefusal.{LineRefusal}
+use Rattle.wgr_core.specs.declared.seen_peer.SeenPeer.{SeenPeer}
+use Rattle.wgr_core.specs.Network.{NetworkValue}
+use Rattle.wgr_core.specs.Adoption.{Adoption, and_then, unless_refused, line_refusal, line_place, named_address, names_address, numbered_from}
+
+-- the network as it was, the peers that had gone from it before, and the network as it is now
+pub record DraftValue : Type 0 where
+  pub start : NetworkValue
+  pub removed : List ℕ
+  pub network : NetworkValue
+
+-- an adoption of lines that began at a network
+pub record AdoptingValue : Type 0 where
+  pub start : NetworkValue
+  pub removed : List ℕ
+  pub so_far : Adoption
+
+-- the address that a new peer of the line takes
+abbrev pub line_address : NetworkValue → SeenPeer → Result AddrValue LineRefusal
+line_address n line = and_then (unless_refused (line_refusal n line.key) n) (λ n. line_place n (named_address n.pool line.allowed))
+
+-- whether a line is one of those that are asked for: those that name an address, or the others
+abbrev pub is_asked_for : Bool → Bool → Bool
+is_asked_for true names = names
+is_asked_for false names = not names
+
+-- these lines with their numbers
+abbrev pub lines_of : PrefixValue → Bool → ℕ → List SeenPeer → List (ℕ × SeenPeer)
+lines_of pool naming number lines = filter (λ l. is_asked_for naming (names_address pool l.1)) (numbered_from number lines)
+
+-- the answer of a step is the definition's network or refusal, or want of memory
+abbrev pub MeetsGiven : DraftValue → Result DraftValue LineFault → Result NetworkValue LineRefusal → Type 0
+MeetsGiven d (Err line_fault.NoMemory) outcome = Unit {0}
+MeetsGiven d (Err (line_fault.Refused why)) (Err is) = why ≡ is
+MeetsGiven d (Err (line_fault.Refused why)) (Ok n) = ⊥
+MeetsGiven d (Ok after) (Err is) = ⊥
+MeetsGiven d (Ok after) (Ok n) = after ≡ record d { network = n }
+
+-- the same of a line
+abbrev pub MeetsLine : AdoptingValue → Result AdoptingValue LineFault → Result Adoption LineRefusal → Type 0
+MeetsLine a (Err line_fault.NoMemory) outcome = Unit {0}
+MeetsLine a (Err (line_fault.Refused why)) (Err is) = why ≡ is
+MeetsLine a (Err (line_fault.Refused why)) (Ok s) = ⊥
+MeetsLine a (Ok after) (Err is) = ⊥
+MeetsLine a (Ok after) (Ok s) = after ≡ record a { so_far = s }
+
+-- the same of several lines
+abbrev pub MeetsLines : AdoptingValue → Result AdoptingValue ActFault → Result Adoption (ℕ × LineRefusal) → Type 0
+MeetsLines a (Err fault.NoMemory) outcome = Unit {0}
+MeetsLines a (Err (fault.Refused why)) (Err is) = why ≡ InLine is.0 is.1
+MeetsLines a (Err (fault.Refused why)) (Ok s) = ⊥
+MeetsLines a (Ok after) (Err is) = ⊥
+MeetsLines a (Ok after) (Ok s) = after ≡ record a { so_far = s }
+
+-- why a command was not done of which the line of this number was not adopted
+abbrev pub fault_in_line : ℕ → LineFault → ActFault
+fault_in_line number (line_fault.Refused why) = fault.Refused (InLine number why)
+fault_in_line number line_fault.NoMemory = fault.NoMemory

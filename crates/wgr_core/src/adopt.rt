@@ -1,0 +1,220 @@
+//! The command Adopt: the peers of a running interface are taken over.
+ghost use Rattle.std.specs.Prelude.{◌≡◌, ◌<◌, [], false, length, slice_index_or, None, IfOk};
+ghost use Rattle.wgr_core.specs.declared.reply.Reply.TheVariants as reply;
+ghost use Rattle.wgr_core.specs.Adoption.{add_line, adopt_line, adopt_lines, adoption_order, keyed_peer, note_status};
+ghost use Rattle.wgr_core.specs.Change.{GivesChange, MeetsLive};
+ghost use Rattle.wgr_core.specs.Draft.{AdoptingValue, MeetsLine, MeetsLines, fault_in_line, lines_of};
+ghost use Rattle.wgr_core.specs.Outcome.{adopt, server_refusal};
+ghost use Rattle.wgr_peers.specs.declared.peer.Peer.{Peer};
+
+use crate::change::Change;
+use crate::draft::Draft;
+use crate::fault::{ActFault, LineFault};
+use crate::line::{is_asked_for, keyed_place, line_address};
+use crate::network::Network;
+use crate::refusal::Refusal;
+use crate::reply::Reply;
+use crate::seen_peer::SeenPeer;
+use std::alloc::{AllocError, Global};
+use std::marker::Model;
+use wgr_peers::{Items, Label, LeaseEnd, Peer};
+use wgr_pool::Pool;
+use wgr_text::Key;
+
+impl Network {
+    // The peers that the lines show join, or get the status of their line.
+    pub(crate) fn adopted(
+        &self,
+        alloc: Global,
+        server: Option<Key>,
+        lines: &[SeenPeer],
+        removed: Items<u32>,
+    ) -> Result<(Reply, Option<Change>), ActFault>
+        ensures { MeetsLive false None self.now removed result (adopt self.now server lines.now) }
+    {
+        if let Some(why) = self.server_refusal(server) {
+            return Err(ActFault::Refused(why));
+        }
+        let pool = self.pool();
+        let begun = Adopting::begin(alloc, self, removed)?;
+        match begun.adopt_all(alloc, &pool, lines) {
+            Ok(done) => Ok(done.answer()),
+            Err(why) => Err(why),
+        }
+    }
+
+    // Why the interface of this key is not the network's.
+    fn server_refusal(&self, server: Option<Key>) -> Option<Refusal>
+        ensures { result ≡ server_refusal self.now server }
+    {
+        match server {
+            Some(key) if key != self.server() => Some(Refusal::WrongServer),
+            _ => None,
+        }
+    }
+}
+
+/// The lines that are adopted so far: the network with them, the numbers of its new peers, and how
+/// many lines found their key held.
+#[derive(Drop)]
+struct Adopting<'a> {
+    draft: Draft<'a>,
+    added: Items<u32>,
+    known: u32,
+}
+
+impl<'a> Model for Adopting<'a> {
+    ghost Value = { AdoptingValue };
+
+    ghost view = { λ a. record { start = a.draft.start; removed = a.draft.removed; so_far = record { network = a.draft.network; added = a.added; known = a.known } } };
+}
+
+impl<'a> Adopting<'a> {
+    // No line yet, on a network from which `removed` have gone.
+    fn begin(
+        alloc: Global,
+        start: &'a Network,
+        removed: Items<u32>,
+    ) -> Result<Adopting<'a>, AllocError>
+        ensures { IfOk result (λ adopting. adopting ≡ record { start = start.now; removed = removed; so_far = record { network = start.now; added = []; known = 0 } }) }
+    {
+        Ok(Adopting {
+            draft: Draft::begin(alloc, start, removed)?,
+            added: Items::new(alloc),
+            known: 0,
+        })
+    }
+
+    // The lines that name an address, and then the others, so that none of these gets an address
+    // that a later line names.
+    fn adopt_all(
+        self,
+        alloc: Global,
+        pool: &Pool,
+        lines: &[SeenPeer],
+    ) -> Result<Adopting<'a>, ActFault>
+        ensures { MeetsLines self.entry result (adopt_lines self.entry.so_far (adoption_order pool.now lines.now)) }
+    {
+        let first = self.adopt_lines(alloc, pool, lines, true);
+        match first {
+            Ok(named) => named.adopt_lines(alloc, pool, lines, false),
+            Err(why) => Err(why),
+        }
+    }
+
+    // The lines that name an address, or those that name none, one after the other. Their numbers
+    // are those of the text, whose first line is the interface's.
+    fn adopt_lines(
+        self,
+        alloc: Global,
+        pool: &Pool,
+        lines: &[SeenPeer],
+        naming: bool,
+    ) -> Result<Adopting<'a>, ActFault>
+        ensures { MeetsLines self.entry result (adopt_lines self.entry.so_far (lines_of pool.now naming 2 lines.now)) }
+    {
+        let mut adopting = self;
+        for (index, line) in lines.iter().enumerate() {
+            if !is_asked_for(pool, line, naming) {
+                continue;
+            }
+            adopting = match adopting.adopt_line(alloc, line) {
+                Ok(after) => after,
+                Err(why) => return Err(in_line(index + 2, why)),
+            };
+        }
+        Ok(adopting)
+    }
+
+    // The peer that has the line's key gets its status, or a new peer joins.
+    fn adopt_line(self, alloc: Global, line: &SeenPeer) -> Result<Adopting<'a>, LineFault>
+        ensures { MeetsLine self.entry result (adopt_line self.entry.so_far line.now) }
+    {
+        match keyed_place(self.draft.network(), &line.key) {
+            Some(place) => self.note_status(place, line),
+            None => self.add_line(alloc, line),
+        }
+    }
+
+    // The peer at the place gets the line's status, and nothing else.
+    fn note_status(self, place: usize, line: &SeenPeer) -> Result<Adopting<'a>, LineFault>
+        requires { place < length self.so_far.network.peers }
+        ensures { (d : Peer) → MeetsLine self.entry result (Ok (note_status self.entry.so_far line.now (slice_index_or self.entry.so_far.network.peers place d))) }
+    {
+        let Adopting {
+            draft,
+            added,
+            known,
+        } = self;
+        let network = draft.network();
+        let _next = network.next();
+        let mut peer = network.peers()[place].copy()?;
+        peer.status = Some(line.status);
+        // More lines than 32 bits count are more than can be noted.
+        let Some(known) = known.checked_add(1) else {
+            return Err(LineFault::NoMemory);
+        };
+        Ok(Adopting {
+            draft: draft.replace(place, peer)?,
+            added,
+            known,
+        })
+    }
+
+    // A peer with the line's key joins with its prefixes.
+    fn add_line(self, alloc: Global, line: &SeenPeer) -> Result<Adopting<'a>, LineFault>
+        requires { keyed_peer self.so_far.network.peers line.now.key ≡ None }
+        ensures { MeetsLine self.entry result (add_line self.entry.so_far line.now) }
+    {
+        let Adopting {
+            draft,
+            mut added,
+            known,
+        } = self;
+        let network = draft.network();
+        let number = network.next();
+        let address = match line_address(alloc, network, line) {
+            Ok(address) => address,
+            Err(why) => return Err(LineFault::Refused(why)),
+        };
+        let draft = draft.join(Peer {
+            number,
+            key: line.key,
+            label: Label::empty(alloc),
+            address,
+            until: LeaseEnd::never(),
+            keepalive: line.keepalive,
+            status: Some(line.status),
+        })?;
+        let draft = draft.give_all(number, address, line.allowed.as_slice())?;
+        added.push(number)?;
+        Ok(Adopting {
+            draft,
+            added,
+            known,
+        })
+    }
+
+    // What the adoption answers, and the change by which the network comes to it.
+    fn answer(self) -> (Reply, Option<Change>)
+        ensures reply { result.0 ≡ reply.Adopted self.entry.so_far.added self.entry.so_far.known }
+        ensures change { GivesChange false None self.entry.start self.entry.removed result.1 self.entry.so_far.network }
+    {
+        let Adopting {
+            draft,
+            added,
+            known,
+        } = self;
+        (Reply::Adopted { added, known }, Some(draft.into_change()))
+    }
+}
+
+// Why a command was not done of which the line of this number was not adopted.
+fn in_line(line: usize, why: LineFault) -> ActFault
+    ensures { result ≡ fault_in_line line why }
+{
+    match why {
+        LineFault::Refused(why) => ActFault::Refused(Refusal::InLine { line, why }),
+        LineFault::NoMemory => ActFault::NoMemory,
+    }
+}
