@@ -1,0 +1,142 @@
+-- The definitions on a small register, by computation.
+use Rattle.std.proofs.Common.{◌≡◌, ℕ, ◌+◌, ◌*◌, ◌^◌, ◌≤◌, false, not, [], ◌∷◌, length, refl, ap, ◌∙◌, arith, Some, nat_lt}
+use Rattle.std.specs.Prelude.{replicate, codes}
+use Rattle.std.specs.FinMap as map_
+use Rattle.std.proofs.lemmas.Bool.Decides.{nat_tests}
+use Rattle.wgr_text.specs.declared.addr.Family.TheVariants.{V4}
+use Rattle.wgr_text.specs.Prefix.{PrefixValue}
+use Rattle.wgr_core.specs.declared.command.Command.TheVariants as command
+use Rattle.wgr_core.specs.declared.reply.Reply.TheVariants as reply
+use Rattle.wgr_core.specs.Network.{NetworkValue}
+use Rattle.wgr_model.specs.Register.{Bytes, Register, is_same, tenant_view}
+use Rattle.wgr_model.specs.Consistent.{is_pool, overlaps}
+use Rattle.wgr_model.specs.Steps.{Event, Answer, Settings, act, first_refusal, given, has_name, is_full, new_network, outcome, refuse, with_tenant}
+use Rattle.wgr_model.specs.Steps.{Ask, Networks, AddTenant, Grant, EndToken, AddNetwork, EndNetwork}
+use Rattle.wgr_model.specs.Steps.{Replied, UnknownToken, NoSuchNetwork, Done, Refused}
+use Rattle.wgr_model.specs.Steps.{NameHeld, NoSuchTenant, DigestHeld, PoolOverlaps, BadPool, PortHeld, NoSuchToken, NoNetwork, RegisterFull}
+use Rattle.wgr_model.proofs.ViewLemmas.{get_view}
+
+abbrev ten_eight : ℕ → ℕ → ℕ → PrefixValue
+ten_eight c d length = record { address = record { family = V4; number = 10 * 2 ^ 24 + 8 * 2 ^ 16 + c * 2 ^ 8 + d }; length = length }
+
+abbrev at_port : PrefixValue → ℕ → Settings
+at_port pool port = record { pool = pool; host = codes "vpn.example.net"; port = port; server = record { 0 = replicate 32 9 }; capacity = 4096 }
+
+abbrev lab : NetworkValue
+lab = new_network (at_port (ten_eight 0 0 25) 51820)
+
+-- acme and bolt have a token and a network each, cato has none; bolt's network stands first
+abbrev house : Register
+house = record {
+  tenants = record { id = 3; name = codes "cato" } ∷ record { id = 2; name = codes "bolt" } ∷ record { id = 1; name = codes "acme" } ∷ [];
+  tokens = record { digest = replicate 32 2; tenant = 2 } ∷ record { digest = replicate 32 1; tenant = 1 } ∷ [];
+  networks = record { id = 5; tenant = 2; name = codes "a"; network = new_network (at_port (ten_eight 0 128 25) 51821) }
+      ∷ record { id = 4; tenant = 1; name = codes "lab"; network = lab } ∷ [];
+}
+
+abbrev answer : Event → Answer
+answer event = (outcome house event 6).0
+
+-- ---- requests
+
+-- acme's token lists the peers of acme's network
+own_network : answer (Ask (replicate 32 1) (codes "lab") 0 command.List) ≡ Replied (reply.List []) lab
+unfolding is_same act
+own_network = refl
+
+-- an unknown network and bolt's network give acme one answer
+unknown_network : answer (Ask (replicate 32 1) (codes "b") 0 command.List) ≡ NoSuchNetwork
+unfolding is_same
+unknown_network = refl
+
+foreign_network : answer (Ask (replicate 32 1) (codes "a") 0 command.List) ≡ NoSuchNetwork
+unfolding is_same
+foreign_network = refl
+
+-- a token that nobody has
+stranger : answer (Ask (replicate 32 3) (codes "lab") 0 command.List) ≡ UnknownToken
+unfolding is_same
+stranger = refl
+
+strangers_list : answer (Networks (replicate 32 3)) ≡ UnknownToken
+unfolding is_same
+strangers_list = refl
+
+-- a token that ended is nobody's
+ended_token : (outcome (outcome house (EndToken (replicate 32 1)) 6).1 (Networks (replicate 32 1)) 6).0 ≡ UnknownToken
+unfolding is_same
+ended_token = refl
+
+-- acme sees its network by name
+own_view : map_.get (tenant_view house (codes "acme")).networks (codes "lab") ≡ Some lab
+unfolding is_same
+own_view = get_view house 1 (codes "lab")
+
+-- ---- orders
+
+name_held : answer (AddTenant (codes "acme")) ≡ Refused NameHeld
+unfolding is_same
+name_held = refl
+
+new_tenant : answer (AddTenant (codes "dora")) ≡ Done
+unfolding is_same
+new_tenant = refl
+
+no_such_tenant : answer (Grant (codes "nobody") (replicate 32 3)) ≡ Refused NoSuchTenant
+unfolding is_same
+no_such_tenant = refl
+
+digest_held : answer (Grant (codes "bolt") (replicate 32 1)) ≡ Refused DigestHeld
+unfolding is_same
+digest_held = refl
+
+no_such_token : answer (EndToken (replicate 32 3)) ≡ Refused NoSuchToken
+unfolding is_same
+no_such_token = refl
+
+-- of two pools that overlap, the first one by the tenant's name is named
+pool_overlaps : answer (AddNetwork (codes "cato") (codes "office") (at_port (ten_eight 0 0 24) 1)) ≡ Refused (PoolOverlaps (codes "acme") (codes "lab"))
+unfolding is_same is_pool overlaps
+pool_overlaps = refl
+
+upper_overlaps : answer (AddNetwork (codes "acme") (codes "office") (at_port (ten_eight 0 192 26) 1)) ≡ Refused (PoolOverlaps (codes "bolt") (codes "a"))
+unfolding is_same is_pool overlaps
+upper_overlaps = refl
+
+-- host bits, and a length that no pool has
+host_bits : answer (AddNetwork (codes "cato") (codes "office") (at_port (ten_eight 1 1 24) 1)) ≡ Refused BadPool
+unfolding is_same is_pool overlaps
+host_bits = refl
+
+too_long : answer (AddNetwork (codes "cato") (codes "office") (at_port (ten_eight 1 0 31) 1)) ≡ Refused BadPool
+unfolding is_same is_pool overlaps
+too_long = refl
+
+-- the name is looked at before the pool
+name_first : answer (AddNetwork (codes "acme") (codes "lab") (at_port (ten_eight 0 1 24) 1)) ≡ Refused NameHeld
+unfolding is_same is_pool overlaps
+name_first = refl
+
+port_held : answer (AddNetwork (codes "cato") (codes "lab") (at_port (ten_eight 1 0 24) 51820)) ≡ Refused PortHeld
+unfolding is_same is_pool overlaps
+port_held = refl
+
+new_network_done : answer (AddNetwork (codes "cato") (codes "lab") (at_port (ten_eight 1 0 24) 1)) ≡ Done
+unfolding is_same is_pool overlaps
+new_network_done = refl
+
+no_network : answer (EndNetwork (codes "acme") (codes "a")) ≡ Refused NoNetwork
+unfolding is_same
+no_network = refl
+
+-- the pool of a network that ended can be given again
+pool_given_again : (outcome (outcome house (EndNetwork (codes "acme") (codes "lab")) 6).1 (AddNetwork (codes "cato") (codes "lab") (at_port (ten_eight 0 0 25) 51820)) 6).0 ≡ Done
+unfolding is_same is_pool overlaps
+pool_given_again = refl
+
+-- the register has room for 65,536 tenants
+register_full : (r : Register) (name : Bytes) (new : ℕ) → 65536 ≤ length r.tenants → has_name r.tenants name ≡ false → (outcome r (AddTenant name) new).0 ≡ Refused RegisterFull
+register_full r name new many free =
+    let few : nat_lt (length r.tenants) 65536 ≡ false = grind (arith, nat_tests, many) in
+    ap (λ b. (given (first_refusal (refuse b NameHeld ∷ refuse (is_full r.tenants) RegisterFull ∷ [])) r (with_tenant r name new)).0) free
+    ∙ ap (λ b. (given (first_refusal (refuse (not b) RegisterFull ∷ [])) r (with_tenant r name new)).0) few

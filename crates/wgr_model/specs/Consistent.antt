@@ -1,0 +1,98 @@
+-- Which registers are consistent.
+use Rattle.std.specs.Prelude.{◌≡◌, ℕ, ◌^◌, ◌%◌, ◌<◌, ◌≤◌, ◌⊎◌, Bool, true, ◌&&◌, ◌||◌, nat_eq, nat_le, nat_lt, List, length, map}
+use Rattle.std.specs.List.{list_any, IsDistinct, AllByRecursion}
+use Rattle.std.specs.Int.{IsInRange}
+use Rattle.wgr_text.specs.declared.addr.Family.{Family}
+use Rattle.wgr_text.specs.declared.addr.Family.TheVariants.{V4, V6}
+use Rattle.wgr_text.specs.Prefix.{PrefixValue, block, width}
+use Rattle.wgr_pool.specs.PrefixTests.{covers}
+use Rattle.wgr_peers.specs.Host.{IsHostText}
+use Rattle.wgr_core.specs.Network.{IsNetwork}
+use Rattle.wgr_model.specs.Register.{Bytes, Tenant, Holding, Register, is_same}
+
+-- ---- forms
+
+-- a small letter or a digit of ASCII, or `-`
+abbrev pub IsNameByte : ℕ → Type 0
+IsNameByte b = IsInRange 97 122 b ⊎ IsInRange 48 57 b ⊎ (b ≡ 45)
+
+-- the name of a tenant or of a network: 1 to 32 such bytes
+pub record IsName (text : Bytes) : Type 0 where
+  pub some : 1 ≤ length text
+  pub short : length text ≤ 32
+  pub bytes : AllByRecursion IsNameByte text
+
+-- a SHA-256 (FIPS 180-4): 32 bytes
+pub record IsDigest (digest : Bytes) : Type 0 where
+  pub long : length digest ≡ 32
+  pub bytes : AllByRecursion (λ b. b < 256) digest
+
+-- a host as it is kept: some text of a host is kept so
+abbrev pub IsHost : Bytes → Type 0
+IsHost kept = (text : Bytes) × IsHostText text kept
+
+abbrev pub IsId : ℕ → Type 0
+IsId id = (1 ≤ id) × (id ≤ 65536)
+
+-- ---- pools
+
+abbrev pub is_pool_length : Family → ℕ → Bool
+is_pool_length V4 length = nat_le 8 length && nat_le length 30
+is_pool_length V6 length = nat_le 48 length && nat_le length 126
+
+-- whether an address and a length make a pool: no host bit is set, and the length is one of a pool
+unfoldable pub is_pool : PrefixValue → Bool
+is_pool p = nat_lt p.address.number (2 ^ width p.address.family) && nat_eq (p.address.number % block p.address.family p.length) 0 && is_pool_length p.address.family p.length
+
+-- whether some address is in both: one of two prefixes then has all of the other
+unfoldable pub overlaps : PrefixValue → PrefixValue → Bool
+overlaps p q = covers p q || covers q p
+
+-- ---- what no two have in common
+
+-- a network's name within its tenant
+abbrev pub slot : Holding → ℕ × Bytes
+slot h = (h.tenant, h.name)
+
+abbrev pub same_slot : ℕ × Bytes → ℕ × Bytes → Bool
+same_slot p q = nat_eq p.0 q.0 && is_same p.1 q.1
+
+abbrev pub endpoint : Holding → Bytes × ℕ
+endpoint h = (h.network.host, h.network.port)
+
+abbrev pub same_endpoint : Bytes × ℕ → Bytes × ℕ → Bool
+same_endpoint p q = is_same p.0 q.0 && nat_eq p.1 q.1
+
+abbrev pub pool_of : Holding → PrefixValue
+pool_of h = h.network.pool
+
+abbrev pub has_tenant : List Tenant → ℕ → Bool
+has_tenant ts id = list_any (nat_eq id) (map (λ t. t.id) ts)
+
+pub record IsTenant (t : Tenant) : Type 0 where
+  pub id : IsId t.id
+  pub name : IsName t.name
+
+-- a network's id, name and host are of their forms, and it keeps the rules of one network
+pub record IsHolding (h : Holding) : Type 0 where
+  pub id : IsId h.id
+  pub name : IsName h.name
+  pub host : IsHost h.network.host
+  pub rules : IsNetwork h.network
+
+pub record IsConsistent (r : Register) : Type 0 where
+  pub names : IsDistinct is_same (map (λ t. t.name) r.tenants)
+  pub ids : IsDistinct nat_eq (map (λ t. t.id) r.tenants)
+  pub digests : IsDistinct is_same (map (λ t. t.digest) r.tokens)
+  pub slots : IsDistinct same_slot (map slot r.networks)
+  pub network_ids : IsDistinct nat_eq (map (λ h. h.id) r.networks)
+  pub endpoints : IsDistinct same_endpoint (map endpoint r.networks)
+  pub pools : IsDistinct overlaps (map pool_of r.networks)
+  pub token_tenants : AllByRecursion (λ t. has_tenant r.tenants t.tenant ≡ true) r.tokens
+  pub network_tenants : AllByRecursion (λ h. has_tenant r.tenants h.tenant ≡ true) r.networks
+  pub tenants : AllByRecursion IsTenant r.tenants
+  pub tokens : AllByRecursion (λ t. IsDigest t.digest) r.tokens
+  pub networks : AllByRecursion IsHolding r.networks
+  pub few_tenants : length r.tenants ≤ 65536
+  pub few_tokens : length r.tokens ≤ 65536
+  pub few_networks : length r.networks ≤ 65536

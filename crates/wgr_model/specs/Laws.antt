@@ -1,0 +1,84 @@
+-- What follows of the definitions.
+use Rattle.std.specs.Prelude.{◌≡◌, ℕ, ◌<◌, ◌⊎◌, ◌↔◌, true, false, nat_eq, List, [], ◌∷◌, length, Some}
+use Rattle.std.specs.List.{list_any}
+use Rattle.wgr_text.specs.Prefix.{PrefixValue, AreDisjoint}
+use Rattle.wgr_pool.specs.Pool.{IsPool}
+use Rattle.wgr_peers.specs.declared.peer.Peer.{Peer}
+use Rattle.wgr_model.specs.Register.{Bytes, Register, View, Holding, IsSame, empty_register, tenant_view}
+use Rattle.wgr_model.specs.Consistent.{IsConsistent, IsId, is_pool, overlaps}
+use Rattle.wgr_model.specs.Steps.{Event, Answer, PoolOverlaps, IsProper, IsStep, comes_before, is_done, overlapping, pool_refusal}
+use Rattle.wgr_model.specs.Tenants.{Agree, Fits, own_events, tenant_after, tenant_answer, tenant_run, told}
+use Rattle.wgr_model.specs.Runs.{Served, AreProper, IsRun, acknowledged}
+
+-- an element of a list
+abbrev pub Has : {A : Type 0} → List A → A → Type 0
+Has [] a = ⊥
+Has (x ∷ xs) a = (x ≡ a) ⊎ Has xs a
+
+-- two peers of the register that hold one address are one peer of one network
+abbrev pub HasOneHolder : Register → Type 0
+HasOneHolder s = (h k : Holding) (p q : Peer) → Has s.networks h → Has s.networks k → Has h.network.peers p → Has k.network.peers q → p.address ≡ q.address → (h ≡ k) × (p ≡ q)
+
+-- a register without entries is consistent
+abbrev pub EmptyIsConsistent : Type 0
+EmptyIsConsistent = IsConsistent empty_register
+
+-- Whatever the event and whoever it is from: the register after it is consistent; no tenant alone
+-- has another answer than the one given; and what each sees is what it alone then has.
+pub record StepLaw (r : Register) (e : Event) (answer : Answer) (s : Register) : Type 0 where
+  pub consistent : IsConsistent s
+  pub answered : (me : Bytes) → Fits (tenant_answer (tenant_view r me) e) answer
+  pub view : (me : Bytes) → tenant_after me (tenant_view r me) e (is_done answer) ≡ tenant_view s me
+
+abbrev pub StepsAreIsolated : Type 0
+StepsAreIsolated = (r s : Register) (e : Event) (answer : Answer) → IsConsistent r → IsProper e → IsStep r e answer s → StepLaw r e answer s
+
+-- The answers to each tenant, and what it sees at the end, are those of its own requests and of the
+-- accepted orders about it, on what it saw at the beginning.
+pub record IsIsolated (r : Register) (es : List Served) (s : Register) : Type 0 where
+  pub answers : (me : Bytes) → Agree (tenant_run me (tenant_view r me) (acknowledged es)).0 (acknowledged es)
+  pub views : (me : Bytes) → (tenant_run me (tenant_view r me) (acknowledged es)).1 ≡ tenant_view s me
+  pub consistent : IsConsistent s
+  pub holders : HasOneHolder s
+
+-- the main theorem, along every list of events
+abbrev pub RunsAreIsolated : Type 0
+RunsAreIsolated = (r s : Register) (es : List Served) → IsConsistent r → AreProper es → IsRun r es s → IsIsolated r es s
+
+-- two lists of events that agree, in order, on those that are the tenant's own give it one list of
+-- answers and one last view
+abbrev pub TwoWorlds : Type 0
+TwoWorlds = (me : Bytes) (v : View) (es fs : List (Event × Answer)) → own_events me v es ≡ own_events me v fs
+    → (told (tenant_run me v es).0 ≡ told (tenant_run me v fs).0) × ((tenant_run me v es).1 ≡ (tenant_run me v fs).1)
+
+-- the order of entries is of no account: a step is one on the same entries in whatever order
+abbrev pub OrderIsNoAccount : Type 0
+OrderIsNoAccount = (r s : Register) (e : Event) (answer : Answer) (u : Register) → IsSame r s → IsConsistent r → IsStep r e answer u → IsStep s e answer u
+
+-- ---- nothing is asked that can't be: every event has a step
+
+abbrev pub EveryEventHasAStep : Type 0
+EveryEventHasAStep = (r : Register) (e : Event) → (answer : Answer) × (s : Register) × IsStep r e answer s
+
+-- below 65,536 entries some id is unused
+abbrev pub AnIdIsUnused : Type 0
+AnIdIsUnused = (ids : List ℕ) → length ids < 65536 → (id : ℕ) × IsId id × (list_any (nat_eq id) ids ≡ false)
+
+-- ---- pools
+
+-- an address and a length pass the test exactly where they make a pool
+abbrev pub PoolsAreTold : Type 0
+PoolsAreTold = (p : PrefixValue) → (is_pool p ≡ true) ↔ IsPool p
+
+-- two pools overlap exactly where they aren't disjoint
+abbrev pub OverlapsAreTold : Type 0
+OverlapsAreTold = (p q : PrefixValue) → IsPool p → IsPool q → (overlaps p q ≡ false) ↔ AreDisjoint p q
+
+-- `pool_overlaps` names a network whose pool overlaps, and no such network comes before it
+pub record IsFirst (ps : List (Bytes × Bytes)) (first : Bytes × Bytes) : Type 0 where
+  pub there : Has ps first
+  pub least : (p : Bytes × Bytes) → Has ps p → comes_before p first ≡ false
+
+abbrev pub FirstIsNamed : Type 0
+FirstIsNamed = (r : Register) (pool : PrefixValue) (tenant network : Bytes) → pool_refusal (overlapping r.tenants r.networks pool) ≡ Some (PoolOverlaps tenant network)
+    → IsFirst (overlapping r.tenants r.networks pool) (tenant, network)

@@ -1,0 +1,10 @@
+pub mod Register
+pub mod Consistent
+pub mod Steps
+pub mod Tenants
+pub mod Runs
+pub mod Laws
+pub mod Rows
+pub mod RowLaws
+pub mod RowRules
+pub mod RowAsks

@@ -1,0 +1,97 @@
+//! What follows of the model. Each function does nothing: its contract is the law.
+ghost use Rattle.wgr_model.specs.Laws.{AnIdIsUnused, EmptyIsConsistent, EveryEventHasAStep, FirstIsNamed, OrderIsNoAccount, OverlapsAreTold, PoolsAreTold, RunsAreIsolated, StepsAreIsolated, TwoWorlds};
+ghost use Rattle.wgr_model.specs.RowAsks.{ChangesReplaceRows, NetworksAreFound, ReadingsLeaveRows, RefusalsLeaveRows};
+ghost use Rattle.wgr_model.specs.RowLaws.{CommitsReplace, NoRowsAreConsistent, OrderIsUnseen, RowsAreIsolated, RowsAreRead, RowsOfTwoWorlds, RowsStayConsistent};
+ghost use Rattle.wgr_model.specs.RowRules.{ConsistentRowsKeepRules, NetworksGain, NetworksLose, TenantsGain, TokensGain, TokensLose};
+
+/// A register without entries is consistent.
+pub fn empty_is_consistent()
+    ensures { EmptyIsConsistent }
+{}
+
+/// One event, whoever it is from: consistency stays, and each tenant has the answer and the view
+/// that it alone would have.
+pub fn steps_are_isolated()
+    ensures { StepsAreIsolated }
+{}
+
+/// What an event answers and does is the same in whatever order the entries of the register stand.
+pub fn order_is_no_account()
+    ensures { OrderIsNoAccount }
+{}
+
+/// Whatever list of requests and orders is run on a consistent register: the answers to each
+/// tenant, and what it has at the end, are those that its own requests and the accepted orders
+/// about it give on what it had, those answered Unavailable left out. At the end no two peers of
+/// the whole register hold one address.
+pub fn runs_are_isolated()
+    ensures { RunsAreIsolated }
+{}
+
+/// A tenant can't tell two worlds apart that agree on its own events.
+pub fn worlds_are_alike()
+    ensures { TwoWorlds }
+{}
+
+/// The rows of a consistent register are read back as that register, in whatever order they stand;
+/// so their order shows nobody anything.
+pub fn rows_are_read()
+    ensures read { RowsAreRead }
+    ensures order { OrderIsUnseen }
+    ensures consistent { RowsStayConsistent }
+    ensures none { NoRowsAreConsistent }
+{}
+
+/// What a commit owes, to leave the rows of the register with one changed network.
+pub fn commits_replace()
+    ensures { CommitsReplace }
+{}
+
+/// Whole runs, said of the rows of the five tables. At the end two address rows with one address
+/// are one row.
+pub fn rows_are_isolated()
+    ensures { RowsAreIsolated }
+{}
+
+/// Two registers, each with others' rows and requests of its own, that agree on what one tenant has
+/// and asks and on the accepted orders about it: the tenant can't tell them apart.
+pub fn rows_of_two_worlds()
+    ensures { RowsOfTwoWorlds }
+{}
+
+/// The register is never without an answer, and never without an id where it has room.
+pub fn every_event_has_a_step()
+    ensures step { EveryEventHasAStep }
+    ensures id { AnIdIsUnused }
+{}
+
+/// The tests of pools tell what they are to tell, and `pool_overlaps` names the first network in
+/// byte order of tenants' names, then of networks'.
+pub fn pools_are_told()
+    ensures pool { PoolsAreTold }
+    ensures overlap { OverlapsAreTold }
+    ensures first { FirstIsNamed }
+{}
+
+/// What consistency says of single rows: each peer has one address row, whose address its network's
+/// pool may give; each allowed prefix leads to a peer of its own network.
+pub fn consistent_rows_keep_rules()
+    ensures { ConsistentRowsKeepRules }
+{}
+
+/// What an order owes, to leave the rows of the register with the order done.
+pub fn orders_change_rows()
+    ensures tenants_gain { TenantsGain }
+    ensures tokens_gain { TokensGain }
+    ensures tokens_lose { TokensLose }
+    ensures networks_gain { NetworksGain }
+    ensures networks_lose { NetworksLose }
+{}
+
+/// What an ask owes, to be a step on the rows.
+pub fn asks_change_rows()
+    ensures found { NetworksAreFound }
+    ensures refusals { RefusalsLeaveRows }
+    ensures readings { ReadingsLeaveRows }
+    ensures changes { ChangesReplaceRows }
+{}
