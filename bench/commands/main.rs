@@ -13,7 +13,10 @@ use anyhow::{Context, Result, bail};
 use std::alloc::Global;
 use std::env;
 use std::time::Instant;
-use wgr_core::{Capacity, Command, Host, Label, LeaseEnd, Network, Parts, Peer, Pool, Port};
+use wgr_core::{
+    Capacity, Command, Count, Host, Items, Label, LeaseEnd, Network, Parts, Peer, Pool, Port, SeenPeer,
+    Status,
+};
 use wgr_text::{Addr, Family, Key, Prefix};
 
 // How many calls a round has, on peers and routes that lie evenly in the network.
@@ -326,6 +329,53 @@ fn time_kind(rt: &HostRuntime, kind: Kind, layout: Layout, size: u32, rounds: u3
     Ok(())
 }
 
+// A peer with three prefixes: its address, a route of its own, and one that each line takes from the
+// one before. The first has no route of its own, so that there are no more routes than `size`.
+fn seen(alloc: Global, layout: Layout, size: u32, index: u32) -> Result<SeenPeer> {
+    let none = Count::new(0);
+    let address = layout.peer_address(size, index).context("no address")?;
+    let everything = ip4(0).and_then(|address| Prefix::masked(address, 0));
+    let mut allowed = Vec::new(alloc);
+    allowed.push(Prefix::full(address))?;
+    allowed.push(everything.context("no prefix")?)?;
+    if index > 0 {
+        let turned = index.checked_mul(421).and_then(|n| n.checked_rem(size));
+        let route = turned.and_then(|turned| layout.route(turned));
+        allowed.push(route.context("no route")?)?;
+    }
+    Ok(SeenPeer {
+        key: key(index, 0),
+        allowed: Items::of(allowed),
+        status: Status {
+            handshake: none,
+            received: none,
+            sent: none,
+        },
+        keepalive: 25,
+    })
+}
+
+// A dump of `size` lines, which an empty network takes over.
+fn time_adoption(rt: &HostRuntime, layout: Layout, size: u32, rounds: u32) -> Result<()> {
+    let mut lines = Vec::new(rt.alloc());
+    for index in 0..size {
+        lines.push(seen(rt.alloc(), layout, size, index)?)?;
+    }
+    let mut commands = Vec::new(rt.alloc());
+    commands.push(Command::Adopt {
+        server: None,
+        lines: Items::of(lines),
+    })?;
+    let network = layout.network(rt.alloc(), size, 0)?;
+    let act = best_act(rt, &network, &commands, rounds)?;
+    let layout_name = layout.name();
+    match best_apply(rt, &network, &commands, rounds)? {
+        Some(apply) => println!(rt; "{layout_name} adopt 1 {act} {apply}")?,
+        None => bail!("a dump changes the network"),
+    }
+    Ok(())
+}
+
 fn number(word: Option<String>) -> Result<u32> {
     Ok(word.context("a number is wanting")?.parse::<u32>()?)
 }
@@ -338,6 +388,7 @@ fn main(rt: HostRuntime) -> Result<()> {
         for kind in KINDS {
             time_kind(&rt, kind, layout, size, rounds)?;
         }
+        time_adoption(&rt, layout, size, rounds)?;
     }
     Ok(())
 }

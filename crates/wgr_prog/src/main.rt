@@ -1,6 +1,7 @@
 //! The program `wgr`.
 #![tactic(auto)]
 
+mod adopt;
 mod command_line;
 mod laws;
 mod lines;
