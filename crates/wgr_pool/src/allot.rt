@@ -65,7 +65,7 @@ pub fn lowest_free<H: Holds>(pool: &Pool, holds: &mut H) -> Result<Option<Addr>,
 }
 
 // The address with this number, of the same family.
-pub fn sibling(of: &Addr, number: u128) -> Addr
+pub(crate) fn sibling(of: &Addr, number: u128) -> Addr
     requires { number < 2 ^ width of.now.family }
     ensures { result ≡ record { family = of.now.family; number = number } }
 {
