@@ -20,7 +20,7 @@ use Rattle.wgr_core.specs.declared.seen_peer.SeenPeer.{SeenPeer}
 use Rattle.wgr_core.specs.Network.{NetworkValue}
 use Rattle.wgr_core.specs.Adoption.{Adoption, and_then, unless_refused, line_refusal, line_place, named_address, names_address, other_prefixes, with_line, give_refusal, give_all, add_line, adopt_line, adopt_lines, in_line, adoption_of}
 use Rattle.wgr_core.specs.Change.{GivesChange, MeetsLive}
-use Rattle.wgr_core.specs.Draft.{DraftValue, AdoptingValue, line_address, is_asked_for, lines_of, MeetsGiven, MeetsLine, MeetsLines, fault_in_line}
+use Rattle.wgr_core.specs.Draft.{DraftValue, AdoptingValue, line_address, is_asked_for, lines_of, MeetsAddress, MeetsGiven, MeetsLine, MeetsLines, fault_in_line}
 use Rattle.wgr_pool.proofs.Lists.{drop_next}
 use Rattle.wgr_pool.proofs.PrefixLemmas.{nat_eq_self}
 use Rattle.wgr_core.specs.Outcome.{adopt, adopted, server_refusal, unless}
@@ -77,6 +77,10 @@ give_goes_on self d after number a xs i p whole within at other so h =
     }
 
 -- ---- a new peer
+
+pub met_address : (a : AddrValue) (r : Result AddrValue LineRefusal) → MeetsAddress (Ok a) r → r ≡ Ok a
+met_address a (Ok b) h = sym (ap Ok h)
+met_address a (Err e) h = absurd h
 
 pub new_stands : (peers : List Peer) (p : Peer) → is_some (peer_of (peers ++ p ∷ []) p.number) ≡ true
 new_stands [] p = ap (λ b. is_some (cond b (Some p) (peer_of [] p.number))) (nat_eq_self p.number)
@@ -158,6 +162,24 @@ lines_go_on self a after pool naming xs i line whole within at asked so h =
           ∙ so.left;
       kept = on.0 ∙ ap (λ (b : AdoptingValue). record b { so_far = after.so_far }) so.kept;
     }
+
+-- a line that is not asked for leaves all as it is
+pub lines_go_past : (s : Adoption) (pool : PrefixValue) (naming : Bool) (xs : List SeenPeer) (i : ℕ) (line : SeenPeer) → i < length xs → line ≡ get_or xs i line → is_asked_for naming (names_address pool line) ≡ false
+    → adopt_lines s (lines_of pool naming (i + 1 + 2) (drop (i + 1) xs)) ≡ adopt_lines s (lines_of pool naming (i + 2) (drop i xs))
+lines_go_past s pool naming xs i line within at skipped =
+    let rest = drop (i + 1) xs in
+    let count : i + 1 + 2 ≡ i + 2 + 1 = omega arith in
+    ap (λ (m : ℕ). adopt_lines s (lines_of pool naming m rest)) count
+    ∙ sym (ap (λ (ls : List SeenPeer). adopt_lines s (lines_of pool naming (i + 2) ls)) (drop_next xs i line within at) ∙ ap (adopt_lines s) (lines_skipped pool naming (i + 2) line rest skipped))
+
+-- a line that is refused ends them all
+pub lines_stop : (self a : AdoptingValue) (w : LineFault) (pool : PrefixValue) (naming : Bool) (xs : List SeenPeer) (i : ℕ) (line : SeenPeer) (whole : Result Adoption (ℕ × LineRefusal))
+    → i < length xs → line ≡ get_or xs i line → is_asked_for naming (names_address pool line) ≡ true → adopt_lines a.so_far (lines_of pool naming (i + 2) (drop i xs)) ≡ whole → MeetsLine a (Err w) (adopt_line a.so_far line)
+    → MeetsLines self (Err (fault_in_line (i + 2) w)) whole
+lines_stop self a w pool naming xs i line whole within at asked left h =
+    let rest = drop (i + 1) xs in
+    let taken = ap (λ (ls : List SeenPeer). adopt_lines a.so_far (lines_of pool naming (i + 2) ls)) (drop_next xs i line within at) ∙ ap (adopt_lines a.so_far) (lines_taken pool naming (i + 2) line rest asked) in
+    subst (MeetsLines self (Err (fault_in_line (i + 2) w))) (sym taken ∙ left) (line_err a self (i + 2) w (adopt_line a.so_far line) (lines_of pool naming (i + 2 + 1) rest) h)
 
 append_step : (xs ys : List (ℕ × SeenPeer)) (r : Result Adoption (ℕ × LineRefusal)) → ((t : Adoption) → adopt_lines t (xs ++ ys) ≡ and_then (adopt_lines t xs) (λ t. adopt_lines t ys))
     → and_then r (λ next. adopt_lines next (xs ++ ys)) ≡ and_then (and_then r (λ next. adopt_lines next xs)) (λ t. adopt_lines t ys)

@@ -1,16 +1,17 @@
 -- The network with a change, by its parts.
-use Rattle.std.proofs.Common.{◌≡◌, ℕ, ◌<◌, ◌≤◌, Bool, not, List, [], ◌∷◌, ◌++◌, length, get_or, sym, ap, subst, ◌∙◌, arith}
-use Rattle.std.specs.List.{All, filter}
+use Rattle.std.proofs.Common.{◌≡◌, ℕ, ◌≤◌, ◌-◌, Bool, not, nat_eq, List, [], ◌∷◌, ◌++◌, length, get_or, take, Option, Some, None, sym, ap, subst, ◌∙◌, arith}
+use Rattle.std.specs.List.{filter, list_any}
+use Rattle.std.specs.Option.{option_to_list}
 use Rattle.wgr_text.specs.Prefix.{PrefixValue}
 use Rattle.wgr_peers.specs.declared.peer.Peer.{Peer}
 use Rattle.wgr_core.specs.declared.change.Change.{Change}
 use Rattle.wgr_peers.specs.Peers.{put_peer}
-use Rattle.wgr_peers.specs.PeerIndex.{IsAlikeAt, IsKeyedAt}
+use Rattle.wgr_peers.specs.PeersLeft.{peers_after}
 use Rattle.wgr_peers.specs.Routes.{Routes}
-use Rattle.wgr_core.specs.Network.{NetworkValue, IsNetwork, is_among, without_peers}
-use Rattle.wgr_core.specs.Change.{put_peers, assign_routes, without_routes, changed, applied, OnlyJoins, OnlyRenews, OnlyMoves}
+use Rattle.wgr_core.specs.Network.{NetworkValue, is_among, without_peers}
+use Rattle.wgr_core.specs.Change.{put_peers, assign_routes, without_routes, changed, applied, OnlyPuts}
 use Rattle.wgr_pool.proofs.Lists.{filter_agree_on}
-use Rattle.wgr_core.proofs.CommandLemmas.{put_peer_above, without_none}
+use Rattle.wgr_core.proofs.CommandLemmas.{without_none}
 
 -- what a set of numbers leaves is what the list of them leaves
 pub kept_peers : (removed : List ℕ) (has : ℕ → Bool) (peers : List Peer) → ((n : ℕ) → has n ≡ is_among removed n) → filter (λ p. not (has p.number)) peers ≡ filter (λ p. not (is_among removed p.number)) peers
@@ -24,7 +25,7 @@ applied_is c n peers routes same_peers same_routes =
     ap (λ (ps : List Peer). record n { next = c.next; peers = ps; routes = routes }) same_peers
     ∙ ap (λ (rs : Routes). record n { next = c.next; peers = (applied c n).peers; routes = rs }) same_routes
 
--- ---- a change that only brings one peer
+-- ---- a change that only puts one peer
 
 one_item : {X : Type 0} (xs ys : List X) (x : X) → length xs ≡ 1 → xs ≡ ys ++ x ∷ [] → xs ≡ x ∷ []
 one_item {X} xs [] x one e = e
@@ -34,22 +35,14 @@ one_item {X} xs (y ∷ ys) x one e = absurd (more ys (sym (ap length e) ∙ one)
     more [] h = omega (arith, h)
     more (z ∷ ys) h = omega (arith, h)
 
--- the peer stands above all, and the change does no more
-pub joins_one : (c : Change) (n : NetworkValue) (next : ℕ) (before : List Peer) (p : Peer) → IsNetwork n → OnlyJoins c next → next ≡ n.next → c.peers ≡ before ++ p ∷ []
-    → (n.next ≤ p.number) × (record n { peers = n.peers ++ p ∷ []; next = c.next } ≡ applied c n)
-joins_one c n next before p is only same last =
-    let one : c.peers ≡ p ∷ [] = one_item c.peers before p only.one last in
-    let from : n.next ≤ p.number = omega (arith, same, subst (λ (ps : List Peer). next ≤ (get_or ps 0 p).number) one (only.above p)) in
-    let above : All (λ (q : Peer). q.number < p.number) n.peers = λ k d h. omega (arith, (is.members k d h).numbered.1, from) in (
-      from,
-      sym
-          (ap (λ (rs : List ℕ). changed c (without_peers n rs)) only.removed
-          ∙ ap (changed c) (without_none n)
-          ∙ ap (λ (ps : List Peer). record n { next = c.next; peers = put_peers n.peers ps; routes = assign_routes (without_routes n.routes c.routes_gone) c.routes_put }) one
-          ∙ ap (λ (ps : List Peer). record n { next = c.next; peers = ps; routes = assign_routes (without_routes n.routes c.routes_gone) c.routes_put }) (put_peer_above n.peers p above)
-          ∙ ap (λ (gone : List PrefixValue). record n { next = c.next; peers = n.peers ++ p ∷ []; routes = assign_routes (without_routes n.routes gone) c.routes_put }) only.routes_gone
-          ∙ ap (λ (put : Routes). record n { next = c.next; peers = n.peers ++ p ∷ []; routes = assign_routes n.routes put }) only.routes_put),
-    )
+pub puts_one : (c : Change) (n : NetworkValue) (before : List Peer) (p : Peer) → OnlyPuts c → c.peers ≡ before ++ p ∷ [] → record n { peers = put_peer n.peers p; next = c.next } ≡ applied c n
+puts_one c n before p only last =
+    sym
+    (ap (λ (rs : List ℕ). changed c (without_peers n rs)) only.removed
+    ∙ ap (changed c) (without_none n)
+    ∙ ap (λ (ps : List Peer). record n { next = c.next; peers = put_peers n.peers ps; routes = assign_routes (without_routes n.routes c.routes_gone) c.routes_put }) (one_item c.peers before p only.one last)
+    ∙ ap (λ (gone : List PrefixValue). record n { next = c.next; peers = put_peer n.peers p; routes = assign_routes (without_routes n.routes gone) c.routes_put }) only.routes_gone
+    ∙ ap (λ (put : Routes). record n { next = c.next; peers = put_peer n.peers p; routes = assign_routes n.routes put }) only.routes_put)
 
 -- ---- a change that removes no peer
 
@@ -62,31 +55,27 @@ removes_none c d n is none =
 pub removes_one : (c : Change) (n : NetworkValue) (number : ℕ) → c ≡ record { removed = number ∷ []; peers = []; routes_put = []; routes_gone = []; next = c.next } → applied c n ≡ record (without_peers n (number ∷ [])) { next = c.next }
 removes_one c n number is = ap (λ (c : Change). applied c n) is
 
--- ---- a change that only renews a peer
+-- ---- a change by which one peer comes at most
 
-puts_one : (c : Change) (n : NetworkValue) (p : Peer) → c.peers ≡ p ∷ [] → c.removed ≡ [] → c.routes_put ≡ [] → c.routes_gone ≡ [] → record n { peers = put_peer n.peers p; next = c.next } ≡ applied c n
-puts_one c n p one removed put gone =
-    sym
-    (ap (λ (rs : List ℕ). changed c (without_peers n rs)) removed
-    ∙ ap (changed c) (without_none n)
-    ∙ ap (λ (ps : List Peer). record n { next = c.next; peers = put_peers n.peers ps; routes = assign_routes (without_routes n.routes c.routes_gone) c.routes_put }) one
-    ∙ ap (λ (gone : List PrefixValue). record n { next = c.next; peers = put_peer n.peers p; routes = assign_routes (without_routes n.routes gone) c.routes_put }) gone
-    ∙ ap (λ (put : Routes). record n { next = c.next; peers = put_peer n.peers p; routes = assign_routes n.routes put }) put)
+-- what a pop leaves of one item at most
+rest_none : (peers rest : List Peer) (len : ℕ) → length peers ≤ 1 → len ≡ length peers → rest ≡ take (len - 1) peers → rest ≡ []
+rest_none peers rest len one is e =
+    let zero : len - 1 ≡ 0 = omega (arith, one, is) in
+    e ∙ ap (λ (k : ℕ). take k peers) zero
 
-pub renews_one : (c : Change) (n : NetworkValue) (peers : List Peer) (before : List Peer) (p : Peer) (at : ℕ) → OnlyRenews c peers at → peers ≡ n.peers → c.peers ≡ before ++ p ∷ []
-    → IsAlikeAt n.peers p at × (record n { peers = put_peer n.peers p; next = c.next } ≡ applied c n)
-renews_one c n peers before p at only same last =
-    let one : c.peers ≡ p ∷ [] = one_item c.peers before p only.one last in (
-      subst (λ (qs : List Peer). IsAlikeAt qs p at) same (subst (λ (ps : List Peer). IsAlikeAt peers (get_or ps 0 p) at) one (only.alike p)),
-      puts_one c n p one only.removed only.routes_put only.routes_gone,
-    )
+after_one : (c : Change) (n : NetworkValue) (gone : List ℕ) (o : Option Peer) → ((m : ℕ) → list_any (nat_eq m) gone ≡ is_among c.removed m) → c.peers ≡ option_to_list o → peers_after n.peers gone o ≡ (applied c n).peers
+after_one c n gone None same one =
+    kept_peers c.removed (λ m. list_any (nat_eq m) gone) n.peers same ∙ sym (ap (put_peers (without_peers n c.removed).peers) one)
+after_one c n gone (Some p) same one =
+    ap (λ (ps : List Peer). put_peer ps p) (kept_peers c.removed (λ m. list_any (nat_eq m) gone) n.peers same) ∙ sym (ap (put_peers (without_peers n c.removed).peers) one)
 
--- ---- a change that only moves a peer
-
-pub moves_one : (c : Change) (n : NetworkValue) (peers : List Peer) (before : List Peer) (p : Peer) (at : ℕ) → OnlyMoves c peers at → peers ≡ n.peers → c.peers ≡ before ++ p ∷ []
-    → IsKeyedAt n.peers p at × (record n { peers = put_peer n.peers p; next = c.next } ≡ applied c n)
-moves_one c n peers before p at only same last =
-    let one : c.peers ≡ p ∷ [] = one_item c.peers before p only.one last in (
-      subst (λ (qs : List Peer). IsKeyedAt qs p at) same (subst (λ (ps : List Peer). IsKeyedAt peers (get_or ps 0 p) at) one (only.keyed p)),
-      puts_one c n p one only.removed only.routes_put only.routes_gone,
-    )
+-- the set's numbers go, and the peer that a pop of the change's peers gives comes
+pub applied_in_place : (c : Change) (n : NetworkValue) (gone : List ℕ) (o : Option Peer) (peers rest : List Peer) (len : ℕ) (routes : Routes)
+    → length c.peers ≤ 1 → peers ≡ c.peers → len ≡ length peers → peers ≡ rest ++ option_to_list o → rest ≡ take (len - 1) peers
+    → ((m : ℕ) → list_any (nat_eq m) gone ≡ is_among c.removed m) → routes ≡ (applied c n).routes
+    → record n { peers = peers_after n.peers gone o; routes = routes; next = c.next } ≡ applied c n
+applied_in_place c n gone o peers rest len routes one same size parts left among same_routes =
+    let few : length peers ≤ 1 = subst (λ (ps : List Peer). length ps ≤ 1) (sym same) one in
+    let none = rest_none peers rest len few size left in
+    let only : c.peers ≡ option_to_list o = sym same ∙ parts ∙ ap (λ (ps : List Peer). ps ++ option_to_list o) none in
+    applied_is c n (peers_after n.peers gone o) routes (after_one c n gone o among only) same_routes

@@ -5,9 +5,8 @@ use Rattle.wgr_peers.specs.declared.peer.Peer.{Peer}
 use Rattle.wgr_core.specs.declared.change.Change.{Change}
 use Rattle.wgr_peers.specs.Peers.{put_peer}
 use Rattle.wgr_peers.specs.Routes.{Routes, assign_route}
-use Rattle.wgr_core.specs.Network.{NetworkValue, without_peers}
-use Rattle.wgr_core.specs.Change.{applied, changed, put_peers, assign_routes, without_routes}
-use Rattle.wgr_core.proofs.CommandLemmas.{without_none}
+use Rattle.wgr_core.specs.Network.{NetworkValue}
+use Rattle.wgr_core.specs.Change.{changed, put_peers, assign_routes, without_routes}
 
 -- ---- the change grows at its end
 
@@ -32,7 +31,3 @@ changed_route c start n p number routes is more =
     ap (λ (rs : Routes). changed (record c { routes_put = rs }) start) more
     ∙ ap (λ (rs : Routes). record start { peers = put_peers start.peers c.peers; routes = rs; next = c.next }) (assign_routes_push (without_routes start.routes c.routes_gone) c.routes_put (p, number))
     ∙ ap (λ (n : NetworkValue). record n { routes = assign_route n.routes p number }) is
-
--- a change of nothing
-pub nothing_applied : (c : Change) (n : NetworkValue) (removed : List ℕ) → c ≡ record { removed = removed; peers = []; routes_put = []; routes_gone = []; next = n.next } → removed ≡ [] → applied c n ≡ n
-nothing_applied c n removed is none = ap (λ (c : Change). applied c n) is ∙ ap (without_peers n) none ∙ without_none n

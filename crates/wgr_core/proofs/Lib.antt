@@ -12,6 +12,7 @@ pub mod AdoptNext
 pub mod AdoptedPeers
 pub mod AdoptCounts
 pub mod OutcomeLemmas
+pub mod FormLemmas
 pub mod MatchLemmas
 pub mod UniqueMatch
 pub mod LookLemmas

@@ -1,5 +1,5 @@
 -- What a change does to a network, and when an answer is that of the definition.
-use Rattle.std.specs.Prelude.{ℕ, ◌≡◌, ◌≤◌, Bool, true, false, List, [], ◌∷◌, ◌++◌, length, slice_index_or, Option, Some, None, Result, Ok, Err}
+use Rattle.std.specs.Prelude.{ℕ, ◌≡◌, Bool, true, false, List, [], ◌∷◌, ◌++◌, length, Option, Some, None, Result, Ok, Err}
 use Rattle.wgr_text.specs.Prefix.{PrefixValue}
 use Rattle.wgr_peers.specs.declared.peer.Peer.{Peer}
 use Rattle.wgr_core.specs.declared.change.Change.{Change}
@@ -9,7 +9,6 @@ use Rattle.wgr_core.specs.declared.fault.ActFault.TheVariants.{Refused, NoMemory
 use Rattle.wgr_peers.specs.Peers.{put_peer}
 use Rattle.wgr_peers.specs.Routes.{Routes, assign_route, without_route}
 use Rattle.wgr_core.specs.Network.{NetworkValue, IsNetwork, without_peers}
-use Rattle.wgr_peers.specs.PeerIndex.{IsAlikeAt, IsKeyedAt}
 use Rattle.wgr_core.specs.Outcome.{Outcome}
 
 abbrev pub put_peers : List Peer → List Peer → List Peer
@@ -40,27 +39,10 @@ applied c n = changed c (without_peers n c.removed)
 abbrev pub Fits : Change → NetworkValue → Type 0
 Fits c n = IsNetwork (applied c n)
 
--- the change only brings one peer, whose number is `next` or above it
-pub record OnlyJoins (c : Change) (next : ℕ) : Type 0 where
+-- the change only puts one peer
+pub record OnlyPuts (c : Change) : Type 0 where
   pub removed : c.removed ≡ []
   pub one : length c.peers ≡ 1
-  pub above : (d : Peer) → next ≤ (slice_index_or c.peers 0 d).number
-  pub routes_put : c.routes_put ≡ []
-  pub routes_gone : c.routes_gone ≡ []
-
--- the change only puts one peer in the place of one that has its number, key and address
-pub record OnlyRenews (c : Change) (peers : List Peer) (at : ℕ) : Type 0 where
-  pub removed : c.removed ≡ []
-  pub one : length c.peers ≡ 1
-  pub alike : (d : Peer) → IsAlikeAt peers (slice_index_or c.peers 0 d) at
-  pub routes_put : c.routes_put ≡ []
-  pub routes_gone : c.routes_gone ≡ []
-
--- the change only puts one peer in the place of one that has its number and key
-pub record OnlyMoves (c : Change) (peers : List Peer) (at : ℕ) : Type 0 where
-  pub removed : c.removed ≡ []
-  pub one : length c.peers ≡ 1
-  pub keyed : (d : Peer) → IsKeyedAt peers (slice_index_or c.peers 0 d) at
   pub routes_put : c.routes_put ≡ []
   pub routes_gone : c.routes_gone ≡ []
 

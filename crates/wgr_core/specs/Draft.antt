@@ -2,6 +2,9 @@
 use Rattle.std.specs.Prelude.{ℕ, ◌≡◌, Bool, true, false, not, List, Result, Ok, Err}
 use Rattle.std.specs.List.{filter}
 use Rattle.wgr_text.specs.Prefix.{AddrValue, PrefixValue}
+use Rattle.wgr_peers.specs.declared.peer.Peer.{Peer}
+use Rattle.wgr_peers.specs.Routes.{Routes}
+use Rattle.wgr_core.specs.declared.change.Change.{Change}
 use Rattle.wgr_core.specs.declared.fault.ActFault.{ActFault}
 use Rattle.wgr_core.specs.declared.fault.ActFault.TheVariants as fault
 use Rattle.wgr_core.specs.declared.fault.LineFault.{LineFault}
@@ -9,7 +12,8 @@ use Rattle.wgr_core.specs.declared.fault.LineFault.TheVariants as line_fault
 use Rattle.wgr_core.specs.declared.refusal.Refusal.TheVariants.{InLine}
 use Rattle.wgr_core.specs.declared.refusal.LineRefusal.{LineRefusal}
 use Rattle.wgr_core.specs.declared.seen_peer.SeenPeer.{SeenPeer}
-use Rattle.wgr_core.specs.Network.{NetworkValue}
+use Rattle.wgr_core.specs.Network.{NetworkValue, IsNetwork}
+use Rattle.wgr_core.specs.Change.{changed}
 use Rattle.wgr_core.specs.Adoption.{Adoption, and_then, unless_refused, line_refusal, line_place, named_address, names_address, numbered_from}
 
 -- the network as it was, the peers that had gone from it before, and the network as it is now
@@ -17,6 +21,15 @@ pub record DraftValue : Type 0 where
   pub start : NetworkValue
   pub removed : List ℕ
   pub network : NetworkValue
+
+-- a network with these peers, these routes and this next number
+abbrev pub drafted : NetworkValue → List Peer → Routes → ℕ → NetworkValue
+drafted n peers routes next = record n { next = next; peers = peers; routes = routes }
+
+-- the change leads from one network to another, which keeps the rules
+pub record LeadsTo (c : Change) (start n : NetworkValue) : Type 0 where
+  pub leads : changed c start ≡ n
+  pub rules : IsNetwork n
 
 -- an adoption of lines that began at a network
 pub record AdoptingValue : Type 0 where
@@ -36,6 +49,14 @@ is_asked_for false names = not names
 -- these lines with their numbers
 abbrev pub lines_of : PrefixValue → Bool → ℕ → List SeenPeer → List (ℕ × SeenPeer)
 lines_of pool naming number lines = filter (λ l. is_asked_for naming (names_address pool l.1)) (numbered_from number lines)
+
+-- the answer is the definition's address or refusal, or want of memory
+abbrev pub MeetsAddress : Result AddrValue LineFault → Result AddrValue LineRefusal → Type 0
+MeetsAddress (Err line_fault.NoMemory) place = Unit {0}
+MeetsAddress (Err (line_fault.Refused why)) (Err is) = why ≡ is
+MeetsAddress (Err (line_fault.Refused why)) (Ok a) = ⊥
+MeetsAddress (Ok given) (Err is) = ⊥
+MeetsAddress (Ok given) (Ok a) = given ≡ a
 
 -- the answer of a step is the definition's network or refusal, or want of memory
 abbrev pub MeetsGiven : DraftValue → Result DraftValue LineFault → Result NetworkValue LineRefusal → Type 0

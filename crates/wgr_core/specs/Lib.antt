@@ -10,3 +10,4 @@ pub mod AdoptionLaws
 pub mod AdoptedAgain
 pub mod FirstAdoption
 pub mod Draft
+pub mod Forms

@@ -1,6 +1,6 @@
-ghost use Rattle.std.specs.Prelude.{All, IfOk, IfSome};
+ghost use Rattle.std.specs.Prelude.{IfOk, IfSome};
 ghost use Rattle.wgr_core.specs.Change.{Fits, Meets, MeetsLive};
-ghost use Rattle.wgr_core.specs.Outcome.{AreLinesAsked, IsAsked, IsPrefixAsked, is_reading, leaving, live_outcome, outcome_of};
+ghost use Rattle.wgr_core.specs.Outcome.{is_reading, leaving, live_outcome, outcome_of};
 
 use crate::change::Change;
 use crate::command::Command;
@@ -9,10 +9,8 @@ use crate::live::Live;
 use crate::network::Network;
 use crate::refusal::Refusal;
 use crate::reply::Reply;
-use crate::seen_peer::SeenPeer;
 use std::alloc::Global;
 use wgr_peers::{Items, Peer};
-use wgr_text::Prefix;
 
 impl Network {
     /// What the command answers at this moment, and what it changes. The network itself stays as
@@ -29,7 +27,7 @@ impl Network {
         ensures outcome { Meets self.now result (outcome_of self.now now command.now) }
         ensures fits { IfOk result (λ given. IfSome given.1 (λ c. Fits c self.now)) }
     {
-        tell_asked(command);
+        command.tell_forms();
         let (live, removed) = Live::at(self, alloc, now)?;
         live.act(alloc, now, command, removed)
     }
@@ -98,43 +96,5 @@ impl Live<'_> {
                 None => Err(ActFault::Refused(Refusal::NoSuchPeer)),
             },
         }
-    }
-}
-
-// Does nothing but ask the prefixes of the command for their parts, since the contracts of these say
-// that a prefix is masked and fits its family.
-fn tell_asked(command: &Command)
-    ensures { IsAsked command.now }
-{
-    match command {
-        Command::Route { prefix, .. } => tell_prefix(prefix),
-        Command::Adopt { lines, .. } => tell_lines(lines.as_slice()),
-        _ => {}
-    }
-}
-
-// The same of one prefix.
-fn tell_prefix(prefix: &Prefix)
-    ensures { IsPrefixAsked prefix.now }
-{
-    let _address = prefix.address();
-    let _length = prefix.length();
-}
-
-// The same of the lines of a dump.
-fn tell_lines(lines: &[SeenPeer])
-    ensures { AreLinesAsked lines.now }
-{
-    for line in lines {
-        tell_prefixes(line.allowed.as_slice());
-    }
-}
-
-// The same of the prefixes of one line.
-fn tell_prefixes(allowed: &[Prefix])
-    ensures { All IsPrefixAsked allowed.now }
-{
-    for prefix in allowed {
-        tell_prefix(prefix);
     }
 }

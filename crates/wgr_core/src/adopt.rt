@@ -10,7 +10,7 @@ ghost use Rattle.wgr_peers.specs.declared.peer.Peer.{Peer};
 use crate::change::Change;
 use crate::draft::Draft;
 use crate::fault::{ActFault, LineFault};
-use crate::line::{is_asked_for, keyed_place, line_address};
+use crate::line::{expected_routes, is_asked_for, keyed_place};
 use crate::network::Network;
 use crate::refusal::Refusal;
 use crate::reply::Reply;
@@ -19,7 +19,7 @@ use std::alloc::{AllocError, Global};
 use std::marker::Model;
 use wgr_peers::{Items, Label, LeaseEnd, Peer};
 use wgr_pool::Pool;
-use wgr_text::Key;
+use wgr_text::{Key, Prefix};
 
 impl Network {
     // The peers that the lines show join, or get the status of their line.
@@ -36,7 +36,8 @@ impl Network {
             return Err(ActFault::Refused(why));
         }
         let pool = self.pool();
-        let begun = Adopting::begin(alloc, self, removed)?;
+        let expected = expected_routes(alloc, &pool, lines)?;
+        let begun = Adopting::begin(alloc, self, removed, expected)?;
         match begun.adopt_all(alloc, &pool, lines) {
             Ok(done) => Ok(done.answer()),
             Err(why) => Err(why),
@@ -70,16 +71,18 @@ impl<'a> Model for Adopting<'a> {
 }
 
 impl<'a> Adopting<'a> {
-    // No line yet, on a network from which `removed` have gone.
+    // No line yet, on a network from which `removed` have gone, with room for routes of these
+    // prefixes.
     fn begin(
         alloc: Global,
         start: &'a Network,
         removed: Items<u32>,
+        expected: Vec<Prefix>,
     ) -> Result<Adopting<'a>, AllocError>
         ensures { IfOk result (λ adopting. adopting ≡ record { start = start.now; removed = removed; so_far = record { network = start.now; added = []; known = 0 } }) }
     {
         Ok(Adopting {
-            draft: Draft::begin(alloc, start, removed)?,
+            draft: Draft::begin(alloc, start, removed, expected)?,
             added: Items::new(alloc),
             known: 0,
         })
@@ -130,7 +133,7 @@ impl<'a> Adopting<'a> {
     fn adopt_line(self, alloc: Global, line: &SeenPeer) -> Result<Adopting<'a>, LineFault>
         ensures { MeetsLine self.entry result (adopt_line self.entry.so_far line.now) }
     {
-        match keyed_place(self.draft.network(), &line.key) {
+        match keyed_place(self.draft.peers(), &line.key) {
             Some(place) => self.note_status(place, line),
             None => self.add_line(alloc, line),
         }
@@ -146,9 +149,8 @@ impl<'a> Adopting<'a> {
             added,
             known,
         } = self;
-        let network = draft.network();
-        let _next = network.next();
-        let mut peer = network.peers()[place].copy()?;
+        let _next = draft.next();
+        let mut peer = draft.peers().as_slice()[place].copy()?;
         peer.status = Some(line.status);
         // More lines than 32 bits count are more than can be noted.
         let Some(known) = known.checked_add(1) else {
@@ -167,16 +169,12 @@ impl<'a> Adopting<'a> {
         ensures { MeetsLine self.entry result (add_line self.entry.so_far line.now) }
     {
         let Adopting {
-            draft,
+            mut draft,
             mut added,
             known,
         } = self;
-        let network = draft.network();
-        let number = network.next();
-        let address = match line_address(alloc, network, line) {
-            Ok(address) => address,
-            Err(why) => return Err(LineFault::Refused(why)),
-        };
+        let number = draft.next();
+        let address = draft.line_address(alloc, line)?;
         let draft = draft.join(Peer {
             number,
             key: line.key,

@@ -1,15 +1,15 @@
-ghost use Rattle.std.specs.Prelude.{◌≡◌, ℕ, ◌≤◌, ◌↔◌, List, [], ◌∷◌, length, not, ◌&&◌, nat_eq, All, IfOk, IfSome, OnOk, OnErr, IsTrue};
+ghost use Rattle.std.specs.Prelude.{◌≡◌, ℕ, ◌≤◌, ◌↔◌, [], ◌∷◌, length, not, ◌&&◌, nat_eq, All, IfOk, IfSome, OnOk, OnErr, IsTrue};
 ghost use Rattle.std.specs.List.{filter};
 ghost use Rattle.std.specs.HashSet.{contains};
-ghost use Rattle.wgr_core.specs.Change.{Fits, OnlyJoins, OnlyRenews, OnlyMoves, applied, without_routes};
+ghost use Rattle.wgr_core.specs.Change.{Fits, OnlyPuts, applied, without_routes};
 ghost use Rattle.wgr_core.specs.Network.{is_among, without_peers};
 ghost use Rattle.wgr_peers.specs.Routes.{AreOrdered, HasAddr};
 
 use crate::network::Network;
 use std::alloc::{AllocError, Global};
 use std::collections::HashSet;
-use wgr_peers::order::{drop_route, put_peer, put_route};
-use wgr_peers::{Items, Peer, PeerTable};
+use wgr_peers::order::{drop_route, put_peer};
+use wgr_peers::{Items, Peer, PeerTable, RouteSlots};
 use wgr_text::Prefix;
 
 /// What an accepted command changes of a network, in the order in which it is made.
@@ -67,12 +67,17 @@ impl Change {
         requires { (n : ℕ) → contains nat_eq removed.now n ≡ is_among self.now.removed n }
         ensures { IfOk result (λ routes. routes.items ≡ (applied self.now network.now).routes) }
     {
-        let mut routes = self.routes_left(alloc, network, removed)?;
-        let _next = network.next();
-        for route in self.routes_put.as_slice() {
-            put_route(&mut routes, route.0, route.1)?;
+        let routes = self.routes_left(alloc, network, removed)?;
+        let routes_put = self.routes_put.as_slice();
+        if routes_put.is_empty() {
+            return Ok(routes);
         }
-        Ok(routes)
+        let expected = routes_put.iter().map(|route| route.0).collect(alloc)?;
+        let mut slots = RouteSlots::new(alloc, &routes, expected)?;
+        for route in routes_put {
+            slots.put(route.0, route.1)?;
+        }
+        Ok(slots.into_routes())
     }
 
     // The network's routes without those that go.
@@ -141,76 +146,31 @@ impl Change {
         self.removed.is_empty() && self.peers.is_empty()
     }
 
-    // The place of the peer that the change replaces by one of the same number, key and address,
-    // where it does nothing else.
-    fn renewed_place(&self, peers: &PeerTable) -> Option<usize>
-        ensures { IfSome result (λ at. OnlyRenews self.now peers.now at) }
+    // Whether the change only puts one peer.
+    fn only_puts(&self) -> bool
+        ensures { IsTrue result → OnlyPuts self.now }
     {
-        let is_for_one = self.removed.is_empty()
+        self.peers.as_slice().len() == 1
+            && self.removed.is_empty()
             && self.routes_put.is_empty()
-            && self.routes_gone.is_empty();
-        match self.peers.as_slice() {
-            [peer] if is_for_one => peers.place_alike(peer),
-            _ => None,
-        }
-    }
-
-    // The place of the peer that the change replaces by one of the same number and key, where it
-    // does nothing else.
-    fn moved_place(&self, peers: &PeerTable) -> Option<usize>
-        ensures { IfSome result (λ at. OnlyMoves self.now peers.now at) }
-    {
-        let is_move = self.removed.is_empty()
-            && self.routes_put.is_empty()
-            && self.routes_gone.is_empty();
-        match self.peers.as_slice() {
-            [peer] if is_move => peers.place_keyed(peer),
-            _ => None,
-        }
-    }
-
-    // Whether the change only brings one peer, whose number is `next` or above it.
-    fn only_joins(&self, next: u32) -> bool
-        ensures { IsTrue result → OnlyJoins self.now next }
-    {
-        match self.peers.as_slice() {
-            [peer] => {
-                next <= peer.number
-                    && self.removed.is_empty()
-                    && self.routes_put.is_empty()
-                    && self.routes_gone.is_empty()
-            }
-            _ => false,
-        }
+            && self.routes_gone.is_empty()
     }
 }
 
 impl Network {
-    /// Makes the change; for want of memory the network is as before. A change by which
-    /// one peer comes, is renewed, moves or goes, or one route comes or goes, is made in place.
+    /// Makes the change; for want of memory the network is as before. No peer is copied where one
+    /// comes at most. A change by which only one peer comes, is renewed, moves or goes, or only one
+    /// route comes or goes, walks over no peers.
     pub fn apply(&mut self, alloc: Global, change: Change) -> Result<(), AllocError>
         requires { Fits change self.old }
         ensures ok { OnOk result (self.new ≡ applied change self.old) }
         ensures err { OnErr result (self.new ≡ self.old) }
     {
-        if change.only_joins(self.next()) {
+        if change.only_puts() {
             let Some(peer) = change.peers.into_vec().pop() else {
                 unreachable!();
             };
-            return self.join(peer, change.next);
-        }
-        if let Some(place) = change.renewed_place(&self.peers) {
-            let Some(peer) = change.peers.into_vec().pop() else {
-                unreachable!();
-            };
-            self.replace(place, peer, change.next);
-            return Ok(());
-        }
-        if let Some(place) = change.moved_place(&self.peers) {
-            let Some(peer) = change.peers.into_vec().pop() else {
-                unreachable!();
-            };
-            return self.relocate(place, peer, change.next);
+            return self.put(peer, change.next);
         }
         if let Some(number) = change.sole_removal() {
             return self.leave(number, change.next);
@@ -222,8 +182,24 @@ impl Network {
             self.drop_route(&prefix, change.next);
             return Ok(());
         }
+        if change.peers.as_slice().len() <= 1 {
+            return self.apply_in_place(alloc, change);
+        }
         *self = change.apply(alloc, self)?;
         Ok(())
+    }
+
+    // Makes a change by which one peer comes at most, and copies no peer.
+    fn apply_in_place(&mut self, alloc: Global, change: Change) -> Result<(), AllocError>
+        requires fits { Fits change self.old }
+        requires one { length change.peers ≤ 1 }
+        ensures ok { OnOk result (self.new ≡ applied change self.old) }
+        ensures err { OnErr result (self.new ≡ self.old) }
+    {
+        let removed = number_set(alloc, change.removed.as_slice())?;
+        let routes = change.changed_routes(alloc, self, &removed)?;
+        let coming = change.peers.into_vec().pop();
+        self.change(removed, coming, routes, change.next)
     }
 
     // The change that only removes these peers.

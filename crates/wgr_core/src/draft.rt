@@ -5,58 +5,67 @@ ghost use Rattle.wgr_peers.specs.PeerIndex.{IsAlikeAt};
 ghost use Rattle.wgr_peers.specs.Routes.{assign_route};
 ghost use Rattle.wgr_core.specs.Adoption.{give_all, give_refusal, other_prefixes, unless_refused};
 ghost use Rattle.wgr_core.specs.Change.{changed};
-ghost use Rattle.wgr_core.specs.Draft.{DraftValue, MeetsGiven};
+ghost use Rattle.wgr_core.specs.Draft.{DraftValue, MeetsGiven, LeadsTo, drafted};
 ghost use Rattle.wgr_core.specs.Network.{IsNetwork};
 
 use crate::change::Change;
 use crate::fault::LineFault;
-use crate::line::give_refusal;
 use crate::network::Network;
 use std::alloc::{AllocError, Global};
 use std::marker::Model;
 use wgr_peers::order::is_same;
-use wgr_peers::{Items, Peer};
+use wgr_peers::{Items, Peer, PeerDraft, RouteSlots};
 use wgr_text::{Addr, Prefix};
 
-/// A copy of a network, and the change by which it has come about.
+/// A copy of what a network has of peers and routes, and the change by which it has come about.
 #[derive(Drop)]
 pub(crate) struct Draft<'a> {
-    start: &'a Network,
-    network: Network,
+    pub(crate) start: &'a Network,
+    pub(crate) peers: PeerDraft,
+    pub(crate) routes: RouteSlots,
     change: Change,
 }
 
 impl<'a> Model for Draft<'a> {
     ghost Value = { DraftValue };
 
-    ghost view = { λ d. record { start = d.start.now; removed = d.change.removed; network = d.network } };
+    ghost view = { λ d. record { start = d.start.now; removed = d.change.removed; network = drafted d.start.now d.peers d.routes d.change.next } };
 
-    ghost invariant = { λ d. changed d.change d.start.now ≡ d.network };
+    ghost invariant = { λ d. LeadsTo d.change d.start.now (drafted d.start.now d.peers d.routes d.change.next) };
 }
 
 impl<'a> Draft<'a> {
-    // The network as it is, from which `removed` have gone.
+    // The network as it is, from which `removed` have gone, with room for routes of these prefixes.
     pub(crate) fn begin(
         alloc: Global,
         start: &'a Network,
         removed: Items<u32>,
+        expected: Vec<Prefix>,
     ) -> Result<Draft<'a>, AllocError>
         ensures { IfOk result (λ draft. draft ≡ record { start = start.now; removed = removed; network = start.now }) }
     {
         let _rules = start.next();
-        let nothing = start.removal(alloc, Items::new(alloc));
         Ok(Draft {
             start,
-            network: nothing.apply(alloc, start)?,
+            peers: PeerDraft::from_slice(alloc, start.peers())?,
+            routes: RouteSlots::new(alloc, start.routes(), expected)?,
             change: start.removal(alloc, removed),
         })
     }
 
-    // The network as it is now.
-    pub(crate) fn network(&self) -> &Network
-        ensures { result.now ≡ self.now.network }
+    // The peers as they are now.
+    pub(crate) fn peers(&self) -> &PeerDraft
+        ensures { result.now ≡ self.now.network.peers }
     {
-        &self.network
+        &self.peers
+    }
+
+    // The number that the next peer gets.
+    pub(crate) fn next(&self) -> u32
+        ensures value { result ≡ self.now.network.next }
+        ensures rules { IsNetwork self.now.network }
+    {
+        self.change.next
     }
 
     // Puts in a peer of the next number.
@@ -68,16 +77,17 @@ impl<'a> Draft<'a> {
     {
         let Draft {
             start,
-            mut network,
+            mut peers,
+            routes,
             mut change,
         } = self;
-        let next = peer.number + 1;
-        network.join(peer.copy()?, next)?;
+        peers.push(peer.copy()?)?;
+        change.next = peer.number + 1;
         change.peers.push(peer)?;
-        change.next = next;
         Ok(Draft {
             start,
-            network,
+            peers,
+            routes,
             change,
         })
     }
@@ -90,15 +100,16 @@ impl<'a> Draft<'a> {
     {
         let Draft {
             start,
-            mut network,
+            mut peers,
+            routes,
             mut change,
         } = self;
-        let next = network.next();
-        network.replace(place, peer.copy()?, next);
+        peers.replace(place, peer.copy()?);
         change.peers.push(peer)?;
         Ok(Draft {
             start,
-            network,
+            peers,
+            routes,
             change,
         })
     }
@@ -110,15 +121,16 @@ impl<'a> Draft<'a> {
     {
         let Draft {
             start,
-            mut network,
+            peers,
+            mut routes,
             mut change,
         } = self;
-        let next = network.next();
-        network.assign_route(prefix, number, next)?;
+        routes.put(prefix, number)?;
         change.routes_put.push((prefix, number))?;
         Ok(Draft {
             start,
-            network,
+            peers,
+            routes,
             change,
         })
     }
@@ -128,9 +140,8 @@ impl<'a> Draft<'a> {
         requires { is_some (peer_of self.network.peers number) ≡ true }
         ensures { MeetsGiven self.entry result (unless_refused (give_refusal self.entry.network prefix) (record self.entry.network { routes = assign_route self.entry.network.routes prefix number })) }
     {
-        let network = self.network();
-        let _next = network.next();
-        if let Some(why) = give_refusal(network, &prefix) {
+        let _next = self.next();
+        if let Some(why) = self.give_refusal(&prefix) {
             return Err(LineFault::Refused(why));
         }
         let _address = prefix.address();

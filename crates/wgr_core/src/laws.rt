@@ -17,6 +17,7 @@ ghost use Rattle.wgr_core.specs.AdoptionLaws.{LinesArePeers, NewPeersAreLines};
 ghost use Rattle.wgr_core.specs.AdoptionLaws.{AdoptRefusals, AdoptionsAreCounted, OtherServersAreRefused};
 ghost use Rattle.wgr_core.specs.AdoptedAgain.{AdoptionRepeats, AdoptionRepeatsLater};
 ghost use Rattle.wgr_core.specs.FirstAdoption.{AdoptionIsFaithful, AdoptionKeepsOwners, AdoptionKeepsUnowned};
+ghost use Rattle.wgr_core.specs.Forms.{CommandsKeepTheForms};
 
 /// The lists of a network are finite maps: where all look-ups agree, they are equal.
 pub fn lists_are_maps()
@@ -28,6 +29,11 @@ pub fn lists_are_maps()
 pub fn commands_keep_the_rules()
     ensures commands { CommandsKeepTheRules }
     ensures live { LivePeersKeepTheRules }
+{}
+
+/// And it leaves the fields of each peer of their forms: keys, labels, ends of leases, counts.
+pub fn commands_keep_the_forms()
+    ensures { CommandsKeepTheForms }
 {}
 
 /// The address that is given where none is named is free, and none below it is.

@@ -8,6 +8,7 @@ mod command;
 mod draft;
 mod fault;
 mod form;
+mod forms;
 pub mod laws;
 mod line;
 mod live;

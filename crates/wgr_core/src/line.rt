@@ -1,14 +1,16 @@
 //! What a line of a dump asks of a network.
 ghost use Rattle.std.specs.Prelude.{◌≡◌, ◌<◌, length, slice_index_or, option_map, IfSome};
 ghost use Rattle.wgr_core.specs.Adoption.{give_refusal, keyed_peer, line_place, line_refusal, named_address, names_address};
-ghost use Rattle.wgr_core.specs.Draft.{is_asked_for, line_address};
+ghost use Rattle.wgr_core.specs.Draft.{MeetsAddress, is_asked_for, line_address};
 ghost use Rattle.wgr_peers.specs.declared.peer.Peer.{Peer};
 
-use crate::network::Network;
+use crate::draft::Draft;
+use crate::fault::LineFault;
 use crate::refusal::LineRefusal;
 use crate::routes::{MAX_ROUTES, is_address};
 use crate::seen_peer::SeenPeer;
-use std::alloc::Global;
+use std::alloc::{AllocError, Global};
+use wgr_peers::PeerDraft;
 use wgr_peers::order::peer_place;
 use wgr_pool::Pool;
 use wgr_text::{Addr, Key, Prefix};
@@ -34,14 +36,32 @@ pub(crate) fn is_asked_for(pool: &Pool, line: &SeenPeer, naming: bool) -> bool
     if naming { names } else { !names }
 }
 
+// The prefixes that the lines are to lead to their peers: all but the addresses that they name.
+pub(crate) fn expected_routes(
+    alloc: Global,
+    pool: &Pool,
+    lines: &[SeenPeer],
+) -> Result<Vec<Prefix>, AllocError> {
+    let mut expected = Vec::new(alloc);
+    for line in lines {
+        let allowed = line.allowed.as_slice();
+        let own = named_address(pool, allowed).map(|address| Prefix::full(address));
+        for prefix in allowed {
+            if own != Some(*prefix) {
+                expected.push(*prefix)?;
+            }
+        }
+    }
+    Ok(expected)
+}
+
 // The place of the peer that has the key.
-pub(crate) fn keyed_place(network: &Network, key: &Key) -> Option<usize>
-    ensures value { (d : Peer) → keyed_peer network.now.peers key.now ≡ option_map (λ at. slice_index_or network.now.peers at d) result }
-    ensures within { IfSome result (λ at. at < length network.now.peers) }
+pub(crate) fn keyed_place(peers: &PeerDraft, key: &Key) -> Option<usize>
+    ensures value { (d : Peer) → keyed_peer peers.now key.now ≡ option_map (λ at. slice_index_or peers.now at d) result }
+    ensures within { IfSome result (λ at. at < length peers.now) }
 {
-    let _next = network.next();
-    match network.peers.key_holder(key) {
-        Some(number) => match peer_place(network.peers(), number) {
+    match peers.key_holder(key) {
+        Some(number) => match peer_place(peers.as_slice(), number) {
             Ok(place) => Some(place),
             Err(_) => None,
         },
@@ -49,61 +69,63 @@ pub(crate) fn keyed_place(network: &Network, key: &Key) -> Option<usize>
     }
 }
 
-// Why no peer with this key may join.
-fn line_refusal(network: &Network, key: &Key) -> Option<LineRefusal>
-    ensures { result ≡ line_refusal network.now key.now }
-{
-    if *key == network.server() {
-        return Some(LineRefusal::ServerKey);
-    }
-    if network.peers.len() >= usize::from(network.capacity().peers()) {
-        return Some(LineRefusal::CapacityReached);
-    }
-    if network.next() > 1_000_000 {
-        return Some(LineRefusal::NumbersSpent);
-    }
-    None
-}
-
-// The address that a line names, or the lowest that is free.
-fn line_place(alloc: Global, network: &Network, named: Option<Addr>) -> Result<Addr, LineRefusal>
-    ensures { result ≡ line_place network.now named }
-{
-    match named {
-        Some(address) => {
-            if network.peers.owns(&address) || network.route(&Prefix::full(address)).is_some() {
-                return Err(LineRefusal::AddressHeld);
-            }
-            Ok(address)
+impl Draft<'_> {
+    // The address that a new peer of the line takes.
+    pub(crate) fn line_address(&mut self, alloc: Global, line: &SeenPeer) -> Result<Addr, LineFault>
+        ensures place { MeetsAddress result (line_address self.old.network line.now) }
+        ensures same { self.new ≡ self.old }
+    {
+        if let Some(why) = self.line_refusal(&line.key) {
+            return Err(LineFault::Refused(why));
         }
-        None => network.lowest_free(alloc).ok_or(LineRefusal::PoolFull),
+        let named = named_address(&self.start.pool(), line.allowed.as_slice());
+        self.line_place(alloc, named)
     }
-}
 
-// The address that a new peer of the line takes.
-pub(crate) fn line_address(
-    alloc: Global,
-    network: &Network,
-    line: &SeenPeer,
-) -> Result<Addr, LineRefusal>
-    ensures { result ≡ line_address network.now line.now }
-{
-    if let Some(why) = line_refusal(network, &line.key) {
-        return Err(why);
+    // Why no peer with this key may join.
+    fn line_refusal(&self, key: &Key) -> Option<LineRefusal>
+        ensures { result ≡ line_refusal self.now.network key.now }
+    {
+        if *key == self.start.server() {
+            return Some(LineRefusal::ServerKey);
+        }
+        if self.peers.len() >= usize::from(self.start.capacity().peers()) {
+            return Some(LineRefusal::CapacityReached);
+        }
+        if self.next() > 1_000_000 {
+            return Some(LineRefusal::NumbersSpent);
+        }
+        None
     }
-    let named = named_address(&network.pool(), line.allowed.as_slice());
-    line_place(alloc, network, named)
-}
 
-// Why the prefix can't be a route.
-pub(crate) fn give_refusal(network: &Network, prefix: &Prefix) -> Option<LineRefusal>
-    ensures { result ≡ give_refusal network.now prefix.now }
-{
-    if is_address(&network.pool(), &network.peers, prefix) {
-        return Some(LineRefusal::IsAddress);
+    // The address that a line names, or the lowest that is free.
+    fn line_place(&mut self, alloc: Global, named: Option<Addr>) -> Result<Addr, LineFault>
+        ensures place { MeetsAddress result (line_place self.old.network named) }
+        ensures same { self.new ≡ self.old }
+    {
+        let Some(address) = named else {
+            let lowest = self
+                .peers
+                .lowest_free(alloc, &self.start.pool(), &self.routes)?;
+            return lowest.ok_or(LineFault::Refused(LineRefusal::PoolFull));
+        };
+        if self.peers.owns(&address) || self.routes.route(&Prefix::full(address)).is_some() {
+            return Err(LineFault::Refused(LineRefusal::AddressHeld));
+        }
+        Ok(address)
     }
-    if network.route(prefix).is_none() && network.routes.len() >= MAX_ROUTES {
-        return Some(LineRefusal::RoutesFull);
+
+    // Why the prefix can't be a route.
+    pub(crate) fn give_refusal(&self, prefix: &Prefix) -> Option<LineRefusal>
+        ensures { result ≡ give_refusal self.now.network prefix.now }
+    {
+        let is_owned = self.peers.owns(&prefix.address());
+        if is_address(&self.start.pool(), prefix, is_owned) {
+            return Some(LineRefusal::IsAddress);
+        }
+        if self.routes.route(prefix).is_none() && self.routes.len() >= MAX_ROUTES {
+            return Some(LineRefusal::RoutesFull);
+        }
+        None
     }
-    None
 }

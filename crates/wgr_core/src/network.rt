@@ -1,14 +1,15 @@
-ghost use Rattle.std.specs.Prelude.{◌≡◌, ℕ, ◌≤◌, [], ◌∷◌, ◌++◌, ◌↔◌, IsSome, IfSome, IfOk, OnOk, OnErr, is_some};
+ghost use Rattle.std.specs.Prelude.{◌≡◌, [], ◌∷◌, ◌↔◌, IsSome, IfSome, IfOk, OnOk, OnErr, is_some};
 ghost use Rattle.std.specs.List.{filter};
 ghost use Rattle.std.specs.Option.{option_copied};
 ghost use Rattle.wgr_peers.specs.Peers.{peer_of, put_peer};
-ghost use Rattle.wgr_peers.specs.PeerIndex.{IsAlikeAt, IsKeyedAt};
+ghost use Rattle.wgr_peers.specs.PeersLeft.{peers_after};
 ghost use Rattle.wgr_core.specs.Network.{NetworkValue, IsNetwork, live_at, without_peers};
 ghost use Rattle.wgr_core.specs.Parts.{network_of};
 ghost use Rattle.wgr_peers.specs.Routes.{assign_route, without_route};
 
 use crate::parts::{Parts, are_ordered, are_routes};
 use std::alloc::{AllocError, Global};
+use std::collections::HashSet;
 use std::marker::Model;
 use wgr_peers::order::{drop_route, drop_routes_to, put_route};
 use wgr_peers::{Capacity, Host, Peer, PeerTable, Port};
@@ -198,38 +199,14 @@ impl Network {
         })
     }
 
-    // Puts in a peer whose number is not given yet, and goes on at `next`; for want of memory the
-    // network is as before.
-    pub(crate) fn join(&mut self, peer: Peer, next: u32) -> Result<(), AllocError>
-        requires above { self.old.next ≤ peer.number }
-        requires fits { IsNetwork (record self.old { peers = self.old.peers ++ peer ∷ []; next = next }) }
-        ensures ok { OnOk result (self.new ≡ record self.old { peers = self.old.peers ++ peer ∷ []; next = next }) }
-        ensures err { OnErr result (self.new ≡ self.old) }
-    {
-        self.peers.push(peer)?;
-        self.next = next;
-        Ok(())
-    }
-
-    // Puts a peer in the place of one that has its number, key and address, and goes on at `next`.
-    pub(crate) fn replace(&mut self, place: usize, peer: Peer, next: u32)
-        requires alike { IsAlikeAt self.old.peers peer place }
-        requires fits { IsNetwork (record self.old { peers = put_peer self.old.peers peer; next = next }) }
-        ensures { self.new ≡ record self.old { peers = put_peer self.old.peers peer; next = next } }
-    {
-        self.peers.replace(place, peer);
-        self.next = next;
-    }
-
-    // Puts a peer in the place of one that has its number and key, and goes on at `next`; for want
-    // of memory the network is as before.
-    pub(crate) fn relocate(&mut self, place: usize, peer: Peer, next: u32) -> Result<(), AllocError>
-        requires keyed { IsKeyedAt self.old.peers peer place }
-        requires fits { IsNetwork (record self.old { peers = put_peer self.old.peers peer; next = next }) }
+    // Puts in a peer, in the place of the one of its number if there is one, and goes on at `next`;
+    // for want of memory the network is as before.
+    pub(crate) fn put(&mut self, peer: Peer, next: u32) -> Result<(), AllocError>
+        requires { IsNetwork (record self.old { peers = put_peer self.old.peers peer; next = next }) }
         ensures ok { OnOk result (self.new ≡ record self.old { peers = put_peer self.old.peers peer; next = next }) }
         ensures err { OnErr result (self.new ≡ self.old) }
     {
-        self.peers.relocate(place, peer)?;
+        self.peers.put(peer)?;
         self.next = next;
         Ok(())
     }
@@ -243,6 +220,25 @@ impl Network {
     {
         self.peers.remove(number)?;
         drop_routes_to(&mut self.routes, number);
+        self.next = next;
+        Ok(())
+    }
+
+    // Takes away the peers of these numbers, puts in the one that comes, has these routes in place of
+    // its own, and goes on at `next`; for want of memory the network is as before.
+    pub(crate) fn change(
+        &mut self,
+        gone: HashSet<u32>,
+        coming: Option<Peer>,
+        routes: Vec<(Prefix, u32)>,
+        next: u32,
+    ) -> Result<(), AllocError>
+        requires { IsNetwork (record self.old { peers = peers_after self.old.peers gone.keys coming; routes = routes.items; next = next }) }
+        ensures ok { OnOk result (self.new ≡ record self.old { peers = peers_after self.old.peers gone.keys coming; routes = routes.items; next = next }) }
+        ensures err { OnErr result (self.new ≡ self.old) }
+    {
+        self.peers.change(gone, coming)?;
+        self.routes = routes;
         self.next = next;
         Ok(())
     }

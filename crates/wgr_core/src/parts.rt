@@ -82,7 +82,8 @@ fn is_route(pool: &Pool, peers: &PeerTable, route: &(Prefix, u32)) -> bool
     ensures { (n : NetworkValue) → n.pool ≡ pool.now → n.peers ≡ peers.now → IsTrue result ↔ IsRoute n route.now }
 {
     let (_address, _length) = (route.0.address(), route.0.length());
-    peers.peer(route.1).is_some() && !is_address(pool, peers, &route.0)
+    let is_owned = peers.owns(&route.0.address());
+    peers.peer(route.1).is_some() && !is_address(pool, &route.0, is_owned)
 }
 
 // Whether each prefix comes before the next one.

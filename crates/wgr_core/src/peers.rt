@@ -224,15 +224,6 @@ impl Live<'_> {
     }
 }
 
-impl Network {
-    // The lowest address that nobody holds, where all leases run.
-    pub(crate) fn lowest_free(&self, alloc: Global) -> Option<Addr>
-        ensures { result ≡ lowest_free self.now }
-    {
-        lowest_beside(self, &HashSet::new(alloc))
-    }
-}
-
 // The lowest address that no peer has, live or over, and no route but those to the peers of these
 // numbers.
 fn lowest_beside(network: &Network, over: &HashSet<u32>) -> Option<Addr>

@@ -8,7 +8,7 @@ ghost use Rattle.wgr_core.specs.Network.{NetworkValue, is_address};
 ghost use Rattle.wgr_core.specs.Owner.{longest_match, longer, owner_of, own_prefixes};
 ghost use Rattle.wgr_core.specs.Outcome.{route, route_refusal, unroute, view_of};
 ghost use Rattle.wgr_peers.specs.Ordered.{EndsAt};
-ghost use Rattle.wgr_peers.specs.Peers.{AreNumbered};
+ghost use Rattle.wgr_peers.specs.Peers.{AreNumbered, is_own};
 ghost use Rattle.wgr_peers.specs.declared.peer.Peer.{Peer};
 ghost use Rattle.wgr_pool.specs.PrefixTests.{full, has};
 ghost use Rattle.wgr_peers.specs.Routes.{Routes, route_of, routes_to};
@@ -21,7 +21,7 @@ use crate::refusal::Refusal;
 use crate::reply::{PeerView, Reply};
 use std::alloc::{AllocError, Global};
 use wgr_peers::order::{drop_route, is_same, put_route, route_place};
-use wgr_peers::{Items, Peer, PeerTable};
+use wgr_peers::{Items, Peer};
 use wgr_pool::Pool;
 use wgr_text::{Addr, Prefix};
 
@@ -101,9 +101,7 @@ impl Live<'_> {
     fn is_address(&self, prefix: &Prefix) -> bool
         ensures { result ≡ is_address self.now prefix.now }
     {
-        let address = prefix.address();
-        (is_same(prefix, &Prefix::full(address)) && self.owns(&address))
-            || is_same(prefix, &Prefix::full(self.pool().server()))
+        is_address(&self.pool(), prefix, self.owns(&prefix.address()))
     }
 
     // The live peer to which the longest allowed prefix with the address leads.
@@ -248,12 +246,12 @@ impl Network {
     }
 }
 
-// Whether the prefix is the address of one of these peers, or the server's.
-pub(crate) fn is_address(pool: &Pool, peers: &PeerTable, prefix: &Prefix) -> bool
-    ensures { (n : NetworkValue) → n.pool ≡ pool.now → n.peers ≡ peers.now → result ≡ is_address n prefix.now }
+// Whether the prefix is the server's address or a peer's; `is_owned` tells whether a peer has the
+// prefix's address.
+pub(crate) fn is_address(pool: &Pool, prefix: &Prefix, is_owned: bool) -> bool
+    ensures { (n : NetworkValue) → n.pool ≡ pool.now → is_own n.peers prefix.now.address ≡ is_owned → result ≡ is_address n prefix.now }
 {
-    let address = prefix.address();
-    (is_same(prefix, &Prefix::full(address)) && peers.owns(&address))
+    (is_owned && is_same(prefix, &Prefix::full(prefix.address())))
         || is_same(prefix, &Prefix::full(pool.server()))
 }
 

@@ -1,5 +1,6 @@
 //! What no contract says: that calls succeed, and the texts of refusals. The expected values are
 //! written by hand.
+mod adopt;
 mod commands;
 mod files;
 mod over;
@@ -9,7 +10,7 @@ mod refusals;
 use super::*;
 use std::alloc::Global;
 use std::test::Fail;
-use wgr_text::{Addr, Key, Prefix, read_loose};
+use wgr_text::{Addr, Family, Key, Prefix, read_loose};
 
 fn address(text: &str) -> Result<Addr, Fail> {
     Ok(Addr::read(text.as_bytes()).ok_or("no address")?)
@@ -50,4 +51,23 @@ fn empty(alloc: Global, pool_text: &str, capacity: u16, next: u32) -> Result<Par
         peers: Vec::new(alloc),
         routes: Vec::new(alloc),
     })
+}
+
+// The parts of a network that has three peers and as many routes as it may: the last of them leads
+// to the peer 3, which is over at 100, and the others to the peer 1.
+fn full_of_routes(alloc: Global) -> Result<Parts, Fail> {
+    let mut parts = empty(alloc, "10.8.0.0/24", 8, 4)?;
+    parts.peers.push(peer(alloc, 1, 1, "10.8.0.2")?)?;
+    parts.peers.push(peer(alloc, 2, 2, "10.8.0.3")?)?;
+    let mut last = peer(alloc, 3, 3, "10.8.0.4")?;
+    last.until = LeaseEnd::new(100).ok_or("no end")?;
+    parts.peers.push(last)?;
+    for count in 0..4096u32 {
+        // from 10.64.0.0 on
+        let number = 0x0a40_0000 + u128::from(count);
+        let address = Addr::new(Family::V4, number).ok_or("no address")?;
+        let owner = if count == 4095 { 3 } else { 1 };
+        parts.routes.push((Prefix::full(address), owner))?;
+    }
+    Ok(parts)
 }

@@ -4,6 +4,7 @@ use Rattle.std.specs.List.{All, AllPairs, remove}
 use Rattle.std.specs.HashMap.{HashMap, get}
 use Rattle.std.specs.declared.hash.FoldHasher.{FoldHasher}
 use Rattle.std.specs.declared.hash.BuildHasherDefault.{BuildHasherDefault}
+use Rattle.std.proofs.lemmas.Bool.{cases_eq}
 use Rattle.std.proofs.lemmas.Bool.Decides.{nat_tests}
 use Rattle.std.proofs.lemmas.List.Elements.{All-filter, All-weaker}
 use Rattle.wgr_peers.proofs.PeerLemmas.{own_without}
@@ -17,11 +18,11 @@ use Rattle.wgr_peers.specs.Ordered.{EndsAt}
 use Rattle.wgr_peers.specs.Peers.{is_own, key_holder, peer_of, put_peer, same_key, without_peer, IsNumberedBelow, AreNumbered, IsApart, AreApart}
 use Rattle.wgr_peers.specs.PeerIndex.{IsIndexed, IsKeyedAt, EndsFrom}
 use Rattle.wgr_pool.proofs.Lists.{AllPairs-filter, AllPairs-head, AllPairs-tail}
-use Rattle.wgr_pool.proofs.Bools.{decide, or_cases, or_left, or_right}
+use Rattle.wgr_pool.proofs.Bools.{decide, not_true, or_cases, or_left, or_right}
 use Rattle.wgr_pool.proofs.PrefixLemmas.{nat_eq_is}
-use Rattle.wgr_peers.proofs.OrderedLemmas.{drop_found, drop_absent, put_found, put_all, put_pairs}
+use Rattle.wgr_peers.proofs.OrderedLemmas.{drop_found, drop_absent, only_there, put_found, put_all, put_pairs}
 use Rattle.wgr_peers.proofs.PlaceLemmas.{peers_placed}
-use Rattle.wgr_peers.proofs.TableLemmas.{same_key_is, holder_absent, peer_present, keyed_ends, ends_sooner}
+use Rattle.wgr_peers.proofs.TableLemmas.{same_key_is, holder_absent, peer_absent, peer_present, keyed_ends, ends_sooner}
 
 abbrev Numbers : Type 0
 Numbers = HashMap Key ℕ (BuildHasherDefault FoldHasher)
@@ -35,7 +36,7 @@ lead number p q l same = grind (arith, nat_tests)
 pub peer_removed : (peers : List Peer) (number at : ℕ) → AreNumbered peers → EndsAt (λ (p : Peer). nat_lt p.number number) (λ p. nat_eq p.number number) peers (Ok at) → without_peer peers number ≡ remove peers at
 peer_removed peers number at pairs ends = drop_found IsNumberedBelow (λ (p : Peer). nat_lt p.number number) (λ p. nat_eq p.number number) peers at pairs ends (level number) (lead number)
 
-key_apart : (q r : Peer) (key : Key) → IsApart q r → same_key q.key key ≡ true → same_key r.key key ≡ false
+pub key_apart : (q r : Peer) (key : Key) → IsApart q r → same_key q.key key ≡ true → same_key r.key key ≡ false
 key_apart q r key apart mine = elim (decide (same_key r.key key)) [
   | inl too ↦ let bad : true ≡ false = sym mine ∙ ap (same_key q.key) (sym (same_key_is r.key key too)) ∙ apart.0 in cc
   | inr other ↦ other
@@ -63,6 +64,10 @@ holder_removed (q ∷ peers) (suc at) d key pairs l =
           ∙ sym (ap (λ b. cond (same_key (get_or peers at d).key key) None (cond b (Some q.number) (key_holder peers key))) apart)
     ]
 
+pub search_found : (peers : List Peer) (number at : ℕ) (p : Peer) → AreNumbered peers → EndsAt (λ (q : Peer). nat_lt q.number number) (λ q. nat_eq q.number number) peers (Ok at) → p ≡ get_or peers at p → peer_of peers number ≡ Some p
+search_found peers number at p pairs ends at_is =
+    peer_present peers number at p pairs ends.1 (nat_eq_is (get_or peers at p).number number (ends.2 p)) ∙ ap Some (sym at_is)
+
 pub indexed_removed : (peers : List Peer) (numbers numbers' : Numbers) (runs runs' : List Span) (soonest number at : ℕ) (p : Peer)
     → IsIndexed peers numbers runs soonest → AreApart peers → EndsAt (λ (q : Peer). nat_lt q.number number) (λ q. nat_eq q.number number) peers (Ok at) → p ≡ get_or peers at p
     → ((key : Key) → get same_key numbers' key ≡ cond (same_key p.key key) None (get same_key numbers key))
@@ -70,7 +75,7 @@ pub indexed_removed : (peers : List Peer) (numbers numbers' : Numbers) (runs run
     → IsIndexed (remove peers at) numbers' runs' soonest
 indexed_removed peers numbers numbers' runs runs' soonest number at p is apart ends at_is by_key by_address =
     let removed = peer_removed peers number at is.in_order ends in
-    let found : peer_of peers number ≡ Some p = peer_present peers number at p is.in_order ends.1 (nat_eq_is (get_or peers at p).number number (ends.2 p)) ∙ ap Some (sym at_is) in
+    let found = search_found peers number at p is.in_order ends at_is in
     let own = λ (b : AddrValue). ap (λ ps. is_own ps b) (sym removed) ∙ own_without peers number p b is.in_order apart found in
     record {
       in_order = subst (AllPairs IsNumberedBelow) removed (AllPairs-filter IsNumberedBelow (λ q. not (nat_eq q.number number)) peers is.in_order);
@@ -91,6 +96,13 @@ indexed_removed peers numbers numbers' runs runs' soonest number at p is apart e
 
 pub peer_not_there : (peers : List Peer) (number at : ℕ) → AreNumbered peers → EndsAt (λ (p : Peer). nat_lt p.number number) (λ p. nat_eq p.number number) peers (Err at) → without_peer peers number ≡ peers
 peer_not_there peers number at pairs ends = drop_absent IsNumberedBelow (λ (p : Peer). nat_lt p.number number) (λ p. nat_eq p.number number) peers at pairs ends (level number) (lead number)
+
+pub search_absent : (peers : List Peer) (number at : ℕ) → AreNumbered peers → EndsAt (λ (p : Peer). nat_lt p.number number) (λ p. nat_eq p.number number) peers (Err at) → peer_of peers number ≡ None
+search_absent peers number at pairs ends = peer_absent peers number (λ k d h. elim (cases_eq k at) [
+  | inl here ↦ subst (λ (i : ℕ). nat_eq (get_or peers i d).number number ≡ false) (sym here) (ends.1 d (subst (λ (i : ℕ). i < length peers) here h))
+  | inr apart ↦
+      not_true (nat_eq (get_or peers k d).number number) (only_there IsNumberedBelow (λ (p : Peer). nat_lt p.number number) (λ p. nat_eq p.number number) peers at pairs ends.0 (level number) (lead number) k d h apart)
+])
 
 pub keyed_place : (peers : List Peer) (p : Peer) (at : ℕ) → AreNumbered peers → IsKeyedAt peers p at → put_peer peers p ≡ set peers at p
 keyed_place peers p at pairs keyed = put_found (λ q. nat_lt q.number p.number) (λ q. nat_eq q.number p.number) peers p at (keyed_ends peers p at pairs keyed)

@@ -4,8 +4,13 @@ pub mod PutLemmas
 pub mod PeerLemmas
 pub mod TableLemmas
 pub mod IndexLemmas
+pub mod LeftLemmas
+pub mod ExchangeLemmas
+pub mod CollectLemmas
+pub mod DraftedLemmas
 pub mod TestLemmas
 pub mod RouteLemmas
+pub mod SlotLemmas
 pub mod RouteLengths
 pub mod MapLemmas
 pub mod TextLemmas

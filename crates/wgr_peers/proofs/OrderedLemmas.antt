@@ -117,7 +117,7 @@ filter_but p (y ∷ ys) (suc at) d l fails others =
     ∙ ap (λ zs. y ∷ zs) (filter_but p ys at d (omega (arith, l)) fails (λ k d h apart. others (suc k) d (omega (arith, h)) (λ e. apart (omega (arith, e)))))
 
 -- only the item at the place can be the same
-only_there : {X : Type 0} (R : X → X → Type 0) (is_below is_same : X → Bool) (xs : List X) (at : ℕ) → AllPairs R xs → IsPlace is_below xs at
+pub only_there : {X : Type 0} (R : X → X → Type 0) (is_below is_same : X → Bool) (xs : List X) (at : ℕ) → AllPairs R xs → IsPlace is_below xs at
     → ((y : X) → is_same y ≡ true → is_below y ≡ false) → ((y z : X) → R y z → is_same z ≡ true → is_below y ≡ true)
     → (k : ℕ) (d : X) → k < length xs → (k ≡ at → ⊥) → not (is_same (get_or xs k d)) ≡ true
 only_there R is_below is_same xs at pairs place level down k d h apart = elim (decide (is_same (get_or xs k d))) [

@@ -76,7 +76,7 @@ above_not m n l = grind (arith, nat_tests)
 apart_from : (q p a : AddrValue) → same_address q p ≡ false → same_address p a ≡ true → same_address q a ≡ false
 apart_from q p a apart same = subst (λ x. same_address q x ≡ false) (same_address_is p a same) apart
 
-apart_too : (q r a : AddrValue) → same_address q r ≡ false → same_address q a ≡ true → same_address r a ≡ false
+pub apart_too : (q r a : AddrValue) → same_address q r ≡ false → same_address q a ≡ true → same_address r a ≡ false
 apart_too q r a apart same = elim (decide (same_address r a)) [
   | inr f ↦ f
   | inl t ↦

@@ -14,7 +14,7 @@ use Rattle.wgr_pool.proofs.PrefixLemmas.{nat_eq_self}
 
 -- ---- the route of a prefix
 
-not_same : (p : PrefixValue) (r : PrefixValue × ℕ) → is_before r.0 p ≡ true → same_prefix r.0 p ≡ false
+pub not_same : (p : PrefixValue) (r : PrefixValue × ℕ) → is_before r.0 p ≡ true → same_prefix r.0 p ≡ false
 not_same p r before = elim (decide (same_prefix r.0 p)) [
   | inl same ↦ let bad : true ≡ false = sym before ∙ routes_level p r same in cc
   | inr apart ↦ apart
@@ -31,7 +31,7 @@ route_at (r ∷ routes) p (suc at) d before l same =
 pub route_found : (routes : Routes) (p : PrefixValue) (at : ℕ) (d : PrefixValue × ℕ) → EndsAt (λ r. is_before r.0 p) (λ r. same_prefix r.0 p) routes (Ok at) → route_of routes p ≡ Some (get_or routes at d).1
 route_found routes p at d ends = route_at routes p at d ends.0.before ends.1 (ends.2 d)
 
-route_none : (routes : Routes) (p : PrefixValue) → All (λ r. not (same_prefix r.0 p) ≡ true) routes → route_of routes p ≡ None
+pub route_none : (routes : Routes) (p : PrefixValue) → All (λ r. not (same_prefix r.0 p) ≡ true) routes → route_of routes p ≡ None
 route_none [] p all = refl
 route_none (r ∷ routes) p all =
     ap (λ b. cond b (Some r.1) (route_of routes p)) (not_true (same_prefix r.0 p) (All-head (λ r. not (same_prefix r.0 p) ≡ true) r routes all))
@@ -57,7 +57,7 @@ fails_after R is_below test y ys first down h = λ k d l. elim (decide (test (ge
   | inr f ↦ f
 ]
 
-filter_put : {X : Type 0} (R : X → X → Type 0) (is_below is_same q : X → Bool) (xs : List X) (x : X) → q x ≡ true → AllPairs R xs
+pub filter_put : {X : Type 0} (R : X → X → Type 0) (is_below is_same q : X → Bool) (xs : List X) (x : X) → q x ≡ true → AllPairs R xs
     → ((y z : X) → R y z → is_below z ≡ true → is_below y ≡ true) → ((y z : X) → R y z → is_same z ≡ true → is_below y ≡ true)
     → filter q (put_in_order is_below is_same xs x) ≡ put_in_order is_below is_same (filter q xs) x
 filter_put R is_below is_same q [] x kept pairs down lead = ap (λ b. cond b (x ∷ []) []) kept

@@ -33,11 +33,11 @@ Numbers = HashMap Key ℕ (BuildHasherDefault FoldHasher)
 pub same_key_is : (a b : Key) → same_key a b ≡ true → a ≡ b
 same_key_is a b h = let bytes = same_text a.0 b.0 (sym h) in ap (λ (xs : List ℕ). record { 0 = xs }) bytes
 
-holder_push_other : (peers : List Peer) (p : Peer) (key : Key) → same_key p.key key ≡ false → key_holder (peers ++ p ∷ []) key ≡ key_holder peers key
+pub holder_push_other : (peers : List Peer) (p : Peer) (key : Key) → same_key p.key key ≡ false → key_holder (peers ++ p ∷ []) key ≡ key_holder peers key
 holder_push_other [] p key apart = ap (λ b. cond b (Some p.number) None) apart
 holder_push_other (q ∷ peers) p key apart = ap (λ (o : Option ℕ). cond (same_key q.key key) (Some q.number) o) (holder_push_other peers p key apart)
 
-holder_push_same : (peers : List Peer) (p : Peer) (key : Key) → same_key p.key key ≡ true → key_holder peers key ≡ None → key_holder (peers ++ p ∷ []) key ≡ Some p.number
+pub holder_push_same : (peers : List Peer) (p : Peer) (key : Key) → same_key p.key key ≡ true → key_holder peers key ≡ None → key_holder (peers ++ p ∷ []) key ≡ Some p.number
 holder_push_same [] p key same none = ap (λ b. cond b (Some p.number) None) same
 holder_push_same (q ∷ peers) p key same none =
     elim (decide (same_key q.key key)) [
@@ -47,7 +47,7 @@ holder_push_same (q ∷ peers) p key same none =
           ap (λ b. cond b (Some q.number) (key_holder (peers ++ p ∷ []) key)) f ∙ holder_push_same peers p key same rest
     ]
 
-own_push : (peers : List Peer) (p : Peer) (b : AddrValue) → is_own (peers ++ p ∷ []) b ≡ (is_own peers b || same_address p.address b)
+pub own_push : (peers : List Peer) (p : Peer) (b : AddrValue) → is_own (peers ++ p ∷ []) b ≡ (is_own peers b || same_address p.address b)
 own_push [] p b = or_false_right (same_address p.address b)
   where
     or_false_right : (x : Bool) → (x || false) ≡ (false || x)
@@ -214,7 +214,7 @@ alike_tail q peers p at alike = record {
   address = alike.address;
 }
 
-alike_holder : (peers : List Peer) (p : Peer) (at : ℕ) (key : Key) → IsAlikeAt peers p at → key_holder (set peers at p) key ≡ key_holder peers key
+pub alike_holder : (peers : List Peer) (p : Peer) (at : ℕ) (key : Key) → IsAlikeAt peers p at → key_holder (set peers at p) key ≡ key_holder peers key
 alike_holder [] p at key alike = refl
 alike_holder (q ∷ peers) p zero key alike =
     ap (λ k. cond (same_key k key) (Some p.number) (key_holder peers key)) (sym (alike.key q))
@@ -222,7 +222,7 @@ alike_holder (q ∷ peers) p zero key alike =
 alike_holder (q ∷ peers) p (suc at) key alike =
     ap (λ (o : Option ℕ). cond (same_key q.key key) (Some q.number) o) (alike_holder peers p at key (alike_tail q peers p at alike))
 
-alike_own : (peers : List Peer) (p : Peer) (at : ℕ) (b : AddrValue) → IsAlikeAt peers p at → is_own (set peers at p) b ≡ is_own peers b
+pub alike_own : (peers : List Peer) (p : Peer) (at : ℕ) (b : AddrValue) → IsAlikeAt peers p at → is_own (set peers at p) b ≡ is_own peers b
 alike_own [] p at b alike = refl
 alike_own (q ∷ peers) p zero b alike = ap (λ a. same_address a b || is_own peers b) (sym (alike.address q))
 alike_own (q ∷ peers) p (suc at) b alike = ap (λ x. same_address q.address b || x) (alike_own peers p at b (alike_tail q peers p at alike))

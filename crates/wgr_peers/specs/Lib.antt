@@ -3,6 +3,9 @@ pub mod Limits
 pub mod Label
 pub mod Peers
 pub mod Routes
+pub mod RouteSlots
 pub mod PeerIndex
+pub mod PeersLeft
+pub mod PeerDraft
 pub mod Host
 pub mod Name

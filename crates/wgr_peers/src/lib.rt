@@ -9,7 +9,9 @@ mod limits;
 mod name;
 pub mod order;
 mod peer;
+mod peer_draft;
 mod peer_table;
+mod route_slots;
 
 pub use host::Host;
 pub use items::Items;
@@ -17,7 +19,9 @@ pub use label::Label;
 pub use limits::{Capacity, Count, LeaseEnd, Port};
 pub use name::Name;
 pub use peer::{Peer, Status};
+pub use peer_draft::PeerDraft;
 pub use peer_table::{Over, PeerTable};
+pub use route_slots::RouteSlots;
 
 #[cfg(test)]
 mod tests;

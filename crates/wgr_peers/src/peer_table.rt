@@ -1,10 +1,12 @@
-ghost use Rattle.std.specs.Prelude.{◌≡◌, ℕ, ◌+◌, ◌<◌, ◌≤◌, ◌↔◌, ◌⊎◌, List, [], ◌∷◌, ◌++◌, length, IsTrue, IsSome, IfSome, IfOk, OnOk, OnErr, All, None, false, true};
+ghost use Rattle.std.specs.Prelude.{◌≡◌, ◌+◌, ◌<◌, ◌≤◌, ◌↔◌, ◌⊎◌, List, [], ◌∷◌, ◌++◌, length, map, IsTrue, IsSome, IfSome, IfOk, OnOk, OnErr, All, None, true};
+ghost use Rattle.std.specs.HashMap.{get};
 ghost use Rattle.std.specs.List.{filter};
 ghost use Rattle.std.specs.Option.{option_copied};
 ghost use Rattle.wgr_text.specs.Prefix.{AddrValue, IsAddr};
+ghost use Rattle.wgr_text.specs.declared.key.Key.{Key as KeyValue};
 ghost use Rattle.wgr_pool.specs.Spans.{IsHeld};
-ghost use Rattle.wgr_peers.specs.Peers.{is_live, is_own, expired, expired_addresses, key_holder, peer_of, put_peer, without_peer, AreNumbered, IsApart, AreApart};
-ghost use Rattle.wgr_peers.specs.PeerIndex.{IsAlikeAt, IsKeyedAt};
+ghost use Rattle.wgr_peers.specs.Peers.{is_live, is_own, expired, expired_addresses, key_holder, peer_of, put_peer, same_key, without_peer, AreNumbered, IsApart, AreApart};
+ghost use Rattle.wgr_peers.specs.PeerIndex.{EndsFrom, IsAlikeAt, IsKeyedAt};
 
 use crate::items::Items;
 use crate::limits::LeaseEnd;
@@ -15,6 +17,8 @@ use std::collections::HashMap;
 use std::marker::Model;
 use wgr_pool::AddressSet;
 use wgr_text::{Addr, Key};
+
+mod change;
 
 /// The peers whose lease is over at a moment.
 #[derive(Debug, Drop)]
@@ -128,8 +132,8 @@ impl PeerTable {
 }
 
 impl PeerTable {
-    /// The place of the peer that has this peer's number, key and address.
-    pub fn place_alike(&self, peer: &Peer) -> Option<usize>
+    // The place of the peer that has this peer's number, key and address.
+    fn place_alike(&self, peer: &Peer) -> Option<usize>
         ensures { IfSome result (λ at. IsAlikeAt self.now peer.now at) }
     {
         match peer_place(&self.peers, peer.number) {
@@ -138,9 +142,9 @@ impl PeerTable {
         }
     }
 
-    /// Puts a peer in the place of one that has its number, key and address, so that the indexes
-    /// stay as they are.
-    pub fn replace(&mut self, place: usize, peer: Peer)
+    // Puts a peer in the place of one that has its number, key and address, so that the indexes
+    // stay as they are.
+    fn replace(&mut self, place: usize, peer: Peer)
         requires { IsAlikeAt self.old peer place }
         ensures { self.new ≡ put_peer self.old peer }
     {
@@ -149,8 +153,8 @@ impl PeerTable {
         self.soonest_end = sooner(self.soonest_end, until);
     }
 
-    /// The place of the peer that has this peer's number and key.
-    pub fn place_keyed(&self, peer: &Peer) -> Option<usize>
+    // The place of the peer that has this peer's number and key.
+    fn place_keyed(&self, peer: &Peer) -> Option<usize>
         ensures { IfSome result (λ at. IsKeyedAt self.now peer.now at) }
     {
         match peer_place(&self.peers, peer.number) {
@@ -159,9 +163,9 @@ impl PeerTable {
         }
     }
 
-    /// Puts a peer in the place of one that has its number and key, at another address; for want of
-    /// memory the table is as before.
-    pub fn relocate(&mut self, at: usize, peer: Peer) -> Result<(), AllocError>
+    // Puts a peer in the place of one that has its number and key, at another address; for want of
+    // memory the table is as before.
+    fn relocate(&mut self, at: usize, peer: Peer) -> Result<(), AllocError>
         requires keyed { IsKeyedAt self.old peer at }
         requires apart { AreApart self.old }
         ensures ok { OnOk result (self.new ≡ put_peer self.old peer) }
@@ -203,11 +207,12 @@ impl PeerTable {
         requires apart { AreApart peers.items }
         ensures { IfOk result (λ table. table ≡ peers.items) }
     {
-        let mut table = PeerTable::new(alloc);
-        for peer in peers {
-            table.push(peer)?;
-        }
-        Ok(table)
+        Ok(PeerTable {
+            numbers: numbers_by_key(alloc, &peers)?,
+            addresses: AddressSet::collect(alloc, addresses_of(alloc, &peers)?)?,
+            soonest_end: soonest_end(&peers),
+            peers,
+        })
     }
 
     /// The table of these peers, if their numbers rise and no two of them have a key or an address
@@ -297,4 +302,34 @@ fn sooner(moment: u64, until: LeaseEnd) -> u64
     } else {
         moment
     }
+}
+
+// The number of each key's peer.
+fn numbers_by_key(alloc: Global, peers: &[Peer]) -> Result<HashMap<Key, u32>, AllocError>
+    requires { AreApart peers.now }
+    ensures { IfOk result (λ numbers. (key : KeyValue) → get same_key numbers key ≡ key_holder peers.now key) }
+{
+    let mut numbers = HashMap::new(alloc);
+    for peer in peers {
+        numbers.insert(peer.key, peer.number)?;
+    }
+    Ok(numbers)
+}
+
+// The addresses of the peers, in the order of their numbers.
+pub(crate) fn addresses_of(alloc: Global, peers: &[Peer]) -> Result<Vec<Addr>, AllocError>
+    ensures { IfOk result (λ addresses. addresses.items ≡ map (λ p. p.address) peers.now) }
+{
+    peers.iter().map(|peer| peer.address).collect(alloc)
+}
+
+// A moment before which no lease ends; the greatest number where none ends.
+fn soonest_end(peers: &[Peer]) -> u64
+    ensures { All (EndsFrom result) peers.now }
+{
+    let mut soonest = u64::MAX;
+    for peer in peers {
+        soonest = sooner(soonest, peer.until);
+    }
+    soonest
 }

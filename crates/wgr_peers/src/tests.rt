@@ -3,6 +3,7 @@ use super::*;
 use crate::order::{comes_before, drop_route, put_peer, put_route};
 use std::alloc::Global;
 use std::test::Fail;
+use wgr_pool::{AddressSet, Pool};
 use wgr_text::{Addr, Key, Prefix, read_loose};
 
 fn address(text: &str) -> Result<Addr, Fail> {
@@ -106,6 +107,40 @@ fn orders_routes(rt: HostRuntime) -> Result<(), Fail> {
     drop_route(&mut routes, &prefix("10.0.0.0/9")?);
     let want = [(prefix("10.0.0.0/8")?, 3), (prefix("fd00::/64")?, 4)];
     assert_eq!(rt; routes.as_slice(), want.as_slice());
+    Ok(())
+}
+
+#[test]
+fn keeps_slots(rt: HostRuntime) -> Result<(), Fail> {
+    let alloc = rt.alloc();
+    let (low, high) = (prefix("10.8.0.0/30")?, prefix("10.8.0.4/30")?);
+    let (outside, unexpected) = (prefix("10.9.0.0/16")?, prefix("10.7.0.0/16")?);
+    let mut expected = Vec::new(alloc);
+    for prefix in [outside, low, high, outside] {
+        expected.push(prefix)?;
+    }
+    let mut slots = RouteSlots::new(alloc, &[(high, 2)], expected)?;
+    assert_eq!(rt; slots.len(), 1);
+    assert_eq!(rt; slots.route(&high), Some(2));
+    assert_eq!(rt; slots.route(&low), None);
+    // A vacant slot holds no address, and its route does.
+    let pool = Pool::new(address("10.8.0.0")?, 29)?;
+    let none = AddressSet::new(alloc);
+    assert_eq!(rt; slots.lowest_free(&pool, &none), Some(address("10.8.0.2")?));
+    slots.put(low, 3)?;
+    assert_eq!(rt; slots.lowest_free(&pool, &none), None);
+    // A prefix without a slot, a route led elsewhere, and a number that meant a vacant slot.
+    slots.put(unexpected, 4)?;
+    slots.put(high, 5)?;
+    slots.put(prefix("fd00::/64")?, 0)?;
+    assert_eq!(rt; slots.len(), 4);
+    let want = [
+        (unexpected, 4),
+        (low, 3),
+        (high, 5),
+        (prefix("fd00::/64")?, 0),
+    ];
+    assert_eq!(rt; slots.into_routes().as_slice(), want.as_slice());
     Ok(())
 }
 

@@ -1,4 +1,5 @@
 ghost use Rattle.std.specs.Prelude.{◌≡◌, ℕ, ◌+◌, ◌-◌, ◌<◌, ◌≤◌, ◌↔◌, ◌⊎◌, true, false, List, [], length, slice_index_or, IsTrue, IfOk, OnOk, OnErr};
+ghost use Rattle.std.specs.List.{list_any};
 ghost use Rattle.wgr_text.specs.Prefix.{AddrValue, IsAddr, rank};
 ghost use Rattle.wgr_text.specs.declared.prefix.Span.{Span, Span as SpanValue};
 ghost use Rattle.wgr_pool.specs.PrefixTests.{same_address};
@@ -34,6 +35,19 @@ impl AddressSet {
         AddressSet {
             runs: Vec::new(alloc),
         }
+    }
+
+    /// The set of these addresses. They are sorted first, so that each comes last where it is put
+    /// and moves none before it.
+    pub fn collect(alloc: Global, mut addresses: Vec<Addr>) -> Result<AddressSet, AllocError>
+        ensures { IfOk result (λ set. (b : AddrValue) → IsAddr b → IsHeld set b ↔ (list_any (λ a. same_address a b) addresses.items ≡ true)) }
+    {
+        addresses.sort_unstable();
+        let mut set = AddressSet::new(alloc);
+        for address in &addresses {
+            set.insert(*address)?;
+        }
+        Ok(set)
     }
 
     /// The set's runs, in the order of their addresses.

@@ -48,3 +48,26 @@ fn keeps_addresses(rt: HostRuntime) -> Result<(), Fail> {
     assert_eq!(rt; set.spans().first(), Some(&whole));
     Ok(())
 }
+
+#[test]
+fn collects_addresses(rt: HostRuntime) -> Result<(), Fail> {
+    let mut addresses = Vec::new(rt.alloc());
+    // Out of order, of both families, and one of them twice.
+    for text in [
+        "fd00::2", "10.8.0.6", "10.8.0.2", "10.8.0.3", "10.8.0.2", "10.8.0.4",
+    ] {
+        addresses.push(address(text)?)?;
+    }
+    let set = AddressSet::collect(rt.alloc(), addresses)?;
+    let whole = Span {
+        lo: address("10.8.0.2")?,
+        hi: address("10.8.0.4")?,
+    };
+    assert_eq!(rt; set.spans().first(), Some(&whole));
+    assert_eq!(rt; set.spans().len(), 3);
+    for text in ["10.8.0.3", "10.8.0.6", "fd00::2"] {
+        assert!(rt; set.contains(&address(text)?), "{text}");
+    }
+    assert!(rt; !set.contains(&address("10.8.0.5")?));
+    Ok(())
+}

@@ -4,10 +4,15 @@
 //! - `add KEY [ADDRESS] [END]`, `move NUMBER [ADDRESS]`, `revoke NUMBER`, `route NUMBER PREFIX`,
 //!   `unroute PREFIX`, `renew NUMBER END`, `list` and `owner ADDRESS`, where `KEY` is the byte that
 //!   a key repeats and `-` an address that is not named;
-//! - a peer is answered as `NUMBER ADDRESS [PREFIX ..]`, and peers are separated by `; `.
+//! - `adopt KEY|LINE|..`, where `KEY` is the interface's or `-` for none, and a line is
+//!   `KEY HANDSHAKE KEEPALIVE [PREFIX ..]`;
+//! - a peer is answered as `NUMBER ADDRESS [PREFIX ..]`, followed by `at HANDSHAKE KEEPALIVE` where
+//!   an interface showed it, and peers are separated by `; `;
+//! - an adoption is answered as `[NUMBER ..] known COUNT`, or `line LINE: REFUSAL`.
+use super::adopt::adoption;
 use super::*;
 use std::process::Abort;
-use wgr_text::{Family, write_prefix};
+use wgr_text::write_prefix;
 
 fn number(word: Option<&str>) -> Result<u32, Fail> {
     Ok(word.ok_or("no number")?.parse::<u32>()?)
@@ -26,8 +31,9 @@ fn named(word: Option<&str>) -> Result<Option<Addr>, Fail> {
 }
 
 fn command(alloc: Global, line: &str) -> Result<Command, Fail> {
-    let mut words = line.split(' ');
-    match words.next().ok_or("no command")? {
+    let (word, rest) = line.split_once(' ').unwrap_or((line, ""));
+    let mut words = rest.split(' ');
+    match word {
         "add" => Ok(Command::Add {
             key: Key([words.next().ok_or("no key")?.parse::<u8>()?; 32]),
             label: Label::empty(alloc),
@@ -57,6 +63,7 @@ fn command(alloc: Global, line: &str) -> Result<Command, Fail> {
             address: address(words.next().ok_or("no address")?)?,
         }),
         "list" => Ok(Command::List),
+        "adopt" => adoption(alloc, rest),
         _ => Err(Fail::from("no such command")),
     }
 }
@@ -71,7 +78,36 @@ fn show_peer(view: &PeerView, text: &mut Vec<u8>) -> Result<(), Fail> {
         text.push(b' ')?;
         write_prefix(route, text)?;
     }
+    match view.peer.status {
+        Some(status) => show_status(&status, view.peer.keepalive, text),
+        None => Ok(()),
+    }
+}
+
+fn show_status(status: &Status, keepalive: u16, text: &mut Vec<u8>) -> Result<(), Fail> {
+    let handshake = status.handshake.value();
+    let shown = format!(in *text.allocator(); " at {handshake} {keepalive}")?;
+    text.extend_from_slice(shown.as_bytes())?;
     Ok(())
+}
+
+// The numbers of the new peers, and how many lines found their key held.
+fn show_adopted(added: &[u32], known: u32, text: &mut Vec<u8>) -> Result<(), Fail> {
+    for number in added {
+        let shown = format!(in *text.allocator(); "{number} ")?;
+        text.extend_from_slice(shown.as_bytes())?;
+    }
+    let shown = format!(in *text.allocator(); "known {known}")?;
+    text.extend_from_slice(shown.as_bytes())?;
+    Ok(())
+}
+
+fn refused(alloc: Global, why: &Refusal) -> Result<Vec<u8>, Fail> {
+    let text = match why {
+        Refusal::InLine { line, why } => format!(in alloc; "line {line}: {why}")?,
+        other => other.to_string(alloc)?,
+    };
+    Ok(text.into_bytes())
 }
 
 fn shown(alloc: Global, reply: &Reply) -> Result<Vec<u8>, Fail> {
@@ -89,9 +125,8 @@ fn shown(alloc: Global, reply: &Reply) -> Result<Vec<u8>, Fail> {
                 show_peer(view, &mut text)?;
             }
         }
-        Reply::Adopted { .. } | Reply::Server(_) | Reply::File { .. } => {
-            return Err(Fail::from("no such answer"));
-        }
+        Reply::Adopted { added, known } => show_adopted(added.as_slice(), *known, &mut text)?,
+        Reply::Server(_) | Reply::File { .. } => return Err(Fail::from("no such answer")),
     }
     Ok(text)
 }
@@ -106,6 +141,7 @@ fn assert_same(rt: &impl Abort, one: &Network, other: &Network) {
         assert_eq!(rt; first.key, second.key);
         assert_eq!(rt; first.address, second.address);
         assert_eq!(rt; first.until, second.until);
+        assert_eq!(rt; first.status, second.status);
     }
 }
 
@@ -126,7 +162,7 @@ fn answer(
             }
             shown(alloc, &reply)
         }
-        Err(ActFault::Refused(why)) => Ok(why.to_string(alloc)?.into_bytes()),
+        Err(ActFault::Refused(why)) => refused(alloc, &why),
         Err(ActFault::NoMemory) => Err(Fail::from("no memory")),
     }
 }
@@ -314,19 +350,10 @@ fn limits_are_kept(rt: HostRuntime) -> Result<(), Fail> {
 
 #[test]
 fn a_network_has_4096_routes_at_most(rt: HostRuntime) -> Result<(), Fail> {
-    let mut full = empty(rt.alloc(), "10.8.0.0/24", 2, 3)?;
-    full.peers.push(peer(rt.alloc(), 1, 1, "10.8.0.2")?)?;
-    full.peers.push(peer(rt.alloc(), 2, 2, "10.8.0.3")?)?;
-    for count in 0..4096u32 {
-        // from 10.64.0.0 on
-        let number = 0x0a40_0000 + u128::from(count);
-        let address = Addr::new(Family::V4, number).ok_or("no address")?;
-        full.routes.push((Prefix::full(address), 1))?;
-    }
     check(
         &rt,
         rt.alloc(),
-        full,
+        full_of_routes(rt.alloc())?,
         &[
             (0, "route 2 10.64.0.0/16", "routes_full"),
             (0, "route 2 10.64.7.1/32", "2 10.8.0.3/32 10.64.7.1/32"),

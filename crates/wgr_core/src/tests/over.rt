@@ -81,3 +81,63 @@ fn what_is_over_is_passed_over(rt: HostRuntime) -> Result<(), Fail> {
     }
     Ok(())
 }
+
+#[test]
+fn routes_to_a_peer_that_is_over_leave_room(rt: HostRuntime) -> Result<(), Fail> {
+    check(
+        &rt,
+        rt.alloc(),
+        full_of_routes(rt.alloc())?,
+        &[
+            (99, "route 2 10.64.0.0/16", "routes_full"),
+            (100, "route 2 10.64.0.0/16", "2 10.8.0.3/32 10.64.0.0/16"),
+            (0, "owner 10.64.15.255", "2"),
+            (0, "owner 10.64.15.254", "1"),
+        ],
+    )
+}
+
+// What has come and what has gone is found by key, by address and by number.
+#[test]
+fn one_comes_where_others_go(rt: HostRuntime) -> Result<(), Fail> {
+    let scripts: [&[(u64, &str, &str)]; 4] = [
+        &[
+            (100, "add 1 10.8.0.4", "4 10.8.0.4/32"),
+            (100, "add 1", "key_held 4"),
+            (100, "add 3 10.8.0.4", "address_held"),
+            (100, "owner 10.8.0.4", "4"),
+            (100, "add 3", "5 10.8.0.2/32"),
+            (100, "add 5", "capacity_reached"),
+            (100, "revoke 4", "4"),
+            (100, "add 1", "6 10.8.0.4/32"),
+        ],
+        &[
+            (100, "move 2 10.8.0.4", "2 10.8.0.4/32 192.168.0.0/16"),
+            (100, "add 3", "4 10.8.0.2/32"),
+            (100, "add 1", "5 10.8.0.3/32"),
+            (100, "move 2", "2 10.8.0.4/32 192.168.0.0/16"),
+            (100, "add 2", "key_held 2"),
+        ],
+        &[
+            (
+                100,
+                "route 2 192.168.4.0/24",
+                "2 10.8.0.3/32 192.168.0.0/16 192.168.4.0/24",
+            ),
+            (100, "owner 192.168.4.1", "2"),
+            (100, "add 3 10.8.0.6", "4 10.8.0.6/32"),
+            (100, "add 1", "5 10.8.0.2/32"),
+        ],
+        &[
+            (100, "renew 2 150", "2 10.8.0.3/32 192.168.0.0/16"),
+            (100, "add 1 - 200", "4 10.8.0.2/32"),
+            (150, "add 2 10.8.0.3", "5 10.8.0.3/32"),
+            (200, "add 3 10.8.0.2", "6 10.8.0.2/32"),
+            (200, "list", "5 10.8.0.3/32; 6 10.8.0.2/32"),
+        ],
+    ];
+    for script in scripts {
+        check_over(&rt, rt.alloc(), script)?;
+    }
+    Ok(())
+}

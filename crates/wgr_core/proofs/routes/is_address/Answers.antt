@@ -1,4 +1,4 @@
-use Rattle.std.proofs.Common.{◌≡◌, false, ◌&&◌, ◌||◌, sym, ap, ◌∙◌}
+use Rattle.std.proofs.Common.{◌≡◌, false, ◌&&◌, ◌||◌, refl, sym, ap, ◌∙◌}
 use Rattle.wgr_text.specs.Prefix.{AddrValue}
 use Rattle.wgr_pool.specs.PrefixTests.{same_prefix, full}
 use Rattle.wgr_peers.specs.Peers.{is_own}
@@ -6,16 +6,16 @@ use Rattle.wgr_core.specs.Network.{server_address}
 use Rattle.wgr_pool.proofs.Bools.{and_false_last}
 use Rattle.wgr_core.proofs.PartsLemmas.{address_is}
 use Rattle.wgr_core.proofs.routes.is_address.Goals as goal
-use Rattle.wgr_core.proofs.routes.is_address.Goals.{then-is_same, else-is_same}
+use Rattle.wgr_core.proofs.routes.is_address.Goals.{then-is_owned, else-is_owned}
 
-pub returns-else-owns : goal.returns-else-owns
-returns-else-owns c = λ n same_pool same_peers.
+pub returns-else-is_same : goal.returns-else-is_same
+returns-else-is_same c = λ n same_pool owned.
     let p = c.args.prefix.now in
     let server = server_address c.args.pool.now in
     let at_full = λ (a : AddrValue). same_prefix p (full a) in
-    let here : c.is_same-else-owns.result ≡ at_full server = c.is_same-else-owns.ensures ∙ ap (same_prefix p) c.full-else-owns.ensures ∙ ap at_full c.server.ensures.value in
-    let no_peer : (at_full p.address && is_own c.args.peers.now p.address) ≡ false = elim c.if-is_same.branch [
-      | then-is_same w ↦ and_false_last (at_full p.address) (is_own c.args.peers.now p.address) (sym (ap (is_own c.args.peers.now) c.address-address.ensures.value) ∙ sym w.owns.ensures ∙ sym w.value-is ∙ c.if-owns.false)
-      | else-is_same w ↦ ap (λ b. b && is_own c.args.peers.now p.address) (sym (ap at_full c.address-address.ensures.value) ∙ sym (ap (same_prefix p) c.full.ensures) ∙ sym c.is_same.ensures ∙ w.if-is_same.false)
+    let here : c.is_same-else-is_same.result ≡ at_full server = c.is_same-else-is_same.ensures ∙ ap (same_prefix p) c.full-else-is_same.ensures ∙ ap at_full c.server.ensures.value in
+    let no_peer : (at_full p.address && is_own n.peers p.address) ≡ false = elim c.if-is_owned.branch [
+      | then-is_owned w ↦ ap (λ b. b && is_own n.peers p.address) (sym (ap at_full w.address.ensures.value) ∙ sym (ap (same_prefix p) w.full.ensures) ∙ sym w.is_same.ensures ∙ sym w.value-is ∙ c.if-is_same.false)
+      | else-is_owned w ↦ and_false_last (at_full p.address) (is_own n.peers p.address) (owned ∙ w.if-is_owned.false)
     ] in
-    here ∙ ap (λ b. b || at_full server) (sym no_peer) ∙ address_is n c.args.pool.now c.args.peers.now p same_pool same_peers
+    here ∙ ap (λ b. b || at_full server) (sym no_peer) ∙ address_is n c.args.pool.now n.peers p same_pool refl

@@ -1,11 +1,20 @@
-use Rattle.std.proofs.Common.{ℕ, sym, ap, ◌∙◌}
-use Rattle.wgr_peers.specs.Routes.{assign_route}
+use Rattle.std.proofs.Common.{◌≡◌, sym, ap, subst, ◌∙◌}
+use Rattle.wgr_peers.specs.Routes.{Routes, assign_route}
+use Rattle.wgr_core.specs.Draft.{DraftValue, drafted}
+use Rattle.wgr_core.specs.Network.{NetworkValue, IsNetwork}
 use Rattle.wgr_core.proofs.DraftLemmas.{changed_route}
 use Rattle.wgr_core.proofs.draft.Draft.assign_route.Goals as goal
 
 pub invariant_of-result : goal.invariant_of-result
 invariant_of-result c =
-    let n = c.self.inside.network in
-    changed_route c.self.inside.change c.self.inside.start.now n c.args.prefix c.args.number c.push.new.self c.self.invariant c.in_ok-push.ensures.ok
-    ∙ ap (λ (m : ℕ). record n { routes = assign_route n.routes c.args.prefix c.args.number; next = m }) (sym c.next-next.ensures.value)
-    ∙ sym c.in_ok-assign_route.ensures.ok
+    let p = c.args.prefix in
+    let number = c.args.number in
+    let change = c.self.inside.change in
+    let start = c.self.inside.start.now in
+    let n = drafted start c.self.inside.peers c.self.inside.routes change.next in
+    let same : n ≡ c.args.self.network = ap (λ (d : DraftValue). d.network) c.self.view_is in
+    let put : drafted start c.self.inside.peers c.put.new.self change.next ≡ record n { routes = assign_route n.routes p number } = ap (λ (rs : Routes). record n { routes = rs }) c.in_ok-put.ensures.ok in
+    record {
+      leads = changed_route change start n p number c.push.new.self c.self.invariant.leads c.in_ok-push.ensures.ok ∙ sym put;
+      rules = subst IsNetwork (sym (put ∙ ap (λ (m : NetworkValue). record m { routes = assign_route m.routes p number }) same)) c.requires;
+    }

@@ -1,22 +1,39 @@
-use Rattle.std.proofs.Common.{◌≡◌, ◌<◌, ◌+◌, ◌++◌, [], ◌∷◌, List, sym, ap, subst, ◌∙◌}
+use Rattle.std.proofs.Common.{◌≡◌, ℕ, ◌<◌, ◌+◌, ◌++◌, [], ◌∷◌, List, sym, ap, subst, ◌∙◌}
 use Rattle.std.specs.List.{All}
 use Rattle.wgr_peers.specs.declared.peer.Peer.{Peer}
-use Rattle.wgr_peers.specs.Peers.{IsNumberedBelow}
-use Rattle.wgr_core.specs.Draft.{DraftValue}
-use Rattle.wgr_core.specs.Network.{NetworkValue}
+use Rattle.wgr_peers.specs.Peers.{key_holder, IsNumberedBelow}
 use Rattle.wgr_pool.proofs.Lists.{AllPairs-before}
+use Rattle.wgr_peers.proofs.TableLemmas.{new_key}
+use Rattle.wgr_core.specs.Draft.{DraftValue, drafted}
+use Rattle.wgr_core.specs.Network.{NetworkValue, IsNetwork}
 use Rattle.wgr_core.proofs.CommandLemmas.{put_peer_above}
 use Rattle.wgr_core.proofs.DraftLemmas.{changed_peer}
 use Rattle.wgr_core.proofs.draft.Draft.join.Goals as goal
 
+pub push-requires-clause-new_key : goal.push-requires-clause-new_key
+push-requires-clause-new_key c =
+    ap (λ (q : Peer). key_holder c.self.inside.peers q.key) c.in_ok-copy.ensures
+    ∙ ap (λ (d : DraftValue). key_holder d.network.peers c.args.peer.key) c.self.view_is
+    ∙ new_key c.args.self.network.peers c.args.peer [] c.requires.fits.apart
+
 pub invariant_of-result : goal.invariant_of-result
 invariant_of-result c =
-    let n = c.self.inside.network in
     let p = c.args.peer in
-    let next = c.args.peer.number + 1 in
+    let start = c.self.inside.start.now in
+    let routes = c.self.inside.routes in
+    let n = drafted start c.self.inside.peers routes c.self.inside.change.next in
+    let next = p.number + 1 in
     let same : n ≡ c.args.self.network = ap (λ (d : DraftValue). d.network) c.self.view_is in
     let above : All (λ q. q.number < p.number) n.peers = subst (λ (n : NetworkValue). All (λ (q : Peer). q.number < p.number) n.peers) (sym same) (AllPairs-before IsNumberedBelow c.args.self.network.peers p [] c.requires.fits.numbered) in
-    changed_peer c.self.inside.change c.self.inside.start.now n p c.push.new.self next c.self.invariant c.in_ok-push.ensures.ok
-    ∙ ap (λ (ps : List Peer). record n { peers = ps; next = next }) (put_peer_above n.peers p above)
-    ∙ ap (λ (q : Peer). record n { peers = n.peers ++ q ∷ []; next = next }) (sym c.in_ok-copy.ensures)
-    ∙ sym c.in_ok-join.ensures.ok
+    let pushed : c.push.new.self ≡ n.peers ++ p ∷ [] = c.in_ok-push.ensures.ok ∙ ap (λ (q : Peer). n.peers ++ q ∷ []) c.in_ok-copy.ensures in
+    let joined : drafted start c.push.new.self routes next ≡ record n { next = next; peers = n.peers ++ p ∷ [] } = ap (λ (ps : List Peer). drafted start ps routes next) pushed in
+    let asked : record n { next = next; peers = n.peers ++ p ∷ [] } ≡ record c.args.self.network { next = c.args.self.network.next + 1; peers = c.args.self.network.peers ++ p ∷ [] } =
+    ap (λ (m : NetworkValue). record m { next = next; peers = m.peers ++ p ∷ [] }) same
+    ∙ ap (λ (k : ℕ). record c.args.self.network { next = k + 1; peers = c.args.self.network.peers ++ p ∷ [] }) c.requires.next in
+    record {
+      leads =
+          changed_peer c.self.inside.change start n p c.push-2.new.self next c.self.invariant.leads c.in_ok-push-2.ensures.ok
+          ∙ ap (λ (ps : List Peer). record n { peers = ps; next = next }) (put_peer_above n.peers p above)
+          ∙ sym joined;
+      rules = subst IsNetwork (sym (joined ∙ asked)) c.requires.fits;
+    }

@@ -11,4 +11,4 @@ returns-clause-outcome c =
 pub returns-clause-fits : goal.returns-clause-fits
 returns-clause-fits c =
     let n = c.args.self.now in
-    meets_fits n c.act.result (outcome_of n c.args.now c.args.command.now) (returns-clause-outcome c) (outcome_keeps n c.args.now c.args.command.now c.at.ensures.rules c.tell_asked.ensures)
+    meets_fits n c.act.result (outcome_of n c.args.now c.args.command.now) (returns-clause-outcome c) (outcome_keeps n c.args.now c.args.command.now c.at.ensures.rules c.tell_forms.ensures.asked)

@@ -1,6 +1,0 @@
-use Rattle.std.proofs.Common.{take}
-use Rattle.wgr_core.specs.Outcome.{AreLinesAsked}
-use Rattle.wgr_core.proofs.act.tell_lines.Given as goal
-
-abbrev pub invariant-loop-line : goal.invariant-loop-line
-invariant-loop-line l = AreLinesAsked (take l.line-index l.lines)

@@ -1,0 +1,56 @@
+-- The indexes of a table that is made at once.
+use Rattle.std.proofs.Common.{◌≡◌, ℕ, suc, ◌+◌, ◌<◌, ◌↔◌, inl, inr, true, ◌||◌, cond, List, [], ◌∷◌, ◌++◌, length, get_or, map, take, take-suc, drop, Some, None, refl, sym, ap, ◌∙◌, subst, arith}
+use Rattle.std.specs.List.{All, AllPairs, list_any}
+use Rattle.std.specs.HashMap.{HashMap, get}
+use Rattle.std.specs.declared.hash.FoldHasher.{FoldHasher}
+use Rattle.std.specs.declared.hash.BuildHasherDefault.{BuildHasherDefault}
+use Rattle.std.proofs.lemmas.List.{take-append-drop}
+use Rattle.wgr_text.specs.declared.key.Key.{Key}
+use Rattle.wgr_text.specs.declared.prefix.Span.{Span}
+use Rattle.wgr_text.specs.Prefix.{AddrValue, IsAddr}
+use Rattle.wgr_peers.specs.declared.peer.Peer.{Peer}
+use Rattle.wgr_pool.specs.PrefixTests.{same_address}
+use Rattle.wgr_pool.specs.Spans.{IsHeld}
+use Rattle.wgr_peers.specs.Peers.{is_own, key_holder, same_key, AreNumbered, IsApart, AreApart}
+use Rattle.wgr_peers.specs.PeerIndex.{IsIndexed, EndsFrom}
+use Rattle.wgr_pool.proofs.Bools.{decide}
+use Rattle.wgr_pool.proofs.Lists.{drop_next}
+use Rattle.wgr_peers.proofs.TableLemmas.{holder_push_other, holder_push_same, new_key, same_key_is}
+
+pub take_next : {X : Type 0} (xs : List X) (i : ℕ) (x : X) → i < length xs → x ≡ get_or xs i x → take (i + 1) xs ≡ take i xs ++ x ∷ []
+take_next xs i x within is =
+    subst (λ (k : ℕ). take k xs ≡ take i xs ++ get_or xs i x ∷ []) (later i) (take-suc xs i x within) ∙ ap (λ y. take i xs ++ y ∷ []) (sym is)
+  where
+    later : (i : ℕ) → suc i ≡ i + 1
+    later i = omega arith
+
+-- the next peer has a key that none before it has
+pub holder_next : (peers : List Peer) (i : ℕ) (p : Peer) (key : Key) → AreApart peers → i < length peers → p ≡ get_or peers i p
+    → key_holder (take (i + 1) peers) key ≡ cond (same_key p.key key) (Some p.number) (key_holder (take i peers) key)
+holder_next peers i p key apart within is =
+    let parts : peers ≡ take i peers ++ p ∷ drop (i + 1) peers = sym (take-append-drop i peers) ∙ ap (λ rest. take i peers ++ rest) (drop_next peers i p within is) in
+    let none = new_key (take i peers) p (drop (i + 1) peers) (subst (AllPairs IsApart) parts apart) in
+    ap (λ ps. key_holder ps key) (take_next peers i p within is)
+    ∙ (elim (decide (same_key p.key key)) [
+      | inl same ↦
+          let unheld : key_holder (take i peers) key ≡ None = subst (λ k. key_holder (take i peers) k ≡ None) (same_key_is p.key key same) none in
+          holder_push_same (take i peers) p key same unheld ∙ sym (ap (λ b. cond b (Some p.number) (key_holder (take i peers) key)) same)
+      | inr other ↦ holder_push_other (take i peers) p key other ∙ sym (ap (λ b. cond b (Some p.number) (key_holder (take i peers) key)) other)
+    ])
+
+pub own_is : (peers : List Peer) (b : AddrValue) → list_any (λ a. same_address a b) (map (λ (p : Peer). p.address) peers) ≡ is_own peers b
+own_is [] b = refl
+own_is (p ∷ peers) b = ap (λ x. same_address p.address b || x) (own_is peers b)
+
+pub indexed_collected : (peers : List Peer) (addresses : List AddrValue) (numbers : HashMap Key ℕ (BuildHasherDefault FoldHasher)) (runs : List Span) (soonest : ℕ)
+    → AreNumbered peers → addresses ≡ map (λ p. p.address) peers → ((key : Key) → get same_key numbers key ≡ key_holder peers key)
+    → ((b : AddrValue) → IsAddr b → IsHeld runs b ↔ (list_any (λ a. same_address a b) addresses ≡ true)) → All (EndsFrom soonest) peers
+    → IsIndexed peers numbers runs soonest
+indexed_collected peers addresses numbers runs soonest numbered are by_key by_address ends = record {
+  in_order = numbered;
+  by_key = by_key;
+  by_address = λ b fits.
+      let same = ap (list_any (λ (a : AddrValue). same_address a b)) are ∙ own_is peers b in
+      ((λ h. sym same ∙ (by_address b fits).0 h), (λ h. (by_address b fits).1 (same ∙ h)));
+  ends = ends;
+}

@@ -1,0 +1,264 @@
+-- Who holds a key or an address among the peers that are left.
+use Rattle.std.proofs.Common.{◌≡◌, ℕ, ◌<◌, ◌↔◌, inl, inr, map, append_assoc, Bor, Bool, true, false, not, ◌&&◌, ◌||◌, cond, nat_eq, get_or, List, [], ◌∷◌, ◌++◌, Option, Some, None, is_some, refl, sym, ap, ◌∙◌, arith}
+use Rattle.std.specs.List.{All, AllPairs, filter, list_any}
+use Rattle.std.proofs.lemmas.List.{map-append}
+use Rattle.std.proofs.lemmas.List.Elements.{All-head, All-tail}
+use Rattle.std.proofs.lemmas.List.Folds.{list_any-append}
+use Rattle.wgr_text.specs.declared.key.Key.{Key}
+use Rattle.wgr_text.specs.declared.prefix.Span.{Span}
+use Rattle.wgr_text.specs.Prefix.{AddrValue, IsAddr}
+use Rattle.wgr_peers.specs.declared.peer.Peer.{Peer}
+use Rattle.wgr_pool.specs.PrefixTests.{same_address}
+use Rattle.wgr_pool.specs.Spans.{IsHeld}
+use Rattle.wgr_peers.specs.Peers.{is_own, key_holder, peer_of, same_key, IsNumberedBelow, AreNumbered, AreApart}
+use Rattle.wgr_peers.specs.PeersLeft.{peers_left}
+use Rattle.wgr_pool.proofs.Lists.{AllPairs-head, AllPairs-tail}
+use Rattle.wgr_pool.proofs.Bools.{decide}
+use Rattle.wgr_pool.proofs.PrefixLemmas.{nat_eq_is, nat_eq_self}
+use Rattle.wgr_peers.proofs.PeerLemmas.{peer_is, apart_too}
+use Rattle.wgr_peers.proofs.IndexLemmas.{key_apart}
+
+-- ---- the first peer that passes a test, by number
+
+abbrev first : (Peer → Bool) → List Peer → Option ℕ
+first q [] = None
+first q (p ∷ peers) = cond (q p) (Some p.number) (first q peers)
+
+-- that number, if it stays
+abbrev staying : (ℕ → Bool) → Option ℕ → Option ℕ
+staying stays None = None
+staying stays (Some n) = cond (stays n) (Some n) None
+
+-- at most one peer passes
+abbrev AtMostOne : (Peer → Bool) → List Peer → Type 0
+AtMostOne q = AllPairs (λ x y. q x ≡ true → q y ≡ false)
+
+first_none : (q : Peer → Bool) (peers : List Peer) → All (λ p. q p ≡ false) peers → first q peers ≡ None
+first_none q [] all = refl
+first_none q (p ∷ peers) all =
+    ap (λ b. cond b (Some p.number) (first q peers)) (All-head (λ p. q p ≡ false) p peers all) ∙ first_none q peers (All-tail (λ p. q p ≡ false) p peers all)
+
+first_left : (q : Peer → Bool) (stays : ℕ → Bool) (peers : List Peer) → AtMostOne q peers → first q (filter (λ p. stays p.number) peers) ≡ staying stays (first q peers)
+first_left q stays [] one = refl
+first_left q stays (p ∷ peers) one =
+    by (q p) (stays p.number) refl refl (first_left q stays peers (AllPairs-tail (λ x y. q x ≡ true → q y ≡ false) p peers one))
+  where
+    left : List Peer
+    left = filter (λ (p : Peer). stays p.number) peers
+
+    by : (b c : Bool) → q p ≡ b → stays p.number ≡ c → first q left ≡ staying stays (first q peers) → first q (cond c (p ∷ left) left) ≡ staying stays (cond b (Some p.number) (first q peers))
+    by true true s t rest = ap (λ b. cond b (Some p.number) (first q left)) s ∙ sym (ap (λ c. cond c (Some p.number) None) t)
+    by true false s t rest =
+        let none : first q peers ≡ None = first_none q peers (λ k d l. AllPairs-head (λ x y. q x ≡ true → q y ≡ false) p peers one k d l s) in
+        rest ∙ ap (staying stays) none ∙ sym (ap (λ c. cond c (Some p.number) None) t)
+    by false true s t rest = ap (λ b. cond b (Some p.number) (first q left)) s ∙ rest
+    by false false s t rest = rest
+
+first_above : (q : Peer → Bool) (m : ℕ) (peers : List Peer) (i : ℕ) → All (λ p. m < p.number) peers → first q peers ≡ Some i → m < i
+first_above q m [] i all h = cc
+first_above q m (p ∷ peers) i all h = by (q p) (first_above q m peers i (All-tail (λ p. m < p.number) p peers all)) h
+  where
+    by : (b : Bool) → (first q peers ≡ Some i → m < i) → cond b (Some p.number) (first q peers) ≡ Some i → m < i
+    by true later h = let e : p.number ≡ i = cc in let l = All-head (λ p. m < p.number) p peers all in omega (arith, l, e)
+    by false later h = later h
+
+-- the peer of a number that passes is the first one, and no other peer is where it doesn't
+first_at : (q : Peer → Bool) (peers : List Peer) (m : ℕ) (p : Peer) → AtMostOne q peers → peer_of peers m ≡ Some p → q p ≡ true → first q peers ≡ Some m
+first_at q [] m p one found passes = cc
+first_at q (x ∷ peers) m p one found passes = elim (decide (nat_eq x.number m)) [
+  | inl here ↦
+      let some : Some x ≡ Some p = sym (ap (λ b. cond b (Some x) (peer_of peers m)) here) ∙ found in
+      let is : x ≡ p = cc in
+      ap (λ b. cond b (Some x.number) (first q peers)) (ap q is ∙ passes) ∙ ap Some (nat_eq_is x.number m here)
+  | inr apart ↦
+      let later = sym (ap (λ b. cond b (Some x) (peer_of peers m)) apart) ∙ found in
+      elim (decide (q x)) [
+        | inl too ↦
+            let bad : true ≡ false = sym passes ∙ (peer_is (λ (y : Peer). q x ≡ true → q y ≡ false) peers m p (AllPairs-head (λ x y. q x ≡ true → q y ≡ false) x peers one) later).0 too in cc
+        | inr other ↦
+            ap (λ b. cond b (Some x.number) (first q peers)) other ∙ first_at q peers m p (AllPairs-tail (λ x y. q x ≡ true → q y ≡ false) x peers one) later passes
+      ]
+]
+
+first_not : (q : Peer → Bool) (peers : List Peer) (m : ℕ) (p : Peer) → AreNumbered peers → peer_of peers m ≡ Some p → q p ≡ false → first q peers ≡ Some m → ⊥
+first_not q [] m p numbered found fails h = cc
+first_not q (x ∷ peers) m p numbered found fails h = elim (decide (nat_eq x.number m)) [
+  | inl here ↦
+      let some : Some x ≡ Some p = sym (ap (λ b. cond b (Some x) (peer_of peers m)) here) ∙ found in
+      let is : x ≡ p = cc in
+      let later = sym (ap (λ b. cond b (Some x.number) (first q peers)) (ap q is ∙ fails)) ∙ h in
+      let above = first_above q x.number peers m (AllPairs-head IsNumberedBelow x peers numbered) later in
+      let same = nat_eq_is x.number m here in
+      omega (arith, above, same)
+  | inr apart ↦
+      let later = sym (ap (λ b. cond b (Some x) (peer_of peers m)) apart) ∙ found in
+      elim (decide (q x)) [
+        | inl here ↦
+            let some : Some x.number ≡ Some m = sym (ap (λ b. cond b (Some x.number) (first q peers)) here) ∙ h in
+            let same : x.number ≡ m = cc in
+            let bad : true ≡ false = sym (nat_eq_self m) ∙ sym (ap (λ (n : ℕ). nat_eq n m) same) ∙ apart in cc
+        | inr other ↦
+            first_not q peers m p (AllPairs-tail IsNumberedBelow x peers numbered) later fails (sym (ap (λ b. cond b (Some x.number) (first q peers)) other) ∙ h)
+      ]
+]
+
+first_there : (q : Peer → Bool) (peers : List Peer) (m : ℕ) → peer_of peers m ≡ None → first q peers ≡ Some m → ⊥
+first_there q [] m none h = cc
+first_there q (x ∷ peers) m none h = elim (decide (nat_eq x.number m)) [
+  | inl here ↦ let bad : Some x ≡ None = sym (ap (λ b. cond b (Some x) (peer_of peers m)) here) ∙ none in cc
+  | inr apart ↦
+      let later = sym (ap (λ b. cond b (Some x) (peer_of peers m)) apart) ∙ none in
+      elim (decide (q x)) [
+        | inl here ↦
+            let some : Some x.number ≡ Some m = sym (ap (λ b. cond b (Some x.number) (first q peers)) here) ∙ h in
+            let same : x.number ≡ m = cc in
+            let bad : true ≡ false = sym (nat_eq_self m) ∙ sym (ap (λ (n : ℕ). nat_eq n m) same) ∙ apart in cc
+        | inr other ↦ first_there q peers m later (sym (ap (λ b. cond b (Some x.number) (first q peers)) other) ∙ h)
+      ]
+]
+
+-- ---- one number more that goes
+
+-- whether a number stays where these go
+abbrev stays : List ℕ → ℕ → Bool
+stays gone n = not (list_any (nat_eq n) gone)
+
+stays_more : (gone : List ℕ) (m n : ℕ) → stays (gone ++ m ∷ []) n ≡ (stays gone n && not (nat_eq n m))
+stays_more gone m n = ap not (list_any-append (nat_eq n) gone (m ∷ [])) ∙ neither (list_any (nat_eq n) gone) (nat_eq n m)
+  where
+    neither : (a b : Bool) → not (a || (b || false)) ≡ (not a && not b)
+    neither true b = refl
+    neither false true = refl
+    neither false false = refl
+
+goes_now : (gone : List ℕ) (m : ℕ) → stays (gone ++ m ∷ []) m ≡ false
+goes_now gone m = stays_more gone m m ∙ ap (λ b. stays gone m && not b) (nat_eq_self m) ∙ last (stays gone m)
+  where
+    last : (c : Bool) → (c && false) ≡ false
+    last true = refl
+    last false = refl
+
+stays_other : (gone : List ℕ) (m n : ℕ) → (n ≡ m → ⊥) → stays (gone ++ m ∷ []) n ≡ stays gone n
+stays_other gone m n other = stays_more gone m n ∙ ap (λ b. stays gone n && not b) (apart (nat_eq n m) refl) ∙ last (stays gone n)
+  where
+    apart : (b : Bool) → nat_eq n m ≡ b → nat_eq n m ≡ false
+    apart true e = absurd (other (nat_eq_is n m e))
+    apart false e = e
+
+    last : (c : Bool) → (c && true) ≡ c
+    last true = refl
+    last false = refl
+
+other_stays : (gone : List ℕ) (m : ℕ) (o : Option ℕ) → (o ≡ Some m → ⊥) → staying (stays (gone ++ m ∷ [])) o ≡ staying (stays gone) o
+other_stays gone m None other = refl
+other_stays gone m (Some n) other = ap (λ b. cond b (Some n) None) (stays_other gone m n (λ e. other (ap Some e)))
+
+without_found : (q : Peer → Bool) (peers : List Peer) (gone : List ℕ) (m : ℕ) (p : Peer) → AreNumbered peers → AtMostOne q peers → peer_of peers m ≡ Some p
+    → first q (peers_left peers (gone ++ m ∷ [])) ≡ cond (q p) None (first q (peers_left peers gone))
+without_found q peers gone m p numbered one found =
+    first_left q (stays (gone ++ m ∷ [])) peers one
+    ∙ by (q p) refl
+    ∙ ap (λ (o : Option ℕ). cond (q p) None o) (sym (first_left q (stays gone) peers one))
+  where
+    by : (b : Bool) → q p ≡ b → staying (stays (gone ++ m ∷ [])) (first q peers) ≡ cond (q p) None (staying (stays gone) (first q peers))
+    by true s =
+        ap (staying (stays (gone ++ m ∷ []))) (first_at q peers m p one found s)
+        ∙ ap (λ b. cond b (Some m) None) (goes_now gone m)
+        ∙ sym (ap (λ b. cond b None (staying (stays gone) (first q peers))) s)
+    by false s =
+        other_stays gone m (first q peers) (first_not q peers m p numbered found s)
+        ∙ sym (ap (λ b. cond b None (staying (stays gone) (first q peers))) s)
+
+without_absent : (q : Peer → Bool) (peers : List Peer) (gone : List ℕ) (m : ℕ) → AtMostOne q peers → peer_of peers m ≡ None
+    → first q (peers_left peers (gone ++ m ∷ [])) ≡ first q (peers_left peers gone)
+without_absent q peers gone m one none =
+    first_left q (stays (gone ++ m ∷ [])) peers one
+    ∙ other_stays gone m (first q peers) (first_there q peers m none)
+    ∙ sym (first_left q (stays gone) peers one)
+
+-- ---- keys
+
+abbrev has_key : Key → Peer → Bool
+has_key key p = same_key p.key key
+
+key_first : (peers : List Peer) (key : Key) → key_holder peers key ≡ first (has_key key) peers
+key_first [] key = refl
+key_first (p ∷ peers) key = ap (λ (o : Option ℕ). cond (same_key p.key key) (Some p.number) o) (key_first peers key)
+
+one_key : (peers : List Peer) (key : Key) → AreApart peers → AtMostOne (has_key key) peers
+one_key peers key apart = λ i j d l h s. key_apart (get_or peers i d) (get_or peers j d) key (apart i j d l h) s
+
+pub holder_without : (peers : List Peer) (gone : List ℕ) (m : ℕ) (p : Peer) (key : Key) → AreNumbered peers → AreApart peers → peer_of peers m ≡ Some p
+    → key_holder (peers_left peers (gone ++ m ∷ [])) key ≡ cond (same_key p.key key) None (key_holder (peers_left peers gone) key)
+holder_without peers gone m p key numbered apart found =
+    key_first (peers_left peers (gone ++ m ∷ [])) key
+    ∙ without_found (has_key key) peers gone m p numbered (one_key peers key apart) found
+    ∙ ap (λ (o : Option ℕ). cond (same_key p.key key) None o) (sym (key_first (peers_left peers gone) key))
+
+pub holder_absent_too : (peers : List Peer) (gone : List ℕ) (m : ℕ) (key : Key) → AreApart peers → peer_of peers m ≡ None
+    → key_holder (peers_left peers (gone ++ m ∷ [])) key ≡ key_holder (peers_left peers gone) key
+holder_absent_too peers gone m key apart none =
+    key_first (peers_left peers (gone ++ m ∷ [])) key
+    ∙ without_absent (has_key key) peers gone m (one_key peers key apart) none
+    ∙ sym (key_first (peers_left peers gone) key)
+
+-- ---- addresses
+
+abbrev is_at : AddrValue → Peer → Bool
+is_at b p = same_address p.address b
+
+own_first : (peers : List Peer) (b : AddrValue) → is_own peers b ≡ is_some (first (is_at b) peers)
+own_first [] b = refl
+own_first (p ∷ peers) b = by (same_address p.address b) (own_first peers b)
+  where
+    by : (c : Bool) → is_own peers b ≡ is_some (first (is_at b) peers) → (c || is_own peers b) ≡ is_some (cond c (Some p.number) (first (is_at b) peers))
+    by true rest = refl
+    by false rest = rest
+
+one_address : (peers : List Peer) (b : AddrValue) → AreApart peers → AtMostOne (is_at b) peers
+one_address peers b apart = λ i j d l h s. apart_too (get_or peers i d).address (get_or peers j d).address b (apart i j d l h).1 s
+
+pub own_without_more : (peers : List Peer) (gone : List ℕ) (m : ℕ) (p : Peer) (b : AddrValue) → AreNumbered peers → AreApart peers → peer_of peers m ≡ Some p
+    → is_own (peers_left peers (gone ++ m ∷ [])) b ≡ cond (same_address p.address b) false (is_own (peers_left peers gone) b)
+own_without_more peers gone m p b numbered apart found =
+    own_first (peers_left peers (gone ++ m ∷ [])) b
+    ∙ ap is_some (without_found (is_at b) peers gone m p numbered (one_address peers b apart) found)
+    ∙ by (same_address p.address b)
+    ∙ ap (λ c. cond (same_address p.address b) false c) (sym (own_first (peers_left peers gone) b))
+  where
+    by : (c : Bool) → is_some (cond c None (first (is_at b) (peers_left peers gone))) ≡ cond c false (is_some (first (is_at b) (peers_left peers gone)))
+    by true = refl
+    by false = refl
+
+pub own_absent_too : (peers : List Peer) (gone : List ℕ) (m : ℕ) (b : AddrValue) → AreApart peers → peer_of peers m ≡ None
+    → is_own (peers_left peers (gone ++ m ∷ [])) b ≡ is_own (peers_left peers gone) b
+own_absent_too peers gone m b apart none =
+    own_first (peers_left peers (gone ++ m ∷ [])) b
+    ∙ ap is_some (without_absent (is_at b) peers gone m (one_address peers b apart) none)
+    ∙ sym (own_first (peers_left peers gone) b)
+
+-- the runs without the address of one peer more
+pub held_without : (peers : List Peer) (gone : List ℕ) (m : ℕ) (p : Peer) (runs runs' : List Span) → AreNumbered peers → AreApart peers → peer_of peers m ≡ Some p
+    → ((b : AddrValue) → IsAddr b → IsHeld runs b ↔ (is_own (peers_left peers gone) b ≡ true))
+    → ((b : AddrValue) → IsAddr b → IsHeld runs' b ↔ ((same_address p.address b ≡ false) × IsHeld runs b))
+    → (b : AddrValue) → IsAddr b → IsHeld runs' b ↔ (is_own (peers_left peers (gone ++ m ∷ [])) b ≡ true)
+held_without peers gone m p runs runs' numbered apart found held without b fits =
+    let own = own_without_more peers gone m p b numbered apart found in (
+      (λ h. let parts = (without b fits).0 h in own ∙ ap (λ x. cond x false (is_own (peers_left peers gone) b)) parts.0 ∙ (held b fits).0 parts.1),
+      (λ h. elim (decide (same_address p.address b)) [
+        | inl mine ↦ let bad : false ≡ true = sym (own ∙ ap (λ x. cond x false (is_own (peers_left peers gone) b)) mine) ∙ h in cc
+        | inr other ↦ (without b fits).1 (other, (held b fits).1 (sym (own ∙ ap (λ x. cond x false (is_own (peers_left peers gone) b)) other) ∙ h))
+      ]),
+    )
+
+-- ---- the numbers that were gone through
+
+pub numbers_read : (read : List (Bor ℕ)) (n : Bor ℕ) → map (λ (n : Bor ℕ). n.now) (read ++ n ∷ []) ≡ map (λ (n : Bor ℕ). n.now) read ++ n.now ∷ []
+numbers_read read n = map-append (λ (n : Bor ℕ). n.now) read (n ∷ [])
+
+pub numbers_parts : (read : List (Bor ℕ)) (n : Bor ℕ) (left rest all : List ℕ) → left ≡ n.now ∷ rest → map (λ (n : Bor ℕ). n.now) read ++ left ≡ all → map (λ (n : Bor ℕ). n.now) (read ++ n ∷ []) ++ rest ≡ all
+numbers_parts read n left rest all next parts =
+    ap (λ ks. ks ++ rest) (numbers_read read n)
+    ∙ append_assoc (map (λ (n : Bor ℕ). n.now) read) (n.now ∷ []) rest
+    ∙ ap (λ ks. map (λ (n : Bor ℕ). n.now) read ++ ks) (sym next)
+    ∙ parts

@@ -1,0 +1,24 @@
+use Rattle.std.proofs.Common.{◌≡◌, ◌↔◌, List, true, nat_eq, not, sym, ap, ◌∙◌, subst}
+use Rattle.std.specs.List.{All, AllPairs, list_any}
+use Rattle.wgr_text.specs.Prefix.{AddrValue, IsAddr}
+use Rattle.wgr_peers.specs.declared.peer.Peer.{Peer}
+use Rattle.wgr_pool.specs.Spans.{IsHeld}
+use Rattle.wgr_peers.specs.Peers.{is_own, key_holder, IsNumberedBelow}
+use Rattle.wgr_peers.specs.PeerIndex.{EndsFrom}
+use Rattle.wgr_peers.specs.PeersLeft.{peers_left}
+use Rattle.wgr_pool.proofs.Lists.{AllPairs-filter}
+use Rattle.wgr_peers.proofs.peer_table.PeerTable.remove_all.Goals as goal
+
+pub invariant_of-self : goal.invariant_of-self
+invariant_of-self c =
+    let items = c.self.inside.peers.items in
+    let gone = c.args.gone.now.keys in
+    let left = c.drop_peers.ensures.left in
+    let seen = ap (λ (ps : List Peer). peers_left ps gone) (sym c.self.view_is) ∙ sym left in
+    record {
+      in_order = subst (AllPairs IsNumberedBelow) (sym left) (AllPairs-filter IsNumberedBelow (λ p. not (list_any (nat_eq p.number) gone)) items c.self.invariant.in_order);
+      by_key = λ key.
+          c.forget_keys.ensures.by_key key ∙ ap (λ (ps : List Peer). key_holder (peers_left ps gone) key) c.deref.ensures.value ∙ sym (ap (λ (ps : List Peer). key_holder ps key) left);
+      by_address = subst (λ (ps : List Peer). (b : AddrValue) → IsAddr b → IsHeld c.in_ok-self-inside.field-0 b ↔ (is_own ps b ≡ true)) seen c.in_ok-self-inside.ensures;
+      ends = subst (All (EndsFrom c.soonest_end-self-inside.result)) c.deref-2.ensures.value c.soonest_end-self-inside.ensures;
+    }

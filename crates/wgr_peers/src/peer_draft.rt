@@ -1,0 +1,160 @@
+ghost use Rattle.std.specs.Prelude.{◌≡◌, ◌<◌, ◌||◌, [], ◌∷◌, ◌++◌, length, IfOk, OnOk, OnErr, All, None};
+ghost use Rattle.wgr_text.specs.Prefix.{width};
+ghost use Rattle.wgr_pool.specs.Allot.{lowest_where};
+ghost use Rattle.wgr_pool.specs.HeldSpans.{is_routed};
+ghost use Rattle.wgr_peers.specs.PeerDraft.{HasOneMore};
+ghost use Rattle.wgr_peers.specs.Peers.{is_own, key_holder, put_peer, AreNumbered, AreApart};
+ghost use Rattle.wgr_peers.specs.PeerIndex.{IsAlikeAt};
+
+use crate::peer::Peer;
+use crate::peer_table::addresses_of;
+use crate::route_slots::RouteSlots;
+use std::alloc::{AllocError, Global};
+use std::collections::{HashMap, HashSet};
+use std::marker::Model;
+use wgr_pool::{AddressSet, Pool};
+use wgr_text::{Addr, Key};
+
+/// Peers in the order of their numbers that many others are to join, one after the other.
+///
+/// Unlike those of a [`PeerTable`](crate::PeerTable) their addresses aren't kept as runs, in whose
+/// vector each address that touches no run moves all runs behind it: the runs are made of all
+/// addresses at once, when they are first asked for.
+#[derive(Drop)]
+pub struct PeerDraft {
+    peers: Vec<Peer>,
+    numbers: HashMap<Key, u32>,
+    // The width and the number of each peer's address.
+    owned: HashSet<(u8, u128)>,
+    addresses: Option<AddressSet>,
+}
+
+impl Model for PeerDraft {
+    ghost use Rattle.std.specs.Prelude.{List};
+    ghost use Rattle.wgr_peers.specs.declared.peer.Peer.{Peer};
+
+    ghost Value = { List Peer };
+
+    ghost use Rattle.wgr_peers.specs.PeerDraft.{IsDrafted};
+
+    ghost view = { λ d. d.peers.items };
+
+    ghost invariant = { λ d. IsDrafted d.peers.items d.numbers d.owned d.addresses };
+}
+
+impl PeerDraft {
+    /// A copy of these peers, whose numbers rise and of which no two have a key or an address in
+    /// common.
+    pub fn from_slice(alloc: Global, peers: &[Peer]) -> Result<PeerDraft, AllocError>
+        requires numbered { AreNumbered peers.now }
+        requires apart { AreApart peers.now }
+        ensures { IfOk result (λ draft. draft ≡ peers.now) }
+    {
+        let mut draft = PeerDraft {
+            peers: Vec::new(alloc),
+            numbers: HashMap::new(alloc),
+            owned: HashSet::new(alloc),
+            addresses: None,
+        };
+        for peer in peers {
+            draft.push(peer.copy()?)?;
+        }
+        Ok(draft)
+    }
+
+    /// The peers.
+    pub fn as_slice(&self) -> &[Peer]
+        ensures value { result.now ≡ self.now }
+        ensures numbered { AreNumbered self.now }
+    {
+        &self.peers
+    }
+
+    /// How many peers there are.
+    pub fn len(&self) -> usize
+        ensures { result ≡ length self.now }
+    {
+        self.peers.len()
+    }
+
+    /// The number of the peer that has this key.
+    pub fn key_holder(&self, key: &Key) -> Option<u32>
+        ensures { result ≡ key_holder self.now key.now }
+    {
+        self.numbers.get(key).copied()
+    }
+
+    /// Whether a peer has the address as its own.
+    pub fn owns(&self, address: &Addr) -> bool
+        ensures { result ≡ is_own self.now address.now }
+    {
+        self.owned.contains(&spot(address))
+    }
+
+    /// The lowest address of the pool that may be given and that neither a peer has nor a route
+    /// that lies wholly in the pool.
+    pub fn lowest_free(
+        &mut self,
+        alloc: Global,
+        pool: &Pool,
+        routes: &RouteSlots,
+    ) -> Result<Option<Addr>, AllocError>
+        ensures lowest { IfOk result (λ found. found ≡ lowest_where pool.now (λ a. is_own self.old a || is_routed pool.now routes.now a)) }
+        ensures same { self.new ≡ self.old }
+    {
+        let addresses = match self.addresses.take() {
+            Some(addresses) => addresses,
+            None => AddressSet::collect(alloc, addresses_of(alloc, &self.peers)?)?,
+        };
+        let lowest = routes.lowest_free(pool, &addresses);
+        self.addresses = Some(addresses);
+        Ok(lowest)
+    }
+
+    /// Puts a peer at the end, above all numbers; for want of memory the draft is as before.
+    pub fn push(&mut self, peer: Peer) -> Result<(), AllocError>
+        requires above { All (λ p. p.number < peer.number) self.old }
+        requires new_key { key_holder self.old peer.key ≡ None }
+        ensures ok { OnOk result (self.new ≡ self.old ++ peer ∷ []) }
+        ensures err { OnErr result (self.new ≡ self.old) }
+    {
+        self.peers.reserve(1)?;
+        self.numbers.reserve(1)?;
+        self.owned.reserve(1)?;
+        insert_address(&mut self.addresses, peer.address)?;
+        let Ok(_) = self.numbers.insert(peer.key, peer.number) else {
+            unreachable!();
+        };
+        let Ok(_) = self.owned.insert(spot(&peer.address)) else {
+            unreachable!();
+        };
+        self.peers.push_reserved(peer);
+        Ok(())
+    }
+
+    /// Puts a peer in the place of one that has its number, key and address.
+    pub fn replace(&mut self, place: usize, peer: Peer)
+        requires { IsAlikeAt self.old peer place }
+        ensures { self.new ≡ put_peer self.old peer }
+    {
+        self.peers[place] = peer;
+    }
+}
+
+// The width and the number of the address.
+fn spot(address: &Addr) -> (u8, u128)
+    ensures { result ≡ (width address.now.family, address.now.number) }
+{
+    (address.family().width(), address.number())
+}
+
+// Puts the address into the set, where there is one.
+fn insert_address(addresses: &mut Option<AddressSet>, address: Addr) -> Result<(), AllocError>
+    ensures ok { OnOk result (HasOneMore address addresses.old addresses.new) }
+    ensures err { OnErr result (addresses.new ≡ addresses.old) }
+{
+    match addresses {
+        Some(set) => set.insert(address),
+        None => Ok(()),
+    }
+}
