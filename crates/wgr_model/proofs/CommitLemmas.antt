@@ -127,6 +127,7 @@ pub committed : (r : Register) (t u : Tables) (h : Holding) (n : NetworkValue) �
     → HasSettingsOf h.network n
     → Replaces h.id n t u → AreRowsOf (put_network r h.tenant h.name n) u
 committed r t u h n rows good held settings done = record {
+  meta = done.meta ∙ rows.meta;
   tenants = subst (IsPermutation r.tenants) (sym done.tenants) rows.tenants;
   tokens = subst (IsPermutation r.tokens) (sym done.tokens) rows.tokens;
   networks = subst (λ xs. IsPermutation xs u.networks) (map_map network_row (with_next h.id n.next) r.networks ∙ sym (rows_put h n settings.pool settings.host settings.port settings.server settings.capacity r.networks good.slots good.network_ids held))

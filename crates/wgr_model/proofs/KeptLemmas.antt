@@ -15,7 +15,9 @@ use Rattle.wgr_pool.specs.Pool.{IsPool, IsPoolLength}
 use Rattle.wgr_peers.specs.Limits.{IsCapacity, IsPort}
 use Rattle.wgr_peers.specs.Peers.{IsApart, IsNumberedBelow}
 use Rattle.wgr_peers.specs.Routes.{ComesBefore}
+use Rattle.wgr_core.proofs.FormLemmas.{commands_keep_the_forms}
 use Rattle.wgr_core.proofs.FrameLemmas.{settings_stay}
+use Rattle.wgr_core.specs.Forms.{HasForms, IsFormed, IsFormedCommand}
 use Rattle.wgr_core.proofs.OutcomeLemmas.{outcome_keeps}
 use Rattle.wgr_core.specs.Laws.{HasSettingsOf}
 use Rattle.wgr_core.specs.Network.{IsMember, IsNetwork, IsRoute, NetworkValue}
@@ -25,7 +27,7 @@ use Rattle.wgr_core.specs.declared.refusal.Refusal.{Refusal}
 use Rattle.wgr_core.specs.declared.reply.Reply.{Reply}
 use Rattle.wgr_model.specs.Consistent.{IsConsistent, IsDigest, IsHolding, IsHost, IsId, IsName, endpoint, has_tenant, is_pool, is_pool_length, overlaps, pool_of, same_endpoint, same_slot, slot}
 use Rattle.wgr_model.specs.Register.{Bytes, Holding, Register, Tenant, id_of, is_same}
-use Rattle.wgr_model.specs.Steps.{AddNetwork, AddTenant, Ask, BadPool, Decided, DigestHeld, EndNetwork, EndToken, Event, Grant, IsProper, IsUnused, NameHeld, Networks, NoNetwork, NoSuchToken, OrderRefusal, PortHeld, RegisterFull, Settings, act, acted, ask, asked, first_refusal, given, grant_checks, granted, has_digest, has_endpoint, has_name, has_network, has_slot, is_done, is_full, listed, name_of, network_added, network_at, network_checks, network_ended, new_network, ordered, outcome, overlapping, pool_refusal, put_network, refuse, tenant_checks, tenant_of_token, with_network, with_new_network, with_tenant, with_token, without_network, without_token}
+use Rattle.wgr_model.specs.Steps.{AddNetwork, AddTenant, Ask, BadPool, Decided, DigestHeld, EndNetwork, EndToken, Event, Grant, IsProper, IsProperCommand, IsUnused, NameHeld, Networks, NoNetwork, NoSuchToken, OrderRefusal, PortHeld, RegisterFull, Settings, act, acted, ask, asked, first_refusal, given, grant_checks, granted, has_digest, has_endpoint, has_name, has_network, has_slot, is_done, is_full, listed, name_of, network_added, network_at, network_checks, network_ended, new_network, ordered, outcome, overlapping, pool_refusal, put_network, refuse, tenant_checks, tenant_of_token, with_network, with_new_network, with_tenant, with_token, without_network, without_token}
 use Rattle.wgr_model.proofs.LookLemmas.{none_some}
 use Rattle.wgr_model.proofs.SeenLemmas.{is_accepted, not_refused, passed}
 
@@ -117,6 +119,10 @@ pub act_keeps : (n : NetworkValue) (now : ℕ) (command : Command) (done : Reply
 unfolding act
 act_keeps n now command done rules asked is = subst (λ o. IfOk o (λ d. IsNetwork d.1)) is (outcome_keeps n now command rules asked)
 
+act_forms : (n : NetworkValue) (now : ℕ) (command : Command) (done : Reply × NetworkValue) → IsNetwork n → HasForms n → IsFormedCommand command → act n now command ≡ Ok done → HasForms done.1
+unfolding act
+act_forms n now command done rules forms formed is = subst (λ o. IfOk o (λ d. HasForms d.1)) is (commands_keep_the_forms n now command rules forms formed)
+
 pub act_settings : (n : NetworkValue) (now : ℕ) (command : Command) (done : Reply × NetworkValue) → IsNetwork n → act n now command ≡ Ok done → HasSettingsOf n done.1
 unfolding act
 act_settings n now command done rules is = subst (λ o. IfOk o (λ d. HasSettingsOf n d.1)) is (settings_stay n now command rules)
@@ -170,7 +176,7 @@ no_overlap ts (h ∷ hs) pool e = by_test (overlaps pool h.network.pool) e (no_o
 
 module _ (r : Register) (good : IsConsistent r) where
   -- ---- an ask
-  put_stays : (t : ℕ) (name : Bytes) (now : ℕ) (command : Command) (n : NetworkValue) → IsAsked command → network_at r.networks t name ≡ Some n → (done : Reply × NetworkValue) → act n now command ≡ Ok done → IsConsistent (put_network r t name done.1)
+  put_stays : (t : ℕ) (name : Bytes) (now : ℕ) (command : Command) (n : NetworkValue) → IsProperCommand command → network_at r.networks t name ≡ Some n → (done : Reply × NetworkValue) → act n now command ≡ Ok done → IsConsistent (put_network r t name done.1)
   put_stays t name now command n is_asked e done is = record {
     names = good.names;
     ids = good.ids;
@@ -183,7 +189,7 @@ module _ (r : Register) (good : IsConsistent r) where
     network_tenants = put_all (λ h. has_tenant r.tenants h.tenant ≡ true) r.networks t name done.1 (λ h x. x) good.network_tenants;
     tenants = good.tenants;
     tokens = good.tokens;
-    networks = put_held r.networks t name done.1 n (λ h x holding. record { id = holding.id; name = holding.name; host = subst IsHost (ap (λ m. m.host) x ∙ sym settings.host) holding.host; rules = after }) e good.networks;
+    networks = put_held r.networks t name done.1 n (λ h x holding. record { id = holding.id; name = holding.name; host = subst IsHost (ap (λ m. m.host) x ∙ sym settings.host) holding.host; forms = forms_after; rules = after }) e good.networks;
     few_tenants = good.few_tenants;
     few_tokens = good.few_tokens;
     few_networks = subst (λ k. k ≤ 65536) (sym (put_length r.networks t name done.1)) good.few_networks;
@@ -195,20 +201,23 @@ module _ (r : Register) (good : IsConsistent r) where
     settings = act_settings n now command done before is
 
     after : IsNetwork done.1
-    after = act_keeps n now command done before is_asked is
+    after = act_keeps n now command done before is_asked.0 is
+
+    forms_after : HasForms done.1
+    forms_after = act_forms n now command done before (found_all HasForms r.networks t name n (weaken IsHolding (λ h. HasForms h.network) (λ h x. x.forms) r.networks good.networks) e) is_asked.1 is
 
     keys : {B : Type 0} (f : Holding → B) → ((h : Holding) → h.network ≡ n → f (record h { network = done.1 }) ≡ f h) → map f (with_network r.networks t name done.1) ≡ map f r.networks
     keys f same = put_keys f r.networks t name done.1 n same e
 
-  acted_stays : (t : ℕ) (name : Bytes) (now : ℕ) (command : Command) (n : NetworkValue) → IsAsked command → network_at r.networks t name ≡ Some n → (x : Result (Reply × NetworkValue) Refusal) → act n now command ≡ x → IsConsistent (acted r t name x).1
+  acted_stays : (t : ℕ) (name : Bytes) (now : ℕ) (command : Command) (n : NetworkValue) → IsProperCommand command → network_at r.networks t name ≡ Some n → (x : Result (Reply × NetworkValue) Refusal) → act n now command ≡ x → IsConsistent (acted r t name x).1
   acted_stays t name now command n is_asked e (Ok done) is = put_stays t name now command n is_asked e done is
   acted_stays t name now command n is_asked e (Err why) is = good
 
-  asked_stays : (t : ℕ) (name : Bytes) (now : ℕ) (command : Command) (n : Option NetworkValue) → IsAsked command → network_at r.networks t name ≡ n → IsConsistent (asked now command r t name n).1
+  asked_stays : (t : ℕ) (name : Bytes) (now : ℕ) (command : Command) (n : Option NetworkValue) → IsProperCommand command → network_at r.networks t name ≡ n → IsConsistent (asked now command r t name n).1
   asked_stays t name now command None is_asked e = good
   asked_stays t name now command (Some n) is_asked e = acted_stays t name now command n is_asked e (act n now command) refl
 
-  ask_stays : (name : Bytes) (now : ℕ) (command : Command) (token : Option ℕ) → IsAsked command → IsConsistent (ask r name now command token).1
+  ask_stays : (name : Bytes) (now : ℕ) (command : Command) (token : Option ℕ) → IsProperCommand command → IsConsistent (ask r name now command token).1
   ask_stays name now command None is_asked = good
   ask_stays name now command (Some t) is_asked = asked_stays t name now command (network_at r.networks t name) is_asked refl
 
@@ -299,8 +308,8 @@ module _ (r : Register) (good : IsConsistent r) where
     few_networks = le_trans (shorter _ r.networks) good.few_networks;
   }
 
-  network_stays : (tenant : Bytes) (id : ℕ) (name : Bytes) (n : NetworkValue) (new : ℕ) → IsId new × (has_network r.networks new ≡ false) → id_of r.tenants tenant ≡ Some id → IsName name → IsHost n.host → IsNetwork n → has_slot r.networks id name ≡ false → list_any (overlaps n.pool) (map pool_of r.networks) ≡ false → has_endpoint r.networks (n.host, n.port) ≡ false → is_full r.networks ≡ false → IsConsistent (with_new_network r new id name n)
-  network_stays tenant id name n new unused e is_name host is free apart port few = record {
+  network_stays : (tenant : Bytes) (id : ℕ) (name : Bytes) (n : NetworkValue) (new : ℕ) → IsId new × (has_network r.networks new ≡ false) → id_of r.tenants tenant ≡ Some id → IsName name → IsHost n.host → HasForms n → IsNetwork n → has_slot r.networks id name ≡ false → list_any (overlaps n.pool) (map pool_of r.networks) ≡ false → has_endpoint r.networks (n.host, n.port) ≡ false → is_full r.networks ≡ false → IsConsistent (with_new_network r new id name n)
+  network_stays tenant id name n new unused e is_name host forms is free apart port few = record {
     names = good.names;
     ids = good.ids;
     digests = good.digests;
@@ -312,7 +321,7 @@ module _ (r : Register) (good : IsConsistent r) where
     network_tenants = (first_tenant id tenant r.tenants e, good.network_tenants);
     tenants = good.tenants;
     tokens = good.tokens;
-    networks = (record { id = unused.0; name = is_name; host = host; rules = is }, good.networks);
+    networks = (record { id = unused.0; name = is_name; host = host; forms = forms; rules = is }, good.networks);
     few_tenants = good.few_tenants;
     few_tokens = good.few_tokens;
     few_networks = omega (arith, room r.networks few);
@@ -337,7 +346,7 @@ module _ (r : Register) (good : IsConsistent r) where
       let c = passed pools (port ∷ full ∷ []) b.1 in
       let d = passed port (full ∷ []) c.1 in
       let e_ = passed full [] d.1 in
-      network_stays tenant id name (new_network s) new (unused (is_accepted r (with_new_network r new id name (new_network s)) (network_checks r id name s) ok)) e proper.0 proper.1
+      network_stays tenant id name (new_network s) new (unused (is_accepted r (with_new_network r new id name (new_network s)) (network_checks r id name s) ok)) e proper.0 proper.1 (proper.4, All-nil IsFormed)
       (new_keeps s (is_pool_sound s.pool (not_false (is_pool s.pool) (not_refused (not (is_pool s.pool)) BadPool b.0))) proper.2 proper.3)
       (not_refused (has_slot r.networks id name) NameHeld a.0) (no_overlap r.tenants r.networks s.pool c.0)
       (not_refused (has_endpoint r.networks (s.host, s.port)) PortHeld d.0) (not_refused (is_full r.networks) RegisterFull e_.0)

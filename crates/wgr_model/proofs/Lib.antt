@@ -20,3 +20,10 @@ pub mod RuleLemmas
 pub mod OrderRowLemmas
 pub mod AskRowLemmas
 pub mod RowWorldLemmas
+pub mod PlaceLemmas
+pub mod CopyLemmas
+pub mod CallLemmas
+pub mod ServeLemmas
+pub mod OrderSteps
+pub mod ListingLemmas
+pub mod ActLemmas

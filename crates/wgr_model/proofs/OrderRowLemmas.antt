@@ -20,6 +20,7 @@ use Rattle.wgr_model.proofs.SameLemmas.{eqb_sym, slot_sym}
 
 pub tenants_gain : TenantsGain
 tenants_gain r t name new tenants rows more = record {
+  meta = rows.meta;
   tenants = IsPermutation-trans (record { id = new; name = name } ∷ r.tenants) (record { id = new; name = name } ∷ t.tenants) tenants (IsPermutation-cons (record { id = new; name = name }) r.tenants t.tenants rows.tenants) more;
   tokens = rows.tokens;
   networks = rows.networks;
@@ -30,6 +31,7 @@ tenants_gain r t name new tenants rows more = record {
 
 pub tokens_gain : TokensGain
 tokens_gain r t digest id tokens rows more = record {
+  meta = rows.meta;
   tenants = rows.tenants;
   tokens = IsPermutation-trans (record { digest = digest; tenant = id } ∷ r.tokens) (record { digest = digest; tenant = id } ∷ t.tokens) tokens (IsPermutation-cons (record { digest = digest; tenant = id }) r.tokens t.tokens rows.tokens) more;
   networks = rows.networks;
@@ -43,6 +45,7 @@ tokens_lose r t digest tokens rows good less =
     let keep = λ (x : Token). not (is_same digest x.digest) in
     let apart = IsDistinct-IsPermutation is_same is_same_sym (map (λ x. x.digest) r.tokens) (map (λ x. x.digest) t.tokens) (IsPermutation-map (λ x. x.digest) r.tokens t.tokens rows.tokens) good.digests in
     record {
+      meta = rows.meta;
       tenants = rows.tenants;
       tokens = IsPermutation-trans (filter keep r.tokens) (filter keep t.tokens) tokens (filter_permutation (λ x. x.digest) is_same is_same_refl is_same_sym keep r.tokens t.tokens good.digests apart rows.tokens) less;
       networks = rows.networks;
@@ -55,6 +58,7 @@ pub networks_gain : NetworksGain
 networks_gain r t new id name s networks rows more =
     let row = network_row (record { id = new; tenant = id; name = name; network = new_network s }) in
     record {
+      meta = rows.meta;
       tenants = rows.tenants;
       tokens = rows.tokens;
       networks = IsPermutation-trans (row ∷ map network_row r.networks) (row ∷ t.networks) networks (IsPermutation-cons row (map network_row r.networks) t.networks rows.networks) more;
@@ -112,6 +116,7 @@ networks_lose r t u h rows good held gone =
     let ids = subst (IsDistinct nat_eq) (sym (ids_of_rows r.networks)) good.network_ids in
     let apart = IsDistinct-IsPermutation nat_eq eqb_sym (map (λ w. w.id) (map network_row r.networks)) (map (λ w. w.id) t.networks) (IsPermutation-map (λ w. w.id) (map network_row r.networks) t.networks rows.networks) ids in
     record {
+      meta = gone.meta ∙ rows.meta;
       tenants = subst (IsPermutation r.tenants) (sym gone.tenants) rows.tenants;
       tokens = subst (IsPermutation r.tokens) (sym gone.tokens) rows.tokens;
       networks = subst (λ xs. IsPermutation xs u.networks) (sym (ap (map network_row) (left r good h held) ∙ map_filter network_row keep r.networks))

@@ -7,7 +7,7 @@ use Rattle.wgr_peers.specs.declared.peer.Peer.{Peer}
 use Rattle.wgr_model.specs.Laws.{Has}
 use Rattle.wgr_model.specs.Register.{Holding, IsSame, Register, empty_register}
 use Rattle.wgr_model.specs.RowLaws.{AreConsistent, HasOneRow, IsRowRun, IsRowStep, NoRowsAreConsistent, OrderIsUnseen, RowsAreIsolated, RowsStayConsistent, no_rows}
-use Rattle.wgr_model.specs.Rows.{AllowedRow, AreRowsOf, HaveSame, Tables, address_row, allowed_rows, network_row, peer_rows, register_of, route_row}
+use Rattle.wgr_model.specs.Rows.{AllowedRow, AreRowsOf, first_version, HaveSame, Tables, address_row, allowed_rows, network_row, peer_rows, register_of, route_row}
 use Rattle.wgr_model.specs.Runs.{AreProper, IsRun, Served}
 use Rattle.wgr_model.specs.Steps.{Answer, Event, IsProper, IsStep}
 use Rattle.wgr_model.proofs.CollectLemmas.{from_append, from_flat, from_map, has_flat}
@@ -25,6 +25,7 @@ flat_same rows_in hs ks rows same was a = (
 
 same_rows : (r s : Register) (t : Tables) → IsSame r s → AreRowsOf r t → AreRowsOf s t
 same_rows r s t same rows = record {
+  meta = rows.meta;
   tenants = IsPermutation-trans s.tenants r.tenants t.tenants (IsPermutation-sym r.tenants s.tenants same.tenants) rows.tenants;
   tokens = IsPermutation-trans s.tokens r.tokens t.tokens (IsPermutation-sym r.tokens s.tokens same.tokens) rows.tokens;
   networks = IsPermutation-trans (map network_row s.networks) (map network_row r.networks) t.networks (IsPermutation-sym (map network_row r.networks) (map network_row s.networks) (IsPermutation-map network_row r.networks s.networks same.networks)) rows.networks;
@@ -88,6 +89,7 @@ order_unseen r t u me one two is =
 pub no_rows_consistent : NoRowsAreConsistent
 unfolding IsDistinct
 no_rows_consistent = rows_consistent empty_register no_rows (record {
+  meta = λ i. first_version;
   tenants = IsPermutation-refl [];
   tokens = IsPermutation-refl [];
   networks = IsPermutation-refl [];

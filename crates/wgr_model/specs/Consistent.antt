@@ -8,6 +8,7 @@ use Rattle.wgr_text.specs.Prefix.{PrefixValue, block, width}
 use Rattle.wgr_pool.specs.PrefixTests.{covers}
 use Rattle.wgr_peers.specs.Host.{IsHostText}
 use Rattle.wgr_core.specs.Network.{IsNetwork}
+use Rattle.wgr_core.specs.Forms.{HasForms}
 use Rattle.wgr_model.specs.Register.{Bytes, Tenant, Holding, Register, is_same}
 
 -- ---- forms
@@ -73,11 +74,13 @@ pub record IsTenant (t : Tenant) : Type 0 where
   pub id : IsId t.id
   pub name : IsName t.name
 
--- a network's id, name and host are of their forms, and it keeps the rules of one network
+-- a network's id, name, host and server key, and the fields of its peers, are of their forms, and it
+-- keeps the rules of one network
 pub record IsHolding (h : Holding) : Type 0 where
   pub id : IsId h.id
   pub name : IsName h.name
   pub host : IsHost h.network.host
+  pub forms : HasForms h.network
   pub rules : IsNetwork h.network
 
 pub record IsConsistent (r : Register) : Type 0 where

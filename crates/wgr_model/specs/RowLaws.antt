@@ -8,15 +8,16 @@ use Rattle.wgr_model.specs.Steps.{Event, Answer, IsStep, put_network}
 use Rattle.wgr_model.specs.Tenants.{Agree, own_events, tenant_run}
 use Rattle.wgr_model.specs.Runs.{Served, AreProper, acknowledged}
 use Rattle.wgr_model.specs.Laws.{Has}
-use Rattle.wgr_model.specs.Rows.{AllowedRow, Tables, AreRowsOf, Replaces, register_of}
+use Rattle.wgr_model.specs.Rows.{AllowedRow, Tables, AreRowsOf, Replaces, first_version, register_of}
 
 -- what is read from the rows is a consistent register, and there is no row that isn't one of it
 pub record AreConsistent (t : Tables) : Type 0 where
   pub consistent : IsConsistent (register_of t)
   pub rows : AreRowsOf (register_of t) t
 
+-- the tables of a register without entries
 abbrev pub no_rows : Tables
-no_rows = record { tenants = []; tokens = []; networks = []; peers = []; allowed = [] }
+no_rows = record { meta = first_version; tenants = []; tokens = []; networks = []; peers = []; allowed = [] }
 
 -- what a tenant sees, read from the rows
 abbrev pub rows_view : Tables → Bytes → View

@@ -78,6 +78,7 @@ NetworksGain = (r : Register) (t : Tables) (new id : ℕ) (name : Bytes) (s : Se
 
 -- the rows `u` are the rows `t` without those of the network of this id
 pub record Removes (id : ℕ) (t u : Tables) : Type 0 where
+  pub meta : u.meta ≡ t.meta
   pub tenants : u.tenants ≡ t.tenants
   pub tokens : u.tokens ≡ t.tokens
   pub networks : IsPermutation (filter (λ w. not (nat_eq w.id id)) t.networks) u.networks

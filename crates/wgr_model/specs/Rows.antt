@@ -1,4 +1,4 @@
--- The register as the rows of five tables.
+-- The register as the rows of its tables.
 use Rattle.std.specs.Prelude.{◌≡◌, ℕ, ◌+◌, ◌-◌, ◌*◌, Bool, true, false, not, ◌&&◌, ◌⊎◌, ◌↔◌, if◌then◌else◌, nat_eq, List, [], ◌∷◌, ◌++◌, map, Option}
 use Rattle.std.specs.List.{filter, flat_map, IsDistinct}
 use Rattle.std.specs.List.Sorted.{IsPermutation}
@@ -49,7 +49,12 @@ pub record AllowedRow : Type 0 where
   pub peer : ℕ
   pub is_route : Bool
 
+-- how the tables are laid out
+pub record MetaRow : Type 0 where
+  pub version : ℕ
+
 pub record Tables : Type 0 where
+  pub meta : List MetaRow
   pub tenants : List Tenant
   pub tokens : List Token
   pub networks : List NetworkRow
@@ -151,9 +156,14 @@ allowed_rows h = map (address_row h.id) h.network.peers ++ map (route_row h.id) 
 abbrev pub HaveSame : {A : Type 0} → List A → List A → Type 0
 HaveSame {A} xs ys = (a : A) → Has xs a ↔ Has ys a
 
+-- the one row of the table `meta`: the tables are laid out in their first version
+abbrev pub first_version : List MetaRow
+first_version = record { version = 1 } ∷ []
+
 -- The rows are those of the register, in whatever order: its tenants, tokens and networks; for each
 -- peer one row, and one of its address at full length; and one for each route.
 pub record AreRowsOf (r : Register) (t : Tables) : Type 0 where
+  pub meta : t.meta ≡ first_version
   pub tenants : IsPermutation r.tenants t.tenants
   pub tokens : IsPermutation r.tokens t.tokens
   pub networks : IsPermutation (map network_row r.networks) t.networks
@@ -169,6 +179,7 @@ with_next id next w = if nat_eq w.id id then record w { next = next } else w
 -- The rows `u` are the rows `t` with those of the network of this id in place of the old ones: its
 -- next number, its peers, and what they are allowed. Every other row stays.
 pub record Replaces (id : ℕ) (n : NetworkValue) (t u : Tables) : Type 0 where
+  pub meta : u.meta ≡ t.meta
   pub tenants : u.tenants ≡ t.tenants
   pub tokens : u.tokens ≡ t.tokens
   pub networks : IsPermutation (map (with_next id n.next) t.networks) u.networks

@@ -12,6 +12,7 @@ use Rattle.wgr_core.specs.declared.refusal.Refusal.{Refusal}
 use Rattle.wgr_core.specs.declared.reply.Reply.{Reply}
 use Rattle.wgr_core.specs.Network.{NetworkValue}
 use Rattle.wgr_core.specs.Outcome.{IsAsked, outcome_of}
+use Rattle.wgr_core.specs.Forms.{IsFormedCommand, IsKey}
 use Rattle.wgr_model.specs.Register.{Bytes, Tenant, Token, Holding, Register, IsSame, id_of, is_same, view_at}
 use Rattle.wgr_model.specs.Consistent.{IsDigest, IsHost, IsId, IsName, endpoint, has_tenant, is_pool, overlaps, same_endpoint, same_slot, slot}
 
@@ -43,11 +44,14 @@ pub data Event : Type 0 where
   EndNetwork : (tenant name : Bytes) → Event
 
 -- the fields are of the forms that their types keep
+abbrev pub IsProperCommand : Command → Type 0
+IsProperCommand command = IsAsked command × IsFormedCommand command
+
 abbrev pub IsProper : Event → Type 0
-IsProper (Ask digest name now command) = IsAsked command
+IsProper (Ask digest name now command) = IsProperCommand command
 IsProper (AddTenant name) = IsName name
 IsProper (Grant tenant digest) = IsDigest digest
-IsProper (AddNetwork tenant name settings) = IsName name × IsHost settings.host × IsPort settings.port × IsCapacity settings.capacity
+IsProper (AddNetwork tenant name settings) = IsName name × IsHost settings.host × IsPort settings.port × IsCapacity settings.capacity × IsKey settings.server
 IsProper _ = ⊤
 
 -- ---- answers

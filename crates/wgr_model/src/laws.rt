@@ -47,7 +47,7 @@ pub fn commits_replace()
     ensures { CommitsReplace }
 {}
 
-/// Whole runs, said of the rows of the five tables. At the end two address rows with one address
+/// Whole runs, said of the rows of the tables. At the end two address rows with one address
 /// are one row.
 pub fn rows_are_isolated()
     ensures { RowsAreIsolated }

@@ -1,5 +1,22 @@
 //! The register of many tenants as a model: what one tenant sees of it, what each event does to
-//! it, and what follows for every list of events.
+//! it, and what follows for every list of events. Beside it stands a plain register in memory.
 #![tactic(auto)]
 
+mod answer;
+mod ask;
 pub mod laws;
+mod listing;
+mod look;
+mod operate;
+mod order;
+mod overlap;
+mod register;
+mod run;
+
+pub use answer::{Answer, OrderRefusal};
+pub use order::{Order, Settings};
+pub use register::Register;
+pub use run::Event;
+
+#[cfg(test)]
+mod tests;

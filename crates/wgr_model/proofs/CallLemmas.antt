@@ -1,0 +1,65 @@
+-- Single steps.
+use Rattle.std.proofs.Common.{◌≡◌, ℕ, true, false, Some, None, Result, Ok, Err, refl, sym, ap, subst, ◌∙◌, true≢false}
+use Rattle.wgr_core.specs.declared.command.Command.{Command}
+use Rattle.wgr_core.specs.declared.refusal.Refusal.{Refusal}
+use Rattle.wgr_core.specs.declared.reply.Reply.{Reply}
+use Rattle.wgr_core.specs.Network.{NetworkValue}
+use Rattle.wgr_model.specs.Calls.{IsActed}
+use Rattle.wgr_model.specs.Listing.{Entries, EntriesOf}
+use Rattle.wgr_model.specs.Register.{Bytes, IsSame, Register}
+use Rattle.wgr_model.specs.Steps.{Answer, Ask, Declined, Event, IsStep, IsUnused, Listed, Networks, NoSuchNetwork, Outcome, Replied, UnknownToken, act, acted, ask, asked, is_done, listed, network_at, outcome, put_network, tenant_of_token}
+use Rattle.wgr_model.proofs.RunLemmas.{same_itself}
+
+-- what an event gives is a step
+pub step_is : (r s : Register) (e : Event) (new : ℕ) (o : Outcome) → outcome r e new ≡ o → (is_done o.0 ≡ true → IsUnused r e new) → IsSame o.1 s → IsStep r e o.0 s
+step_is r s e new o is unused same = record {
+  new = new;
+  unused = unused;
+  answered = sym (ap {A = Outcome} (λ x. x.0) is);
+  rows = subst (λ (x : Outcome). IsSame x.1 s) (sym is) same;
+}
+
+-- and so where the register stays
+pub quiet : (r : Register) (e : Event) (answer : Answer) → is_done answer ≡ false → outcome r e 0 ≡ (answer, r) → IsStep r e answer r
+quiet r e answer none is = step_is r r e 0 (answer, r) is (λ done. absurd (true≢false (sym done ∙ none))) (same_itself r)
+
+module _ (r : Register) (digest name : Bytes) (now : ℕ) (command : Command) where
+  pub stranger_asks : tenant_of_token r.tokens digest ≡ None → IsStep r (Ask digest name now command) UnknownToken r
+  stranger_asks none = quiet r (Ask digest name now command) UnknownToken refl (ap (ask r name now command) none)
+
+  module _ (id : ℕ) (known : tenant_of_token r.tokens digest ≡ Some id) where
+    pub nothing_asked : network_at r.networks id name ≡ None → IsStep r (Ask digest name now command) NoSuchNetwork r
+    nothing_asked none = quiet r (Ask digest name now command) NoSuchNetwork refl (ap (ask r name now command) known ∙ ap (asked now command r id name) none)
+
+    found_acts : (n : NetworkValue) (given : Result (Reply × NetworkValue) Refusal) → network_at r.networks id name ≡ Some n → act n now command ≡ given → outcome r (Ask digest name now command) 0 ≡ acted r id name given
+    found_acts n given found is = ap (ask r name now command) known ∙ ap (asked now command r id name) found ∙ ap (acted r id name) is
+
+    pub declined : (n : NetworkValue) (why : Refusal) → network_at r.networks id name ≡ Some n → act n now command ≡ Err why → IsStep r (Ask digest name now command) (Declined why) r
+    declined n why found is = quiet r (Ask digest name now command) (Declined why) refl (found_acts n (Err why) found is)
+
+    pub replied : (n : NetworkValue) (done : Reply × NetworkValue) (s : Register) → network_at r.networks id name ≡ Some n → act n now command ≡ Ok done → s ≡ put_network r id name done.1
+        → IsStep r (Ask digest name now command) (Replied done.0 done.1) s
+    replied n done s found is after =
+        let o : Outcome = (Replied done.0 done.1, put_network r id name done.1) in
+        step_is r s (Ask digest name now command) 0 o (found_acts n (Ok done) found is) (λ _. tt) (subst (λ x. IsSame (put_network r id name done.1) x) (sym after) (same_itself (put_network r id name done.1)))
+
+pub stranger_lists : (r : Register) (digest : Bytes) → tenant_of_token r.tokens digest ≡ None → IsStep r (Networks digest) UnknownToken r
+stranger_lists r digest none = quiet r (Networks digest) UnknownToken refl (ap (listed r) none)
+
+pub tenant_lists : (r : Register) (digest : Bytes) (id : ℕ) (entries : Entries) → tenant_of_token r.tokens digest ≡ Some id → EntriesOf r.networks id entries → IsStep r (Networks digest) (Listed entries) r
+tenant_lists r digest id entries known is = quiet r (Networks digest) (Listed entries) refl (ap (listed r) known ∙ ap (λ (es : Entries). (Listed es, r)) (sym is))
+
+module _ (r : Register) (digest name : Bytes) (now : ℕ) (command : Command) (id : ℕ) (known : tenant_of_token r.tokens digest ≡ Some id) (n : NetworkValue) (found : network_at r.networks id name ≡ Some n) (answer : Answer) where
+  -- a command that is refused
+  pub refusal_step : IsActed (act n now command) answer None → IsStep r (Ask digest name now command) answer r
+  refusal_step e = by_case (act n now command) refl e where
+    by_case : (given : Result (Reply × NetworkValue) Refusal) → act n now command ≡ given → IsActed given answer None → IsStep r (Ask digest name now command) answer r
+    by_case (Err why) is e = subst (λ (a : Answer). IsStep r (Ask digest name now command) a r) (sym e) (declined r digest name now command id known n why found is)
+    by_case (Ok done) is e = absurd e
+
+  -- and one that is done
+  pub reply_step : (after : NetworkValue) (s : Register) → IsActed (act n now command) answer (Some after) → s ≡ put_network r id name after → IsStep r (Ask digest name now command) answer s
+  reply_step after s e put = by_case (act n now command) refl e where
+    by_case : (given : Result (Reply × NetworkValue) Refusal) → act n now command ≡ given → IsActed given answer (Some after) → IsStep r (Ask digest name now command) answer s
+    by_case (Err why) is e = absurd e
+    by_case (Ok done) is e = subst (λ (a : Answer). IsStep r (Ask digest name now command) a s) (sym e.0) (replied r digest name now command id known n done s found is (put ∙ ap (put_network r id name) e.1))

@@ -1,0 +1,24 @@
+-- A tenant's networks by name, as a list in the order of the names.
+use Rattle.std.specs.Prelude.{◌≡◌, ℕ, ◌<◌, ◌≤◌, List, length, Result, Ok, Err, slice_index_or, slice_set}
+use Rattle.std.specs.List.{insert}
+use Rattle.std.specs.Ordering.{nat_cmp}
+use Rattle.std.specs.Cmp.Lexicographic.{slice_cmp}
+use Rattle.std.specs.FinMap as map_
+use Rattle.std.specs.FinMap.Entries.{put}
+use Rattle.wgr_core.specs.Network.{NetworkValue}
+use Rattle.wgr_model.specs.Register.{Bytes, Holding, networks_of}
+
+abbrev pub Entries : Type 0
+Entries = List (Bytes × NetworkValue)
+
+-- the entries are those of the tenant's map
+abbrev pub EntriesOf : List Holding → ℕ → Entries → Type 0
+EntriesOf hs id entries = entries ≡ map_.entries (map_.from_entries {R = slice_cmp nat_cmp} (networks_of hs id))
+
+abbrev pub put_entry : Bytes → NetworkValue → Entries → Entries
+put_entry name n entries = put (slice_cmp nat_cmp) name n entries
+
+-- where the entry is put: in the place of one, or between two
+abbrev pub EntryPlace : Entries → Bytes → Result ℕ ℕ → Type 0
+EntryPlace entries name (Ok place) = (place < length entries) × ((d : Bytes × NetworkValue) (n : NetworkValue) → put_entry name n entries ≡ slice_set entries place ((slice_index_or entries place d).0, n))
+EntryPlace entries name (Err place) = (place ≤ length entries) × ((n : NetworkValue) → put_entry name n entries ≡ insert entries place (name, n))
