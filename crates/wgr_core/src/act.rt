@@ -17,7 +17,7 @@ impl Network {
     /// it is: [`Change::apply`] or [`Network::apply`] makes the change. A reading changes nothing;
     /// any other accepted command also removes the peers whose lease is over.
     ///
-    /// No peer or route is copied but those of the answer.
+    /// No peer or route is copied but those of the answer, and those that Adopt tries its lines on.
     pub fn act(
         &self,
         alloc: Global,

@@ -8,7 +8,7 @@ ghost use Rattle.wgr_peers.specs.Routes.{AreOrdered, HasAddr};
 use crate::network::Network;
 use std::alloc::{AllocError, Global};
 use std::collections::HashSet;
-use wgr_peers::order::{drop_route, put_peer};
+use wgr_peers::order::{drop_route, put_peer, put_route};
 use wgr_peers::{Items, Peer, PeerTable, RouteSlots};
 use wgr_text::Prefix;
 
@@ -67,10 +67,16 @@ impl Change {
         requires { (n : ℕ) → contains nat_eq removed.now n ≡ is_among self.now.removed n }
         ensures { IfOk result (λ routes. routes.items ≡ (applied self.now network.now).routes) }
     {
-        let routes = self.routes_left(alloc, network, removed)?;
+        let mut routes = self.routes_left(alloc, network, removed)?;
         let routes_put = self.routes_put.as_slice();
-        if routes_put.is_empty() {
-            return Ok(routes);
+        // One route is put in its place; for several, all are sorted once.
+        match routes_put {
+            [] => return Ok(routes),
+            [route] => {
+                put_route(&mut routes, route.0, route.1)?;
+                return Ok(routes);
+            }
+            _ => {}
         }
         let expected = routes_put.iter().map(|route| route.0).collect(alloc)?;
         let mut slots = RouteSlots::new(alloc, &routes, expected)?;
