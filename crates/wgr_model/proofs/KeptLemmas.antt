@@ -12,6 +12,7 @@ use Rattle.wgr_text.specs.declared.addr.Family.{Family}
 use Rattle.wgr_text.specs.declared.addr.Family.TheVariants.{V4, V6}
 use Rattle.wgr_pool.proofs.Bools.{not_false}
 use Rattle.wgr_pool.specs.Pool.{IsPool, IsPoolLength}
+use Rattle.wgr_peers.specs.Host.{IsHost}
 use Rattle.wgr_peers.specs.Limits.{IsCapacity, IsPort}
 use Rattle.wgr_peers.specs.Peers.{IsApart, IsNumberedBelow}
 use Rattle.wgr_peers.specs.Routes.{ComesBefore}
@@ -25,7 +26,7 @@ use Rattle.wgr_core.specs.Outcome.{IsAsked}
 use Rattle.wgr_core.specs.declared.command.Command.{Command}
 use Rattle.wgr_core.specs.declared.refusal.Refusal.{Refusal}
 use Rattle.wgr_core.specs.declared.reply.Reply.{Reply}
-use Rattle.wgr_model.specs.Consistent.{IsConsistent, IsDigest, IsHolding, IsHost, IsId, IsName, endpoint, has_tenant, is_pool, is_pool_length, overlaps, pool_of, same_endpoint, same_slot, slot}
+use Rattle.wgr_model.specs.Consistent.{IsConsistent, IsDigest, IsHolding, IsId, IsName, endpoint, has_tenant, is_pool, is_pool_length, overlaps, pool_of, same_endpoint, same_slot, slot}
 use Rattle.wgr_model.specs.Register.{Bytes, Holding, Register, Tenant, id_of, is_same}
 use Rattle.wgr_model.specs.Steps.{AddNetwork, AddTenant, Ask, BadPool, Decided, DigestHeld, EndNetwork, EndToken, Event, Grant, IsProper, IsProperCommand, IsUnused, NameHeld, Networks, NoNetwork, NoSuchToken, OrderRefusal, PortHeld, RegisterFull, Settings, act, acted, ask, asked, first_refusal, given, grant_checks, granted, has_digest, has_endpoint, has_name, has_network, has_slot, is_done, is_full, listed, name_of, network_added, network_at, network_checks, network_ended, new_network, ordered, outcome, overlapping, pool_refusal, put_network, refuse, tenant_checks, tenant_of_token, with_network, with_new_network, with_tenant, with_token, without_network, without_token}
 use Rattle.wgr_model.proofs.LookLemmas.{none_some}
@@ -346,8 +347,8 @@ module _ (r : Register) (good : IsConsistent r) where
       let c = passed pools (port ∷ full ∷ []) b.1 in
       let d = passed port (full ∷ []) c.1 in
       let e_ = passed full [] d.1 in
-      network_stays tenant id name (new_network s) new (unused (is_accepted r (with_new_network r new id name (new_network s)) (network_checks r id name s) ok)) e proper.0 proper.1 (proper.4, All-nil IsFormed)
-      (new_keeps s (is_pool_sound s.pool (not_false (is_pool s.pool) (not_refused (not (is_pool s.pool)) BadPool b.0))) proper.2 proper.3)
+      network_stays tenant id name (new_network s) new (unused (is_accepted r (with_new_network r new id name (new_network s)) (network_checks r id name s) ok)) e proper.0 proper.1.0 (proper.1.3, All-nil IsFormed)
+      (new_keeps s (is_pool_sound s.pool (not_false (is_pool s.pool) (not_refused (not (is_pool s.pool)) BadPool b.0))) proper.1.1 proper.1.2)
       (not_refused (has_slot r.networks id name) NameHeld a.0) (no_overlap r.tenants r.networks s.pool c.0)
       (not_refused (has_endpoint r.networks (s.host, s.port)) PortHeld d.0) (not_refused (is_full r.networks) RegisterFull e_.0)
 

@@ -6,8 +6,8 @@ use Rattle.wgr_model.specs.declared.answer.Answer as answer
 use Rattle.wgr_model.specs.declared.run.Event as event
 use Rattle.wgr_model.specs.Calls.{answer_of, event_of, served}
 use Rattle.wgr_model.specs.Register.{Register}
-use Rattle.wgr_model.specs.Runs.{IsRun, IsServed, Served}
-use Rattle.wgr_model.specs.Steps.{Answer, Event}
+use Rattle.wgr_model.specs.Runs.{AreProper, IsRun, IsServed, Served}
+use Rattle.wgr_model.specs.Steps.{Answer, Event, IsProper}
 use Rattle.wgr_model.proofs.RunLemmas.{same_itself}
 
 -- a run to this very register
@@ -22,6 +22,10 @@ exact_is_run (e ∷ es) r s (next, step, rest) = (next, step, exact_is_run es ne
 pub run_more : (es : List Served) (r s t : Register) (e : Event) (a : Option Answer) → IsExactRun r es s → IsServed s e a t → IsExactRun r (es ++ (e, a) ∷ []) t
 run_more [] r s t e a run step = (t, subst (λ (x : Register). IsServed x e a t) (sym run) step, refl)
 run_more (x ∷ es) r s t e a (next, first, run) step = (next, first, run_more es next s t e a run step)
+
+pub proper_more : (es : List Served) (e : Event) (a : Option Answer) → AreProper es → IsProper e → AreProper (es ++ (e, a) ∷ [])
+proper_more [] e a so_far proper = (proper, tt)
+proper_more (x ∷ es) e a so_far proper = (so_far.0, proper_more es e a so_far.1 proper)
 
 served_push : (es : List event.Event) (answers : List (Option answer.Answer)) (e : event.Event) (a : Option answer.Answer) → length es ≡ length answers → served (es ++ e ∷ []) (answers ++ a ∷ []) ≡ served es answers ++ (event_of e, option_map answer_of a) ∷ []
 served_push [] [] e a h = refl

@@ -1,5 +1,5 @@
 -- What the calls of the plain register are in the words of the definitions.
-use Rattle.std.specs.Prelude.{◌≡◌, ℕ, List, [], ◌∷◌, Option, Some, None, Result, Ok, Err, string_bytes}
+use Rattle.std.specs.Prelude.{◌≡◌, ℕ, false, List, [], ◌∷◌, Option, Some, None, Result, Ok, Err, string_bytes}
 use Rattle.std.specs.Option.{option_map}
 use Rattle.wgr_text.specs.Prefix.{PrefixValue}
 use Rattle.wgr_core.specs.Network.{NetworkValue}
@@ -16,8 +16,9 @@ use Rattle.wgr_model.specs.declared.order.Order.TheVariants as ordered
 use Rattle.wgr_model.specs.declared.run.Event as event
 use Rattle.wgr_model.specs.declared.run.Event.TheVariants as events
 use Rattle.wgr_model.specs.Runs.{Served}
-use Rattle.wgr_model.specs.Register.{Bytes, Register}
-use Rattle.wgr_model.specs.Steps.{Event, Ask, Networks, AddTenant, Grant, EndToken, AddNetwork, EndNetwork, OrderRefusal, NameHeld, NoSuchTenant, DigestHeld, PoolOverlaps, BadPool, PortHeld, NoSuchToken, NoNetwork, RegisterFull, Answer, Replied, Declined, Listed, UnknownToken, NoSuchNetwork, Done, Refused, Settings, IsStep, first_refusal, network_checks}
+use Rattle.wgr_model.specs.Consistent.{IsId}
+use Rattle.wgr_model.specs.Register.{Bytes, Holding, Register}
+use Rattle.wgr_model.specs.Steps.{Event, Ask, Networks, AddTenant, Grant, EndToken, AddNetwork, EndNetwork, OrderRefusal, NameHeld, NoSuchTenant, DigestHeld, PoolOverlaps, BadPool, PortHeld, NoSuchToken, NoNetwork, RegisterFull, Answer, Replied, Declined, Listed, UnknownToken, NoSuchNetwork, Done, Refused, Settings, IsStep, first_refusal, has_network, network_checks, new_network}
 
 abbrev pub refusal_of : refusal.OrderRefusal → OrderRefusal
 refusal_of refused.NameHeld = NameHeld
@@ -76,3 +77,7 @@ abbrev pub IsChecked : Register → ℕ → Bytes → Settings → Result Prefix
 IsChecked r id name settings (Ok pool) = (first_refusal (network_checks r id name settings) ≡ None) × (pool ≡ settings.pool)
 IsChecked r id name settings (Err (faulted.Refused why)) = first_refusal (network_checks r id name settings) ≡ Some (refusal_of why)
 IsChecked r id name settings (Err faulted.NoMemory) = Unit {0}
+
+-- a network of these settings, without peers, under an id that no other has
+abbrev pub IsNewHolding : List Holding → ℕ → Bytes → Settings → Holding → Type 0
+IsNewHolding hs tenant name settings h = IsId h.id × (has_network hs h.id ≡ false) × (h ≡ record { id = h.id; tenant = tenant; name = name; network = new_network settings })

@@ -1,36 +1,26 @@
 -- Which registers are consistent.
-use Rattle.std.specs.Prelude.{◌≡◌, ℕ, ◌^◌, ◌%◌, ◌<◌, ◌≤◌, ◌⊎◌, Bool, true, ◌&&◌, ◌||◌, nat_eq, nat_le, nat_lt, List, length, map}
+use Rattle.std.specs.Prelude.{◌≡◌, ℕ, ◌^◌, ◌%◌, ◌<◌, ◌≤◌, Bool, true, ◌&&◌, ◌||◌, nat_eq, nat_le, nat_lt, List, length, map}
 use Rattle.std.specs.List.{list_any, IsDistinct, AllByRecursion}
-use Rattle.std.specs.Int.{IsInRange}
 use Rattle.wgr_text.specs.declared.addr.Family.{Family}
 use Rattle.wgr_text.specs.declared.addr.Family.TheVariants.{V4, V6}
 use Rattle.wgr_text.specs.Prefix.{PrefixValue, block, width}
 use Rattle.wgr_pool.specs.PrefixTests.{covers}
-use Rattle.wgr_peers.specs.Host.{IsHostText}
+use Rattle.wgr_peers.specs.Host.{IsHost}
+use Rattle.wgr_peers.specs.Name.{is_name}
 use Rattle.wgr_core.specs.Network.{IsNetwork}
 use Rattle.wgr_core.specs.Forms.{HasForms}
 use Rattle.wgr_model.specs.Register.{Bytes, Tenant, Holding, Register, is_same}
 
 -- ---- forms
 
--- a small letter or a digit of ASCII, or `-`
-abbrev pub IsNameByte : ℕ → Type 0
-IsNameByte b = IsInRange 97 122 b ⊎ IsInRange 48 57 b ⊎ (b ≡ 45)
-
--- the name of a tenant or of a network: 1 to 32 such bytes
-pub record IsName (text : Bytes) : Type 0 where
-  pub some : 1 ≤ length text
-  pub short : length text ≤ 32
-  pub bytes : AllByRecursion IsNameByte text
+-- the name of a tenant or of a network
+abbrev pub IsName : Bytes → Type 0
+IsName text = is_name text ≡ true
 
 -- a SHA-256 (FIPS 180-4): 32 bytes
 pub record IsDigest (digest : Bytes) : Type 0 where
   pub long : length digest ≡ 32
   pub bytes : AllByRecursion (λ b. b < 256) digest
-
--- a host as it is kept: some text of a host is kept so
-abbrev pub IsHost : Bytes → Type 0
-IsHost kept = (text : Bytes) × IsHostText text kept
 
 abbrev pub IsId : ℕ → Type 0
 IsId id = (1 ≤ id) × (id ≤ 65536)

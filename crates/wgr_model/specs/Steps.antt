@@ -6,6 +6,7 @@ use Rattle.std.specs.Cmp.Lexicographic.{slice_cmp}
 use Rattle.std.specs.FinMap as map_
 use Rattle.wgr_text.specs.declared.key.Key.{Key}
 use Rattle.wgr_text.specs.Prefix.{PrefixValue}
+use Rattle.wgr_peers.specs.Host.{IsHost}
 use Rattle.wgr_peers.specs.Limits.{IsPort, IsCapacity}
 use Rattle.wgr_core.specs.declared.command.Command.{Command}
 use Rattle.wgr_core.specs.declared.refusal.Refusal.{Refusal}
@@ -14,7 +15,7 @@ use Rattle.wgr_core.specs.Network.{NetworkValue}
 use Rattle.wgr_core.specs.Outcome.{IsAsked, outcome_of}
 use Rattle.wgr_core.specs.Forms.{IsFormedCommand, IsKey}
 use Rattle.wgr_model.specs.Register.{Bytes, Tenant, Token, Holding, Register, IsSame, id_of, is_same, view_at}
-use Rattle.wgr_model.specs.Consistent.{IsDigest, IsHost, IsId, IsName, endpoint, has_tenant, is_pool, overlaps, same_endpoint, same_slot, slot}
+use Rattle.wgr_model.specs.Consistent.{IsDigest, IsId, IsName, endpoint, has_tenant, is_pool, overlaps, same_endpoint, same_slot, slot}
 
 -- what a command gives on a network: a refusal, or a reply and the network after it
 unfoldable pub act : NetworkValue → ℕ → Command → Result (Reply × NetworkValue) Refusal
@@ -47,11 +48,14 @@ pub data Event : Type 0 where
 abbrev pub IsProperCommand : Command → Type 0
 IsProperCommand command = IsAsked command × IsFormedCommand command
 
+abbrev pub IsProperSettings : Settings → Type 0
+IsProperSettings s = IsHost s.host × IsPort s.port × IsCapacity s.capacity × IsKey s.server
+
 abbrev pub IsProper : Event → Type 0
 IsProper (Ask digest name now command) = IsProperCommand command
 IsProper (AddTenant name) = IsName name
 IsProper (Grant tenant digest) = IsDigest digest
-IsProper (AddNetwork tenant name settings) = IsName name × IsHost settings.host × IsPort settings.port × IsCapacity settings.capacity × IsKey settings.server
+IsProper (AddNetwork tenant name settings) = IsName name × IsProperSettings settings
 IsProper _ = ⊤
 
 -- ---- answers

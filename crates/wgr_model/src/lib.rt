@@ -10,6 +10,7 @@ mod look;
 mod operate;
 mod order;
 mod overlap;
+mod proper;
 mod register;
 mod run;
 

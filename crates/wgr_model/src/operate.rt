@@ -1,7 +1,7 @@
 //! Orders of the operator.
-ghost use Rattle.std.specs.Prelude.{◌≡◌, ◌++◌, ◌∷◌, [], not, IfOk, OnErr, OnOk};
+ghost use Rattle.std.specs.Prelude.{◌≡◌, ◌++◌, ◌∷◌, [], not, false, IfOk, OnErr, OnOk};
 ghost use Rattle.std.specs.List.{filter};
-ghost use Rattle.wgr_model.specs.Calls.{IsChecked, IsOrdered, answer_of, order_event};
+ghost use Rattle.wgr_model.specs.Calls.{IsChecked, IsNewHolding, IsOrdered, answer_of, order_event};
 ghost use Rattle.wgr_model.specs.Consistent.{same_slot, slot};
 ghost use Rattle.wgr_model.specs.Register.{is_same};
 ghost use Rattle.wgr_model.specs.Steps.{AddNetwork, AddTenant, EndNetwork, EndToken, Grant, IsStep, is_full};
@@ -106,13 +106,7 @@ impl Register {
             return Err(OrderFault::Refused(OrderRefusal::NoSuchTenant));
         };
         let pool = self.checked_pool(alloc, id, name, settings)?;
-        let ids = network_ids(alloc, &self.networks)?;
-        let holding = Holding {
-            id: unused_id(&ids),
-            tenant: id,
-            name: name.copy()?,
-            network: settings.network(alloc, pool)?,
-        };
+        let holding = new_holding(alloc, &self.networks, id, name, settings, pool)?;
         push(&mut self.networks, holding)?;
         Ok(())
     }
@@ -157,6 +151,29 @@ impl Register {
         drop_network(&mut self.networks, id, name);
         Ok(())
     }
+}
+
+// A network with these settings, under an id that none of the others has.
+fn new_holding(
+    alloc: Global,
+    networks: &[Holding],
+    tenant: u32,
+    name: &Name,
+    settings: &Settings,
+    pool: Pool,
+) -> Result<Holding, AllocError>
+    requires room { is_full networks.now ≡ false }
+    requires pool { pool ≡ settings.now.pool }
+    ensures { IfOk result (λ h. IsNewHolding networks.now tenant name.now settings.now h) }
+{
+    let ids = network_ids(alloc, networks)?;
+    let network = settings.network(alloc, pool)?;
+    Ok(Holding {
+        id: unused_id(&ids),
+        tenant,
+        name: name.copy()?,
+        network,
+    })
 }
 
 // Whether no more entries are taken.

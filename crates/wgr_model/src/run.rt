@@ -4,7 +4,7 @@ ghost use Rattle.std.specs.Option.{option_map};
 ghost use Rattle.wgr_model.specs.Calls.{answer_of, event_of, served};
 ghost use Rattle.wgr_model.specs.Consistent.{IsConsistent};
 ghost use Rattle.wgr_model.specs.Laws.{IsIsolated};
-ghost use Rattle.wgr_model.specs.Runs.{AreProper, IsRun, IsServed};
+ghost use Rattle.wgr_model.specs.Runs.{IsRun, IsServed};
 ghost use Rattle.wgr_model.specs.Steps.{IsStep};
 
 use crate::answer::Answer;
@@ -42,11 +42,12 @@ impl Register {
         events: &[Event],
     ) -> Result<Vec<Option<Answer>>, AllocError>
         ensures run { IfOk result (λ answers. IsRun self.old (served events.now answers.items) self.new) }
-        ensures isolated { IfOk result (λ answers. IsConsistent self.old → AreProper (served events.now answers.items) → IsIsolated self.old (served events.now answers.items) self.new) }
+        ensures isolated { IfOk result (λ answers. IsConsistent self.old → IsIsolated self.old (served events.now answers.items) self.new) }
         ensures undone { OnErr result (self.new ≡ self.old) }
     {
         let mut answers = Vec::with_capacity(alloc, events.len())?;
         for event in events {
+            event.tell_forms();
             let answer = self.serve(alloc, event);
             answers.push(answer)?;
         }

@@ -37,6 +37,10 @@ name_is_utf8 text is =
 pub name_by_bytes : (text : List ℕ) (r : Bool) → 1 ≤ length text → length text ≤ 253 → r ≡ list_all is_host_byte text → r ≡ is_host_name text
 name_by_bytes text r some short is = rw (le-leb 1 (length text) some, le-leb (length text) 253 short) is
 
+-- a name in lower case is a host
+pub name_text : (text kept : List ℕ) → is_host_name text ≡ true → kept ≡ map to_ascii_lowercase text → IsHostText text kept
+name_text text kept name is = rw name is
+
 -- what isn't a name is the text of an IPv6 address
 pub address_text : (text kept : List ℕ) (n : ℕ) → is_host_name text ≡ false → SpellsNumber text V6 n → kept ≡ canonical_number V6 n → IsHostText text kept
 address_text text kept n not_name spelled is = rw not_name (n, spelled, is)

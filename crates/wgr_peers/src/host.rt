@@ -1,6 +1,6 @@
 ghost use Rattle.std.specs.Prelude.{◌≡◌, ℕ, List, true, false, IfOk, IfSome, IfNone, string_bytes};
 ghost use Rattle.std.specs.List.{list_all};
-ghost use Rattle.wgr_peers.specs.Host.{is_host_byte, is_host_name, IsHostText};
+ghost use Rattle.wgr_peers.specs.Host.{is_host_byte, is_host_name, IsHost, IsHostText};
 ghost use Rattle.wgr_text.specs.PrefixText.{SpellsNumber};
 ghost use Rattle.wgr_text.specs.declared.addr.Family.TheVariants.{V6};
 
@@ -20,6 +20,8 @@ impl Model for Host {
     ghost Value = { List ℕ };
 
     ghost view = { λ h. string_bytes h.text };
+
+    ghost invariant = { λ h. IsHost (string_bytes h.text) };
 }
 
 impl Host {
@@ -54,7 +56,8 @@ impl Host {
 
     /// The text.
     pub fn as_str(&self) -> &str
-        ensures { result.now ≡ self.now }
+        ensures value { result.now ≡ self.now }
+        ensures valid { IsHost self.now }
     {
         self.text.as_str()
     }

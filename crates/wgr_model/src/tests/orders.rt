@@ -1,6 +1,6 @@
 //! Orders and their refusals.
 use super::*;
-use crate::register::{Tenant, Token};
+use crate::register::{Holding, Tenant, Token};
 
 #[test]
 fn orders_are_checked(rt: HostRuntime) -> Result<(), Fail> {
@@ -126,7 +126,17 @@ fn a_network_goes_with_its_peers(rt: HostRuntime) -> Result<(), Fail> {
 fn a_register_has_limits(rt: HostRuntime) -> Result<(), Fail> {
     let alloc = rt.alloc();
     let mut register = Register::new(alloc);
+    let lab = settings(alloc, Some("10.0.0.0/30"), Some("h"), Some("1"))?;
     for _ in 0..65_535u32 {
+        let Some(pool) = lab.pool() else {
+            return Err(Fail::from("no pool"));
+        };
+        register.networks.push(Holding {
+            id: 1,
+            tenant: 1,
+            name: name(alloc, Some("lab"))?,
+            network: lab.network(alloc, pool)?,
+        })?;
         register.tenants.push(Tenant {
             id: 1,
             name: name(alloc, Some("acme"))?,
@@ -148,6 +158,11 @@ fn a_register_has_limits(rt: HostRuntime) -> Result<(), Fail> {
             (0, "tenant acme", "name_held"),
             (0, "end-token 1", "done"),
             (0, "grant acme 2", "done"),
+            (0, "network acme office 10.8.0.0/24 h 2", "done"),
+            (0, "network acme spare 10.9.0.0/24 h 3", "register_full"),
+            (0, "network acme spare 10.9.0.0/24 h 2", "port_held"),
+            (0, "end-network acme office", "done"),
+            (0, "network acme spare 10.9.0.0/24 h 2", "done"),
         ],
     )
 }

@@ -2,8 +2,9 @@ use Rattle.std.proofs.Common.{rules, ◌+◌, take, sym, ap, subst, ◌∙◌, l
 use Rattle.std.proofs.lemmas.List.{take_all}
 use Rattle.std.specs.Option.{option_map}
 use Rattle.wgr_model.specs.Calls.{answer_of, event_of, served}
+use Rattle.wgr_model.specs.Runs.{AreProper}
 use Rattle.wgr_model.proofs.RunLemmas.{runs_isolated}
-use Rattle.wgr_model.proofs.ServeLemmas.{IsExactRun, exact_is_run, run_more, served_more}
+use Rattle.wgr_model.proofs.ServeLemmas.{IsExactRun, exact_is_run, proper_more, run_more, served_more}
 use Rattle.wgr_model.proofs.register.Register.run.Goals as goal
 
 pub loop-event-preserved : goal.loop-event-preserved
@@ -16,6 +17,8 @@ loop-event-preserved c =
     record {
       run = subst (λ es. IsExactRun c.args.self.now es c.serve-answer.new.self) (sym more)
           (run_more (served (take at events) answers) c.args.self.now c.loop-event.self c.serve-answer.new.self (event_of c.event-item.result) (option_map answer_of c.serve-answer.result) c.loop-event.invariant.run c.serve-answer.ensures);
+      proper = subst AreProper (sym more)
+          (proper_more (served (take at events) answers) (event_of c.event-item.result) (option_map answer_of c.serve-answer.result) c.loop-event.invariant.proper c.tell_forms.ensures);
       room = le_trans c.loop-event.invariant.room c.in_ok-push.ensures.capacity;
       long = search rules;
     }
@@ -23,6 +26,8 @@ loop-event-preserved c =
 pub returns : goal.returns
 returns c =
     let es = served c.args.events.now c.loop-event.answers.items in
+    let all = take_all c.loop-event.event-index c.args.events.now c.loop-event-test.false in
     let run = exact_is_run es c.args.self.now c.loop-event.self
-    (subst (λ xs. IsExactRun c.args.self.now (served xs c.loop-event.answers.items) c.loop-event.self) (take_all c.loop-event.event-index c.args.events.now c.loop-event-test.false) c.loop-event.invariant.run) in
-    record { run = run; isolated = λ good proper. runs_isolated c.args.self.now c.loop-event.self es good proper run; undone = tt }
+    (subst (λ xs. IsExactRun c.args.self.now (served xs c.loop-event.answers.items) c.loop-event.self) all c.loop-event.invariant.run) in
+    let proper = subst (λ xs. AreProper (served xs c.loop-event.answers.items)) all c.loop-event.invariant.proper in
+    record { run = run; isolated = λ good. runs_isolated c.args.self.now c.loop-event.self es good proper run; undone = tt }
