@@ -3,7 +3,8 @@
 //!
 //! Prints a line for each command of each network: the network, the command, how many calls a
 //! round has, and the nanoseconds of the best round of `Network::act` and of `Network::apply`,
-//! where a command that only reads has `-` for the latter.
+//! where a command that only reads has `-` for the latter. `load` is no command: its time is that
+//! of `Network::of`.
 //!
 //! This is Rattle, and its name doesn't end in `.rt` since it belongs to none of the repository's
 //! crates: `bench/run` makes it one in a folder of its own.
@@ -104,8 +105,8 @@ impl Layout {
         }
     }
 
-    // A network with this many peers and routes, in which `size` of each have room.
-    fn network(self, alloc: Global, size: u32, count: u32) -> Result<Network> {
+    // The parts of a network with this many peers and routes, in which `size` of each have room.
+    fn parts(self, alloc: Global, size: u32, count: u32) -> Result<Parts> {
         let mut peers = Vec::new(alloc);
         let mut routes = Vec::new(alloc);
         for index in 0..count {
@@ -117,7 +118,7 @@ impl Layout {
             routes.push((route, number_at(target.context("no target")?)?))?;
         }
         let capacity = u16::try_from(size).ok().and_then(Capacity::new);
-        let parts = Parts {
+        Ok(Parts {
             pool: pool()?,
             host: Host::read(alloc, b"vpn.example.net")?.context("no host")?,
             port: Port::new(51820).context("no port")?,
@@ -126,8 +127,11 @@ impl Layout {
             next: number_at(count)?,
             peers,
             routes,
-        };
-        Network::of(alloc, parts)?.context("no network")
+        })
+    }
+
+    fn network(self, alloc: Global, size: u32, count: u32) -> Result<Network> {
+        Network::of(alloc, self.parts(alloc, size, count)?)?.context("no network")
     }
 }
 
@@ -376,6 +380,23 @@ fn time_adoption(rt: &HostRuntime, layout: Layout, size: u32, rounds: u32) -> Re
     Ok(())
 }
 
+// A network that is made of its parts, as where they come from a store.
+fn time_load(rt: &HostRuntime, layout: Layout, size: u32, rounds: u32) -> Result<()> {
+    let mut best = u128::MAX;
+    for _ in 0..rounds {
+        let parts = layout.parts(rt.alloc(), size, size)?;
+        let start = Instant::now(rt)?;
+        let network = Network::of(rt.alloc(), parts)?;
+        best = best.min(start.elapsed(rt)?.as_nanos());
+        if network.is_none() {
+            bail!("no network");
+        }
+    }
+    let layout = layout.name();
+    println!(rt; "{layout} load 1 {best} -")?;
+    Ok(())
+}
+
 fn number(word: Option<String>) -> Result<u32> {
     Ok(word.context("a number is wanting")?.parse::<u32>()?)
 }
@@ -389,6 +410,7 @@ fn main(rt: HostRuntime) -> Result<()> {
             time_kind(&rt, kind, layout, size, rounds)?;
         }
         time_adoption(&rt, layout, size, rounds)?;
+        time_load(&rt, layout, size, rounds)?;
     }
     Ok(())
 }

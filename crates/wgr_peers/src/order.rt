@@ -1,5 +1,5 @@
 //! Peers in the order of their numbers, and routes in the order of their prefixes.
-ghost use Rattle.std.specs.Prelude.{◌≡◌, ℕ, ◌<◌, ◌≤◌, nat_eq, nat_lt, not, OnOk, OnErr, All};
+ghost use Rattle.std.specs.Prelude.{◌≡◌, ℕ, ◌<◌, ◌≤◌, ◌↔◌, nat_eq, nat_lt, not, IsTrue, OnOk, OnErr, All};
 ghost use Rattle.std.specs.List.{filter};
 ghost use Rattle.wgr_text.specs.Prefix.{IsAddr};
 ghost use Rattle.wgr_peers.specs.Ordered.{EndsAt};
@@ -21,6 +21,17 @@ pub fn peer_place(peers: &[Peer], number: u32) -> Result<usize, usize>
         Ok(place)
     } else {
         Err(place)
+    }
+}
+
+/// Whether all numbers are below this one.
+pub(crate) fn are_below(peers: &[Peer], number: u32) -> bool
+    requires { AreNumbered peers.now }
+    ensures { IsTrue result ↔ All (λ p. p.number < number) peers.now }
+{
+    match peers.last() {
+        Some(last) => last.number < number,
+        None => true,
     }
 }
 

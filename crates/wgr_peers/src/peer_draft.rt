@@ -1,11 +1,14 @@
-ghost use Rattle.std.specs.Prelude.{◌≡◌, ◌<◌, ◌||◌, [], ◌∷◌, ◌++◌, length, IfOk, OnOk, OnErr, All, None};
+ghost use Rattle.std.specs.Prelude.{◌≡◌, ◌<◌, ◌↔◌, ◌||◌, [], ◌∷◌, ◌++◌, length, IsTrue, IfOk, OnOk, OnErr, All, None};
+ghost use Rattle.std.specs.HashMap.{get};
 ghost use Rattle.wgr_text.specs.Prefix.{width};
+ghost use Rattle.wgr_text.specs.declared.key.Key.{Key as KeyValue};
 ghost use Rattle.wgr_pool.specs.Allot.{lowest_where};
 ghost use Rattle.wgr_pool.specs.HeldSpans.{is_routed};
 ghost use Rattle.wgr_peers.specs.PeerDraft.{HasOneMore};
-ghost use Rattle.wgr_peers.specs.Peers.{is_own, key_holder, put_peer, AreNumbered, AreApart};
+ghost use Rattle.wgr_peers.specs.Peers.{is_own, key_holder, put_peer, same_key, AreNumbered, AreApart, IsApart};
 ghost use Rattle.wgr_peers.specs.PeerIndex.{IsAlikeAt};
 
+use crate::order::are_below;
 use crate::peer::Peer;
 use crate::peer_table::addresses_of;
 use crate::route_slots::RouteSlots;
@@ -43,6 +46,18 @@ impl Model for PeerDraft {
 }
 
 impl PeerDraft {
+    /// No peers.
+    pub(crate) fn new(alloc: Global) -> PeerDraft
+        ensures { result ≡ [] }
+    {
+        PeerDraft {
+            peers: Vec::new(alloc),
+            numbers: HashMap::new(alloc),
+            owned: HashSet::new(alloc),
+            addresses: None,
+        }
+    }
+
     /// A copy of these peers, whose numbers rise and of which no two have a key or an address in
     /// common.
     pub fn from_slice(alloc: Global, peers: &[Peer]) -> Result<PeerDraft, AllocError>
@@ -50,12 +65,7 @@ impl PeerDraft {
         requires apart { AreApart peers.now }
         ensures { IfOk result (λ draft. draft ≡ peers.now) }
     {
-        let mut draft = PeerDraft {
-            peers: Vec::new(alloc),
-            numbers: HashMap::new(alloc),
-            owned: HashSet::new(alloc),
-            addresses: None,
-        };
+        let mut draft = PeerDraft::new(alloc);
         for peer in peers {
             draft.push(peer.copy()?)?;
         }
@@ -68,6 +78,14 @@ impl PeerDraft {
         ensures numbered { AreNumbered self.now }
     {
         &self.peers
+    }
+
+    /// The peers, and the number of each key's.
+    pub(crate) fn into_parts(self) -> (Vec<Peer>, HashMap<Key, u32>)
+        ensures peers { result.0.items ≡ self }
+        ensures numbers { (key : KeyValue) → get same_key result.1 key ≡ key_holder self key }
+    {
+        (self.peers, self.numbers)
     }
 
     /// How many peers there are.
@@ -89,6 +107,20 @@ impl PeerDraft {
         ensures { result ≡ is_own self.now address.now }
     {
         self.owned.contains(&spot(address))
+    }
+
+    /// Whether the peer's number is above all numbers, and its key and its address are no peer's.
+    pub(crate) fn takes(&self, peer: &Peer) -> bool
+        ensures { IsTrue result ↔ (All (λ q. q.number < peer.now.number) self.now × All (λ q. IsApart q peer.now) self.now) }
+    {
+        are_below(&self.peers, peer.number) && self.is_apart(peer)
+    }
+
+    // Whether no peer has the key or the address of this one.
+    fn is_apart(&self, peer: &Peer) -> bool
+        ensures { IsTrue result ↔ All (λ q. IsApart q peer.now) self.now }
+    {
+        self.key_holder(&peer.key).is_none() && !self.owns(&peer.address)
     }
 
     /// The lowest address of the pool that may be given and that neither a peer has nor a route

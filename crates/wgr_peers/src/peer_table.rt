@@ -5,13 +5,14 @@ ghost use Rattle.std.specs.Option.{option_copied};
 ghost use Rattle.wgr_text.specs.Prefix.{AddrValue, IsAddr};
 ghost use Rattle.wgr_text.specs.declared.key.Key.{Key as KeyValue};
 ghost use Rattle.wgr_pool.specs.Spans.{IsHeld};
-ghost use Rattle.wgr_peers.specs.Peers.{is_live, is_own, expired, expired_addresses, key_holder, peer_of, put_peer, same_key, without_peer, AreNumbered, IsApart, AreApart};
+ghost use Rattle.wgr_peers.specs.Peers.{is_live, is_own, expired, expired_addresses, key_holder, peer_of, put_peer, same_key, without_peer, AreNumbered, AreApart};
 ghost use Rattle.wgr_peers.specs.PeerIndex.{EndsFrom, IsAlikeAt, IsKeyedAt};
 
 use crate::items::Items;
 use crate::limits::LeaseEnd;
-use crate::order::peer_place;
+use crate::order::{are_below, peer_place};
 use crate::peer::Peer;
+use crate::peer_draft::PeerDraft;
 use std::alloc::{AllocError, Global};
 use std::collections::HashMap;
 use std::marker::Model;
@@ -207,10 +208,24 @@ impl PeerTable {
         requires apart { AreApart peers.items }
         ensures { IfOk result (λ table. table ≡ peers.items) }
     {
+        let numbers = numbers_by_key(alloc, &peers)?;
+        PeerTable::indexed(alloc, peers, numbers)
+    }
+
+    // The table of these peers, where the map has the number of each key's.
+    fn indexed(
+        alloc: Global,
+        peers: Vec<Peer>,
+        numbers: HashMap<Key, u32>,
+    ) -> Result<PeerTable, AllocError>
+        requires numbered { AreNumbered peers.items }
+        requires by_key { (key : KeyValue) → get same_key numbers key ≡ key_holder peers.items key }
+        ensures { IfOk result (λ table. table ≡ peers.items) }
+    {
         Ok(PeerTable {
-            numbers: numbers_by_key(alloc, &peers)?,
             addresses: AddressSet::collect(alloc, addresses_of(alloc, &peers)?)?,
             soonest_end: soonest_end(&peers),
+            numbers,
             peers,
         })
     }
@@ -221,38 +236,22 @@ impl PeerTable {
         ensures some { IfOk result (λ made. IfSome made (λ table. table ≡ peers.items)) }
         ensures exact { IfOk result (λ made. IsSome made ↔ (AreNumbered peers.items × AreApart peers.items)) }
     {
-        let mut table = PeerTable::new(alloc);
+        let mut draft = PeerDraft::new(alloc);
         for peer in peers {
-            if !table.takes(&peer) {
+            if !draft.takes(&peer) {
                 return Ok(None);
             }
-            table.push(peer)?;
+            draft.push(peer)?;
         }
-        Ok(Some(table))
-    }
-
-    // Whether the peer's number is above all numbers, and its key and its address are no peer's.
-    fn takes(&self, peer: &Peer) -> bool
-        ensures { IsTrue result ↔ (All (λ q. q.number < peer.now.number) self.now × All (λ q. IsApart q peer.now) self.now) }
-    {
-        self.is_below(peer.number) && self.is_apart(peer)
-    }
-
-    // Whether no peer has the key or the address of this one.
-    fn is_apart(&self, peer: &Peer) -> bool
-        ensures { IsTrue result ↔ All (λ q. IsApart q peer.now) self.now }
-    {
-        self.key_holder(&peer.key).is_none() && !self.owns(&peer.address)
+        let (peers, numbers) = draft.into_parts();
+        Ok(Some(PeerTable::indexed(alloc, peers, numbers)?))
     }
 
     // Whether all numbers are below this one.
     fn is_below(&self, number: u32) -> bool
         ensures { IsTrue result ↔ All (λ q. q.number < number) self.now }
     {
-        match self.peers.last() {
-            Some(last) => last.number < number,
-            None => true,
-        }
+        are_below(&self.peers, number)
     }
 
     /// The peers that are live at this moment.

@@ -4,7 +4,7 @@ use Rattle.wgr_peers.proofs.peer_table.PeerTable.of.Given as goal
 
 abbrev pub invariant-loop-peer : goal.invariant-loop-peer
 invariant-loop-peer l = record {
-  parts : l.fn.peers.items ≡ l.table ++ l.peer-iterator.rest.items;
-  numbered : AreNumbered l.table;
-  apart : AreApart l.table;
+  parts : l.fn.peers.items ≡ l.draft ++ l.peer-iterator.rest.items;
+  numbered : AreNumbered l.draft;
+  apart : AreApart l.draft;
 }

@@ -1,7 +1,7 @@
 use Rattle.std.proofs.Common.{◌≡◌, false, true, sym, ap, ◌∙◌}
 use Rattle.std.specs.Prelude.{is_some}
 use Rattle.wgr_peers.proofs.TestLemmas.{apart_iff, not_apart}
-use Rattle.wgr_peers.proofs.peer_table.PeerTable.is_apart.Goals as goal
+use Rattle.wgr_peers.proofs.peer_draft.PeerDraft.is_apart.Goals as goal
 
 pub returns-then-is_none : goal.returns-then-is_none
 returns-then-is_none c =

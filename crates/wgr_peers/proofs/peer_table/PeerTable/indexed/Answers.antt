@@ -1,0 +1,14 @@
+use Rattle.std.proofs.Common.{map, ap, subst, ◌∙◌}
+use Rattle.std.specs.List.{All}
+use Rattle.wgr_peers.specs.declared.peer.Peer.{Peer}
+use Rattle.wgr_peers.specs.PeerIndex.{EndsFrom}
+use Rattle.wgr_peers.proofs.CollectLemmas.{indexed_collected}
+use Rattle.wgr_peers.proofs.peer_table.PeerTable.indexed.Goals as goal
+
+pub invariant_of-result : goal.invariant_of-result
+invariant_of-result c =
+    indexed_collected c.args.peers.items c.in_ok-addresses_of.field-0.items c.args.numbers c.in_ok-collect.field-0 c.soonest_end.result c.requires.numbered
+    (c.in_ok-addresses_of.ensures ∙ ap (map (λ (p : Peer). p.address)) c.deref.ensures.value)
+    c.requires.by_key
+    c.in_ok-collect.ensures
+    (subst (All (EndsFrom c.soonest_end.result)) c.deref-2.ensures.value c.soonest_end.ensures)
