@@ -1,5 +1,5 @@
 -- From the live network to the whole one.
-use Rattle.std.proofs.Common.{◌≡◌, ℕ, ◌<◌, ◌⊎◌, ◌↔◌, inl, inr, Bool, true, false, not, ◌&&◌, ◌||◌, cond, nat_eq, nat_lt, List, [], ◌∷◌, ◌++◌, get_or, map, Option, Some, None, is_some, refl, sym, ap, ◌∙◌, subst, arith}
+use Rattle.std.proofs.Common.{◌≡◌, ℕ, ◌<◌, Bool, true, false, not, ◌&&◌, ◌||◌, cond, nat_eq, nat_lt, List, [], ◌∷◌, ◌++◌, get_or, map, Option, Some, None, is_some, refl, sym, ap, ◌∙◌, subst, arith}
 use Rattle.std.specs.Prelude.{Result, Ok, Err, IfOk, IfSome}
 use Rattle.std.specs.List.{All, filter}
 use Rattle.std.proofs.lemmas.Bool.Decides.{nat_tests}
