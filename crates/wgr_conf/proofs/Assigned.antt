@@ -21,7 +21,7 @@ use Rattle.wgr_peers.proofs.PeerLemmas.{peer_is}
 use Rattle.wgr_peers.proofs.TableLemmas.{peer_present}
 use Rattle.wgr_core.specs.Network.{NetworkValue, IsNetwork}
 use Rattle.wgr_core.specs.Owner.{allowed, own_prefixes}
-use Rattle.wgr_core.proofs.UniqueMatch.{Differ, all_differ}
+use Rattle.wgr_core.proofs.AllowedLemmas.{Differ, all_differ}
 use Rattle.wgr_conf.specs.Laws.{allowed_key}
 use Rattle.wgr_conf.specs.Routing.{AreRows, IsRow, Text, key_of, later_or}
 use Rattle.wgr_conf.proofs.Reading.{section_rows}

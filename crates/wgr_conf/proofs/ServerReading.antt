@@ -15,7 +15,7 @@ use Rattle.wgr_peers.specs.Routes.{routes_to}
 use Rattle.wgr_core.specs.declared.form.Form.{Form}
 use Rattle.wgr_core.specs.Network.{NetworkValue, IsNetwork, live_at}
 use Rattle.wgr_core.proofs.LiveLemmas.{live_is_network}
-use Rattle.wgr_core.proofs.UniqueMatch.{full_is_prefix}
+use Rattle.wgr_core.proofs.AllowedLemmas.{full_is_prefix}
 use Rattle.wgr_conf.specs.Files.{peer_section, server_config}
 use Rattle.wgr_conf.specs.Laws.{IsInRanges, allowed_key}
 use Rattle.wgr_conf.specs.Routing.{AreRows, IsRow, Text, cryptokey_routing, key_of, rows_of}

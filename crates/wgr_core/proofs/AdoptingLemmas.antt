@@ -30,9 +30,6 @@ use Rattle.wgr_core.specs.Outcome.{adopt, adopted, server_refusal, unless}
 pub others_kept : (a : AddrValue) (p : PrefixValue) (more : List PrefixValue) → same_prefix p (full a) ≡ false → other_prefixes a (p ∷ more) ≡ p ∷ other_prefixes a more
 others_kept a p more h = ap (λ b. cond (not b) (p ∷ other_prefixes a more) (other_prefixes a more)) h
 
-pub others_skipped : (a : AddrValue) (p : PrefixValue) (more : List PrefixValue) → same_prefix p (full a) ≡ true → other_prefixes a (p ∷ more) ≡ other_prefixes a more
-others_skipped a p more h = ap (λ b. cond (not b) (p ∷ other_prefixes a more) (other_prefixes a more)) h
-
 pub given_on : (d after : DraftValue) (r : Option LineRefusal) (m : NetworkValue) (next : NetworkValue → Result NetworkValue LineRefusal) → MeetsGiven d (Ok after) (unless_refused r m)
     → (after ≡ record d { network = m }) × (and_then (unless_refused r m) next ≡ next m)
 given_on d after None m next h = (h, refl)
@@ -90,10 +87,6 @@ on_place : {T A U E : Type 0} (r : Option E) (x : T) (place : T → Result A E) 
 on_place None x place next a h = ap (λ o. and_then o (next x)) h
 on_place (Some e) x place next a h = cc
 
-no_place : {T A U E : Type 0} (r : Option E) (x : T) (place : T → Result A E) (next : T → A → Result U E) (e : E) → and_then (unless_refused r x) place ≡ Err e → and_then (unless_refused r x) (λ n. and_then (place n) (next n)) ≡ Err e
-no_place None x place next e h = ap (λ o. and_then o (next x)) h
-no_place (Some is) x place next e h = let same : is ≡ e = cc in ap Err same
-
 abbrev after_line : Adoption → SeenPeer → NetworkValue → AddrValue → Result Adoption LineRefusal
 after_line s line n a =
     and_then (give_all (with_line n line a) n.next (other_prefixes a line.allowed)) (λ after.
@@ -102,9 +95,6 @@ after_line s line n a =
 pub added_at : (s : Adoption) (line : SeenPeer) (a : AddrValue) → line_address s.network line ≡ Ok a
     → add_line s line ≡ and_then (give_all (with_line s.network line a) s.network.next (other_prefixes a line.allowed)) (λ after. Ok (record { network = after; added = s.added ++ s.network.next ∷ []; known = s.known }))
 added_at s line a h = on_place (line_refusal s.network line.key) s.network (λ n. line_place n (named_address n.pool line.allowed)) (after_line s line) a h
-
-pub not_added : (s : Adoption) (line : SeenPeer) (e : LineRefusal) → line_address s.network line ≡ Err e → add_line s line ≡ Err e
-not_added s line e h = no_place (line_refusal s.network line.key) s.network (λ n. line_place n (named_address n.pool line.allowed)) (after_line s line) e h
 
 pub given_line : (a : AdoptingValue) (d after : DraftValue) (o : Result NetworkValue LineRefusal) (added : List ℕ) (known : ℕ) → d.start ≡ a.start → d.removed ≡ a.removed → MeetsGiven d (Ok after) o
     → MeetsLine a (Ok (record { start = after.start; removed = after.removed; so_far = record { network = after.network; added = added; known = known } })) (and_then o (λ n. Ok (record { network = n; added = added; known = known })))

@@ -1,5 +1,5 @@
 -- From the live network to the whole one.
-use Rattle.std.proofs.Common.{◌≡◌, ℕ, ◌<◌, ◌⊎◌, ◌↔◌, inl, inr, Bool, true, false, not, ◌&&◌, ◌||◌, cond, nat_eq, nat_lt, List, [], ◌∷◌, ◌++◌, get_or, map, Option, Some, None, is_some, refl, sym, ap, ◌∙◌, subst, arith}
+use Rattle.std.proofs.Common.{◌≡◌, ℕ, ◌<◌, Bool, true, false, not, ◌&&◌, ◌||◌, cond, nat_eq, nat_lt, List, [], ◌∷◌, ◌++◌, get_or, map, Option, Some, None, is_some, refl, sym, ap, ◌∙◌, subst, arith}
 use Rattle.std.specs.Prelude.{Result, Ok, Err, IfOk, IfSome}
 use Rattle.std.specs.List.{All, filter}
 use Rattle.std.proofs.lemmas.Bool.Decides.{nat_tests}
@@ -19,7 +19,6 @@ use Rattle.wgr_core.specs.Network.{NetworkValue, IsNetwork, IsRoute, is_among, l
 use Rattle.wgr_core.specs.Outcome.{Outcome, live_outcome, is_reading, kept_if, leaving, outcome_of}
 use Rattle.wgr_core.specs.Change.{changed, applied_if, with_leaving, without_leaving, Fits, GivesChange, Meets, MeetsLive}
 use Rattle.wgr_pool.proofs.Lists.{filter_all, filter_none, filter_twice}
-use Rattle.wgr_pool.proofs.Bools.{or_cases, or_left, or_right}
 use Rattle.wgr_peers.proofs.OrderedLemmas.{put_above}
 use Rattle.wgr_core.proofs.LiveLemmas.{without_expired}
 use Rattle.wgr_core.proofs.OutcomeLemmas.{Keeps}
@@ -127,11 +126,3 @@ meets_fits n (Ok given) (Ok done) is keeps = fits given.1 is.1
     fits : (c : Option Change) → applied_if c n ≡ done.1 → IfSome c (λ c. Fits c n)
     fits None same = tt
     fits (Some c) same = subst IsNetwork (sym same) keeps
-
--- ---- held addresses
-
-pub held_iff : (own routed : Bool) (P : Type 0) → (P ↔ (own ≡ true)) → ((own || routed) ≡ true) ↔ (P ⊎ (routed ≡ true))
-held_iff own routed P same = (
-  (λ h. elim (or_cases own routed h) [ inl o ↦ inl (same.1 o) | inr r ↦ inr r ]),
-  (λ h. elim h [ inl p ↦ or_left own routed (same.0 p) | inr r ↦ or_right own routed r ]),
-)

@@ -2,7 +2,6 @@
 use Rattle.std.proofs.Common.{◌≡◌, ℕ, zero, suc, ◌+◌, ◌<◌, ◌≤◌, inl, inr, Bool, true, false, not, ◌&&◌, ◌||◌, cond, nat_eq, nat_lt, List, [], ◌∷◌, ◌++◌, length, get_or, Option, Some, None, is_some, refl, sym, ap, ◌∙◌, subst, arith}
 use Rattle.std.specs.List.{All, list_any}
 use Rattle.std.specs.Prelude.{Ok}
-use Rattle.std.proofs.lemmas.Bool.{cases_lt}
 use Rattle.std.proofs.lemmas.List.{length-append}
 use Rattle.std.proofs.lemmas.List.Elements.{All-cons, All-push}
 use Rattle.std.proofs.lemmas.List.Quantifiers.{all_pairs_push}
@@ -20,7 +19,7 @@ use Rattle.wgr_peers.specs.Routes.{Routes, route_of}
 use Rattle.wgr_core.specs.Network.{NetworkValue, IsNetwork, IsMember, is_held, lowest_free, server_address}
 use Rattle.wgr_core.specs.Outcome.{address_refusal, unless_refused, or_full, place}
 use Rattle.wgr_pool.proofs.Lists.{list_any-none}
-use Rattle.wgr_pool.proofs.Bools.{decide, and_true, and_false, or_false, not_true, not_false}
+use Rattle.wgr_pool.proofs.Bools.{decide, and_true, or_false, not_true}
 use Rattle.wgr_pool.proofs.PrefixLemmas.{same_prefix_is, full_has, covers_full, same_family_is}
 
 -- nobody has the key
@@ -50,26 +49,6 @@ first_passes f passes start (suc count) a h = step (passes (record { family = f;
         → (first_from f passes (start + 1) count ≡ Some a → passes a ≡ true) → passes a ≡ true
     step true is h later = let e : record { family = f; number = start } ≡ a = cc in subst (λ x. passes x ≡ true) e is
     step false is h later = later h
-
--- and nothing before it does
-pub first_below : (f : Family) (passes : AddrValue → Bool) (start count : ℕ) (a : AddrValue) (k : ℕ) → first_from f passes start count ≡ Some a → start ≤ k → k < a.number → passes (record { family = f; number = k }) ≡ false
-first_below f passes start zero a k h from below = cc
-first_below f passes start (suc count) a k h from below = step (passes (record { family = f; number = start })) refl h (λ rest on. first_below f passes (start + 1) count a k rest on below)
-  where
-    step : (b : Bool) → passes (record { family = f; number = start }) ≡ b → (elim b [ true ↦ Some (record { family = f; number = start }) | false ↦ first_from f passes (start + 1) count ]) ≡ Some a
-        → (first_from f passes (start + 1) count ≡ Some a → start + 1 ≤ k → passes (record { family = f; number = k }) ≡ false) → passes (record { family = f; number = k }) ≡ false
-    step true is h later = let e : record { family = f; number = start } ≡ a = cc in absurd (omega (arith, ap (λ (x : AddrValue). x.number) e, from, below))
-    step false is h later = elim (cases_lt start k) [
-      | inl on ↦ later h (omega (arith, on))
-      | inr here ↦ let same : start ≡ k = omega (arith, here, from) in subst (λ k. passes (record { family = f; number = k }) ≡ false) same is
-    ]
-
-pub lowest_is_least : (n : NetworkValue) (a : AddrValue) (k : ℕ) → lowest_free n ≡ Some a → n.pool.address.number ≤ k → k < a.number
-    → is_assignable n.pool (record n.pool.address { number = k }) ≡ true → is_held n (record n.pool.address { number = k }) ≡ true
-lowest_is_least n a k h from below given =
-    let b : AddrValue = record n.pool.address { number = k } in
-    let fails = first_below n.pool.address.family (λ a. is_assignable n.pool a && not (is_held n a)) n.pool.address.number (block n.pool.address.family n.pool.length) a k h from below in
-    not_false (is_held n b) (and_false (is_assignable n.pool b) (not (is_held n b)) given fails)
 
 pub lowest_is_free : (n : NetworkValue) (a : AddrValue) → lowest_free n ≡ Some a → (is_assignable n.pool a ≡ true) × (is_held n a ≡ false)
 lowest_is_free n a h =

@@ -1,6 +1,6 @@
 -- The forms of what is told of a peer. Each type of the code keeps its own; here they are said of the
 -- definitions' values.
-use Rattle.std.specs.Prelude.{ℕ, ◌≡◌, ◌≤◌, length, IfSome, IfOk, All}
+use Rattle.std.specs.Prelude.{ℕ, ◌≡◌, ◌≤◌, length, IfSome, All}
 use Rattle.wgr_text.specs.declared.key.Key.{Key}
 use Rattle.wgr_peers.specs.declared.peer.Peer.{Peer}
 use Rattle.wgr_peers.specs.declared.peer.Status.{Status}
@@ -9,8 +9,7 @@ use Rattle.wgr_peers.specs.Limits.{IsCount, IsLeaseEnd}
 use Rattle.wgr_core.specs.declared.command.Command.{Command}
 use Rattle.wgr_core.specs.declared.command.Command.TheVariants as command
 use Rattle.wgr_core.specs.declared.seen_peer.SeenPeer.{SeenPeer}
-use Rattle.wgr_core.specs.Network.{NetworkValue, IsNetwork}
-use Rattle.wgr_core.specs.Outcome.{outcome_of}
+use Rattle.wgr_core.specs.Network.{NetworkValue}
 
 -- a key has 32 bytes
 abbrev pub IsKey : Key → Type 0
@@ -55,7 +54,3 @@ IsFormedCommand command.List = Unit {0}
 IsFormedCommand (command.Owner address) = Unit {0}
 IsFormedCommand (command.ServerFile form) = Unit {0}
 IsFormedCommand (command.PeerFile number form) = Unit {0}
-
--- a command whose fields are of their forms leaves each field of the network so
-abbrev pub CommandsKeepTheForms : Type 0
-CommandsKeepTheForms = (n : NetworkValue) (now : ℕ) (asked : Command) → IsNetwork n → HasForms n → IsFormedCommand asked → IfOk (outcome_of n now asked) (λ done. HasForms done.1)

@@ -5,9 +5,5 @@ pub mod Adoption
 pub mod Outcome
 pub mod Change
 pub mod Parts
-pub mod Laws
-pub mod AdoptionLaws
-pub mod AdoptedAgain
-pub mod FirstAdoption
 pub mod Draft
 pub mod Forms

@@ -9,7 +9,6 @@ mod draft;
 mod fault;
 mod form;
 mod forms;
-pub mod laws;
 mod line;
 mod live;
 mod network;

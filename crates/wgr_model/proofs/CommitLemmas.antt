@@ -4,7 +4,7 @@ use Rattle.std.specs.Prelude.{if◌then◌else◌}
 use Rattle.std.specs.List.{IsDistinct, AllByRecursion}
 use Rattle.std.proofs.lemmas.Map.Keys.{IsDistinct-head, IsDistinct-tail}
 use Rattle.std.proofs.lemmas.List.Sorted.{IsPermutation-map, IsPermutation-trans}
-use Rattle.wgr_core.specs.Laws.{HasSettingsOf}
+use Rattle.wgr_laws.specs.Laws.{HasSettingsOf}
 use Rattle.wgr_core.specs.Network.{NetworkValue}
 use Rattle.wgr_model.specs.Consistent.{IsConsistent, same_slot, slot}
 use Rattle.wgr_model.specs.Laws.{Has}

@@ -16,11 +16,11 @@ use Rattle.wgr_peers.specs.Host.{IsHost}
 use Rattle.wgr_peers.specs.Limits.{IsCapacity, IsPort}
 use Rattle.wgr_peers.specs.Peers.{IsApart, IsNumberedBelow}
 use Rattle.wgr_peers.specs.Routes.{ComesBefore}
-use Rattle.wgr_core.proofs.FormLemmas.{commands_keep_the_forms}
-use Rattle.wgr_core.proofs.FrameLemmas.{settings_stay}
+use Rattle.wgr_laws.proofs.FormLemmas.{commands_keep_the_forms}
+use Rattle.wgr_laws.proofs.FrameLemmas.{settings_stay}
 use Rattle.wgr_core.specs.Forms.{HasForms, IsFormed, IsFormedCommand}
 use Rattle.wgr_core.proofs.OutcomeLemmas.{outcome_keeps}
-use Rattle.wgr_core.specs.Laws.{HasSettingsOf}
+use Rattle.wgr_laws.specs.Laws.{HasSettingsOf}
 use Rattle.wgr_core.specs.Network.{IsMember, IsNetwork, IsRoute, NetworkValue}
 use Rattle.wgr_core.specs.Outcome.{IsAsked}
 use Rattle.wgr_core.specs.declared.command.Command.{Command}

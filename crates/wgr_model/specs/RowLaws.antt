@@ -1,7 +1,7 @@
 -- Steps and runs over the rows, and what follows of them.
 use Rattle.std.specs.Prelude.{◌≡◌, false, List, [], ◌∷◌, Option, Some, None}
 use Rattle.wgr_core.specs.Network.{NetworkValue}
-use Rattle.wgr_core.specs.Laws.{HasSettingsOf}
+use Rattle.wgr_laws.specs.Laws.{HasSettingsOf}
 use Rattle.wgr_model.specs.Register.{Bytes, Holding, Register, View, IsSame, tenant_view}
 use Rattle.wgr_model.specs.Consistent.{IsConsistent}
 use Rattle.wgr_model.specs.Steps.{Event, Answer, IsStep, put_network}

@@ -12,5 +12,4 @@ pub mod TestLemmas
 pub mod RouteLemmas
 pub mod SlotLemmas
 pub mod RouteLengths
-pub mod MapLemmas
 pub mod TextLemmas

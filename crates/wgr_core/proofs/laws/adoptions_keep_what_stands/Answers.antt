@@ -1,5 +1,0 @@
-use Rattle.wgr_core.proofs.AdoptedPeers.{standing_peers_stay, unnamed_routes_stay, unseen_peers_stay}
-use Rattle.wgr_core.proofs.laws.adoptions_keep_what_stands.Goals as goal
-
-pub returns : goal.returns
-returns c = record { standing = standing_peers_stay; unseen = unseen_peers_stay; routes = unnamed_routes_stay }

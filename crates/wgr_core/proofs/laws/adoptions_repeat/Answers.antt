@@ -1,5 +1,0 @@
-use Rattle.wgr_core.proofs.RepeatLemmas.{adoption_repeats, adoption_repeats_later}
-use Rattle.wgr_core.proofs.laws.adoptions_repeat.Goals as goal
-
-pub returns : goal.returns
-returns c = record { now = adoption_repeats; later = adoption_repeats_later }

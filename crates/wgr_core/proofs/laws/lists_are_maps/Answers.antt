@@ -1,5 +1,0 @@
-use Rattle.wgr_peers.proofs.MapLemmas.{same_peers, same_routes}
-use Rattle.wgr_core.proofs.laws.lists_are_maps.Goals as goal
-
-pub returns : goal.returns
-returns c = record { peers = same_peers; routes = same_routes }

@@ -1,6 +1,0 @@
-use Rattle.wgr_core.proofs.NextLemmas.{changes_leave_live, owner_stands, replies_show_live}
-use Rattle.wgr_core.proofs.RunLemmas.{over_never_returns}
-use Rattle.wgr_core.proofs.laws.over_is_over.Goals as goal
-
-pub returns : goal.returns
-returns c = record { replies = replies_show_live; owners = owner_stands; changes = changes_leave_live; numbers = over_never_returns }

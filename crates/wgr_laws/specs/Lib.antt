@@ -1,0 +1,4 @@
+pub mod Laws
+pub mod AdoptionLaws
+pub mod AdoptedAgain
+pub mod FirstAdoption
