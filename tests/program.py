@@ -21,8 +21,7 @@ class Left(NamedTuple):
 def run(words, text=b"", stdin=None, stdout=subprocess.PIPE, stderr=subprocess.PIPE, prepare=None):
     """Runs the program with these words and this text on standard input, or with other streams.
 
-    `prepare` is called in the new process. SIGPIPE and SIGXFSZ are ignored there, as in Python, so a
-    write to a closed pipe or to a full file fails and the program has to tell it.
+    `prepare` is called in the new process before the program. Signals are as a shell leaves them.
     """
     given = {"input": text} if stdin is None else {"stdin": stdin}
     done = subprocess.run(
@@ -31,7 +30,6 @@ def run(words, text=b"", stdin=None, stdout=subprocess.PIPE, stderr=subprocess.P
         stderr=stderr,
         timeout=LIMIT,
         preexec_fn=prepare,
-        restore_signals=False,
         **given,
     )
     return Left(done.returncode, done.stdout or b"", done.stderr or b"")

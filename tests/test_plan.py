@@ -3,7 +3,7 @@
 import ipaddress
 import unittest
 
-from keys import K0, K1, K2, K3, key_text
+from keys import K0, K1, K2, K3, numbered_keys
 from program import Left, run
 
 # What is printed of K0 alone: 59 bytes.
@@ -164,7 +164,7 @@ class Plan(unittest.TestCase):
                 self.assertEqual(run(["plan", pool], K0.encode()), Left(2, b"", error.encode()))
 
     def test_4096_peers_at_most(self):
-        keys = [key_text(count.to_bytes(4, "big") + bytes(28)) for count in range(1, 4098)]
+        keys = numbered_keys(4097)
         left = run(["plan", "10.0.0.0/8"], "\n".join(keys).encode())
         rows = left.out.decode().splitlines()
         self.assertEqual((left.status, left.err), (2, b"wgr: line 4097: capacity_reached\n"))
