@@ -1,0 +1,35 @@
+"""The program under test, and what a run of it leaves."""
+
+import subprocess
+from typing import NamedTuple
+
+# The program's path; `tests/run` sets it.
+path = ""
+
+# Seconds that a run may take.
+LIMIT = 60
+
+
+class Left(NamedTuple):
+    """What a run leaves; a stream that was not a pipe has nothing here."""
+
+    status: int
+    out: bytes = b""
+    err: bytes = b""
+
+
+def run(words, text=b"", stdin=None, stdout=subprocess.PIPE, stderr=subprocess.PIPE, prepare=None):
+    """Runs the program with these words and this text on standard input, or with other streams.
+
+    `prepare` is called in the new process before the program. Signals are as a shell leaves them.
+    """
+    given = {"input": text} if stdin is None else {"stdin": stdin}
+    done = subprocess.run(
+        [path, *words],
+        stdout=stdout,
+        stderr=stderr,
+        timeout=LIMIT,
+        preexec_fn=prepare,
+        **given,
+    )
+    return Left(done.returncode, done.stdout or b"", done.stderr or b"")

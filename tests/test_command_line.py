@@ -1,0 +1,60 @@
+"""Words of the command line that no command gets: help, the version, and mistakes."""
+
+import unittest
+from pathlib import Path
+
+from program import Left, run
+
+DATA = Path(__file__).parent / "data"
+
+# The words, and the file that has the text.
+HELP = [
+    ("--help", ["--help"], "wgr_help.txt"),
+    ("-h", ["-h"], "wgr_help.txt"),
+    ("help", ["help"], "wgr_help.txt"),
+    ("plan --help", ["plan", "--help"], "plan_help.txt"),
+    ("plan -h", ["plan", "-h"], "plan_help.txt"),
+    ("help plan", ["help", "plan"], "plan_help.txt"),
+]
+
+# The words, and a part of what standard error says.
+MISTAKES = [
+    ("no word", [], b"requires a subcommand"),
+    ("an unknown command", ["plane"], b"unrecognized subcommand 'plane'"),
+    ("no pool", ["plan"], b"  <POOL>\n\nUsage: wgr plan <POOL>\n"),
+    ("a word too many", ["plan", "10.8.0.0/24", "more"], b"unexpected argument 'more' found"),
+    ("an unknown flag", ["--quiet"], b"unexpected argument '--quiet' found"),
+]
+
+NO_TEXT = [
+    ("the only word", [b"\xff"]),
+    ("the command", [b"pl\xe4n", b"10.8.0.0/24"]),
+    ("the pool", [b"plan", b"10.8.0.0/24\xff"]),
+]
+
+
+class CommandLine(unittest.TestCase):
+    maxDiff = None
+
+    def test_help(self):
+        for name, words, file in HELP:
+            with self.subTest(name):
+                self.assertEqual(run(words), Left(0, (DATA / file).read_bytes()))
+
+    def test_version(self):
+        for word in ["--version", "-V"]:
+            with self.subTest(word):
+                self.assertEqual(run([word]), Left(0, b"wgr 0.1.0\n"))
+
+    def test_mistakes(self):
+        for name, words, part in MISTAKES:
+            with self.subTest(name):
+                left = run(words)
+                self.assertEqual((left.status, left.out), (2, b""))
+                self.assertIn(part, left.err)
+
+    def test_words_that_are_not_utf8(self):
+        told = b"wgr: the command line is not UTF-8\n"
+        for name, words in NO_TEXT:
+            with self.subTest(name):
+                self.assertEqual(run(words), Left(2, b"", told))
