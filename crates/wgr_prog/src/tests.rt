@@ -1,5 +1,4 @@
 //! What is printed, and what no contract says.
-mod adopt;
 mod command_line;
 mod faults;
 mod lines;
