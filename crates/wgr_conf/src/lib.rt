@@ -10,6 +10,3 @@ mod server;
 pub use peer::peer_file;
 pub use server::server_file;
 pub use wgr_core::Form;
-
-#[cfg(test)]
-mod tests;

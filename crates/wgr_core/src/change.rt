@@ -266,6 +266,3 @@ fn routes_outside(
     }
     Ok(kept)
 }
-
-#[cfg(test)]
-mod tests;

@@ -30,6 +30,3 @@ pub use reply::{PeerView, Reply};
 pub use seen_peer::SeenPeer;
 pub use wgr_peers::{Capacity, Count, Host, Items, Label, LeaseEnd, Name, Peer, Port, Status};
 pub use wgr_pool::{AddressSet, BadPool, Holds, Pool, SortedSpans, Stop, lowest_free};
-
-#[cfg(test)]
-mod tests;

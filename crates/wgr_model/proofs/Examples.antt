@@ -1,5 +1,5 @@
 -- The definitions on a small register, by computation.
-use Rattle.std.proofs.Common.{◌≡◌, ℕ, ◌+◌, ◌*◌, ◌^◌, ◌≤◌, false, not, [], ◌∷◌, length, refl, ap, ◌∙◌, arith, Some, nat_lt}
+use Rattle.std.proofs.Common.{◌≡◌, ℕ, ◌+◌, ◌*◌, ◌^◌, ◌≤◌, ◌<◌, Bool, true, false, not, List, [], ◌∷◌, length, refl, ap, ◌∙◌, arith, Some, nat_lt}
 use Rattle.std.specs.Prelude.{replicate, codes}
 use Rattle.std.specs.FinMap as map_
 use Rattle.std.proofs.lemmas.Bool.Decides.{nat_tests}
@@ -8,9 +8,9 @@ use Rattle.wgr_text.specs.Prefix.{PrefixValue}
 use Rattle.wgr_core.specs.declared.command.Command.TheVariants as command
 use Rattle.wgr_core.specs.declared.reply.Reply.TheVariants as reply
 use Rattle.wgr_core.specs.Network.{NetworkValue}
-use Rattle.wgr_model.specs.Register.{Bytes, Register, is_same, tenant_view}
+use Rattle.wgr_model.specs.Register.{Bytes, Register, id_of, is_same, tenant_view}
 use Rattle.wgr_model.specs.Consistent.{is_pool, overlaps}
-use Rattle.wgr_model.specs.Steps.{Event, Answer, Settings, act, first_refusal, given, has_name, is_full, new_network, outcome, refuse, with_tenant}
+use Rattle.wgr_model.specs.Steps.{Event, Answer, Settings, act, first_refusal, given, has_digest, has_endpoint, has_name, has_slot, is_full, granted, network_added, new_network, outcome, overlapping, pool_refusal, refuse, with_new_network, with_tenant, with_token}
 use Rattle.wgr_model.specs.Steps.{Ask, Networks, AddTenant, Grant, EndToken, AddNetwork, EndNetwork}
 use Rattle.wgr_model.specs.Steps.{Replied, UnknownToken, NoSuchNetwork, Done, Refused}
 use Rattle.wgr_model.specs.Steps.{NameHeld, NoSuchTenant, DigestHeld, PoolOverlaps, BadPool, PortHeld, NoSuchToken, NoNetwork, RegisterFull}
@@ -134,9 +134,79 @@ pool_given_again : (outcome (outcome house (EndNetwork (codes "acme") (codes "la
 unfolding is_same is_pool overlaps
 pool_given_again = refl
 
--- the register has room for 65,536 tenants
+-- ---- a register with many entries, whichever they are
+
+fills : (n : ℕ) → 65536 ≤ n → nat_lt n 65536 ≡ false
+fills n many = grind (arith, nat_tests, many)
+
+leaves_room : (n : ℕ) → n < 65536 → nat_lt n 65536 ≡ true
+leaves_room n few = grind (arith, nat_tests, few)
+
+-- there is room for 65,536 tenants, and a name that is held is told before that there is none
+abbrev tenant_answer : Register → Bytes → ℕ → Bool → Bool → Answer
+tenant_answer r name new held room = (given (first_refusal (refuse held NameHeld ∷ refuse (not room) RegisterFull ∷ [])) r (with_tenant r name new)).0
+
 register_full : (r : Register) (name : Bytes) (new : ℕ) → 65536 ≤ length r.tenants → has_name r.tenants name ≡ false → (outcome r (AddTenant name) new).0 ≡ Refused RegisterFull
 register_full r name new many free =
-    let few : nat_lt (length r.tenants) 65536 ≡ false = grind (arith, nat_tests, many) in
-    ap (λ b. (given (first_refusal (refuse b NameHeld ∷ refuse (is_full r.tenants) RegisterFull ∷ [])) r (with_tenant r name new)).0) free
-    ∙ ap (λ b. (given (first_refusal (refuse (not b) RegisterFull ∷ [])) r (with_tenant r name new)).0) few
+    ap (λ b. tenant_answer r name new b (nat_lt (length r.tenants) 65536)) free ∙ ap (tenant_answer r name new false) (fills (length r.tenants) many)
+
+tenant_taken : (r : Register) (name : Bytes) (new : ℕ) → length r.tenants < 65536 → has_name r.tenants name ≡ false → (outcome r (AddTenant name) new).0 ≡ Done
+tenant_taken r name new few free =
+    ap (λ b. tenant_answer r name new b (nat_lt (length r.tenants) 65536)) free ∙ ap (tenant_answer r name new false) (leaves_room (length r.tenants) few)
+
+held_name_told : (r : Register) (name : Bytes) (new : ℕ) → has_name r.tenants name ≡ true → (outcome r (AddTenant name) new).0 ≡ Refused NameHeld
+held_name_told r name new held = ap (λ b. tenant_answer r name new b (nat_lt (length r.tenants) 65536)) held
+
+-- there is room for 65,536 tokens
+abbrev token_answer : Register → Bytes → ℕ → Bool → Bool → Answer
+token_answer r digest id held room = (given (first_refusal (refuse held DigestHeld ∷ refuse (not room) RegisterFull ∷ [])) r (with_token r digest id)).0
+
+tokens_full : (r : Register) (tenant digest : Bytes) (id new : ℕ) → 65536 ≤ length r.tokens → id_of r.tenants tenant ≡ Some id → has_digest r.tokens digest ≡ false → (outcome r (Grant tenant digest) new).0 ≡ Refused RegisterFull
+tokens_full r tenant digest id new many known free =
+    ap (λ o. (granted r digest o).0) known
+    ∙ ap (λ b. token_answer r digest id b (nat_lt (length r.tokens) 65536)) free
+    ∙ ap (token_answer r digest id false) (fills (length r.tokens) many)
+
+token_taken : (r : Register) (tenant digest : Bytes) (id new : ℕ) → length r.tokens < 65536 → id_of r.tenants tenant ≡ Some id → has_digest r.tokens digest ≡ false → (outcome r (Grant tenant digest) new).0 ≡ Done
+token_taken r tenant digest id new few known free =
+    ap (λ o. (granted r digest o).0) known
+    ∙ ap (λ b. token_answer r digest id b (nat_lt (length r.tokens) 65536)) free
+    ∙ ap (token_answer r digest id false) (leaves_room (length r.tokens) few)
+
+-- there is room for 65,536 networks, and an endpoint that is held is told before that there is none
+record NetworkMayCome (r : Register) (tenant name : Bytes) (s : Settings) (id : ℕ) : Type 0 where
+  known : id_of r.tenants tenant ≡ Some id
+  free : has_slot r.networks id name ≡ false
+  fits : is_pool s.pool ≡ true
+  apart : overlapping r.tenants r.networks s.pool ≡ []
+
+abbrev network_answer : Register → Bytes → Settings → ℕ → ℕ → Bool → Bool → List (Bytes × Bytes) → Bool → Bool → Answer
+network_answer r name s id new held fits overlapped taken room = (given (first_refusal (refuse held NameHeld ∷ refuse (not fits) BadPool ∷ pool_refusal overlapped ∷ refuse taken PortHeld ∷ refuse (not room) RegisterFull ∷ [])) r (with_new_network r new id name (new_network s))).0
+
+network_judged : (r : Register) (tenant name : Bytes) (s : Settings) (id new : ℕ) → NetworkMayCome r tenant name s id
+    → (outcome r (AddNetwork tenant name s) new).0 ≡ network_answer r name s id new false true [] (has_endpoint r.networks (s.host, s.port)) (nat_lt (length r.networks) 65536)
+network_judged r tenant name s id new may =
+    let taken : Bool = has_endpoint r.networks (s.host, s.port) in
+    let room : Bool = nat_lt (length r.networks) 65536 in
+    let others : List (Bytes × Bytes) = overlapping r.tenants r.networks s.pool in
+    ap (λ o. (network_added r name s new o).0) may.known
+    ∙ ap (λ b. network_answer r name s id new b (is_pool s.pool) others taken room) may.free
+    ∙ ap (λ b. network_answer r name s id new false b others taken room) may.fits
+    ∙ ap (λ ps. network_answer r name s id new false true ps taken room) may.apart
+
+networks_full : (r : Register) (tenant name : Bytes) (s : Settings) (id new : ℕ) → NetworkMayCome r tenant name s id → 65536 ≤ length r.networks → has_endpoint r.networks (s.host, s.port) ≡ false → (outcome r (AddNetwork tenant name s) new).0 ≡ Refused RegisterFull
+networks_full r tenant name s id new may many vacant =
+    network_judged r tenant name s id new may
+    ∙ ap (λ b. network_answer r name s id new false true [] b (nat_lt (length r.networks) 65536)) vacant
+    ∙ ap (network_answer r name s id new false true [] false) (fills (length r.networks) many)
+
+network_taken : (r : Register) (tenant name : Bytes) (s : Settings) (id new : ℕ) → NetworkMayCome r tenant name s id → length r.networks < 65536 → has_endpoint r.networks (s.host, s.port) ≡ false → (outcome r (AddNetwork tenant name s) new).0 ≡ Done
+network_taken r tenant name s id new may few vacant =
+    network_judged r tenant name s id new may
+    ∙ ap (λ b. network_answer r name s id new false true [] b (nat_lt (length r.networks) 65536)) vacant
+    ∙ ap (network_answer r name s id new false true [] false) (leaves_room (length r.networks) few)
+
+held_endpoint_told : (r : Register) (tenant name : Bytes) (s : Settings) (id new : ℕ) → NetworkMayCome r tenant name s id → has_endpoint r.networks (s.host, s.port) ≡ true → (outcome r (AddNetwork tenant name s) new).0 ≡ Refused PortHeld
+held_endpoint_told r tenant name s id new may held =
+    network_judged r tenant name s id new may
+    ∙ ap (λ b. network_answer r name s id new false true [] b (nat_lt (length r.networks) 65536)) held

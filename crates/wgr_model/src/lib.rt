@@ -18,6 +18,3 @@ pub use answer::{Answer, OrderRefusal};
 pub use order::{Order, Settings};
 pub use register::Register;
 pub use run::Event;
-
-#[cfg(test)]
-mod tests;

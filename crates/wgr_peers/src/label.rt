@@ -67,34 +67,3 @@ fn is_label(text: &[u8]) -> bool
 {
     text.len() <= 64 && text.iter().all(|byte| matches!(byte, b' '..=b'~'))
 }
-
-#[cfg(test)]
-mod tests {
-    use super::*;
-
-    #[test]
-    fn reads_labels(rt: HostRuntime) -> Result<(), AllocError> {
-        let long = [b'a'; 65];
-        let cases: [(&[u8], bool); 9] = [
-            (b"", true),
-            (b"lab 3, rack ~", true),
-            (&long[..64], true),
-            (&long, false),
-            (b"a\x1fb", false),
-            (b"a\x7fb", false),
-            (b"a\tb", false),
-            ("caf\u{e9}".as_bytes(), false),
-            (b"a\xff", false),
-        ];
-        for (text, is_read) in cases {
-            match Label::read(rt.alloc(), text)? {
-                Some(label) => {
-                    assert!(rt; is_read, "at {text:?}");
-                    assert_eq!(rt; label.as_str().as_bytes(), text);
-                }
-                None => assert!(rt; !is_read, "at {text:?}"),
-            }
-        }
-        Ok(())
-    }
-}

@@ -22,6 +22,3 @@ pub use peer::{Peer, Status};
 pub use peer_draft::PeerDraft;
 pub use peer_table::{Over, PeerTable};
 pub use route_slots::RouteSlots;
-
-#[cfg(test)]
-mod tests;

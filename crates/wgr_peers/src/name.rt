@@ -85,38 +85,3 @@ fn has_name_bytes(text: &[u8]) -> bool
 {
     text.iter().all(|byte| byte.is_ascii_lowercase() || byte.is_ascii_digit() || *byte == b'-')
 }
-
-#[cfg(test)]
-mod tests {
-    use super::*;
-
-    #[test]
-    fn reads_names(rt: HostRuntime) -> Result<(), AllocError> {
-        let long = [b'a'; 33];
-        let cases: [(&[u8], bool); 12] = [
-            (b"office", true),
-            (b"lab-3", true),
-            (b"-", true),
-            (b"0", true),
-            (&long[..32], true),
-            (&long, false),
-            (b"", false),
-            (b"Office", false),
-            (b"a b", false),
-            (b"a_b", false),
-            ("caf\u{e9}".as_bytes(), false),
-            (b"a\xff", false),
-        ];
-        for (text, is_read) in cases {
-            match Name::read(rt.alloc(), text)? {
-                Some(name) => {
-                    assert!(rt; is_read, "at {text:?}");
-                    assert_eq!(rt; name.as_bytes(), text);
-                    assert_eq!(rt; name.copy()?.as_str(), name.as_str());
-                }
-                None => assert!(rt; !is_read, "at {text:?}"),
-            }
-        }
-        Ok(())
-    }
-}

@@ -12,6 +12,3 @@ pub use allot::{Holds, Stop, lowest_free};
 pub use held_spans::lowest_address;
 pub use pool::{BadPool, Pool};
 pub use spans::SortedSpans;
-
-#[cfg(test)]
-mod tests;

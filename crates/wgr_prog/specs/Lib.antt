@@ -4,4 +4,3 @@ pub mod Plan
 pub mod PlanFault
 pub mod PlanLaws
 pub mod Status
-pub mod Adopting

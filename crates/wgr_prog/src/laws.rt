@@ -1,5 +1,4 @@
 //! What follows of the definitions. The functions do nothing: their contracts are the laws.
-ghost use Rattle.wgr_prog.specs.Adopting.{SecretsAreNotAsked};
 ghost use Rattle.wgr_prog.specs.CommandLine.{PoolIsAsked};
 ghost use Rattle.wgr_prog.specs.PlanLaws.{OnePlan};
 
@@ -11,9 +10,4 @@ pub fn plans_are_unique()
 /// The word after `plan` is the pool, unless it begins as a flag does.
 pub fn pool_is_asked()
     ensures { PoolIsAsked }
-{}
-
-/// No private and no preshared key of a dump is part of what is asked for it.
-pub fn secrets_are_not_asked()
-    ensures { SecretsAreNotAsked }
 {}

@@ -1,7 +1,6 @@
 //! The program `wgr`.
 #![tactic(auto)]
 
-mod adopt;
 mod command_line;
 mod laws;
 mod lines;
@@ -12,7 +11,7 @@ use program::program;
 use std::alloc::AllocError;
 use std::env;
 use std::process::ExitCode;
-use wgr_io::{Device, write_all};
+use wgr_io::Device;
 
 /// The words of the command line, without the program's own name.
 fn words(rt: &HostRuntime) -> std::io::Result<Vec<String>> {
@@ -38,6 +37,3 @@ fn main(rt: HostRuntime) -> ExitCode {
     };
     ExitCode::from(status)
 }
-
-#[cfg(test)]
-mod tests;

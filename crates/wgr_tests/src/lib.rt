@@ -1,0 +1,25 @@
+//! Tests over the public calls of the libraries: that calls succeed, and what no contract says. The
+//! expected values are written by hand.
+//!
+//! A test is a table of lines that one function runs. What is no address, no number and so on in a
+//! table ends the test.
+#![tactic(auto)]
+
+#[cfg(test)]
+mod conf;
+#[cfg(test)]
+mod dumps;
+#[cfg(test)]
+mod fields;
+#[cfg(test)]
+mod fixtures;
+#[cfg(test)]
+mod network;
+#[cfg(test)]
+mod order;
+#[cfg(test)]
+mod pool;
+#[cfg(test)]
+mod register;
+#[cfg(test)]
+mod shown;
