@@ -3,7 +3,8 @@
 mod bad_lines;
 mod good_lines;
 
-use std::test::Fail;
+use std::alloc::AllocGlobal;
+use std::process::Abort;
 
 /// Texts of keys: 32 bytes 1, 2, 3, or 9.
 const K1: &str = "AQEBAQEBAQEBAQEBAQEBAQEBAQEBAQEBAQEBAQEBAQE=";
@@ -19,12 +20,17 @@ const S: &str = "CQkJCQkJCQkJCQkJCQkJCQkJCQkJCQkJCQkJCQkJCQk=";
 const GOOD: &str =
     "(none)\tCQkJCQkJCQkJCQkJCQkJCQkJCQkJCQkJCQkJCQkJCQk=\t51820\toff\nAQEBAQEBAQEBAQEBAQEBAQEBAQEBAQEBAQEBAQEBAQE=\t(none)\t(none)\t(none)\t0\t0\t0\toff\nAgICAgICAgICAgICAgICAgICAgICAgICAgICAgICAgI=\t(none)\t198.51.100.7:40000\t10.8.0.2/32,192.168.4.0/24\t1700000000\t1024\t2048\t25\nAwMDAwMDAwMDAwMDAwMDAwMDAwMDAwMDAwMDAwMDAwM=\tAAAAAAAAAAAAAAAAAAAAAAAAAAAAAAAAAAAAAAAAAAA=\t[2001:db8::1]:51820\tfd00:9::/64\t0\t0\t0\toff\n";
 
+/// Appends the text.
+fn put(rt: &impl Abort, text: &str, line: &mut Vec<u8>) {
+    line.extend_from_slice(text.as_bytes()).expect(rt, "memory");
+}
+
 /// The text with these lines, each of them ended.
-fn joined(rt: &HostRuntime, lines: &[&[u8]]) -> Result<Vec<u8>, Fail> {
+fn joined(rt: &(impl Abort + AllocGlobal), lines: &[&[u8]]) -> Vec<u8> {
     let mut text = Vec::new(rt.alloc());
     for line in lines {
-        text.extend_from_slice(line)?;
-        text.push(b'\n')?;
+        text.extend_from_slice(line).expect(rt, "memory");
+        put(rt, "\n", &mut text);
     }
-    Ok(text)
+    text
 }

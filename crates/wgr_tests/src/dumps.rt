@@ -90,20 +90,41 @@ fn taken(rt: &(impl Abort + AllocGlobal), network: &mut Network, text: &[u8]) ->
     }
 }
 
-// Each dump in turn on an empty network, what is answered to it, and the network after it.
-fn check(rt: &(impl Abort + AllocGlobal), steps: &[(&[&str], &str, &str)]) {
+/// The lines of a dump, what is answered to it, and the network after it.
+type Step<'a> = (&'a [&'a str], &'a str, &'a str);
+
+fn said(
+    rt: &(impl Abort + AllocGlobal),
+    network: &mut Network,
+    lines: &[&str],
+    end: &str,
+) -> Vec<u8> {
+    let text = dump_text(rt, lines, end);
+    taken(rt, network, &text)
+}
+
+fn check_left(rt: &(impl Abort + AllocGlobal), network: &Network, left: &str) {
+    let shown = shown(rt, network);
+    assert_eq!(rt; shown.as_slice(), left.as_bytes());
+}
+
+// Each dump in turn on an empty network; their last newline may be absent.
+fn check(rt: &(impl Abort + AllocGlobal), steps: &[Step<'_>]) {
     for end in ["", "\n"] {
-        let mut network = new_network(rt, "10.8.0.0/24");
-        for (lines, answered, left) in steps {
-            let text = dump_text(rt, lines, end);
-            let said = taken(rt, &mut network, &text);
-            assert_eq!(rt; said.as_slice(), answered.as_bytes(), "{left}");
-            assert_eq!(rt;
-                shown(rt, &network).as_slice(),
-                left.as_bytes(),
-                "{answered}"
-            );
-        }
+        check_ended(rt, &mut new_network(rt, "10.8.0.0/24"), steps, end);
+    }
+}
+
+fn check_ended(
+    rt: &(impl Abort + AllocGlobal),
+    network: &mut Network,
+    steps: &[Step<'_>],
+    end: &str,
+) {
+    for (lines, answered, left) in steps {
+        let said = said(rt, network, lines, end);
+        assert_eq!(rt; said.as_slice(), answered.as_bytes(), "{left}");
+        check_left(rt, network, left);
     }
 }
 

@@ -221,11 +221,16 @@ pub(crate) fn answer(
 /// A line of a script: the moment, the command, and what it answers.
 pub(crate) type Step<'a> = (u64, &'a str, &'a str);
 
+fn said(rt: &(impl Abort + AllocGlobal), network: &mut Network, now: u64, line: &str) -> Vec<u8> {
+    let (name, rest) = line.split_once(' ').unwrap_or((line, ""));
+    let command = command(rt, name, rest);
+    answer(rt, network, now, &command)
+}
+
 /// Runs the lines on the network.
 pub(crate) fn run(rt: &(impl Abort + AllocGlobal), network: &mut Network, script: &[Step<'_>]) {
     for (now, line, want) in script {
-        let (name, rest) = line.split_once(' ').unwrap_or((*line, ""));
-        let said = answer(rt, network, *now, &command(rt, name, rest));
+        let said = said(rt, network, *now, line);
         assert_eq!(rt; said.as_slice(), want.as_bytes(), "{line}");
     }
 }

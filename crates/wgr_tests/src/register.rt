@@ -18,8 +18,8 @@ use crate::shown::Shown;
 use std::alloc::AllocGlobal;
 use std::process::Abort;
 use std::str::Split;
-use wgr_core::Name;
-use wgr_model::{Answer, Event, Order, Register, Settings};
+use wgr_core::{Name, Network};
+use wgr_model::{Answer, Event, Order, OrderRefusal, Register, Settings};
 use wgr_text::read_loose;
 
 type Words<'a> = Split<'a, char>;
@@ -110,6 +110,22 @@ fn event(rt: &(impl Abort + AllocGlobal), now: u64, line: &str) -> Event {
     }
 }
 
+fn put_names(networks: &[(Name, Network)], text: &mut Shown<'_, impl Abort + AllocGlobal>) {
+    for entry in networks {
+        text.separate(" ");
+        text.put(entry.0.as_str());
+    }
+}
+
+fn put_refused(
+    rt: &(impl Abort + AllocGlobal),
+    why: &OrderRefusal,
+    text: &mut Shown<'_, impl Abort + AllocGlobal>,
+) {
+    let why = why.to_string(rt.alloc()).expect(rt, "memory");
+    text.put(&why);
+}
+
 fn put_shown(
     rt: &(impl Abort + AllocGlobal),
     answer: &Answer,
@@ -118,16 +134,11 @@ fn put_shown(
     match answer {
         Answer::Replied(reply, _) => text.put_reply(reply),
         Answer::Declined(why) => text.put_refusal(why),
-        Answer::Listed(networks) => {
-            for entry in networks.as_slice() {
-                text.separate(" ");
-                text.put(entry.0.as_str());
-            }
-        }
+        Answer::Listed(networks) => put_names(networks.as_slice(), text),
         Answer::UnknownToken => text.put("unknown_token"),
         Answer::NoSuchNetwork => text.put("no_such_network"),
         Answer::Done => text.put("done"),
-        Answer::Refused(why) => text.put(&why.to_string(rt.alloc()).expect(rt, "memory")),
+        Answer::Refused(why) => put_refused(rt, why, text),
     }
 }
 

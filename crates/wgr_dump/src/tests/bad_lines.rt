@@ -1,7 +1,8 @@
 //! Texts that are no dumps, and where they stop to be.
 use crate::Dump;
-use crate::tests::joined;
-use std::test::Fail;
+use crate::tests::{joined, put};
+use std::alloc::AllocGlobal;
+use std::process::Abort;
 
 /// Whole texts, with the line and the field that are told.
 const TEXTS: &[(&str, usize, u8)] = &[
@@ -297,18 +298,16 @@ const PEER: &[&str] = &[
 ];
 
 /// The fields with this text in place of the field of this number.
-fn replaced(rt: &HostRuntime, fields: &[&str], number: u8, text: &str) -> Result<Vec<u8>, Fail> {
+fn replaced(rt: &(impl Abort + AllocGlobal), fields: &[&str], number: u8, text: &str) -> Vec<u8> {
     let mut line = Vec::new(rt.alloc());
-    let mut at = 0u8;
-    for field in fields {
-        if at > 0 {
-            line.push(b'\t')?;
+    for (place, field) in fields.iter().enumerate() {
+        if place > 0 {
+            put(rt, "\t", &mut line);
         }
-        at = at.saturating_add(1);
-        let field = if at == number { text } else { field };
-        line.extend_from_slice(field.as_bytes())?;
+        let is_it = place.saturating_add(1) == usize::from(number);
+        put(rt, if is_it { text } else { field }, &mut line);
     }
-    Ok(line)
+    line
 }
 
 /// The line and the field at which the text stops to be a dump, if it does.
@@ -324,36 +323,38 @@ fn the_first_bad_field_of_a_text_is_told(rt: HostRuntime) {
     }
 }
 
-#[test]
-fn bad_lines_are_told(rt: HostRuntime) -> Result<(), Fail> {
-    let interface = replaced(&rt, INTERFACE, 0, "")?;
-    let peer = replaced(&rt, PEER, 0, "")?;
-    for &(bad, field) in INTERFACE_LINES {
-        let line = replaced(&rt, &[bad], 0, "")?;
-        let text = joined(&rt, &[&line, &peer])?;
-        assert_eq!(rt; fault(&text), Some((1, field)), "{bad}");
-    }
-    for &(bad, field) in PEER_LINES {
-        let line = replaced(&rt, &[bad], 0, "")?;
-        let text = joined(&rt, &[&interface, &peer, &line, &peer])?;
-        assert_eq!(rt; fault(&text), Some((3, field)), "{bad}");
-    }
-    Ok(())
+/// The fault of a dump with this line of an interface.
+fn interface_fault(rt: &(impl Abort + AllocGlobal), line: &[u8]) -> Option<(usize, u8)> {
+    fault(&joined(rt, &[line, &replaced(rt, PEER, 0, "")]))
+}
+
+/// The fault of a dump with this line of a peer between two good ones.
+fn peer_fault(rt: &(impl Abort + AllocGlobal), line: &[u8]) -> Option<(usize, u8)> {
+    let interface = replaced(rt, INTERFACE, 0, "");
+    let peer = replaced(rt, PEER, 0, "");
+    fault(&joined(rt, &[&interface, &peer, line, &peer]))
 }
 
 #[test]
-fn bad_fields_are_told(rt: HostRuntime) -> Result<(), Fail> {
-    let interface = replaced(&rt, INTERFACE, 0, "")?;
-    let peer = replaced(&rt, PEER, 0, "")?;
+fn bad_lines_are_told(rt: HostRuntime) {
+    for &(bad, field) in INTERFACE_LINES {
+        let told = interface_fault(&rt, bad.as_bytes());
+        assert_eq!(rt; told, Some((1, field)), "{bad}");
+    }
+    for &(bad, field) in PEER_LINES {
+        let told = peer_fault(&rt, bad.as_bytes());
+        assert_eq!(rt; told, Some((3, field)), "{bad}");
+    }
+}
+
+#[test]
+fn bad_fields_are_told(rt: HostRuntime) {
     for &(field, bad) in INTERFACE_FIELDS {
-        let line = replaced(&rt, INTERFACE, field, bad)?;
-        let text = joined(&rt, &[&line, &peer])?;
-        assert_eq!(rt; fault(&text), Some((1, field)), "{bad}");
+        let told = interface_fault(&rt, &replaced(&rt, INTERFACE, field, bad));
+        assert_eq!(rt; told, Some((1, field)), "{bad}");
     }
     for &(field, bad) in PEER_FIELDS {
-        let line = replaced(&rt, PEER, field, bad)?;
-        let text = joined(&rt, &[&interface, &peer, &line, &peer])?;
-        assert_eq!(rt; fault(&text), Some((3, field)), "{bad}");
+        let told = peer_fault(&rt, &replaced(&rt, PEER, field, bad));
+        assert_eq!(rt; told, Some((3, field)), "{bad}");
     }
-    Ok(())
 }

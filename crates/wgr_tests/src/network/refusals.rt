@@ -1,5 +1,12 @@
 //! The texts of refusals.
+use std::alloc::AllocGlobal;
+use std::process::Abort;
 use wgr_core::{Field, Refusal};
+
+fn check(rt: &(impl Abort + AllocGlobal), refusal: Refusal, text: &str) {
+    let printed = refusal.to_string(rt.alloc()).expect(rt, "memory");
+    assert_eq!(rt; printed.as_str(), text);
+}
 
 #[test]
 fn prints_refusals(rt: HostRuntime) {
@@ -20,9 +27,6 @@ fn prints_refusals(rt: HostRuntime) {
         (Refusal::LeaseOver, "lease_over"),
         (Refusal::ServerKey, "server_key"),
     ] {
-        assert_eq!(rt;
-            refusal.to_string(rt.alloc()).expect(&rt, "memory").as_str(),
-            text
-        );
+        check(&rt, refusal, text);
     }
 }
