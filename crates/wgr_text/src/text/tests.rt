@@ -1,6 +1,7 @@
 //! The expected values are those of Python's `ipaddress`, but for the texts that only it reads.
 use super::*;
-use std::test::Fail;
+use std::alloc::AllocGlobal;
+use std::process::Abort;
 
 const PREFIXES: &[(&str, &str, u8, &str)] = &[
     ("10.0.0.0/8", "10.0.0.0", 8, "10.0.0.0/8"),
@@ -102,45 +103,50 @@ const NO_PREFIXES: &[&str] = &[
     "fe80::1%eth0/64",
 ];
 
-#[test]
-fn prefixes(rt: HostRuntime) -> Result<(), Fail> {
-    for &(text, front, length, shown) in PREFIXES {
-        let Some((address, found)) = read_loose(text.as_bytes()) else {
-            panic!(rt; "{text} is not read");
-        };
-        assert_eq!(rt; Some(address), Addr::read(front.as_bytes()), "{text}");
-        assert_eq!(rt; found, length, "{text}");
-        let Some(prefix) = Prefix::masked(address, found) else {
-            panic!(rt; "{text} is too long");
-        };
-        let mut out = Vec::new(rt.alloc());
-        write_prefix(&prefix, &mut out)?;
-        assert_eq!(rt; out.as_slice(), shown.as_bytes(), "{text}");
-    }
-    for text in NO_PREFIXES {
-        assert_eq!(rt; read_loose(text.as_bytes()), None, "{text}");
-    }
-    Ok(())
+// The prefix that has the address.
+fn masked(rt: &impl Abort, address: Addr, length: u8) -> Prefix {
+    Prefix::masked(address, length).expect(rt, "a length")
+}
+
+fn check_shown(rt: &(impl Abort + AllocGlobal), prefix: &Prefix, shown: &str) {
+    let mut out = Vec::new(rt.alloc());
+    write_prefix(prefix, &mut out).expect(rt, "memory");
+    assert_eq!(rt; out.as_slice(), shown.as_bytes());
 }
 
 #[test]
-fn texts_are_appended(rt: HostRuntime) -> Result<(), Fail> {
+fn prefixes(rt: HostRuntime) {
+    for &(text, front, length, shown) in PREFIXES {
+        let (address, found) = read_loose(text.as_bytes()).expect(&rt, text);
+        assert!(rt; Some(address) == Addr::read(front.as_bytes()), "{text}");
+        assert!(rt; found == length, "{text}");
+        check_shown(&rt, &masked(&rt, address, found), shown);
+    }
+}
+
+#[test]
+fn no_prefixes(rt: HostRuntime) {
+    for text in NO_PREFIXES {
+        assert!(rt; read_loose(text.as_bytes()).is_none(), "{text}");
+    }
+}
+
+fn append(rt: &impl Abort, text: &str, out: &mut Vec<u8>) {
+    let (address, length) = read_loose(text.as_bytes()).expect(rt, text);
+    write_addr(&address, out).expect(rt, "memory");
+    out.push(b' ').expect(rt, "memory");
+    write_prefix(&masked(rt, address, length), out).expect(rt, "memory");
+    out.push(b' ').expect(rt, "memory");
+}
+
+#[test]
+fn texts_are_appended(rt: HostRuntime) {
     let mut out = Vec::new(rt.alloc());
     for text in ["10.8.0.2/32", "fd00::2/128"] {
-        let Some((address, length)) = read_loose(text.as_bytes()) else {
-            panic!(rt; "{text} is not read");
-        };
-        let Some(prefix) = Prefix::masked(address, length) else {
-            panic!(rt; "{text} is too long");
-        };
-        write_addr(&address, &mut out)?;
-        out.push(b' ')?;
-        write_prefix(&prefix, &mut out)?;
-        out.push(b' ')?;
+        append(&rt, text, &mut out);
     }
     assert_eq!(rt;
         out.as_slice(),
         b"10.8.0.2 10.8.0.2/32 fd00::2 fd00::2/128 ".as_slice()
     );
-    Ok(())
 }
