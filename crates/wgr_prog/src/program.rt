@@ -4,15 +4,15 @@ ghost use Rattle.std.specs.IoError.{error_kind};
 ghost use Rattle.std.specs.declared.io.ErrorKind.TheVariants.{InvalidData};
 ghost use Rattle.clap.specs.Walk.{texts};
 ghost use Rattle.clap.specs.Words.{kind_of};
-ghost use Rattle.wgr_prog.specs.CommandLine.{pool_asked, wrong_with};
+ghost use Rattle.wgr_command_line.specs.Words.{pool_asked, wrong_with};
 ghost use Rattle.wgr_prog.specs.Status.{RunsPlan, ServesPool, TellsError, fault_status, kind_status, streams};
 
-use crate::command_line::{Request, read_words};
 use crate::plan::{PlanFault, plan};
 use clap::error::ErrorKind;
 use std::alloc::Global;
 use std::fmt::Write as _;
 use std::{fmt, io};
+use wgr_command_line::{Request, read_words};
 use wgr_core::Pool;
 use wgr_io::{Read, Write, write_all};
 use wgr_text::read_loose;
