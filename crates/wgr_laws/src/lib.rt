@@ -14,6 +14,7 @@ ghost use Rattle.wgr_laws.specs.Laws.{OtherPeersStay, OtherRoutesStay, SettingsS
 ghost use Rattle.wgr_laws.specs.Laws.{AddressesAreOwn, KeysAreOwn, RunsKeepTheRules};
 ghost use Rattle.wgr_laws.specs.Laws.{RevokedIsGone, RevokedOwnsNothing};
 ghost use Rattle.wgr_laws.specs.Laws.{NextOnlyRises, NumbersAreGivenOnce, NumbersKeepTheirKeys};
+ghost use Rattle.wgr_laws.specs.PeerLaws.{AddedAsAsked, AddedCounts, MovedAlone, RenewedAlone, RepliesShowWhatStands, RoutesStay};
 ghost use Rattle.wgr_laws.specs.AdoptionLaws.{StandingPeersStay, UnnamedRoutesStay, UnseenPeersStay};
 ghost use Rattle.wgr_laws.specs.AdoptionLaws.{LinesArePeers, NewPeersAreLines};
 ghost use Rattle.wgr_laws.specs.AdoptionLaws.{AdoptRefusals, AdoptionsAreCounted, OtherServersAreRefused};
@@ -83,6 +84,21 @@ pub fn others_stay()
     ensures settings { SettingsStay }
     ensures peers { OtherPeersStay }
     ensures routes { OtherRoutesStay }
+{}
+
+/// A new peer is just what was asked for. A peer that moves gets another address, and one that is
+/// renewed another end of its lease: it keeps all else, and every route stays.
+pub fn only_what_is_asked_changes()
+    ensures added { AddedAsAsked }
+    ensures next { AddedCounts }
+    ensures moved { MovedAlone }
+    ensures renewed { RenewedAlone }
+    ensures routes { RoutesStay }
+{}
+
+/// A peer that is answered after a change stands so in the network, with those routes.
+pub fn replies_show_what_stands()
+    ensures { RepliesShowWhatStands }
 {}
 
 /// After any commands, refused ones among them, the network keeps the rules: above all, no two
