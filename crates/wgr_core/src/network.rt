@@ -4,10 +4,11 @@ ghost use Rattle.std.specs.Option.{option_copied};
 ghost use Rattle.wgr_peers.specs.Peers.{peer_of, put_peer};
 ghost use Rattle.wgr_peers.specs.PeersLeft.{peers_after};
 ghost use Rattle.wgr_core.specs.Network.{NetworkValue, IsNetwork, live_at, without_peers};
-ghost use Rattle.wgr_core.specs.Parts.{network_of};
+ghost use Rattle.wgr_core.specs.Parts.{IsNetworkOf, KeepTheRules, network_of};
 ghost use Rattle.wgr_peers.specs.Routes.{assign_route, without_route};
 
-use crate::parts::{Parts, are_ordered, are_routes};
+use crate::arrange::{are_ordered, sort_peers, sort_routes};
+use crate::parts::{Parts, are_routes};
 use std::alloc::{AllocError, Global};
 use std::collections::HashSet;
 use std::marker::Model;
@@ -65,9 +66,21 @@ impl Network {
         }
     }
 
-    /// The network of these parts, if they keep the rules of a network. Peers that aren't in the
-    /// order of their numbers, and routes that aren't in the order of their prefixes, don't.
+    /// The network of these parts, if they keep the rules of a network. Peers and routes may come in
+    /// any order; the network has them in the order of their keys. Those that are in order already
+    /// are not sorted.
     pub fn of(alloc: Global, parts: Parts) -> Result<Option<Network>, AllocError>
+        ensures some { IfOk result (λ made. IfSome made (λ n. IsNetworkOf parts n)) }
+        ensures exact { IfOk result (λ made. IsSome made ↔ KeepTheRules parts) }
+    {
+        let mut sorted = parts;
+        sort_peers(&mut sorted.peers);
+        sort_routes(&mut sorted.routes);
+        Network::of_sorted(alloc, sorted)
+    }
+
+    // The network of these parts as they are, if they keep the rules.
+    fn of_sorted(alloc: Global, parts: Parts) -> Result<Option<Network>, AllocError>
         ensures some { IfOk result (λ made. IfSome made (λ n. n ≡ network_of parts)) }
         ensures exact { IfOk result (λ made. IsSome made ↔ IsNetwork (network_of parts)) }
     {
