@@ -169,6 +169,13 @@ network_arranged parts peers routes n moved up moved' up' of is =
     let same' = routes_arranged n.routes routes of.routes.1 fit (IsPermutation-trans n.routes parts.routes.items routes (IsPermutation-sym parts.routes.items n.routes of.routes.0) moved') up' in
     ap (λ (ps : List Peer). arranged parts ps routes) same ∙ ap (λ (rs : Routes). arranged parts n.peers rs) same' ∙ settings_are parts n of
 
+-- no other network is one of the parts
+pub one_network : (parts : Parts) (n m : NetworkValue) → IsNetworkOf parts n → IsNetworkOf parts m → n ≡ m
+one_network parts n m of of' =
+    let peers = one_arrangement IsNumberedBelow (λ p q l l'. omega (arith, l, l')) n.peers m.peers of.peers.1 of'.peers.1 (IsPermutation-trans n.peers parts.peers.items m.peers (IsPermutation-sym parts.peers.items n.peers of.peers.0) of'.peers.0) in
+    let routes = one_arrangement ComesBefore (λ r s. before_once r.0 s.0) n.routes m.routes of.routes.1 of'.routes.1 (IsPermutation-trans n.routes parts.routes.items m.routes (IsPermutation-sym parts.routes.items n.routes of.routes.0) of'.routes.0) in
+    sym (settings_are parts n of) ∙ ap (λ (ps : List Peer). arranged parts ps n.routes) peers ∙ ap (λ (rs : Routes). arranged parts m.peers rs) routes ∙ settings_are parts m of'
+
 -- so the parts keep the rules just where these do
 pub made_exactly : {E : Type 0} (parts : Parts) (peers : List Peer) (routes : Routes) (r : Result (Option NetworkValue) E) → IsPermutation parts.peers.items peers → IsNonDecreasingBy (λ p. p.number) peers
     → IsPermutation parts.routes.items routes → IsSortedBy (λ r s. is_before r.0 s.0) routes → IfOk r (λ made. IsSome made ↔ IsNetwork (arranged parts peers routes)) → IfOk r (λ made. IsSome made ↔ KeepTheRules parts)

@@ -2,7 +2,7 @@
 //! its contract is the law.
 #![tactic(auto)]
 
-ghost use Rattle.wgr_laws.specs.Laws.{PeersAreAMap, RoutesAreAMap};
+ghost use Rattle.wgr_laws.specs.Laws.{PartsMakeOneNetwork, PeersAreAMap, RoutesAreAMap};
 ghost use Rattle.wgr_laws.specs.Laws.{AssignedLeads, AssignedOthers, PutOthers, PutStands, RemovedGone, RemovedOthers};
 ghost use Rattle.wgr_laws.specs.Laws.{LowestIsFree, LowestIsLeast};
 ghost use Rattle.wgr_laws.specs.Laws.{LongestOwns, MatchIsLongest, NoMatchIsNone, NobodyOwns, OwnerHasLongest, PeersOwnTheirs};
@@ -21,10 +21,12 @@ ghost use Rattle.wgr_laws.specs.AdoptionLaws.{AdoptRefusals, AdoptionsAreCounted
 ghost use Rattle.wgr_laws.specs.AdoptedAgain.{AdoptionRepeats, AdoptionRepeatsLater};
 ghost use Rattle.wgr_laws.specs.FirstAdoption.{AdoptionIsFaithful, AdoptionKeepsOwners, AdoptionKeepsUnowned};
 
-/// The lists of a network are finite maps: where all look-ups agree, they are equal.
+/// The lists of a network are finite maps: where all look-ups agree, they are equal. The order in
+/// which the parts of a network come makes no difference.
 pub fn lists_are_maps()
     ensures peers { PeersAreAMap }
     ensures routes { RoutesAreAMap }
+    ensures parts { PartsMakeOneNetwork }
 {}
 
 /// Every accepted command leaves a network that keeps the rules, as does the end of leases.
