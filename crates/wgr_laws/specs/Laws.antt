@@ -52,6 +52,10 @@ abbrev pub LowestIsLeast : Type 0
 LowestIsLeast = (n : NetworkValue) (a : AddrValue) → lowest_free n ≡ Some a
     → (k : ℕ) → n.pool.address.number ≤ k → k < a.number → is_assignable n.pool (record n.pool.address { number = k }) ≡ true → is_held n (record n.pool.address { number = k }) ≡ true
 
+-- where there is none, each address that the pool may give is held
+abbrev pub NoneIsFull : Type 0
+NoneIsFull = (n : NetworkValue) (a : AddrValue) → lowest_free n ≡ None → is_assignable n.pool a ≡ true → is_held n a ≡ true
+
 -- ---- owner
 
 -- the route is allowed and has the address, and no allowed one that has it is longer

@@ -4,7 +4,7 @@
 
 ghost use Rattle.wgr_laws.specs.Laws.{PartsMakeOneNetwork, PeersAreAMap, RoutesAreAMap};
 ghost use Rattle.wgr_laws.specs.Laws.{AssignedLeads, AssignedOthers, PutOthers, PutStands, RemovedGone, RemovedOthers};
-ghost use Rattle.wgr_laws.specs.Laws.{LowestIsFree, LowestIsLeast};
+ghost use Rattle.wgr_laws.specs.Laws.{LowestIsFree, LowestIsLeast, NoneIsFull};
 ghost use Rattle.wgr_laws.specs.Laws.{LongestOwns, MatchIsLongest, NoMatchIsNone, NobodyOwns, OwnerHasLongest, PeersOwnTheirs};
 ghost use Rattle.wgr_laws.specs.Laws.{RoutesElsewhere, RoutesGoElsewhere, RoutesLead, RoutesYield};
 ghost use Rattle.wgr_laws.specs.Laws.{LiveIsFound, LiveRoutesLead, LiveUntil, OverStaysOver, SweepsAreUnseen};
@@ -40,10 +40,12 @@ pub fn commands_keep_the_forms()
     ensures { CommandsKeepTheForms }
 {}
 
-/// The address that is given where none is named is free, and none below it is.
+/// The address that is given where none is named is free, and none below it is. Where there is none
+/// to give, no address is free.
 pub fn lowest_is_least()
     ensures free { LowestIsFree }
     ensures least { LowestIsLeast }
+    ensures full { NoneIsFull }
 {}
 
 /// The owner of an address is the peer of the longest allowed prefix that has it.
