@@ -9,7 +9,7 @@ use crate::network::Network;
 use std::alloc::{AllocError, Global};
 use std::collections::HashSet;
 use wgr_peers::order::{drop_route, put_peer, put_route};
-use wgr_peers::{Items, Peer, PeerTable, RouteSlots};
+use wgr_peers::{Items, NumberSet, Peer, PeerTable, RouteSlots};
 use wgr_text::Prefix;
 
 /// What an accepted command changes of a network, in the order in which it is made.
@@ -179,7 +179,8 @@ impl Network {
             return self.put(peer, change.next);
         }
         if let Some(number) = change.sole_removal() {
-            return self.leave(number, change.next);
+            self.leave(number, change.next);
+            return Ok(());
         }
         if let Some(route) = change.sole_route() {
             return self.assign_route(route.0, route.1, change.next);
@@ -204,8 +205,9 @@ impl Network {
     {
         let removed = number_set(alloc, change.removed.as_slice())?;
         let routes = change.changed_routes(alloc, self, &removed)?;
+        let gone = NumberSet::of(change.removed.into_vec());
         let coming = change.peers.into_vec().pop();
-        self.change(removed, coming, routes, change.next)
+        self.change(gone, coming, routes, change.next)
     }
 
     // The change that only removes these peers.

@@ -10,10 +10,9 @@ ghost use Rattle.wgr_peers.specs.Routes.{assign_route, without_route};
 use crate::arrange::{are_ordered, sort_peers, sort_routes};
 use crate::parts::{Parts, are_routes};
 use std::alloc::{AllocError, Global};
-use std::collections::HashSet;
 use std::marker::Model;
 use wgr_peers::order::{drop_route, drop_routes_to, put_route};
-use wgr_peers::{Capacity, Host, Peer, PeerTable, Port};
+use wgr_peers::{Capacity, Host, NumberSet, Peer, PeerTable, Port};
 use wgr_pool::Pool;
 use wgr_text::{Key, Prefix};
 
@@ -224,30 +223,27 @@ impl Network {
         Ok(())
     }
 
-    // Takes away the peer of this number and the routes to it, and goes on at `next`; for want of
-    // memory the network is as before.
-    pub(crate) fn leave(&mut self, number: u32, next: u32) -> Result<(), AllocError>
+    // Takes away the peer of this number and the routes to it, and goes on at `next`.
+    pub(crate) fn leave(&mut self, number: u32, next: u32)
         requires { IsNetwork (record (without_peers self.old (number ∷ [])) { next = next }) }
-        ensures ok { OnOk result (self.new ≡ record (without_peers self.old (number ∷ [])) { next = next }) }
-        ensures err { OnErr result (self.new ≡ self.old) }
+        ensures { self.new ≡ record (without_peers self.old (number ∷ [])) { next = next } }
     {
-        self.peers.remove(number)?;
+        self.peers.remove(number);
         drop_routes_to(&mut self.routes, number);
         self.next = next;
-        Ok(())
     }
 
     // Takes away the peers of these numbers, puts in the one that comes, has these routes in place of
     // its own, and goes on at `next`; for want of memory the network is as before.
     pub(crate) fn change(
         &mut self,
-        gone: HashSet<u32>,
+        gone: NumberSet,
         coming: Option<Peer>,
         routes: Vec<(Prefix, u32)>,
         next: u32,
     ) -> Result<(), AllocError>
-        requires { IsNetwork (record self.old { peers = peers_after self.old.peers gone.keys coming; routes = routes.items; next = next }) }
-        ensures ok { OnOk result (self.new ≡ record self.old { peers = peers_after self.old.peers gone.keys coming; routes = routes.items; next = next }) }
+        requires { IsNetwork (record self.old { peers = peers_after self.old.peers gone coming; routes = routes.items; next = next }) }
+        ensures ok { OnOk result (self.new ≡ record self.old { peers = peers_after self.old.peers gone coming; routes = routes.items; next = next }) }
         ensures err { OnErr result (self.new ≡ self.old) }
     {
         self.peers.change(gone, coming)?;
