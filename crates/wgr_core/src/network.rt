@@ -1,13 +1,15 @@
-ghost use Rattle.std.specs.Prelude.{◌≡◌, [], ◌∷◌, ◌↔◌, IsSome, IfSome, IfOk, OnOk, OnErr, is_some};
+ghost use Rattle.std.specs.Prelude.{◌≡◌, [], ◌∷◌, ◌↔◌, IsSome, IfSome, IfOk, IsOk, OnOk, OnErr, Some, not, is_some};
 ghost use Rattle.std.specs.List.{filter};
 ghost use Rattle.std.specs.Option.{option_copied};
-ghost use Rattle.wgr_peers.specs.Peers.{peer_of, put_peer};
-ghost use Rattle.wgr_peers.specs.PeersLeft.{peers_after};
-ghost use Rattle.wgr_core.specs.Network.{NetworkValue, IsNetwork, live_at, without_peers};
+ghost use Rattle.wgr_peers.specs.Peers.{key_holder, peer_of, put_peer};
+ghost use Rattle.wgr_peers.specs.PeersLeft.{OnlyRenews, peers_after};
+ghost use Rattle.wgr_core.specs.Network.{NetworkValue, IsNetwork, is_among, live_at, without_peers};
+ghost use Rattle.wgr_core.specs.Change.{without_routes};
 ghost use Rattle.wgr_core.specs.Parts.{IsNetworkOf, KeepTheRules, network_of};
 ghost use Rattle.wgr_peers.specs.Routes.{assign_route, without_route};
 
 use crate::arrange::{are_ordered, sort_peers, sort_routes};
+use crate::change::{drop_each, drop_routes_of};
 use crate::parts::{Parts, are_routes};
 use std::alloc::{AllocError, Global};
 use std::marker::Model;
@@ -217,6 +219,7 @@ impl Network {
         requires { IsNetwork (record self.old { peers = put_peer self.old.peers peer; next = next }) }
         ensures ok { OnOk result (self.new ≡ record self.old { peers = put_peer self.old.peers peer; next = next }) }
         ensures err { OnErr result (self.new ≡ self.old) }
+        ensures succeeds { key_holder self.old.peers peer.key ≡ Some peer.number → IsOk result }
     {
         self.peers.put(peer)?;
         self.next = next;
@@ -250,6 +253,27 @@ impl Network {
         self.routes = routes;
         self.next = next;
         Ok(())
+    }
+
+    // Takes away the peers of these numbers and the routes to them, and these routes; puts in the peer
+    // that comes, in the place of one that stays; and goes on at `next`. It takes no memory.
+    pub(crate) fn renew(
+        &mut self,
+        gone: NumberSet,
+        coming: Option<Peer>,
+        routes_gone: &[Prefix],
+        next: u32,
+    )
+        requires fits { IsNetwork (record self.old { peers = peers_after self.old.peers gone coming; routes = without_routes (filter (λ r. not (is_among gone r.1)) self.old.routes) routes_gone.now; next = next }) }
+        requires renews { OnlyRenews self.old.peers gone coming }
+        ensures { self.new ≡ record self.old { peers = peers_after self.old.peers gone coming; routes = without_routes (filter (λ r. not (is_among gone r.1)) self.old.routes) routes_gone.now; next = next } }
+    {
+        drop_routes_of(&mut self.routes, &gone);
+        drop_each(&mut self.routes, routes_gone);
+        let Ok(()) = self.peers.change(gone, coming) else {
+            unreachable!();
+        };
+        self.next = next;
     }
 
     // Leads a prefix to the peer of this number, and goes on at `next`; for want of memory the
