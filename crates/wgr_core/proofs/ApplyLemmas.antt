@@ -5,11 +5,11 @@ use Rattle.std.specs.Option.{option_to_list}
 use Rattle.wgr_text.specs.Prefix.{PrefixValue}
 use Rattle.wgr_peers.specs.declared.peer.Peer.{Peer}
 use Rattle.wgr_core.specs.declared.change.Change.{Change}
-use Rattle.wgr_peers.specs.Peers.{put_peer}
-use Rattle.wgr_peers.specs.PeersLeft.{peers_after}
+use Rattle.wgr_peers.specs.Peers.{key_holder, put_peer}
+use Rattle.wgr_peers.specs.PeersLeft.{OnlyRenews, peers_after}
 use Rattle.wgr_peers.specs.Routes.{Routes}
 use Rattle.wgr_core.specs.Network.{NetworkValue, is_among, without_peers}
-use Rattle.wgr_core.specs.Change.{put_peers, assign_routes, without_routes, changed, applied, OnlyPuts}
+use Rattle.wgr_core.specs.Change.{put_peers, assign_routes, without_routes, changed, applied, NoneIsNew, NothingGrows, OnlyPuts}
 use Rattle.wgr_pool.proofs.Lists.{filter_agree_on}
 use Rattle.wgr_core.proofs.CommandLemmas.{without_none}
 
@@ -27,7 +27,7 @@ applied_is c n peers routes same_peers same_routes =
 
 -- ---- a change that only puts one peer
 
-one_item : {X : Type 0} (xs ys : List X) (x : X) → length xs ≡ 1 → xs ≡ ys ++ x ∷ [] → xs ≡ x ∷ []
+pub one_item : {X : Type 0} (xs ys : List X) (x : X) → length xs ≡ 1 → xs ≡ ys ++ x ∷ [] → xs ≡ x ∷ []
 one_item {X} xs [] x one e = e
 one_item {X} xs (y ∷ ys) x one e = absurd (more ys (sym (ap length e) ∙ one))
   where
@@ -79,3 +79,33 @@ applied_in_place c n gone o peers rest len routes one same size parts left among
     let none = rest_none peers rest len few size left in
     let only : c.peers ≡ option_to_list o = sym same ∙ parts ∙ ap (λ (ps : List Peer). ps ++ option_to_list o) none in
     applied_is c n (peers_after n.peers gone o) routes (after_one c n gone o among only) same_routes
+
+-- ---- a change by which nothing grows
+
+pub one_at_most : (n : NetworkValue) (removed : List ℕ) (peers : List Peer) → NoneIsNew n removed peers → length peers ≤ 1
+one_at_most n removed [] none = omega arith
+one_at_most n removed (p ∷ []) none = omega arith
+one_at_most n removed (p ∷ q ∷ more) none = absurd none
+
+pub one_known : (n : NetworkValue) (removed : List ℕ) (peers : List Peer) (p : Peer) → NoneIsNew n removed peers → peers ≡ p ∷ [] → key_holder n.peers p.key ≡ Some p.number
+one_known n removed peers p none is = (subst (NoneIsNew n removed) is none).0
+
+renews : (n : NetworkValue) (removed gone : List ℕ) (o : Option Peer) → ((m : ℕ) → list_any (nat_eq m) gone ≡ is_among removed m) → NoneIsNew n removed (option_to_list o) → OnlyRenews n.peers gone o
+renews n removed gone None same none = tt
+renews n removed gone (Some p) same none = (none.0, same p.number ∙ none.1)
+
+-- the peer that a pop gives is in the place of one that stays
+pub pop_renews : (c : Change) (n : NetworkValue) (gone : List ℕ) (o : Option Peer) (peers rest : List Peer) (len : ℕ) → NothingGrows c n → peers ≡ c.peers → len ≡ length peers → peers ≡ rest ++ option_to_list o → rest ≡ take (len - 1) peers
+    → ((m : ℕ) → list_any (nat_eq m) gone ≡ is_among c.removed m) → OnlyRenews n.peers gone o
+pop_renews c n gone o peers rest len grows same size parts left among =
+    let few : length peers ≤ 1 = subst (λ (ps : List Peer). length ps ≤ 1) (sym same) (one_at_most n c.removed c.peers grows.peers) in
+    let only : c.peers ≡ option_to_list o = sym same ∙ parts ∙ ap (λ (ps : List Peer). ps ++ option_to_list o) (rest_none peers rest len few size left) in
+    renews n c.removed gone o among (subst (NoneIsNew n c.removed) only grows.peers)
+
+-- and the network with the change has these routes
+pub routes_shrunk : (c : Change) (n : NetworkValue) (gone : List ℕ) (prefixes : List PrefixValue) → prefixes ≡ c.routes_gone → NothingGrows c n → ((m : ℕ) → list_any (nat_eq m) gone ≡ is_among c.removed m)
+    → without_routes (filter (λ r. not (is_among gone r.1)) n.routes) prefixes ≡ (applied c n).routes
+routes_shrunk c n gone prefixes same grows among =
+    ap (without_routes (filter (λ (r : PrefixValue × ℕ). not (is_among gone r.1)) n.routes)) same
+    ∙ ap (λ (rs : Routes). without_routes rs c.routes_gone) (kept_routes c.removed (λ m. list_any (nat_eq m) gone) n.routes among)
+    ∙ sym (ap (assign_routes (without_routes (without_peers n c.removed).routes c.routes_gone)) grows.routes)

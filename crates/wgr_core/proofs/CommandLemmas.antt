@@ -126,3 +126,16 @@ meets_fits n (Ok given) (Ok done) is keeps = fits given.1 is.1
     fits : (c : Option Change) → applied_if c n ≡ done.1 → IfSome c (λ c. Fits c n)
     fits None same = tt
     fits (Some c) same = subst IsNetwork (sym same) keeps
+
+-- a reading gives no change, and any other accepted command gives one
+pub change_given : (reading : Bool) (leaves : Option ℕ) (n : NetworkValue) (removed : List ℕ) (r : Result (Reply × Option Change) ActFault) (o : Outcome)
+    → MeetsLive reading leaves n removed r o → IfOk r (λ given. is_some given.1 ≡ not reading)
+change_given reading leaves n removed (Err why) o met = tt
+change_given reading leaves n removed (Ok given) (Err is) met = absurd met
+change_given reading leaves n removed (Ok given) (Ok done) met = is_given reading given.1 met.1
+  where
+    is_given : (reading : Bool) (given : Option Change) → GivesChange reading leaves n removed given done.1 → is_some given ≡ not reading
+    is_given true None gives = refl
+    is_given true (Some c) gives = absurd gives
+    is_given false None gives = absurd gives
+    is_given false (Some c) gives = refl

@@ -1,10 +1,12 @@
 -- The network without one peer.
-use Rattle.std.proofs.Common.{◌≡◌, ℕ, Bool, true, false, not, ◌||◌, nat_eq, List, [], ◌∷◌, get_or, refl, ap, ◌∙◌}
+use Rattle.std.proofs.Common.{◌≡◌, ℕ, Bool, true, false, not, ◌||◌, nat_eq, List, [], ◌∷◌, Option, get_or, refl, ap, ◌∙◌}
 use Rattle.std.specs.List.{filter}
 use Rattle.wgr_text.specs.Prefix.{PrefixValue}
 use Rattle.wgr_peers.specs.declared.peer.Peer.{Peer}
 use Rattle.wgr_peers.specs.Peers.{without_peer}
+use Rattle.wgr_peers.specs.PeersLeft.{peers_after}
 use Rattle.wgr_peers.specs.Routes.{Routes}
+use Rattle.wgr_core.specs.Change.{without_routes}
 use Rattle.wgr_core.specs.Network.{NetworkValue, is_among, without_peers}
 use Rattle.wgr_pool.proofs.Lists.{filter_agree_on}
 
@@ -30,3 +32,12 @@ left_by_one v n number next peers routes same peers_left routes_left =
     ∙ ap (λ (rs : Routes). record v { peers = without_peer v.peers number; routes = rs; next = next }) routes_left
     ∙ without_one v number next
     ∙ ap (λ (m : NetworkValue). record (without_peers m (number ∷ [])) { next = next }) same
+
+-- the network without some peers and some routes, and with one in the place of another
+pub left_by_some : (v n : NetworkValue) (gone : List ℕ) (coming : Option Peer) (prefixes : List PrefixValue) (next : ℕ) (peers : List Peer) (kept routes : Routes) → v ≡ n
+    → peers ≡ peers_after v.peers gone coming → kept ≡ filter (λ (r : PrefixValue × ℕ). not (is_among gone r.1)) v.routes → routes ≡ without_routes kept prefixes
+    → record v { peers = peers; routes = routes; next = next } ≡ record n { peers = peers_after n.peers gone coming; routes = without_routes (filter (λ r. not (is_among gone r.1)) n.routes) prefixes; next = next }
+left_by_some v n gone coming prefixes next peers kept routes same peers_left routes_kept routes_left =
+    ap (λ (ps : List Peer). record v { peers = ps; routes = routes; next = next }) peers_left
+    ∙ ap (λ (rs : Routes). record v { peers = peers_after v.peers gone coming; routes = rs; next = next }) (routes_left ∙ ap (λ (rs : Routes). without_routes rs prefixes) routes_kept)
+    ∙ ap (λ (m : NetworkValue). record m { peers = peers_after m.peers gone coming; routes = without_routes (filter (λ r. not (is_among gone r.1)) m.routes) prefixes; next = next }) same

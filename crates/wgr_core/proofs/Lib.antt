@@ -13,6 +13,7 @@ pub mod OwnerLemmas
 pub mod RerouteLemmas
 pub mod ViewLemmas
 pub mod PartsLemmas
+pub mod Arranged
 pub mod CommandLemmas
 pub mod ApplyLemmas
 pub mod MoveLemmas

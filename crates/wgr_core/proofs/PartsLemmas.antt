@@ -1,7 +1,8 @@
 -- The tests that tell whether parts make a network.
-use Rattle.std.proofs.Common.{◌≡◌, ℕ, zero, suc, ◌+◌, ◌-◌, ◌<◌, ◌≤◌, ◌↔◌, inl, inr, Bool, true, false, ◌&&◌, ◌||◌, List, [], ◌∷◌, length, get_or, refl, sym, ap, subst, ◌∙◌, arith}
+use Rattle.std.proofs.Common.{◌≡◌, ℕ, zero, suc, ◌+◌, ◌-◌, ◌<◌, ◌≤◌, ◌↔◌, inl, inr, Bool, true, false, ◌&&◌, ◌||◌, nat_lt, List, [], ◌∷◌, length, get_or, refl, sym, ap, subst, ◌∙◌, arith}
 use Rattle.std.specs.Prelude.{IsTrue}
 use Rattle.std.specs.List.{All, AllPairs, list_any, AllAdjacentBelow, IsAllAdjacentAnswer, HoldsAt}
+use Rattle.std.proofs.lemmas.Bool.Decides.{nat_tests}
 use Rattle.std.proofs.lemmas.List.{get_or_default}
 use Rattle.wgr_text.specs.Prefix.{AddrValue, PrefixValue}
 use Rattle.wgr_peers.specs.declared.peer.Peer.{Peer}
@@ -9,7 +10,7 @@ use Rattle.wgr_pool.specs.PrefixTests.{same_address, same_prefix, is_before, ful
 use Rattle.wgr_pool.specs.Pool.{IsPool}
 use Rattle.wgr_peers.specs.Limits.{IsPort, IsCapacity}
 use Rattle.wgr_peers.specs.Peers.{is_own, AreNumbered, AreApart}
-use Rattle.wgr_peers.specs.Routes.{Routes, ComesBefore, AreOrdered}
+use Rattle.wgr_peers.specs.Routes.{Routes, AreOrdered}
 use Rattle.wgr_core.specs.Network.{NetworkValue, IsMember, IsRoute, IsNetwork, is_address, server_address}
 use Rattle.wgr_pool.proofs.Bools.{decide, and_false_last}
 use Rattle.wgr_peers.proofs.PlaceLemmas.{before_joins}
@@ -29,17 +30,32 @@ pairs_from_adjacent {X} R xs joins next = λ i j d before within.
         let step = next (i + 1 + m) d (omega (arith, l)) in
         subst (λ (k : ℕ). R (get_or xs i d) (get_or xs k d)) (omega arith) (joins _ _ _ (far m i d (omega (arith, l))) step)
 
--- a walk over neighbours tells whether routes are in order
-pub ordered_iff : (routes : Routes) (result : Bool) → IsAllAdjacentAnswer (λ r s b. b ≡ is_before r.0 s.0) routes result → IsTrue result ↔ AreOrdered routes
-ordered_iff routes true next = (
-  (λ h. pairs_from_adjacent ComesBefore routes (λ r s t h i. before_joins r.0 s.0 t.0 h i) (λ k d l. sym (next k d l))),
+-- a walk over neighbours tells whether each item is before all after it
+pub rise_iff : {X : Type 0} (before : X → X → Bool) → ((x y z : X) → before x y ≡ true → before y z ≡ true → before x z ≡ true) → (xs : List X) (result : Bool)
+    → IsAllAdjacentAnswer (λ x y b. b ≡ before x y) xs result → IsTrue result ↔ AllPairs (λ x y. before x y ≡ true) xs
+rise_iff before joins xs true next = (
+  (λ h. pairs_from_adjacent (λ x y. before x y ≡ true) xs joins (λ k d l. sym (next k d l))),
   (λ h. refl),
 )
-ordered_iff [] false bad = absurd (omega (arith, bad.1))
-ordered_iff (r ∷ routes) false bad = (
+rise_iff before joins [] false bad = absurd (omega (arith, bad.1))
+rise_iff before joins (x ∷ xs) false bad = (
   (λ h. cc),
-  (λ pairs. let wrong : false ≡ true = bad.2 r ∙ pairs bad.0 (bad.0 + 1) r (omega arith) bad.1 in cc),
+  (λ pairs. let wrong : false ≡ true = bad.2 x ∙ pairs bad.0 (bad.0 + 1) x (omega arith) bad.1 in cc),
 )
+
+pub ordered_iff : (routes : Routes) (result : Bool) → IsAllAdjacentAnswer (λ r s b. b ≡ is_before r.0 s.0) routes result → IsTrue result ↔ AreOrdered routes
+ordered_iff routes result next = rise_iff (λ r s. is_before r.0 s.0) (λ r s t h i. before_joins r.0 s.0 t.0 h i) routes result next
+
+pub numbered_if : (peers : List Peer) (result : Bool) → IsAllAdjacentAnswer (λ p q b. b ≡ nat_lt p.number q.number) peers result → IsTrue result → AreNumbered peers
+numbered_if peers result next h =
+    let rise = (rise_iff (λ (p : Peer) (q : Peer). nat_lt p.number q.number) (λ p q r l l'. joins p.number q.number r.number l l') peers result next).0 h in
+    λ i j d l l'. below (get_or peers i d).number (get_or peers j d).number (rise i j d l l')
+  where
+    joins : (a b c : ℕ) → nat_lt a b ≡ true → nat_lt b c ≡ true → nat_lt a c ≡ true
+    joins a b c l l' = grind (arith, nat_tests)
+
+    below : (a b : ℕ) → nat_lt a b ≡ true → a < b
+    below a b l = grind (arith, nat_tests)
 
 -- ---- addresses of peers and of the server
 

@@ -6,9 +6,9 @@ use Rattle.wgr_core.specs.declared.change.Change.{Change}
 use Rattle.wgr_core.specs.declared.reply.Reply.{Reply}
 use Rattle.wgr_core.specs.declared.fault.ActFault.{ActFault}
 use Rattle.wgr_core.specs.declared.fault.ActFault.TheVariants.{Refused, NoMemory}
-use Rattle.wgr_peers.specs.Peers.{put_peer}
+use Rattle.wgr_peers.specs.Peers.{key_holder, put_peer}
 use Rattle.wgr_peers.specs.Routes.{Routes, assign_route, without_route}
-use Rattle.wgr_core.specs.Network.{NetworkValue, IsNetwork, without_peers}
+use Rattle.wgr_core.specs.Network.{NetworkValue, IsNetwork, is_among, without_peers}
 use Rattle.wgr_core.specs.Outcome.{Outcome}
 
 abbrev pub put_peers : List Peer → List Peer → List Peer
@@ -45,6 +45,17 @@ pub record OnlyPuts (c : Change) : Type 0 where
   pub one : length c.peers ≡ 1
   pub routes_put : c.routes_put ≡ []
   pub routes_gone : c.routes_gone ≡ []
+
+-- none comes, or one that has the number and the key of a peer that stays
+abbrev pub NoneIsNew : NetworkValue → List ℕ → List Peer → Type 0
+NoneIsNew n removed [] = Unit {0}
+NoneIsNew n removed (p ∷ []) = (key_holder n.peers p.key ≡ Some p.number) × (is_among removed p.number ≡ false)
+NoneIsNew n removed (p ∷ q ∷ more) = ⊥
+
+-- the change only removes, moves and renews: no peer is new, and no route comes
+pub record NothingGrows (c : Change) (n : NetworkValue) : Type 0 where
+  pub peers : NoneIsNew n c.removed c.peers
+  pub routes : c.routes_put ≡ []
 
 -- what a given change does, or nothing where none is given
 abbrev pub applied_if : Option Change → NetworkValue → NetworkValue

@@ -1,4 +1,4 @@
-ghost use Rattle.std.specs.Prelude.{IfOk, IfSome};
+ghost use Rattle.std.specs.Prelude.{◌≡◌, not, is_some, IfOk, IfSome};
 ghost use Rattle.wgr_core.specs.Change.{Fits, Meets, MeetsLive};
 ghost use Rattle.wgr_core.specs.Outcome.{is_reading, leaving, live_outcome, outcome_of};
 
@@ -14,8 +14,8 @@ use wgr_peers::{Items, Peer};
 
 impl Network {
     /// What the command answers at this moment, and what it changes. The network itself stays as
-    /// it is: [`Change::apply`] or [`Network::apply`] makes the change. A reading changes nothing;
-    /// any other accepted command also removes the peers whose lease is over.
+    /// it is: [`Change::apply`] or [`Network::apply`] makes the change. A reading gives none; any other
+    /// accepted command gives one, which also removes the peers whose lease is over.
     ///
     /// No peer or route is copied but those of the answer, and those that Adopt tries its lines on.
     pub fn act(
@@ -25,6 +25,7 @@ impl Network {
         command: &Command,
     ) -> Result<(Reply, Option<Change>), ActFault>
         ensures outcome { Meets self.now result (outcome_of self.now now command.now) }
+        ensures change { IfOk result (λ given. is_some given.1 ≡ not (is_reading command.now)) }
         ensures fits { IfOk result (λ given. IfSome given.1 (λ c. Fits c self.now)) }
     {
         command.tell_forms();

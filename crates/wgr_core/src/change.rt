@@ -1,15 +1,16 @@
-ghost use Rattle.std.specs.Prelude.{◌≡◌, ℕ, ◌≤◌, ◌↔◌, [], ◌∷◌, length, not, ◌&&◌, nat_eq, All, IfOk, IfSome, OnOk, OnErr, IsTrue};
+ghost use Rattle.std.specs.Prelude.{◌≡◌, ℕ, ◌≤◌, ◌↔◌, [], ◌∷◌, length, not, ◌&&◌, nat_eq, All, Some, IfOk, IfSome, IsOk, OnOk, OnErr, IsTrue, false};
 ghost use Rattle.std.specs.List.{filter};
 ghost use Rattle.std.specs.HashSet.{contains};
-ghost use Rattle.wgr_core.specs.Change.{Fits, OnlyPuts, applied, without_routes};
+ghost use Rattle.wgr_core.specs.Change.{Fits, NothingGrows, OnlyPuts, applied, without_routes};
 ghost use Rattle.wgr_core.specs.Network.{is_among, without_peers};
+ghost use Rattle.wgr_peers.specs.Peers.{key_holder};
 ghost use Rattle.wgr_peers.specs.Routes.{AreOrdered, HasAddr};
 
 use crate::network::Network;
 use std::alloc::{AllocError, Global};
 use std::collections::HashSet;
 use wgr_peers::order::{drop_route, put_peer, put_route};
-use wgr_peers::{Items, Peer, PeerTable, RouteSlots};
+use wgr_peers::{Items, NumberSet, Peer, PeerTable, RouteSlots};
 use wgr_text::Prefix;
 
 /// What an accepted command changes of a network, in the order in which it is made.
@@ -164,13 +165,14 @@ impl Change {
 }
 
 impl Network {
-    /// Makes the change; for want of memory the network is as before. No peer is copied where one
-    /// comes at most. A change by which only one peer comes, is renewed, moves or goes, or only one
+    /// Makes the change; for want of memory the network is as before. One that only removes, moves
+    /// and renews takes no memory. No peer is copied where one comes at most. A change by which only one peer comes, is renewed, moves or goes, or only one
     /// route comes or goes, walks over no peers.
     pub fn apply(&mut self, alloc: Global, change: Change) -> Result<(), AllocError>
         requires { Fits change self.old }
         ensures ok { OnOk result (self.new ≡ applied change self.old) }
         ensures err { OnErr result (self.new ≡ self.old) }
+        ensures succeeds { NothingGrows change self.old → IsOk result }
     {
         if change.only_puts() {
             let Some(peer) = change.peers.into_vec().pop() else {
@@ -179,7 +181,8 @@ impl Network {
             return self.put(peer, change.next);
         }
         if let Some(number) = change.sole_removal() {
-            return self.leave(number, change.next);
+            self.leave(number, change.next);
+            return Ok(());
         }
         if let Some(route) = change.sole_route() {
             return self.assign_route(route.0, route.1, change.next);
@@ -201,11 +204,49 @@ impl Network {
         requires one { length change.peers ≤ 1 }
         ensures ok { OnOk result (self.new ≡ applied change self.old) }
         ensures err { OnErr result (self.new ≡ self.old) }
+        ensures succeeds { NothingGrows change self.old → IsOk result }
     {
+        if self.grows_nothing(&change) {
+            self.shrink(change);
+            return Ok(());
+        }
         let removed = number_set(alloc, change.removed.as_slice())?;
         let routes = change.changed_routes(alloc, self, &removed)?;
+        let gone = NumberSet::of(change.removed.into_vec());
         let coming = change.peers.into_vec().pop();
-        self.change(removed, coming, routes, change.next)
+        self.change(gone, coming, routes, change.next)
+    }
+
+    // Makes a change that only removes, moves and renews, and takes no memory.
+    fn shrink(&mut self, change: Change)
+        requires fits { Fits change self.old }
+        requires shrinks { NothingGrows change self.old }
+        ensures { self.new ≡ applied change self.old }
+    {
+        let gone = NumberSet::of(change.removed.into_vec());
+        let coming = change.peers.into_vec().pop();
+        self.renew(gone, coming, change.routes_gone.as_slice(), change.next);
+    }
+
+    // Whether the change only removes, moves and renews.
+    fn grows_nothing(&self, change: &Change) -> bool
+        ensures { IsTrue result ↔ NothingGrows change.now self.now }
+    {
+        if !change.routes_put.is_empty() {
+            return false;
+        }
+        match change.peers.as_slice() {
+            [] => true,
+            [peer] => self.is_known(peer, change.removed.as_slice()),
+            _ => false,
+        }
+    }
+
+    // Whether a peer that stays has this one's number and key.
+    fn is_known(&self, peer: &Peer, gone: &[u32]) -> bool
+        ensures { IsTrue result ↔ ((key_holder self.now.peers peer.now.key ≡ Some peer.now.number) × (is_among gone.now peer.now.number ≡ false)) }
+    {
+        self.table().key_holder(&peer.key) == Some(peer.number) && !has_number(gone, peer.number)
     }
 
     // The change that only removes these peers.
@@ -265,4 +306,28 @@ fn routes_outside(
         }
     }
     Ok(kept)
+}
+
+// Whether the number is one of these.
+fn has_number(numbers: &[u32], number: u32) -> bool
+    ensures { result ≡ is_among numbers.now number }
+{
+    numbers.iter().any(|one| number == *one)
+}
+
+// Takes away the routes to the peers of these numbers.
+pub(crate) fn drop_routes_of(routes: &mut Vec<(Prefix, u32)>, gone: &NumberSet)
+    ensures { routes.new.items ≡ filter (λ r. not (is_among gone.now r.1)) routes.old.items }
+{
+    routes.retain(|route| !gone.contains(route.1));
+}
+
+// Takes away the routes of these prefixes.
+pub(crate) fn drop_each(routes: &mut Vec<(Prefix, u32)>, prefixes: &[Prefix])
+    requires { AreOrdered routes.old.items }
+    ensures { routes.new.items ≡ without_routes routes.old.items prefixes.now }
+{
+    for prefix in prefixes {
+        drop_route(routes, prefix);
+    }
 }

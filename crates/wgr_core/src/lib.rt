@@ -3,6 +3,7 @@
 
 mod act;
 mod adopt;
+mod arrange;
 mod change;
 mod command;
 mod draft;

@@ -1,18 +1,20 @@
-ghost use Rattle.std.specs.Prelude.{◌≡◌, [], ◌∷◌, ◌↔◌, IsSome, IfSome, IfOk, OnOk, OnErr, is_some};
+ghost use Rattle.std.specs.Prelude.{◌≡◌, [], ◌∷◌, ◌↔◌, IsSome, IfSome, IfOk, IsOk, OnOk, OnErr, Some, not, is_some};
 ghost use Rattle.std.specs.List.{filter};
 ghost use Rattle.std.specs.Option.{option_copied};
-ghost use Rattle.wgr_peers.specs.Peers.{peer_of, put_peer};
-ghost use Rattle.wgr_peers.specs.PeersLeft.{peers_after};
-ghost use Rattle.wgr_core.specs.Network.{NetworkValue, IsNetwork, live_at, without_peers};
-ghost use Rattle.wgr_core.specs.Parts.{network_of};
+ghost use Rattle.wgr_peers.specs.Peers.{key_holder, peer_of, put_peer};
+ghost use Rattle.wgr_peers.specs.PeersLeft.{OnlyRenews, peers_after};
+ghost use Rattle.wgr_core.specs.Network.{NetworkValue, IsNetwork, is_among, live_at, without_peers};
+ghost use Rattle.wgr_core.specs.Change.{without_routes};
+ghost use Rattle.wgr_core.specs.Parts.{IsNetworkOf, KeepTheRules, network_of};
 ghost use Rattle.wgr_peers.specs.Routes.{assign_route, without_route};
 
-use crate::parts::{Parts, are_ordered, are_routes};
+use crate::arrange::{are_ordered, sort_peers, sort_routes};
+use crate::change::{drop_each, drop_routes_of};
+use crate::parts::{Parts, are_routes};
 use std::alloc::{AllocError, Global};
-use std::collections::HashSet;
 use std::marker::Model;
 use wgr_peers::order::{drop_route, drop_routes_to, put_route};
-use wgr_peers::{Capacity, Host, Peer, PeerTable, Port};
+use wgr_peers::{Capacity, Host, NumberSet, Peer, PeerTable, Port};
 use wgr_pool::Pool;
 use wgr_text::{Key, Prefix};
 
@@ -65,9 +67,21 @@ impl Network {
         }
     }
 
-    /// The network of these parts, if they keep the rules of a network. Peers that aren't in the
-    /// order of their numbers, and routes that aren't in the order of their prefixes, don't.
+    /// The network of these parts, if they keep the rules of a network. Peers and routes may come in
+    /// any order; the network has them in the order of their keys. Those that are in order already
+    /// are not sorted.
     pub fn of(alloc: Global, parts: Parts) -> Result<Option<Network>, AllocError>
+        ensures some { IfOk result (λ made. IfSome made (λ n. IsNetworkOf parts n)) }
+        ensures exact { IfOk result (λ made. IsSome made ↔ KeepTheRules parts) }
+    {
+        let mut sorted = parts;
+        sort_peers(&mut sorted.peers);
+        sort_routes(&mut sorted.routes);
+        Network::of_sorted(alloc, sorted)
+    }
+
+    // The network of these parts as they are, if they keep the rules.
+    fn of_sorted(alloc: Global, parts: Parts) -> Result<Option<Network>, AllocError>
         ensures some { IfOk result (λ made. IfSome made (λ n. n ≡ network_of parts)) }
         ensures exact { IfOk result (λ made. IsSome made ↔ IsNetwork (network_of parts)) }
     {
@@ -205,42 +219,61 @@ impl Network {
         requires { IsNetwork (record self.old { peers = put_peer self.old.peers peer; next = next }) }
         ensures ok { OnOk result (self.new ≡ record self.old { peers = put_peer self.old.peers peer; next = next }) }
         ensures err { OnErr result (self.new ≡ self.old) }
+        ensures succeeds { key_holder self.old.peers peer.key ≡ Some peer.number → IsOk result }
     {
         self.peers.put(peer)?;
         self.next = next;
         Ok(())
     }
 
-    // Takes away the peer of this number and the routes to it, and goes on at `next`; for want of
-    // memory the network is as before.
-    pub(crate) fn leave(&mut self, number: u32, next: u32) -> Result<(), AllocError>
+    // Takes away the peer of this number and the routes to it, and goes on at `next`.
+    pub(crate) fn leave(&mut self, number: u32, next: u32)
         requires { IsNetwork (record (without_peers self.old (number ∷ [])) { next = next }) }
-        ensures ok { OnOk result (self.new ≡ record (without_peers self.old (number ∷ [])) { next = next }) }
-        ensures err { OnErr result (self.new ≡ self.old) }
+        ensures { self.new ≡ record (without_peers self.old (number ∷ [])) { next = next } }
     {
-        self.peers.remove(number)?;
+        self.peers.remove(number);
         drop_routes_to(&mut self.routes, number);
         self.next = next;
-        Ok(())
     }
 
     // Takes away the peers of these numbers, puts in the one that comes, has these routes in place of
     // its own, and goes on at `next`; for want of memory the network is as before.
     pub(crate) fn change(
         &mut self,
-        gone: HashSet<u32>,
+        gone: NumberSet,
         coming: Option<Peer>,
         routes: Vec<(Prefix, u32)>,
         next: u32,
     ) -> Result<(), AllocError>
-        requires { IsNetwork (record self.old { peers = peers_after self.old.peers gone.keys coming; routes = routes.items; next = next }) }
-        ensures ok { OnOk result (self.new ≡ record self.old { peers = peers_after self.old.peers gone.keys coming; routes = routes.items; next = next }) }
+        requires { IsNetwork (record self.old { peers = peers_after self.old.peers gone coming; routes = routes.items; next = next }) }
+        ensures ok { OnOk result (self.new ≡ record self.old { peers = peers_after self.old.peers gone coming; routes = routes.items; next = next }) }
         ensures err { OnErr result (self.new ≡ self.old) }
     {
         self.peers.change(gone, coming)?;
         self.routes = routes;
         self.next = next;
         Ok(())
+    }
+
+    // Takes away the peers of these numbers and the routes to them, and these routes; puts in the peer
+    // that comes, in the place of one that stays; and goes on at `next`. It takes no memory.
+    pub(crate) fn renew(
+        &mut self,
+        gone: NumberSet,
+        coming: Option<Peer>,
+        routes_gone: &[Prefix],
+        next: u32,
+    )
+        requires fits { IsNetwork (record self.old { peers = peers_after self.old.peers gone coming; routes = without_routes (filter (λ r. not (is_among gone r.1)) self.old.routes) routes_gone.now; next = next }) }
+        requires renews { OnlyRenews self.old.peers gone coming }
+        ensures { self.new ≡ record self.old { peers = peers_after self.old.peers gone coming; routes = without_routes (filter (λ r. not (is_among gone r.1)) self.old.routes) routes_gone.now; next = next } }
+    {
+        drop_routes_of(&mut self.routes, &gone);
+        drop_each(&mut self.routes, routes_gone);
+        let Ok(()) = self.peers.change(gone, coming) else {
+            unreachable!();
+        };
+        self.next = next;
     }
 
     // Leads a prefix to the peer of this number, and goes on at `next`; for want of memory the

@@ -2,10 +2,8 @@
 ghost use Rattle.std.specs.Prelude.{◌≡◌, ◌≤◌, ◌↔◌, IsTrue, All, length};
 ghost use Rattle.wgr_core.specs.Network.{NetworkValue, IsMember, IsRoute};
 ghost use Rattle.wgr_core.specs.Parts.{network_of};
-ghost use Rattle.wgr_peers.specs.Routes.{AreOrdered};
 
 use crate::routes::{MAX_ROUTES, is_address};
-use wgr_peers::order::comes_before;
 use wgr_peers::{Capacity, Host, Peer, PeerTable, Port};
 use wgr_pool::Pool;
 use wgr_text::{Key, Prefix};
@@ -25,9 +23,9 @@ pub struct Parts {
     pub capacity: Capacity,
     /// The number that the next peer gets: 1 to 1,000,001.
     pub next: u32,
-    /// The peers, in the order of their numbers.
+    /// The peers, in any order.
     pub peers: Vec<Peer>,
-    /// The routes, each with its peer's number: IPv4 before IPv6, then by address, then by length.
+    /// The routes, each with its peer's number, in any order.
     pub routes: Vec<(Prefix, u32)>,
 }
 
@@ -84,11 +82,4 @@ fn is_route(pool: &Pool, peers: &PeerTable, route: &(Prefix, u32)) -> bool
     let (_address, _length) = (route.0.address(), route.0.length());
     let is_owned = peers.owns(&route.0.address());
     peers.peer(route.1).is_some() && !is_address(pool, &route.0, is_owned)
-}
-
-// Whether each prefix comes before the next one.
-pub(crate) fn are_ordered(routes: &[(Prefix, u32)]) -> bool
-    ensures { IsTrue result ↔ AreOrdered routes.now }
-{
-    routes.is_sorted_by(|one, other| comes_before(&one.0, &other.0))
 }

@@ -16,13 +16,13 @@ use Rattle.wgr_core.specs.Outcome.{outcome_of}
 use Rattle.wgr_laws.proofs.Examples.{addresses, key, routed, run, ten_eight, v4, with_peers}
 
 -- one address of the pool, as a prefix
-abbrev alone : ℕ → PrefixValue
+abbrev pub alone : ℕ → PrefixValue
 alone last = mask (v4 10 8 0 last) 32
 
-abbrev seen : ℕ → List PrefixValue → SeenPeer
+abbrev pub seen : ℕ → List PrefixValue → SeenPeer
 seen byte allowed = record { key = key byte; allowed = allowed; status = record { handshake = 7; received = 8; sent = 9 }; keepalive = 25 }
 
-abbrev adopt : List SeenPeer → Command
+abbrev pub adopt : List SeenPeer → Command
 adopt lines = command.Adopt (Some (key 9)) lines
 
 abbrev keys : List Peer → List (ℕ × Key)

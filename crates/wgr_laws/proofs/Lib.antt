@@ -9,8 +9,10 @@ pub mod NextLemmas
 pub mod RunLemmas
 pub mod RouteOwners
 pub mod FrameLemmas
+pub mod OwnPeers
 pub mod Examples
 pub mod AdoptionExamples
+pub mod CheckOrder
 pub mod LineCases
 pub mod KeyedLemmas
 pub mod AdoptionOrder

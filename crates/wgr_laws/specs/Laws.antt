@@ -5,6 +5,7 @@ use Rattle.wgr_text.specs.Prefix.{AddrValue, PrefixValue}
 use Rattle.wgr_peers.specs.declared.peer.Peer.{Peer}
 use Rattle.wgr_core.specs.declared.command.Command.{Command}
 use Rattle.wgr_core.specs.declared.command.Command.TheVariants as command
+use Rattle.wgr_core.specs.declared.parts.Parts.{Parts}
 use Rattle.wgr_core.specs.declared.reply.Reply.{Reply}
 use Rattle.wgr_core.specs.declared.reply.Reply.TheVariants as reply
 use Rattle.wgr_pool.specs.PrefixTests.{has, same_prefix}
@@ -13,6 +14,7 @@ use Rattle.wgr_peers.specs.Peers.{is_live, peer_of, put_peer, AreNumbered}
 use Rattle.wgr_peers.specs.Routes.{Routes, route_of, assign_route, without_route, AreOrdered}
 use Rattle.wgr_core.specs.Forms.{HasForms, IsFormedCommand}
 use Rattle.wgr_core.specs.Network.{NetworkValue, IsNetwork, is_held, live_at, lowest_free}
+use Rattle.wgr_core.specs.Parts.{IsNetworkOf}
 use Rattle.wgr_core.specs.Owner.{allowed, longest_match, owner_of}
 use Rattle.wgr_core.specs.Outcome.{Outcome, IsAsked, is_reading, outcome_of}
 
@@ -23,6 +25,10 @@ PeersAreAMap = (xs ys : List Peer) → AreNumbered xs → AreNumbered ys → ((n
 -- and so are routes in the order of their prefixes
 abbrev pub RoutesAreAMap : Type 0
 RoutesAreAMap = (xs ys : Routes) → AreOrdered xs → AreOrdered ys → ((p : PrefixValue) → route_of xs p ≡ route_of ys p) → xs ≡ ys
+
+-- parts make one network at most
+abbrev pub PartsMakeOneNetwork : Type 0
+PartsMakeOneNetwork = (parts : Parts) (n m : NetworkValue) → IsNetworkOf parts n → IsNetworkOf parts m → n ≡ m
 
 -- whatever command is asked, the network after it keeps the rules; among them, that no two peers
 -- have a key or an address in common
@@ -45,6 +51,10 @@ LowestIsFree = (n : NetworkValue) (a : AddrValue) → lowest_free n ≡ Some a �
 abbrev pub LowestIsLeast : Type 0
 LowestIsLeast = (n : NetworkValue) (a : AddrValue) → lowest_free n ≡ Some a
     → (k : ℕ) → n.pool.address.number ≤ k → k < a.number → is_assignable n.pool (record n.pool.address { number = k }) ≡ true → is_held n (record n.pool.address { number = k }) ≡ true
+
+-- where there is none, each address that the pool may give is held
+abbrev pub NoneIsFull : Type 0
+NoneIsFull = (n : NetworkValue) (a : AddrValue) → lowest_free n ≡ None → is_assignable n.pool a ≡ true → is_held n a ≡ true
 
 -- ---- owner
 

@@ -1,4 +1,5 @@
 pub mod Laws
+pub mod PeerLaws
 pub mod AdoptionLaws
 pub mod AdoptedAgain
 pub mod FirstAdoption

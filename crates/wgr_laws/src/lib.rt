@@ -2,9 +2,9 @@
 //! its contract is the law.
 #![tactic(auto)]
 
-ghost use Rattle.wgr_laws.specs.Laws.{PeersAreAMap, RoutesAreAMap};
+ghost use Rattle.wgr_laws.specs.Laws.{PartsMakeOneNetwork, PeersAreAMap, RoutesAreAMap};
 ghost use Rattle.wgr_laws.specs.Laws.{AssignedLeads, AssignedOthers, PutOthers, PutStands, RemovedGone, RemovedOthers};
-ghost use Rattle.wgr_laws.specs.Laws.{LowestIsFree, LowestIsLeast};
+ghost use Rattle.wgr_laws.specs.Laws.{LowestIsFree, LowestIsLeast, NoneIsFull};
 ghost use Rattle.wgr_laws.specs.Laws.{LongestOwns, MatchIsLongest, NoMatchIsNone, NobodyOwns, OwnerHasLongest, PeersOwnTheirs};
 ghost use Rattle.wgr_laws.specs.Laws.{RoutesElsewhere, RoutesGoElsewhere, RoutesLead, RoutesYield};
 ghost use Rattle.wgr_laws.specs.Laws.{LiveIsFound, LiveRoutesLead, LiveUntil, OverStaysOver, SweepsAreUnseen};
@@ -14,16 +14,19 @@ ghost use Rattle.wgr_laws.specs.Laws.{OtherPeersStay, OtherRoutesStay, SettingsS
 ghost use Rattle.wgr_laws.specs.Laws.{AddressesAreOwn, KeysAreOwn, RunsKeepTheRules};
 ghost use Rattle.wgr_laws.specs.Laws.{RevokedIsGone, RevokedOwnsNothing};
 ghost use Rattle.wgr_laws.specs.Laws.{NextOnlyRises, NumbersAreGivenOnce, NumbersKeepTheirKeys};
+ghost use Rattle.wgr_laws.specs.PeerLaws.{AddedAsAsked, AddedCounts, MovedAlone, RenewedAlone, RepliesShowWhatStands, RoutesStay};
 ghost use Rattle.wgr_laws.specs.AdoptionLaws.{StandingPeersStay, UnnamedRoutesStay, UnseenPeersStay};
 ghost use Rattle.wgr_laws.specs.AdoptionLaws.{LinesArePeers, NewPeersAreLines};
 ghost use Rattle.wgr_laws.specs.AdoptionLaws.{AdoptRefusals, AdoptionsAreCounted, OtherServersAreRefused};
 ghost use Rattle.wgr_laws.specs.AdoptedAgain.{AdoptionRepeats, AdoptionRepeatsLater};
 ghost use Rattle.wgr_laws.specs.FirstAdoption.{AdoptionIsFaithful, AdoptionKeepsOwners, AdoptionKeepsUnowned};
 
-/// The lists of a network are finite maps: where all look-ups agree, they are equal.
+/// The lists of a network are finite maps: where all look-ups agree, they are equal. The order in
+/// which the parts of a network come makes no difference.
 pub fn lists_are_maps()
     ensures peers { PeersAreAMap }
     ensures routes { RoutesAreAMap }
+    ensures parts { PartsMakeOneNetwork }
 {}
 
 /// Every accepted command leaves a network that keeps the rules, as does the end of leases.
@@ -37,10 +40,12 @@ pub fn commands_keep_the_forms()
     ensures { CommandsKeepTheForms }
 {}
 
-/// The address that is given where none is named is free, and none below it is.
+/// The address that is given where none is named is free, and none below it is. Where there is none
+/// to give, no address is free.
 pub fn lowest_is_least()
     ensures free { LowestIsFree }
     ensures least { LowestIsLeast }
+    ensures full { NoneIsFull }
 {}
 
 /// The owner of an address is the peer of the longest allowed prefix that has it.
@@ -83,6 +88,21 @@ pub fn others_stay()
     ensures settings { SettingsStay }
     ensures peers { OtherPeersStay }
     ensures routes { OtherRoutesStay }
+{}
+
+/// A new peer is just what was asked for. A peer that moves gets another address, and one that is
+/// renewed another end of its lease: it keeps all else, and every route stays.
+pub fn only_what_is_asked_changes()
+    ensures added { AddedAsAsked }
+    ensures next { AddedCounts }
+    ensures moved { MovedAlone }
+    ensures renewed { RenewedAlone }
+    ensures routes { RoutesStay }
+{}
+
+/// A peer that is answered after a change stands so in the network, with those routes.
+pub fn replies_show_what_stands()
+    ensures { RepliesShowWhatStands }
 {}
 
 /// After any commands, refused ones among them, the network keeps the rules: above all, no two

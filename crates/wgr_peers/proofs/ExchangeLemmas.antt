@@ -19,7 +19,7 @@ use Rattle.wgr_peers.specs.Ordered.{EndsAt}
 use Rattle.wgr_peers.specs.Peers.{is_own, key_holder, put_peer, same_key, without_peer, IsNumberedBelow, AreNumbered, IsApart, AreApart}
 use Rattle.wgr_peers.specs.PeerIndex.{IsIndexed, EndsFrom}
 use Rattle.wgr_peers.specs.PeersLeft.{peers_left}
-use Rattle.wgr_pool.proofs.Lists.{AllPairs-filter, AllPairs-head, AllPairs-tail, filter_all, filter_each, filter_twice}
+use Rattle.wgr_pool.proofs.Lists.{AllPairs-filter, AllPairs-head, AllPairs-tail, filter_each, filter_twice}
 use Rattle.wgr_pool.proofs.Bools.{or_cases, or_left, or_right}
 use Rattle.wgr_pool.proofs.PrefixLemmas.{nat_eq_is}
 use Rattle.wgr_peers.proofs.OrderedLemmas.{put_above, put_absent, put_pairs}
@@ -129,8 +129,8 @@ none_left (q ∷ peers) gone m goes =
     by false false s t rest = All-cons (λ q. nat_eq q.number m ≡ false) q (peers_left peers gone) t rest
 
 -- where none goes, all are left
-pub left_all : (peers : List Peer) (gone : List ℕ) → gone ≡ [] → peers_left peers gone ≡ peers
-left_all peers gone none = ap (peers_left peers) none ∙ filter_all peers
+pub none_gone : (peers : List Peer) (gone : List ℕ) → ((n : ℕ) → list_any (nat_eq n) gone ≡ false) → peers_left peers gone ≡ peers
+none_gone peers gone none = filter_each (λ (p : Peer). not (list_any (nat_eq p.number) gone)) peers (λ k d h. ap not (none (get_or peers k d).number))
 
 -- ---- the indexes
 

@@ -125,13 +125,12 @@ own_set (q ∷ peers) p (suc at) b l =
     swap true false z = refl
     swap false y z = refl
 
-pub indexed_moved : (peers : List Peer) (numbers : Numbers) (runs runs' runs'' : List Span) (soonest soonest' : ℕ) (p old : Peer) (at : ℕ)
+pub indexed_moved : (peers : List Peer) (numbers : Numbers) (runs runs' : List Span) (soonest soonest' : ℕ) (p old : Peer) (at : ℕ)
     → IsIndexed peers numbers runs soonest → AreApart peers → IsKeyedAt peers p at → old ≡ get_or peers at old
-    → ((b : AddrValue) → IsAddr b → IsHeld runs' b ↔ ((same_address old.address b ≡ false) × IsHeld runs b))
-    → ((b : AddrValue) → IsAddr b → IsHeld runs'' b ↔ ((same_address p.address b ≡ true) ⊎ IsHeld runs' b))
+    → ((b : AddrValue) → IsAddr b → IsHeld runs' b ↔ ((same_address p.address b ≡ true) ⊎ ((same_address old.address b ≡ false) × IsHeld runs b)))
     → soonest' ≤ soonest → EndsFrom soonest' p
-    → IsIndexed (set peers at p) numbers runs'' soonest'
-indexed_moved peers numbers runs runs' runs'' soonest soonest' p old at is apart keyed at_is without with sooner ends =
+    → IsIndexed (set peers at p) numbers runs' soonest'
+indexed_moved peers numbers runs runs' soonest soonest' p old at is apart keyed at_is with sooner ends =
     let placed = keyed_place peers p at is.in_order keyed in
     let found : peer_of peers p.number ≡ Some old = peer_present peers p.number at old is.in_order keyed.within (keyed.number old) ∙ ap Some (sym at_is) in
     let removed = peer_removed peers p.number at is.in_order (keyed_ends peers p at is.in_order keyed) in
@@ -143,16 +142,14 @@ indexed_moved peers numbers runs runs' runs'' soonest soonest' p old at is apart
       by_address = λ b fits. (
         (λ h. own b ∙ elim ((with b fits).0 h) [
           | inl here ↦ or_left (same_address p.address b) (is_own (remove peers at) b) here
-          | inr there ↦
-              let parts = (without b fits).0 there in
-              or_right (same_address p.address b) (is_own (remove peers at) b) (left b ∙ ap (λ x. cond x false (is_own peers b)) parts.0 ∙ (is.by_address b fits).0 parts.1)
+          | inr there ↦ or_right (same_address p.address b) (is_own (remove peers at) b) (left b ∙ ap (λ x. cond x false (is_own peers b)) there.0 ∙ (is.by_address b fits).0 there.1)
         ]),
         (λ h. (with b fits).1 (elim (or_cases (same_address p.address b) (is_own (remove peers at) b) (sym (own b) ∙ h)) [
           | inl here ↦ inl here
-          | inr there ↦ inr ((without b fits).1 (elim (decide (same_address old.address b)) [
+          | inr there ↦ inr (elim (decide (same_address old.address b)) [
             | inl mine ↦ let bad : false ≡ true = sym (left b ∙ ap (λ x. cond x false (is_own peers b)) mine) ∙ there in cc
             | inr other ↦ (other, (is.by_address b fits).1 (sym (left b ∙ ap (λ x. cond x false (is_own peers b)) other) ∙ there))
-          ]))
+          ])
         ])),
       );
       ends = subst (All (EndsFrom soonest')) placed (put_all (EndsFrom soonest') (λ q. nat_lt q.number p.number) (λ q. nat_eq q.number p.number) peers p (All-weaker (EndsFrom soonest) (EndsFrom soonest') (λ q h. ends_sooner soonest soonest' q sooner h) peers is.ends) ends);

@@ -1,7 +1,6 @@
 -- Who holds a key or an address among the peers that are left.
-use Rattle.std.proofs.Common.{◌≡◌, ℕ, ◌<◌, ◌↔◌, inl, inr, map, append_assoc, Bor, Bool, true, false, not, ◌&&◌, ◌||◌, cond, nat_eq, get_or, List, [], ◌∷◌, ◌++◌, Option, Some, None, is_some, refl, sym, ap, ◌∙◌, arith}
+use Rattle.std.proofs.Common.{◌≡◌, ℕ, ◌<◌, ◌↔◌, inl, inr, Bool, true, false, not, ◌&&◌, ◌||◌, cond, nat_eq, get_or, List, [], ◌∷◌, ◌++◌, Option, Some, None, is_some, refl, sym, ap, ◌∙◌, arith}
 use Rattle.std.specs.List.{All, AllPairs, filter, list_any}
-use Rattle.std.proofs.lemmas.List.{map-append}
 use Rattle.std.proofs.lemmas.List.Elements.{All-head, All-tail}
 use Rattle.std.proofs.lemmas.List.Folds.{list_any-append}
 use Rattle.wgr_text.specs.declared.key.Key.{Key}
@@ -195,6 +194,39 @@ holder_without peers gone m p key numbered apart found =
     ∙ without_found (has_key key) peers gone m p numbered (one_key peers key apart) found
     ∙ ap (λ (o : Option ℕ). cond (same_key p.key key) None o) (sym (key_first (peers_left peers gone) key))
 
+-- a key stays where its peer does
+pub holder_left : (peers : List Peer) (gone : List ℕ) (n : ℕ) (key : Key) → AreApart peers → key_holder peers key ≡ Some n → list_any (nat_eq n) gone ≡ false
+    → key_holder (peers_left peers gone) key ≡ Some n
+holder_left peers gone n key apart holds stays_in =
+    key_first (peers_left peers gone) key
+    ∙ first_left (has_key key) (stays gone) peers (one_key peers key apart)
+    ∙ ap (staying (stays gone)) (sym (key_first peers key) ∙ holds)
+    ∙ ap (λ b. cond (not b) (Some n) None) stays_in
+
+-- a peer that stands holds its key
+pub holds_own : (peers : List Peer) (n : ℕ) (p : Peer) (key : Key) → AreApart peers → peer_of peers n ≡ Some p → same_key p.key key ≡ true → key_holder peers key ≡ Some n
+holds_own peers n p key apart found mine = key_first peers key ∙ first_at (has_key key) peers n p (one_key peers key apart) found mine
+
+-- who holds a key stands at its number and has the key
+pub keyed_by : (peers : List Peer) (n : ℕ) (key : Key) → AreNumbered peers → key_holder peers key ≡ Some n → (p : Peer) × (peer_of peers n ≡ Some p) × (same_key p.key key ≡ true)
+keyed_by [] n key numbered h = cc
+keyed_by (x ∷ peers) n key numbered h = elim (decide (same_key x.key key)) [
+  | inl mine ↦
+      let some : Some x.number ≡ Some n = sym (ap (λ b. cond b (Some x.number) (key_holder peers key)) mine) ∙ h in
+      let is : x.number ≡ n = cc in
+      (x, ap (λ b. cond b (Some x) (peer_of peers n)) (sym (ap (nat_eq x.number) is) ∙ nat_eq_self x.number), mine)
+  | inr other ↦
+      let rest = keyed_by peers n key (AllPairs-tail IsNumberedBelow x peers numbered) (sym (ap (λ b. cond b (Some x.number) (key_holder peers key)) other) ∙ h) in
+      let above = peer_is (λ (q : Peer). x.number < q.number) peers n rest.0 (AllPairs-head IsNumberedBelow x peers numbered) rest.1 in
+      (rest.0, ap (λ b. cond b (Some x) (peer_of peers n)) (apart x.number n (omega (arith, above.0, above.1))) ∙ rest.1, rest.2)
+]
+  where
+    apart : (a b : ℕ) → a < b → nat_eq a b ≡ false
+    apart a b l = elim (decide (nat_eq a b)) [
+      | inl same ↦ let e = nat_eq_is a b same in absurd (omega (arith, l, e))
+      | inr other ↦ other
+    ]
+
 pub holder_absent_too : (peers : List Peer) (gone : List ℕ) (m : ℕ) (key : Key) → AreApart peers → peer_of peers m ≡ None
     → key_holder (peers_left peers (gone ++ m ∷ [])) key ≡ key_holder (peers_left peers gone) key
 holder_absent_too peers gone m key apart none =
@@ -250,15 +282,3 @@ held_without peers gone m p runs runs' numbered apart found held without b fits 
         | inr other ↦ (without b fits).1 (other, (held b fits).1 (sym (own ∙ ap (λ x. cond x false (is_own (peers_left peers gone) b)) other) ∙ h))
       ]),
     )
-
--- ---- the numbers that were gone through
-
-pub numbers_read : (read : List (Bor ℕ)) (n : Bor ℕ) → map (λ (n : Bor ℕ). n.now) (read ++ n ∷ []) ≡ map (λ (n : Bor ℕ). n.now) read ++ n.now ∷ []
-numbers_read read n = map-append (λ (n : Bor ℕ). n.now) read (n ∷ [])
-
-pub numbers_parts : (read : List (Bor ℕ)) (n : Bor ℕ) (left rest all : List ℕ) → left ≡ n.now ∷ rest → map (λ (n : Bor ℕ). n.now) read ++ left ≡ all → map (λ (n : Bor ℕ). n.now) (read ++ n ∷ []) ++ rest ≡ all
-numbers_parts read n left rest all next parts =
-    ap (λ ks. ks ++ rest) (numbers_read read n)
-    ∙ append_assoc (map (λ (n : Bor ℕ). n.now) read) (n.now ∷ []) rest
-    ∙ ap (λ ks. map (λ (n : Bor ℕ). n.now) read ++ ks) (sym next)
-    ∙ parts

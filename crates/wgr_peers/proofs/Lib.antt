@@ -13,3 +13,4 @@ pub mod RouteLemmas
 pub mod SlotLemmas
 pub mod RouteLengths
 pub mod TextLemmas
+pub mod NumberLemmas

@@ -1,5 +1,6 @@
 -- Slots of routes: one more at the end, and the routes that they hold.
 use Rattle.std.proofs.Common.{◌≡◌, ℕ, zero, suc, ◌+◌, ◌-◌, ◌<◌, ◌≤◌, inl, inr, Bool, true, false, not, cond, List, [], ◌∷◌, ◌++◌, length, get_or, take, length-take-le, Option, Some, None, Ok, Err, is_some, refl, sym, ap, subst, ◌∙◌, arith}
+use Rattle.std.specs.Prelude.{IsSome}
 use Rattle.std.specs.List.{All, filter}
 use Rattle.std.proofs.lemmas.Bool.{cases_lt}
 use Rattle.std.proofs.lemmas.List.{get_or-take, get_or_default}
@@ -159,3 +160,13 @@ assign_next routes i route ordered within is =
     subst (λ (r : PrefixValue × ℕ). is_before r.0 route.0 ≡ true) (sym (get_or-take i routes k d earlier)) here) in
     put_above (λ r. is_before r.0 route.0) (λ r. same_prefix r.0 route.0) (take i routes) route before
     ∙ sym (take_next routes i route within is)
+
+-- a prefix that leads somewhere among some of the slots does among all
+pub some_filled : (q : PrefixValue × ℕ → Bool) (slots : Routes) (p : PrefixValue) → IsSome (route_of (filter q slots) p) → IsSome (route_of slots p)
+some_filled q [] p some = some
+some_filled q (r ∷ slots) p some = by (q r) (same_prefix r.0 p) refl (some_filled q slots p) some
+  where
+    by : (b c : Bool) → same_prefix r.0 p ≡ c → (IsSome (route_of (filter q slots) p) → IsSome (route_of slots p)) → IsSome (route_of (cond b (r ∷ filter q slots) (filter q slots)) p) → IsSome (cond c (Some r.1) (route_of slots p))
+    by b true same rest some = refl
+    by true false same rest some = rest (subst (λ c. IsSome (cond c (Some r.1) (route_of (filter q slots) p))) same some)
+    by false false same rest some = rest some

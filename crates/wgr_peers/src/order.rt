@@ -1,11 +1,11 @@
 //! Peers in the order of their numbers, and routes in the order of their prefixes.
-ghost use Rattle.std.specs.Prelude.{◌≡◌, ℕ, ◌<◌, ◌≤◌, ◌↔◌, nat_eq, nat_lt, not, IsTrue, OnOk, OnErr, All};
+ghost use Rattle.std.specs.Prelude.{◌≡◌, ℕ, ◌<◌, ◌≤◌, ◌↔◌, nat_eq, nat_lt, not, IsTrue, IsSome, IsOk, OnOk, OnErr, All};
 ghost use Rattle.std.specs.List.{filter};
 ghost use Rattle.wgr_text.specs.Prefix.{IsAddr};
 ghost use Rattle.wgr_peers.specs.Ordered.{EndsAt};
-ghost use Rattle.wgr_peers.specs.Peers.{AreNumbered, put_peer};
+ghost use Rattle.wgr_peers.specs.Peers.{AreNumbered, peer_of, put_peer};
 ghost use Rattle.wgr_pool.specs.PrefixTests.{is_before, same_prefix};
-ghost use Rattle.wgr_peers.specs.Routes.{AreOrdered, HasAddr, assign_route, without_route};
+ghost use Rattle.wgr_peers.specs.Routes.{AreOrdered, HasAddr, assign_route, route_of, without_route};
 
 use crate::peer::Peer;
 use std::alloc::AllocError;
@@ -35,11 +35,14 @@ pub(crate) fn are_below(peers: &[Peer], number: u32) -> bool
     }
 }
 
-/// Puts a peer in its place, in that of the peer of its number if there is one.
+/// Puts a peer in its place, in that of the peer of its number if there is one, which takes no
+/// memory; for want of memory the peers are as before.
 pub fn put_peer(peers: &mut Vec<Peer>, peer: Peer) -> Result<(), AllocError>
     requires { AreNumbered peers.old.items }
     ensures put { OnOk result (peers.new.items ≡ put_peer peers.old.items peer) }
     ensures numbered { OnOk result (AreNumbered peers.new.items) }
+    ensures err { OnErr result (peers.new.items ≡ peers.old.items) }
+    ensures succeeds { IsSome (peer_of peers.old.items peer.number) → IsOk result }
 {
     match peer_place(peers, peer.number) {
         Ok(place) => peers[place] = peer,
@@ -79,7 +82,8 @@ pub fn route_place(routes: &[(Prefix, u32)], prefix: &Prefix) -> Result<usize, u
     }
 }
 
-/// Leads a prefix to the peer of this number; for want of memory the routes are as before.
+/// Leads a prefix to the peer of this number; for want of memory the routes are as before. A prefix
+/// that leads to a peer already takes no memory.
 pub fn put_route(
     routes: &mut Vec<(Prefix, u32)>,
     prefix: Prefix,
@@ -91,6 +95,7 @@ pub fn put_route(
     ensures ordered { OnOk result (AreOrdered routes.new.items) }
     ensures masked { OnOk result (All HasAddr routes.new.items) }
     ensures err { OnErr result (routes.new.items ≡ routes.old.items) }
+    ensures succeeds { IsSome (route_of routes.old.items prefix) → IsOk result }
 {
     match route_place(routes, &prefix) {
         Ok(place) => routes[place] = (prefix, number),

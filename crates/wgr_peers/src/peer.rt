@@ -36,7 +36,7 @@ pub struct Peer {
 }
 
 impl Peer {
-    ghost use Rattle.wgr_peers.specs.Peers.{is_live};
+    ghost use Rattle.wgr_peers.specs.Peers.{is_live, same_key};
     ghost use Rattle.wgr_pool.specs.PrefixTests.{same_address};
 
     /// Whether the peer's lease runs at this moment.
@@ -53,16 +53,9 @@ impl Peer {
         self.address == *address
     }
 
-    /// Whether the other peer has the same key and the same address.
-    pub fn is_alike(&self, other: &Peer) -> bool
-        ensures { IsTrue result → (self.now.key ≡ other.now.key) × (self.now.address ≡ other.now.address) }
-    {
-        self.key == other.key && self.is_at(&other.address)
-    }
-
     /// Whether the key is the peer's.
     pub fn has_key(&self, key: &Key) -> bool
-        ensures { IsTrue result → self.now.key ≡ key.now }
+        ensures { result ≡ same_key self.now.key key.now }
     {
         self.key == *key
     }

@@ -1,4 +1,4 @@
-ghost use Rattle.std.specs.Prelude.{◌≡◌, ◌+◌, ◌<◌, ◌≤◌, ◌↔◌, ◌⊎◌, List, [], ◌∷◌, ◌++◌, length, map, IsTrue, IsSome, IfSome, IfOk, OnOk, OnErr, All, None, true};
+ghost use Rattle.std.specs.Prelude.{◌≡◌, ◌+◌, ◌<◌, ◌≤◌, ◌↔◌, ◌⊎◌, List, [], ◌∷◌, ◌++◌, length, map, IsTrue, IsSome, IfSome, IfNone, IfOk, OnOk, OnErr, All, Some, None, true};
 ghost use Rattle.std.specs.HashMap.{get};
 ghost use Rattle.std.specs.List.{filter};
 ghost use Rattle.std.specs.Option.{option_copied};
@@ -6,7 +6,7 @@ ghost use Rattle.wgr_text.specs.Prefix.{AddrValue, IsAddr};
 ghost use Rattle.wgr_text.specs.declared.key.Key.{Key as KeyValue};
 ghost use Rattle.wgr_pool.specs.Spans.{IsHeld};
 ghost use Rattle.wgr_peers.specs.Peers.{is_live, is_own, expired, expired_addresses, key_holder, peer_of, put_peer, same_key, without_peer, AreNumbered, AreApart};
-ghost use Rattle.wgr_peers.specs.PeerIndex.{EndsFrom, IsAlikeAt, IsKeyedAt};
+ghost use Rattle.wgr_peers.specs.PeerIndex.{EndsFrom, IsKeyedAt};
 
 use crate::items::Items;
 use crate::limits::LeaseEnd;
@@ -133,30 +133,12 @@ impl PeerTable {
 }
 
 impl PeerTable {
-    // The place of the peer that has this peer's number, key and address.
-    fn place_alike(&self, peer: &Peer) -> Option<usize>
-        ensures { IfSome result (λ at. IsAlikeAt self.now peer.now at) }
-    {
-        match peer_place(&self.peers, peer.number) {
-            Ok(place) if self.peers[place].is_alike(peer) => Some(place),
-            _ => None,
-        }
-    }
-
-    // Puts a peer in the place of one that has its number, key and address, so that the indexes
-    // stay as they are.
-    fn replace(&mut self, place: usize, peer: Peer)
-        requires { IsAlikeAt self.old peer place }
-        ensures { self.new ≡ put_peer self.old peer }
-    {
-        let until = peer.until;
-        self.peers[place] = peer;
-        self.soonest_end = sooner(self.soonest_end, until);
-    }
-
     // The place of the peer that has this peer's number and key.
     fn place_keyed(&self, peer: &Peer) -> Option<usize>
-        ensures { IfSome result (λ at. IsKeyedAt self.now peer.now at) }
+        requires { AreApart self.now }
+        ensures place { IfSome result (λ at. IsKeyedAt self.now peer.now at) }
+        ensures some { IfSome result (λ _. key_holder self.now peer.now.key ≡ Some peer.now.number) }
+        ensures none { IfNone result (key_holder self.now peer.now.key ≡ Some peer.now.number → ⊥) }
     {
         match peer_place(&self.peers, peer.number) {
             Ok(place) if self.peers[place].has_key(&peer.key) => Some(place),
@@ -164,39 +146,35 @@ impl PeerTable {
         }
     }
 
-    // Puts a peer in the place of one that has its number and key, at another address; for want of
-    // memory the table is as before.
-    fn relocate(&mut self, at: usize, peer: Peer) -> Result<(), AllocError>
-        requires keyed { IsKeyedAt self.old peer at }
+    // Puts a peer in the place of one that has its number and key.
+    fn replace(&mut self, place: usize, peer: Peer)
+        requires keyed { IsKeyedAt self.old peer place }
         requires apart { AreApart self.old }
-        ensures ok { OnOk result (self.new ≡ put_peer self.old peer) }
-        ensures err { OnErr result (self.new ≡ self.old) }
+        ensures { self.new ≡ put_peer self.old peer }
     {
-        let mut addresses = self.addresses.copy()?;
-        addresses.remove(&self.peers[at].address)?;
-        addresses.insert(peer.address)?;
-        self.addresses = addresses;
-        self.soonest_end = sooner(self.soonest_end, peer.until);
-        self.peers[at] = peer;
-        Ok(())
+        let (address, until) = (peer.address, peer.until);
+        if !self.peers[place].is_at(&address) {
+            let left = self.peers[place].address;
+            let _number = left.number();
+            self.addresses.replace(&left, address);
+        }
+        self.peers[place] = peer;
+        self.soonest_end = sooner(self.soonest_end, until);
     }
 
-    /// Takes away the peer of this number, if there is one; for want of memory the table is as
-    /// before.
-    pub fn remove(&mut self, number: u32) -> Result<(), AllocError>
+    /// Takes away the peer of this number, if there is one.
+    pub fn remove(&mut self, number: u32)
         requires { AreApart self.old }
-        ensures ok { OnOk result (self.new ≡ without_peer self.old number) }
-        ensures err { OnErr result (self.new ≡ self.old) }
+        ensures { self.new ≡ without_peer self.old number }
     {
         let Ok(place) = peer_place(&self.peers, number) else {
-            return Ok(());
+            return;
         };
         let peer = &self.peers[place];
         let (key, address) = (peer.key, peer.address);
-        self.addresses.remove(&address)?;
+        self.addresses.remove(&address);
         self.numbers.remove(&key);
         self.peers.remove(place);
-        Ok(())
     }
 }
 

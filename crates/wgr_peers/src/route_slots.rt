@@ -1,4 +1,4 @@
-ghost use Rattle.std.specs.Prelude.{◌≡◌, ◌↔◌, ◌⊎◌, [], length, Bool, true, false, nat_eq, IfOk, OnOk, OnErr, All};
+ghost use Rattle.std.specs.Prelude.{◌≡◌, ◌↔◌, ◌⊎◌, [], length, Bool, true, false, nat_eq, IsSome, IsOk, IfOk, OnOk, OnErr, All};
 ghost use Rattle.std.specs.HashSet.{contains};
 ghost use Rattle.wgr_text.specs.Prefix.{AddrValue, IsAddr};
 ghost use Rattle.wgr_pool.specs.Allot.{lowest_where};
@@ -87,10 +87,12 @@ impl RouteSlots {
         slot_number(&self.slots, &self.vacant, prefix)
     }
 
-    /// Leads a prefix to the peer of this number; for want of memory the routes are as before.
+    /// Leads a prefix to the peer of this number; for want of memory the routes are as before. A
+    /// prefix that leads to a peer already takes no memory.
     pub fn put(&mut self, prefix: Prefix, number: u32) -> Result<(), AllocError>
         ensures ok { OnOk result (self.new ≡ assign_route self.old prefix number) }
         ensures err { OnErr result (self.new ≡ self.old) }
+        ensures succeeds { IsSome (route_of self.old prefix) → IsOk result }
     {
         let (_address, _length) = (prefix.address(), prefix.length());
         reserve_number(&mut self.slots, &mut self.vacant, number);

@@ -3,22 +3,17 @@ use Rattle.std.proofs.Common.{◌≡◌, ℕ, zero, suc, ◌+◌, ◌-◌, ◌<�
 use Rattle.std.specs.Prelude.{set, option_to_list}
 use Rattle.std.specs.List.{insert, remove}
 use Rattle.std.proofs.lemmas.Bool.{cases_lt}
-use Rattle.std.proofs.lemmas.List.{set_split}
+use Rattle.std.proofs.lemmas.List.{set_split, length-append}
 use Rattle.wgr_text.specs.declared.prefix.Span.{Span}
 use Rattle.wgr_text.specs.Prefix.{AddrValue, IsAddr, rank}
 use Rattle.wgr_pool.specs.PrefixTests.{same_address}
 use Rattle.wgr_pool.specs.Spans.{IsWithin, IsHeld}
-use Rattle.wgr_pool.specs.Runs.{AreRunsFrom, IsPartBelow, IsPartAbove}
+use Rattle.wgr_pool.specs.Runs.{AreRunsFrom, IsGapAt, IsParted, IsPartBelow, IsPartAbove, places}
 use Rattle.wgr_pool.proofs.Bools.{decide}
 use Rattle.wgr_pool.proofs.PrefixLemmas.{same_address_is}
 use Rattle.wgr_pool.proofs.WithinSpans.{same_within}
-use Rattle.wgr_pool.proofs.RunLists.{end_of, runs_split, runs_append, held_append, held_from}
-use Rattle.wgr_pool.proofs.Joining.{Parts, nth_split, not_held}
-
--- `new` are the runs of `old` without the address
-pub record Leaves (old new : List Span) (a : AddrValue) : Type 0 where
-  pub runs : AreRunsFrom 0 new
-  pub held : (b : AddrValue) → IsAddr b → IsHeld new b ↔ ((same_address a b ≡ false) × IsHeld old b)
+use Rattle.wgr_pool.proofs.RunLists.{end_of, runs_split, runs_append, held_append, held_from, places_append, places_least}
+use Rattle.wgr_pool.proofs.Joining.{nth_split, not_held}
 
 pub none_below : (x : Span) (a : AddrValue) → rank a ≤ rank x.lo → IsPartBelow x a None
 none_below x a low = record {
@@ -96,12 +91,27 @@ parts_runs floor x a (Some s) (Some t) late r within low high =
     let f = high.ends in
     (omega (arith, r.0, e.0), e.1, (omega (arith, e.2, f.0), f.1, runs_lower (rank t.hi + 1) (rank x.hi + 1) late (omega (arith, f.2)) r.2))
 
+parts_places : (x : Span) (a : AddrValue) (below above : Option Span) (late : List Span) → IsWithin x a → IsPartBelow x a below → IsPartAbove x a above
+    → places (option_to_list below ++ (option_to_list above ++ late)) < places (x ∷ late)
+parts_places x a None None late within low high = omega (arith, within.0, within.1)
+parts_places x a (Some s) None late within low high = let e = low.ends in omega (arith, within.0, within.1, e.0, e.1, e.2)
+parts_places x a None (Some t) late within low high = let f = high.ends in omega (arith, within.0, within.1, f.0, f.1, f.2)
+parts_places x a (Some s) (Some t) late within low high =
+    let e = low.ends in
+    let f = high.ends in
+    omega (arith, within.0, within.1, e.0, e.1, e.2, f.0, f.1, f.2)
+
 pub leaves : (old new early late : List Span) (x : Span) (below above : Option Span) (a : AddrValue) → IsAddr a → AreRunsFrom 0 old → old ≡ early ++ (x ∷ late) → new ≡ early ++ (option_to_list below ++ (option_to_list above ++ late))
-    → IsWithin x a → IsPartBelow x a below → IsPartAbove x a above → Leaves old new a
+    → IsWithin x a → IsPartBelow x a below → IsPartAbove x a above → IsParted old new a
 leaves old new early late x below above a fits r was is within low high =
     let parts = runs_split 0 early (x ∷ late) (subst (AreRunsFrom 0) was r) in
     record {
       runs = subst (AreRunsFrom 0) (sym is) (runs_append 0 early _ parts.0 (parts_runs (end_of 0 early) x a below above late parts.1 within low high));
+      fewer =
+          let o = ap places was ∙ places_append early (x ∷ late) in
+          let n = ap places is ∙ places_append early (option_to_list below ++ (option_to_list above ++ late)) in
+          let l = parts_places x a below above late within low high in
+          omega (arith, o, n, l);
       held = λ b b_fits.
           let outer = held_append early (x ∷ late) b in
           let after = held_append early (option_to_list below ++ (option_to_list above ++ late)) b in
@@ -149,24 +159,40 @@ pub record Holds (runs : List Span) (at : ℕ) (x : Span) (a : AddrValue) : Type
   pub is : x ≡ slice_index_or runs at x
   pub has : IsWithin x a
 
-pub whole_run : (runs : List Span) (at : ℕ) (x : Span) (a : AddrValue) → AreRunsFrom 0 runs → Holds runs at x a → IsPartBelow x a None → IsPartAbove x a None → Leaves runs (remove runs at) a
+pub whole_run : (runs : List Span) (at : ℕ) (x : Span) (a : AddrValue) → AreRunsFrom 0 runs → Holds runs at x a → IsPartBelow x a None → IsPartAbove x a None → IsParted runs (remove runs at) a
 whole_run runs at x a r holds low high =
     leaves runs (remove runs at) (take at runs) (drop (suc at) runs) x None None a holds.fits r (nth_split runs at x holds.within holds.is) (remove_split runs at holds.within) holds.has low high
 
-pub run_below : (runs : List Span) (at : ℕ) (x s : Span) (a : AddrValue) → AreRunsFrom 0 runs → Holds runs at x a → IsPartBelow x a (Some s) → IsPartAbove x a None → Leaves runs (set runs at s) a
+pub run_below : (runs : List Span) (at : ℕ) (x s : Span) (a : AddrValue) → AreRunsFrom 0 runs → Holds runs at x a → IsPartBelow x a (Some s) → IsPartAbove x a None → IsParted runs (set runs at s) a
 run_below runs at x s a r holds low high =
     leaves runs (set runs at s) (take at runs) (drop (suc at) runs) x (Some s) None a holds.fits r (nth_split runs at x holds.within holds.is) (set_split runs at s holds.within) holds.has low high
 
-pub run_above : (runs : List Span) (at : ℕ) (x t : Span) (a : AddrValue) → AreRunsFrom 0 runs → Holds runs at x a → IsPartBelow x a None → IsPartAbove x a (Some t) → Leaves runs (set runs at t) a
+pub run_above : (runs : List Span) (at : ℕ) (x t : Span) (a : AddrValue) → AreRunsFrom 0 runs → Holds runs at x a → IsPartBelow x a None → IsPartAbove x a (Some t) → IsParted runs (set runs at t) a
 run_above runs at x t a r holds low high =
     leaves runs (set runs at t) (take at runs) (drop (suc at) runs) x None (Some t) a holds.fits r (nth_split runs at x holds.within holds.is) (set_split runs at t holds.within) holds.has low high
 
-pub run_in_two : (runs : List Span) (at : ℕ) (x s t : Span) (a : AddrValue) → AreRunsFrom 0 runs → Holds runs at x a → IsPartBelow x a (Some s) → IsPartAbove x a (Some t) → Leaves runs (set (insert runs (suc at) t) at s) a
+pub run_in_two : (runs : List Span) (at : ℕ) (x s t : Span) (a : AddrValue) → AreRunsFrom 0 runs → Holds runs at x a → IsPartBelow x a (Some s) → IsPartAbove x a (Some t) → IsParted runs (set (insert runs (suc at) t) at s) a
 run_in_two runs at x s t a r holds low high =
     leaves runs (set (insert runs (suc at) t) at s) (take at runs) (drop (suc at) runs) x (Some s) (Some t) a holds.fits r (nth_split runs at x holds.within holds.is) (insert_set runs at s t holds.within) holds.has low high
 
+-- a run that is split has more than one place
+pub room_for_two : (runs : List Span) (at : ℕ) (x s t : Span) (a : AddrValue) → AreRunsFrom 0 runs → Holds runs at x a → IsPartBelow x a (Some s) → IsPartAbove x a (Some t) → length runs < places runs
+room_for_two runs at x s t a r holds low high =
+    let early = take at runs in
+    let late = drop (suc at) runs in
+    let was = nth_split runs at x holds.within holds.is in
+    let parts = runs_split 0 early (x ∷ late) (subst (AreRunsFrom 0) was r) in
+    let o = ap places was ∙ places_append early (x ∷ late) in
+    let l = ap length was ∙ length-append early (x ∷ late) in
+    let first = places_least 0 early parts.0 in
+    let rest = places_least (rank x.hi + 1) late parts.1.2 in
+    let e = low.ends in
+    let f = high.ends in
+    let has = holds.has in
+    omega (arith, o, l, first, rest, e.0, e.1, e.2, f.0, f.1, f.2, has.0, has.1)
+
 -- an address that the runs don't have
-pub leaves_none : (runs : List Span) (p : ℕ) (a b : AddrValue) → AreRunsFrom 0 runs → Parts runs p a → IsHeld runs b ↔ ((same_address a b ≡ false) × IsHeld runs b)
+pub leaves_none : (runs : List Span) (p : ℕ) (a b : AddrValue) → AreRunsFrom 0 runs → IsGapAt runs p a → IsHeld runs b ↔ ((same_address a b ≡ false) × IsHeld runs b)
 leaves_none runs p a b r parts = (
   (λ h. elim (decide (same_address a b)) [
     | inl same ↦ absurd (not_held runs p a r parts (subst (λ c. IsHeld runs c) (sym (same_address_is a b same)) h))
@@ -180,7 +206,7 @@ pub record Found (runs : List Span) (p : ℕ) (x : Span) (a : AddrValue) : Type 
   pub some : 0 < p
   pub holds : Holds runs (p - 1) x a
 
-pub leaves_held : (old new now : List Span) (a : AddrValue) → old ≡ now → Leaves old new a → (b : AddrValue) → IsAddr b → IsHeld new b ↔ ((same_address a b ≡ false) × IsHeld now b)
+pub leaves_held : (old new now : List Span) (a : AddrValue) → old ≡ now → IsParted old new a → (b : AddrValue) → IsAddr b → IsHeld new b ↔ ((same_address a b ≡ false) × IsHeld now b)
 leaves_held old new now a e left = subst (λ xs. (b : AddrValue) → IsAddr b → IsHeld new b ↔ ((same_address a b ≡ false) × IsHeld xs b)) e left.held
 
 pub held_in : (items runs : List Span) (p : ℕ) (x : Span) (a : AddrValue) → IsAddr a → runs ≡ items → p ≤ length runs → ((k : ℕ) (d : Span) → k < p → rank (slice_index_or runs k d).lo ≤ rank a)

@@ -1,10 +1,10 @@
 -- runs of addresses, split and put together
-use Rattle.std.proofs.Common.{◌≡◌, ℕ, zero, suc, ◌+◌, ◌<◌, ◌≤◌, ◌⊎◌, ◌↔◌, inl, inr, List, [], ◌∷◌, ◌++◌, length, take, drop, slice_index_or, true, subst, sym, arith, refl}
+use Rattle.std.proofs.Common.{◌≡◌, ℕ, zero, suc, ◌+◌, ◌-◌, ◌<◌, ◌≤◌, ◌⊎◌, ◌↔◌, inl, inr, List, [], ◌∷◌, ◌++◌, length, take, drop, slice_index_or, true, subst, sym, ap, ◌∙◌, arith, refl}
 use Rattle.wgr_text.specs.declared.prefix.Span.{Span}
 use Rattle.wgr_text.specs.Prefix.{AddrValue, rank}
 use Rattle.wgr_pool.specs.PrefixTests.{same_address}
 use Rattle.wgr_pool.specs.Spans.{IsWithin, IsHeld, RisesFrom}
-use Rattle.wgr_pool.specs.Runs.{AreRunsFrom}
+use Rattle.wgr_pool.specs.Runs.{AreRunsFrom, places}
 
 -- the place after the last of the runs
 abbrev pub end_of : ℕ → List Span → ℕ
@@ -111,3 +111,21 @@ put_held old new early mid late s a b was is within =
         ]
       ]),
     )
+
+-- ---- how many places runs have
+
+pub places_append : (xs ys : List Span) → places (xs ++ ys) ≡ places xs + places ys
+places_append [] ys = omega arith
+places_append (x ∷ xs) ys = let more = places_append xs ys in omega (arith, more)
+
+-- each run has a place
+pub places_least : (floor : ℕ) (runs : List Span) → AreRunsFrom floor runs → length runs ≤ places runs
+places_least floor [] r = omega arith
+places_least floor (x ∷ runs) r = let more = places_least (rank x.hi + 1) runs r.2 in omega (arith, more, r.1)
+
+pub put_places : (old new early mid late : List Span) (s : Span) → old ≡ early ++ (mid ++ late) → new ≡ early ++ (s ∷ late) → rank s.hi + 1 - rank s.lo ≡ places mid + 1 → places new ≡ places old + 1
+put_places old new early mid late s was is one =
+    let o = ap places was ∙ places_append early (mid ++ late) in
+    let m = places_append mid late in
+    let n = ap places is ∙ places_append early (s ∷ late) in
+    omega (arith, o, m, n, one)

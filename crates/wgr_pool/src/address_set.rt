@@ -1,10 +1,11 @@
-ghost use Rattle.std.specs.Prelude.{◌≡◌, ℕ, ◌+◌, ◌-◌, ◌<◌, ◌≤◌, ◌↔◌, ◌⊎◌, true, false, List, [], length, slice_index_or, IsTrue, IfOk, OnOk, OnErr};
+ghost use Rattle.std.specs.Prelude.{◌≡◌, ℕ, ◌+◌, ◌-◌, ◌<◌, ◌≤◌, ◌↔◌, ◌⊎◌, true, false, List, [], length, slice_index_or, IsTrue, IsOk, IfOk, OnOk, OnErr};
 ghost use Rattle.std.specs.List.{list_any};
 ghost use Rattle.wgr_text.specs.Prefix.{AddrValue, IsAddr, rank};
 ghost use Rattle.wgr_text.specs.declared.prefix.Span.{Span, Span as SpanValue};
 ghost use Rattle.wgr_pool.specs.PrefixTests.{same_address};
 ghost use Rattle.wgr_pool.specs.Spans.{IsWithin, IsHeld, RisesFrom};
-ghost use Rattle.wgr_pool.specs.Runs.{AreRunsFrom, IsPartBelow, IsPartAbove};
+ghost use Rattle.std.specs.Vec.{vec_len, vec_capacity};
+ghost use Rattle.wgr_pool.specs.Runs.{AreRunsFrom, IsGapAt, IsJoined, IsParted, IsPartBelow, IsPartAbove, places};
 
 use std::alloc::{AllocError, Global};
 use std::marker::Model;
@@ -13,10 +14,13 @@ use wgr_text::{Addr, Family, Span};
 /// A set of addresses, kept as its runs of consecutive addresses.
 ///
 /// Addresses that follow one another take one span, however many they are, so the first gap after
-/// them is found at once.
+/// them is found at once. There is room for a span of each address, so that none needs memory to
+/// go, also where it splits a run.
 #[derive(Drop)]
 pub struct AddressSet {
     runs: Vec<Span>,
+    // How many addresses there are.
+    size: usize,
 }
 
 impl Model for AddressSet {
@@ -24,7 +28,7 @@ impl Model for AddressSet {
 
     ghost view = { λ s. s.runs.items };
 
-    ghost invariant = { λ s. AreRunsFrom 0 s.runs.items };
+    ghost invariant = { λ s. AreRunsFrom 0 s.runs.items × (places s.runs.items ≤ s.size) × (s.size ≤ vec_capacity s.runs) };
 }
 
 impl AddressSet {
@@ -34,6 +38,7 @@ impl AddressSet {
     {
         AddressSet {
             runs: Vec::new(alloc),
+            size: 0,
         }
     }
 
@@ -67,72 +72,122 @@ impl AddressSet {
         is_in_last(runs, place, address)
     }
 
-    /// Puts the address into the set, where it joins the runs that it touches.
+    /// Puts the address into the set, where it joins the runs that it touches. An address that the
+    /// set has already takes no memory.
     pub fn insert(&mut self, address: Addr) -> Result<(), AllocError>
         ensures held { OnOk result ((b : AddrValue) → IsAddr b → IsHeld self.new b ↔ ((same_address address b ≡ true) ⊎ IsHeld self.old b)) }
         ensures unchanged { OnErr result (self.new ≡ self.old) }
+        ensures succeeds { IsHeld self.old address → IsOk result }
     {
-        let runs = self.runs.as_slice();
-        let place = place_above(runs, &address);
-        if is_in_last(runs, place, &address) {
+        let place = place_above(&self.runs, &address);
+        if is_in_last(&self.runs, place, &address) {
             return Ok(());
         }
-        let follows = follows_last(runs, place, &address);
-        let leads = leads_next(runs, place, &address);
-        match (follows, leads) {
-            (true, true) => {
-                self.runs[place - 1].hi = self.runs[place].hi;
-                self.runs.remove(place);
-            }
-            (true, false) => self.runs[place - 1].hi = address,
-            (false, true) => self.runs[place].lo = address,
-            (false, false) => self.runs.insert(
-                place,
-                Span {
-                    lo: address,
-                    hi: address,
-                },
-            )?,
-        }
+        self.runs.reserve(self.size - self.runs.len() + 1)?;
+        join(&mut self.runs, place, address);
+        self.size += 1;
         Ok(())
     }
-}
 
-impl AddressSet {
     /// The same set again.
     pub fn copy(&self) -> Result<AddressSet, AllocError>
         ensures { IfOk result (λ copy. copy ≡ self.now) }
     {
+        let mut runs = Vec::with_capacity(*self.runs.allocator(), self.size)?;
+        runs.extend_from_slice(&self.runs)?;
         Ok(AddressSet {
-            runs: Vec::from_slice(*self.runs.allocator(), &self.runs)?,
+            runs,
+            size: self.size,
         })
     }
 
     /// Takes the address out of the set, where the run that has it grows shorter or is split in
     /// two.
-    pub fn remove(&mut self, address: &Addr) -> Result<(), AllocError>
-        ensures held { OnOk result ((b : AddrValue) → IsAddr b → IsHeld self.new b ↔ ((same_address address.now b ≡ false) × IsHeld self.old b)) }
-        ensures unchanged { OnErr result (self.new ≡ self.old) }
+    pub fn remove(&mut self, address: &Addr)
+        ensures { (b : AddrValue) → IsAddr b → IsHeld self.new b ↔ ((same_address address.now b ≡ false) × IsHeld self.old b) }
     {
         let _number = address.number();
-        let runs = self.runs.as_slice();
-        let place = place_above(runs, address);
-        if !is_in_last(runs, place, address) {
-            return Ok(());
+        let place = place_above(&self.runs, address);
+        if is_in_last(&self.runs, place, address) {
+            part(&mut self.runs, place - 1, address);
+            self.size -= 1;
         }
-        let run = runs[place - 1];
-        match (part_below(&run, address), part_above(&run, address)) {
-            (None, None) => {
-                self.runs.remove(place - 1);
-            }
-            (Some(below), None) => self.runs[place - 1] = below,
-            (None, Some(above)) => self.runs[place - 1] = above,
-            (Some(below), Some(above)) => {
-                self.runs.insert(place, above)?;
-                self.runs[place - 1] = below;
-            }
+    }
+
+    /// Takes an address that the set has out of it, and puts the other in its stead.
+    pub fn replace(&mut self, address: &Addr, by: Addr)
+        requires { IsHeld self.old address.now }
+        ensures { (b : AddrValue) → IsAddr b → IsHeld self.new b ↔ ((same_address by b ≡ true) ⊎ ((same_address address.now b ≡ false) × IsHeld self.old b)) }
+    {
+        let _number = address.number();
+        let place = place_above(&self.runs, address);
+        if !is_in_last(&self.runs, place, address) {
+            unreachable!();
         }
-        Ok(())
+        part(&mut self.runs, place - 1, address);
+        let place = place_above(&self.runs, &by);
+        if is_in_last(&self.runs, place, &by) {
+            self.size -= 1;
+            return;
+        }
+        join(&mut self.runs, place, by);
+    }
+}
+
+// Puts an address in the gap before the run at the place, where it joins the runs that it touches.
+// There is room for one more.
+fn join(runs: &mut Vec<Span>, place: usize, address: Addr)
+    requires in_order { AreRunsFrom 0 runs.old.items }
+    requires gap { IsGapAt runs.old.items place address }
+    requires room { vec_len runs.old < vec_capacity runs.old }
+    ensures joined { IsJoined runs.old.items runs.new.items address }
+    ensures room { vec_capacity runs.old ≤ vec_capacity runs.new }
+{
+    let follows = follows_last(runs, place, &address);
+    let leads = leads_next(runs, place, &address);
+    match (follows, leads) {
+        (true, true) => {
+            runs[place - 1].hi = runs[place].hi;
+            runs.remove(place);
+        }
+        (true, false) => runs[place - 1].hi = address,
+        (false, true) => runs[place].lo = address,
+        (false, false) => {
+            let run = Span {
+                lo: address,
+                hi: address,
+            };
+            let Ok(()) = runs.insert(place, run) else {
+                unreachable!();
+            };
+        }
+    }
+}
+
+// Takes an address out of the run at this place, which has it. There is room for a run of each
+// address.
+fn part(runs: &mut Vec<Span>, at: usize, address: &Addr)
+    requires in_order { AreRunsFrom 0 runs.old.items }
+    requires fits { IsAddr address.now }
+    requires within { at < length runs.old.items }
+    requires has { (d : SpanValue) → IsWithin (slice_index_or runs.old.items at d) address.now }
+    requires room { places runs.old.items ≤ vec_capacity runs.old }
+    ensures parted { IsParted runs.old.items runs.new.items address.now }
+    ensures room { vec_capacity runs.old ≤ vec_capacity runs.new }
+{
+    let run = runs[at];
+    match (part_below(&run, address), part_above(&run, address)) {
+        (None, None) => {
+            runs.remove(at);
+        }
+        (Some(below), None) => runs[at] = below,
+        (None, Some(above)) => runs[at] = above,
+        (Some(below), Some(above)) => {
+            let Ok(()) = runs.insert(at + 1, above) else {
+                unreachable!();
+            };
+            runs[at] = below;
+        }
     }
 }
 

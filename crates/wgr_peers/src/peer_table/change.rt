@@ -1,18 +1,19 @@
 //! Peers that go, and one that comes, in one change.
-ghost use Rattle.std.specs.Prelude.{◌≡◌, ◌≤◌, ◌<◌, ◌↔◌, true, IfOk, OnOk, OnErr, All};
+ghost use Rattle.std.specs.Prelude.{◌≡◌, ◌≤◌, ◌<◌, ◌↔◌, true, IsOk, IfOk, OnOk, OnErr, Some};
 ghost use Rattle.std.specs.HashMap.{get, spare};
 ghost use Rattle.std.specs.Vec.{vec_len, vec_capacity};
 ghost use Rattle.wgr_text.specs.Prefix.{AddrValue, IsAddr};
 ghost use Rattle.wgr_text.specs.declared.key.Key.{Key as KeyValue};
 ghost use Rattle.wgr_pool.specs.Spans.{IsHeld};
 ghost use Rattle.wgr_peers.specs.Peers.{is_own, key_holder, put_peer, same_key, AreNumbered, AreApart};
-ghost use Rattle.wgr_peers.specs.PeersLeft.{peers_left, peers_after};
+ghost use Rattle.wgr_peers.specs.PeersLeft.{peers_left, peers_after, OnlyRenews};
 
 use super::{PeerTable, soonest_end};
+use crate::number_set::NumberSet;
 use crate::order::peer_place;
 use crate::peer::Peer;
 use std::alloc::AllocError;
-use std::collections::{HashMap, HashSet};
+use std::collections::HashMap;
 use wgr_pool::AddressSet;
 use wgr_text::Key;
 
@@ -20,21 +21,30 @@ impl PeerTable {
     /// Takes away the peers of these numbers, and puts in the one that comes, in the place of the
     /// one of its number if there is one; for want of memory the table is as before.
     ///
-    /// No peer is copied, and each is moved once at most.
-    pub fn change(&mut self, gone: HashSet<u32>, coming: Option<Peer>) -> Result<(), AllocError>
+    /// No peer is copied, and each is moved once at most. Where none comes, or one that renews a
+    /// peer that stays, no memory is taken.
+    pub fn change(&mut self, gone: NumberSet, coming: Option<Peer>) -> Result<(), AllocError>
         requires apart { AreApart self.old }
-        requires fits { AreApart (peers_after self.old gone.keys coming) }
-        ensures ok { OnOk result (self.new ≡ peers_after self.old gone.keys coming) }
+        requires fits { AreApart (peers_after self.old gone coming) }
+        ensures ok { OnOk result (self.new ≡ peers_after self.old gone coming) }
         ensures err { OnErr result (self.new ≡ self.old) }
+        ensures succeeds { OnlyRenews self.old gone coming → IsOk result }
     {
-        match coming {
-            Some(peer) => self.exchange(gone, peer),
-            None => self.remove_all(&gone),
+        let Some(peer) = coming else {
+            self.remove_all(&gone);
+            return Ok(());
+        };
+        match self.place_keyed(&peer) {
+            Some(_) if !gone.contains(peer.number) => {
+                self.remove_all(&gone);
+                self.put(peer)
+            }
+            _ => self.exchange(gone, peer),
         }
     }
 
     /// Puts in a peer, in the place of the one of its number if there is one; for want of memory the
-    /// table is as before.
+    /// table is as before. A peer that has its number and key already takes no memory.
     ///
     /// No peer is walked over if its number is above all, or the one in its place has its key.
     pub fn put(&mut self, peer: Peer) -> Result<(), AllocError>
@@ -42,41 +52,35 @@ impl PeerTable {
         requires fits { AreApart (put_peer self.old peer) }
         ensures ok { OnOk result (self.new ≡ put_peer self.old peer) }
         ensures err { OnErr result (self.new ≡ self.old) }
+        ensures succeeds { key_holder self.old peer.key ≡ Some peer.number → IsOk result }
     {
-        if self.is_below(peer.number) {
-            return self.push(peer);
-        }
-        if let Some(place) = self.place_alike(&peer) {
+        if let Some(place) = self.place_keyed(&peer) {
             self.replace(place, peer);
             return Ok(());
         }
-        match self.place_keyed(&peer) {
-            Some(place) => self.relocate(place, peer),
-            None => {
-                let gone = HashSet::new(*self.peers.allocator());
-                self.exchange(gone, peer)
-            }
+        if self.is_below(peer.number) {
+            return self.push(peer);
         }
+        let gone = NumberSet::of(Vec::new(*self.peers.allocator()));
+        self.exchange(gone, peer)
     }
 
-    // Takes away the peers of these numbers.
-    fn remove_all(&mut self, gone: &HashSet<u32>) -> Result<(), AllocError>
+    /// Takes away the peers of these numbers, in one walk.
+    pub fn remove_all(&mut self, gone: &NumberSet)
         requires { AreApart self.old }
-        ensures ok { OnOk result (self.new ≡ peers_left self.old gone.now.keys) }
-        ensures err { OnErr result (self.new ≡ self.old) }
+        ensures { self.new ≡ peers_left self.old gone.now }
     {
-        self.addresses = self.addresses_left(gone)?;
-        forget_keys(&mut self.numbers, &self.peers, gone);
+        forget_addresses(&mut self.addresses, &self.peers, gone.as_slice());
+        forget_keys(&mut self.numbers, &self.peers, gone.as_slice());
         drop_peers(&mut self.peers, gone);
         self.soonest_end = soonest_end(&self.peers);
-        Ok(())
     }
 
     // Takes away the peers of these numbers and that of the peer's number, and puts in the peer.
-    fn exchange(&mut self, mut gone: HashSet<u32>, peer: Peer) -> Result<(), AllocError>
+    fn exchange(&mut self, mut gone: NumberSet, peer: Peer) -> Result<(), AllocError>
         requires apart { AreApart self.old }
-        requires fits { AreApart (put_peer (peers_left self.old gone.keys) peer) }
-        ensures ok { OnOk result (self.new ≡ put_peer (peers_left self.old gone.keys) peer) }
+        requires fits { AreApart (put_peer (peers_left self.old gone) peer) }
+        ensures ok { OnOk result (self.new ≡ put_peer (peers_left self.old gone) peer) }
         ensures err { OnErr result (self.new ≡ self.old) }
     {
         gone.insert(peer.number)?;
@@ -85,7 +89,7 @@ impl PeerTable {
         self.peers.reserve(1)?;
         self.numbers.reserve(1)?;
         // Nothing fails from here on.
-        forget_keys(&mut self.numbers, &self.peers, &gone);
+        forget_keys(&mut self.numbers, &self.peers, gone.as_slice());
         drop_peers(&mut self.peers, &gone);
         let Err(place) = peer_place(&self.peers, peer.number) else {
             unreachable!();
@@ -102,26 +106,36 @@ impl PeerTable {
     }
 
     // The addresses of the peers but those of these numbers.
-    fn addresses_left(&self, gone: &HashSet<u32>) -> Result<AddressSet, AllocError>
+    fn addresses_left(&self, gone: &NumberSet) -> Result<AddressSet, AllocError>
         requires { AreApart self.now }
-        ensures { IfOk result (λ left. (b : AddrValue) → IsAddr b → IsHeld left b ↔ (is_own (peers_left self.now gone.now.keys) b ≡ true)) }
+        ensures { IfOk result (λ left. (b : AddrValue) → IsAddr b → IsHeld left b ↔ (is_own (peers_left self.now gone.now) b ≡ true)) }
     {
         let mut left = self.addresses.copy()?;
-        for number in gone {
-            if let Some(peer) = self.peer(*number) {
-                left.remove(&peer.address)?;
-            }
-        }
+        forget_addresses(&mut left, &self.peers, gone.as_slice());
         Ok(left)
     }
 }
 
+// Takes the addresses of the peers of these numbers out of the set.
+fn forget_addresses(addresses: &mut AddressSet, peers: &[Peer], gone: &[u32])
+    requires numbered { AreNumbered peers.now }
+    requires apart { AreApart peers.now }
+    requires by_address { (b : AddrValue) → IsAddr b → IsHeld addresses.old b ↔ (is_own peers.now b ≡ true) }
+    ensures { (b : AddrValue) → IsAddr b → IsHeld addresses.new b ↔ (is_own (peers_left peers.now gone.now) b ≡ true) }
+{
+    for number in gone {
+        if let Ok(place) = peer_place(peers, *number) {
+            addresses.remove(&peers[place].address);
+        }
+    }
+}
+
 // Takes the keys of the peers of these numbers out of the index.
-fn forget_keys(numbers: &mut HashMap<Key, u32>, peers: &[Peer], gone: &HashSet<u32>)
+fn forget_keys(numbers: &mut HashMap<Key, u32>, peers: &[Peer], gone: &[u32])
     requires numbered { AreNumbered peers.now }
     requires apart { AreApart peers.now }
     requires by_key { (key : KeyValue) → get same_key numbers.old key ≡ key_holder peers.now key }
-    ensures by_key { (key : KeyValue) → get same_key numbers.new key ≡ key_holder (peers_left peers.now gone.now.keys) key }
+    ensures by_key { (key : KeyValue) → get same_key numbers.new key ≡ key_holder (peers_left peers.now gone.now) key }
     ensures room { spare numbers.old ≤ spare numbers.new }
 {
     for number in gone {
@@ -132,10 +146,10 @@ fn forget_keys(numbers: &mut HashMap<Key, u32>, peers: &[Peer], gone: &HashSet<u
 }
 
 // Takes away the peers of these numbers, in one walk.
-fn drop_peers(peers: &mut Vec<Peer>, gone: &HashSet<u32>)
-    ensures left { peers.new.items ≡ peers_left peers.old.items gone.now.keys }
+fn drop_peers(peers: &mut Vec<Peer>, gone: &NumberSet)
+    ensures left { peers.new.items ≡ peers_left peers.old.items gone.now }
     ensures fewer { vec_len peers.new ≤ vec_len peers.old }
     ensures room { vec_capacity peers.new ≡ vec_capacity peers.old }
 {
-    peers.retain(|peer| !gone.contains(&peer.number));
+    peers.retain(|peer| !gone.contains(peer.number));
 }

@@ -149,3 +149,45 @@ fn lines_lead_to_4096_routes_at_most(rt: HostRuntime) {
         ],
     );
 }
+
+#[test]
+fn the_first_test_that_fails_refuses_a_line(rt: HostRuntime) {
+    let mut full = office(&rt, 1_000_001);
+    full.capacity = capacity(&rt, 1);
+    check(
+        &rt,
+        full,
+        &[
+            (99, "adopt 8|9 0 0", "wrong_server"),
+            (99, "adopt 9|9 0 0", "line 2: server_key"),
+            (99, "adopt 9|2 0 0", "line 2: capacity_reached"),
+            (100, "adopt 9|2 0 0", "line 2: numbers_spent"),
+        ],
+    );
+    check(
+        &rt,
+        office(&rt, 1_000_001),
+        &[(99, "adopt 9|2 0 0 10.8.0.2/32", "line 2: numbers_spent")],
+    );
+    check(
+        &rt,
+        office(&rt, 2),
+        &[(
+            99,
+            "adopt 9|2 0 0 10.8.0.1/32 10.8.0.2/32",
+            "line 2: address_held",
+        )],
+    );
+    check(
+        &rt,
+        full_of_routes(&rt),
+        &[
+            (0, "adopt 9|4 0 0 10.8.0.1/32", "line 2: is_address"),
+            (
+                0,
+                "adopt 9|4 0 0 10.8.0.2/32 10.99.0.0/16",
+                "line 2: address_held",
+            ),
+        ],
+    );
+}

@@ -1,6 +1,6 @@
 //! Add, move, revoke, renew; routes, leases and limits.
 use super::{check, run};
-use crate::fixtures::{capacity, empty, full_of_routes, new_network};
+use crate::fixtures::{add_route, capacity, empty, full_of_routes, join, new_network, prefix};
 use std::alloc::AllocGlobal;
 use std::process::Abort;
 use wgr_core::Parts;
@@ -211,4 +211,53 @@ fn a_peer_takes_the_place_of_one_whose_lease_is_over(rt: HostRuntime) {
         ],
     );
     assert_eq!(rt; network.next(), 5);
+}
+
+// The parts of a network with room for one peer, which is there and whose lease ends at 100. It has a
+// route of one address beyond the pool.
+fn taken(rt: &(impl Abort + AllocGlobal), next: u32) -> Parts {
+    let mut parts = small(rt, 1);
+    join(rt, &mut parts, "10.8.0.2", 100, 0);
+    add_route(rt, &mut parts, prefix(rt, "192.168.4.9/32"), 1);
+    parts.next = next;
+    parts
+}
+
+#[test]
+fn the_first_test_that_fails_decides(rt: HostRuntime) {
+    check(
+        &rt,
+        taken(&rt, 1_000_001),
+        &[
+            (99, "add 9 - 99", "server_key"),
+            (99, "add 1 - 99", "key_held 1"),
+            (99, "add 2 - 99", "lease_over"),
+            (99, "add 2", "capacity_reached"),
+            (100, "add 2 10.8.0.255", "numbers_spent"),
+            (99, "move 1 192.168.4.9", "outside_pool"),
+            (99, "move 2 192.168.4.9", "no_such_peer"),
+            (99, "move 2 10.8.0.2", "no_such_peer"),
+            (99, "renew 2 99", "no_such_peer"),
+            (99, "route 2 10.8.0.2/32", "no_such_peer"),
+        ],
+    );
+    let mut with_room = taken(&rt, 2);
+    with_room.capacity = capacity(&rt, 2);
+    check(
+        &rt,
+        with_room,
+        &[
+            (99, "add 2 192.168.4.9", "outside_pool"),
+            (99, "add 2 10.8.0.2", "address_held"),
+        ],
+    );
+    check(
+        &rt,
+        full_of_routes(&rt),
+        &[
+            (0, "route 4 10.64.0.0/16", "no_such_peer"),
+            (0, "route 2 10.8.0.2/32", "is_address"),
+            (0, "route 2 10.8.0.1/32", "is_address"),
+        ],
+    );
 }

@@ -52,7 +52,7 @@ fn takes_peers(rt: HostRuntime) {
     for (number, key, text, is_taken) in [
         (3, 3, "10.8.0.6", true),
         (2, 3, "10.8.0.6", false),
-        (1, 3, "10.8.0.6", false),
+        (1, 3, "10.8.0.6", true),
         (4, 3, "10.8.0.6", false),
         (3, 2, "10.8.0.6", false),
         (3, 9, "10.8.0.6", false),
@@ -70,7 +70,7 @@ fn takes_peers(rt: HostRuntime) {
 fn takes_routes(rt: HostRuntime) {
     for (first, second, is_taken) in [
         (("10.20.0.0/16", 3), ("fd00::/8", 2), true),
-        (("fd00::/8", 2), ("10.20.0.0/16", 3), false),
+        (("fd00::/8", 2), ("10.20.0.0/16", 3), true),
         (("fd00::/8", 2), ("fd00::/8", 2), false),
         (("10.20.0.0/16", 1), ("fd00::/8", 2), false),
         (("10.8.0.5/32", 2), ("fd00::/8", 2), false),
@@ -99,4 +99,47 @@ fn has_parts(network: &Network) -> bool {
 fn keeps_parts(rt: HostRuntime) {
     let parts = two_routes(&rt, ("10.20.0.0/16", 3), ("fd00::/8", 2));
     assert!(rt; has_parts(&network(&rt, parts)));
+}
+
+// The numbers of the network's peers and the lengths of its routes, in their order.
+fn has_order(network: &Network, numbers: &[u32], lengths: &[u8]) -> bool {
+    let (peers, routes) = (network.peers(), network.routes());
+    peers.len() == numbers.len()
+        && routes.len() == lengths.len()
+        && peers
+            .iter()
+            .zip(numbers)
+            .all(|(peer, number)| peer.number == *number)
+        && routes
+            .iter()
+            .zip(lengths)
+            .all(|(route, length)| route.0.length() == *length)
+}
+
+#[test]
+fn orders_parts(rt: HostRuntime) {
+    let mut parts = empty(&rt, "10.8.0.0/24");
+    parts.next = 8;
+    for (number, text) in [
+        (5, "10.8.0.2"),
+        (2, "10.8.0.9"),
+        (7, "10.8.0.4"),
+        (1, "10.8.0.3"),
+    ] {
+        add_peer(
+            &rt,
+            &mut parts,
+            peer(&rt, number, number.to_le_bytes()[0], text),
+        );
+    }
+    for (text, number) in [
+        ("fd00::/9", 5),
+        ("10.20.0.0/16", 1),
+        ("fd00::/8", 7),
+        ("10.20.0.0/15", 2),
+        ("10.8.0.8/32", 1),
+    ] {
+        add_route(&rt, &mut parts, prefix(&rt, text), number);
+    }
+    assert!(rt; has_order(&network(&rt, parts), &[1, 2, 5, 7], &[32, 15, 16, 8, 9]));
 }

@@ -32,4 +32,4 @@ leave-requires c = subst IsNetwork (removes_one c.args.change c.args.self.now c.
 
 pub returns-in-Some-sole_removal-clause-ok : goal.returns-in-Some-sole_removal-clause-ok
 returns-in-Some-sole_removal-clause-ok c =
-    subst (λ (n : NetworkValue). OnOk c.leave.result (c.leave.new.self ≡ n)) (sym (removes_one c.args.change c.args.self.now c.in-Some-sole_removal.number c.in-Some-sole_removal.ensures)) c.leave.ensures.ok
+    c.leave.ensures ∙ sym (removes_one c.args.change c.args.self.now c.in-Some-sole_removal.number c.in-Some-sole_removal.ensures)

@@ -1,4 +1,4 @@
-use Rattle.std.proofs.Common.{◌≡◌, ◌↔◌, List, true, false, nat_eq, not, refl, sym, ap, ◌∙◌, subst}
+use Rattle.std.proofs.Common.{◌≡◌, ℕ, ◌↔◌, List, true, false, nat_eq, not, cond, refl, sym, ap, ◌∙◌, subst}
 use Rattle.std.specs.List.{All, AllPairs, list_any}
 use Rattle.wgr_text.specs.Prefix.{AddrValue, IsAddr}
 use Rattle.wgr_peers.specs.declared.peer.Peer.{Peer}
@@ -7,6 +7,7 @@ use Rattle.wgr_peers.specs.Peers.{is_own, key_holder, IsNumberedBelow, AreApart}
 use Rattle.wgr_peers.specs.PeerIndex.{IsIndexed, EndsFrom}
 use Rattle.wgr_peers.specs.PeersLeft.{peers_left}
 use Rattle.wgr_pool.proofs.Lists.{AllPairs-filter}
+use Rattle.wgr_pool.proofs.PrefixLemmas.{nat_eq_self}
 use Rattle.wgr_peers.proofs.TableLemmas.{indexed_same}
 use Rattle.wgr_peers.proofs.ExchangeLemmas.{exchanged, indexed_insert, none_left}
 use Rattle.wgr_peers.proofs.peer_table.PeerTable.exchange.Goals as goal
@@ -25,15 +26,15 @@ forget_keys-requires-clause-by_key c = λ key.
 
 pub peer_place-requires : goal.peer_place-requires
 peer_place-requires c =
-    let gone = c.insert.new.self.keys in
+    let gone = c.insert.new.self in
     let left = c.drop_peers.ensures.left ∙ ap (λ (ps : List Peer). peers_left ps gone) c.reserve.ensures.items in
     subst (AllPairs IsNumberedBelow) (sym (c.deref-2.ensures.value ∙ left)) (AllPairs-filter IsNumberedBelow (λ p. not (list_any (nat_eq p.number) gone)) c.self.inside.peers.items c.self.invariant.in_order)
 
 pub unreachable-requires : goal.unreachable-requires
 unreachable-requires c =
-    let gone = c.insert.new.self.keys in
+    let gone = c.insert.new.self in
     let ends = rw c.deref-2.ensures.value at c.in_default.ensures in
-    let none = subst (All (λ q. nat_eq q.number c.args.peer.number ≡ false)) (sym c.drop_peers.ensures.left) (none_left c.reserve.new.self.items gone c.args.peer.number c.in_ok-insert.ensures.updates.1) in
+    let none = subst (All (λ q. nat_eq q.number c.args.peer.number ≡ false)) (sym c.drop_peers.ensures.left) (none_left c.reserve.new.self.items gone c.args.peer.number (c.in_ok-insert.ensures.ok c.args.peer.number ∙ ap (λ b. cond b true (list_any (nat_eq c.args.peer.number) c.args.gone)) (nat_eq_self c.args.peer.number))) in
     let bad : true ≡ false = sym (ends.2 c.args.peer) ∙ none c.in_default.field-0 c.args.peer ends.1 in
     cc
 
@@ -41,17 +42,17 @@ pub invariant_of-self-2 : goal.invariant_of-self-2
 invariant_of-self-2 c =
     let p = c.args.peer in
     let items = c.self.inside.peers.items in
-    let gone = c.insert.new.self.keys in
+    let gone = c.insert.new.self in
     let rest = c.drop_peers.new.peers.items in
     let left = c.drop_peers.ensures.left ∙ ap (λ (ps : List Peer). peers_left ps gone) c.reserve.ensures.items in
     let numbered = subst (AllPairs IsNumberedBelow) (sym left) (AllPairs-filter IsNumberedBelow (λ p. not (list_any (nat_eq p.number) gone)) items c.self.invariant.in_order) in
     let ends = rw c.deref-2.ensures.value at c.in-Err.ensures in
-    let placed = exchanged items c.args.self.now rest c.args.gone.keys gone p c.in-Err.place c.self.invariant.in_order c.self.view_is left c.in_ok-insert.ensures.updates.0 ends in
+    let placed = exchanged items c.args.self.now rest c.args.gone gone p c.in-Err.place c.self.invariant.in_order c.self.view_is left c.in_ok-insert.ensures.ok ends in
     let made = c.in-Ok-insert.ensures.items in
     subst (λ (ps : List Peer). IsIndexed ps c.insert-3.new.self c.insert-2.new.self c.soonest_end-self-inside.result) (sym made)
     (indexed_insert rest c.forget_keys.new.numbers c.insert-3.new.self c.in_ok-addresses.addresses c.insert-2.new.self c.soonest_end-self-inside.result p c.in-Err.place numbered ends
     (subst AreApart (sym placed) c.requires.fits)
-    (λ key. c.forget_keys.ensures.by_key key ∙ ap (λ (ps : List Peer). key_holder (peers_left ps gone) key) c.deref.ensures.value ∙ sym (ap (λ (ps : List Peer). key_holder ps key) c.drop_peers.ensures.left))
+    (λ key. c.forget_keys.ensures.by_key key ∙ ap (λ (gs : List ℕ). key_holder (peers_left c.deref.result.now gs) key) c.as_slice.ensures ∙ ap (λ (ps : List Peer). key_holder (peers_left ps gone) key) c.deref.ensures.value ∙ sym (ap (λ (ps : List Peer). key_holder ps key) c.drop_peers.ensures.left))
     c.in-Ok.ensures.updates.0
     (subst (λ (ps : List Peer). (b : AddrValue) → IsAddr b → IsHeld c.in_ok-addresses.addresses b ↔ (is_own ps b ≡ true)) (ap (λ (ps : List Peer). peers_left ps gone) (sym c.self.view_is) ∙ sym left) c.in_ok-addresses.ensures)
     c.in_ok-insert-2.ensures.held
@@ -59,7 +60,7 @@ invariant_of-self-2 c =
 
 pub returns-clause-ok : goal.returns-clause-ok
 returns-clause-ok c =
-    let gone = c.insert.new.self.keys in
+    let gone = c.insert.new.self in
     let left = c.drop_peers.ensures.left ∙ ap (λ (ps : List Peer). peers_left ps gone) c.reserve.ensures.items in
     let ends = rw c.deref-2.ensures.value at c.in-Err.ensures in
-    c.in-Ok-insert.ensures.items ∙ exchanged c.self.inside.peers.items c.args.self.now c.drop_peers.new.peers.items c.args.gone.keys gone c.args.peer c.in-Err.place c.self.invariant.in_order c.self.view_is left c.in_ok-insert.ensures.updates.0 ends
+    c.in-Ok-insert.ensures.items ∙ exchanged c.self.inside.peers.items c.args.self.now c.drop_peers.new.peers.items c.args.gone gone c.args.peer c.in-Err.place c.self.invariant.in_order c.self.view_is left c.in_ok-insert.ensures.ok ends

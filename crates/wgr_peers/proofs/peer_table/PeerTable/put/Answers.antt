@@ -1,9 +1,10 @@
-use Rattle.std.proofs.Common.{◌≡◌, [], List, sym, ap, subst}
+use Rattle.std.proofs.Common.{◌≡◌, [], List, nat_eq, sym, ap, ◌∙◌, subst}
 use Rattle.std.specs.Prelude.{OnOk}
+use Rattle.std.specs.List.{list_any}
 use Rattle.wgr_peers.specs.declared.peer.Peer.{Peer}
 use Rattle.wgr_peers.specs.Peers.{put_peer, AreApart}
 use Rattle.wgr_peers.proofs.TableLemmas.{new_key}
-use Rattle.wgr_peers.proofs.ExchangeLemmas.{left_all, put_last}
+use Rattle.wgr_peers.proofs.ExchangeLemmas.{none_gone, put_last}
 use Rattle.wgr_peers.proofs.peer_table.PeerTable.put.Goals as goal
 
 pub push-requires-clause-new_key : goal.push-requires-clause-new_key
@@ -16,8 +17,8 @@ returns-then-is_below-clause-ok c =
 
 pub exchange-requires-clause-fits : goal.exchange-requires-clause-fits
 exchange-requires-clause-fits c =
-    subst AreApart (sym (ap (λ (ps : List Peer). put_peer ps c.args.peer) (left_all c.args.self.now c.new-gone.result.keys c.new-gone.ensures.empty))) c.requires.fits
+    subst AreApart (sym (ap (λ (ps : List Peer). put_peer ps c.args.peer) (none_gone c.args.self.now c.of-gone.result (λ n. c.of-gone.ensures n ∙ ap (list_any (nat_eq n)) c.new.ensures.items)))) c.requires.fits
 
-pub returns-in-None-clause-ok : goal.returns-in-None-clause-ok
-returns-in-None-clause-ok c =
-    subst (λ (ps : List Peer). OnOk c.exchange.result (c.exchange.new.self ≡ ps)) (ap (λ (ps : List Peer). put_peer ps c.args.peer) (left_all c.args.self.now c.new-gone.result.keys c.new-gone.ensures.empty)) c.exchange.ensures.ok
+pub returns-clause-ok : goal.returns-clause-ok
+returns-clause-ok c =
+    subst (λ (ps : List Peer). OnOk c.exchange.result (c.exchange.new.self ≡ ps)) (ap (λ (ps : List Peer). put_peer ps c.args.peer) (none_gone c.args.self.now c.of-gone.result (λ n. c.of-gone.ensures n ∙ ap (list_any (nat_eq n)) c.new.ensures.items))) c.exchange.ensures.ok

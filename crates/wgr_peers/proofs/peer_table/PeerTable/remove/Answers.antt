@@ -4,20 +4,20 @@ use Rattle.wgr_peers.specs.PeerIndex.{IsIndexed}
 use Rattle.wgr_peers.proofs.IndexLemmas.{peer_removed, peer_not_there, indexed_removed}
 use Rattle.wgr_peers.proofs.peer_table.PeerTable.remove.Goals as goal
 
-pub returns-in_default-clause-ok : goal.returns-in_default-clause-ok
-returns-in_default-clause-ok c =
+pub returns-in_default : goal.returns-in_default
+returns-in_default c =
     let ends = rw c.deref.ensures.value at c.in_default.ensures in
     sym (ap (λ ps. without_peer ps c.args.number) (sym c.self.view_is) ∙ peer_not_there c.self.inside.peers.items c.args.number c.in_default.field-0 c.self.invariant.in_order ends ∙ c.self.view_is)
 
-pub invariant_of-self-2 : goal.invariant_of-self-2
-invariant_of-self-2 c =
+pub invariant_of-self : goal.invariant_of-self
+invariant_of-self c =
     let p = c.index-peer.result.now in
     let ends = rw c.deref.ensures.value at c.in-Ok.ensures in
     subst (λ ps. IsIndexed ps c.remove-2.new.self c.remove.new.self c.self.inside.soonest_end) (sym c.remove-3.ensures.items)
     (indexed_removed c.self.inside.peers.items c.self.inside.numbers c.remove-2.new.self c.self.inside.addresses c.remove.new.self _ c.args.number c.in-Ok.place p c.self.invariant
-    (subst AreApart (sym c.self.view_is) c.requires) ends c.index-peer.ensures c.remove-2.ensures.updates.0 c.in_ok-remove.ensures.held)
+    (subst AreApart (sym c.self.view_is) c.requires) ends c.index-peer.ensures c.remove-2.ensures.updates.0 c.remove.ensures)
 
-pub returns-clause-ok : goal.returns-clause-ok
-returns-clause-ok c =
+pub returns : goal.returns
+returns c =
     let ends = rw c.deref.ensures.value at c.in-Ok.ensures in
     c.remove-3.ensures.items ∙ sym (peer_removed c.self.inside.peers.items c.args.number c.in-Ok.place c.self.invariant.in_order ends) ∙ ap (λ ps. without_peer ps c.args.number) c.self.view_is

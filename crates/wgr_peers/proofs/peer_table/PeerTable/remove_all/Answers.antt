@@ -1,4 +1,4 @@
-use Rattle.std.proofs.Common.{◌≡◌, ◌↔◌, List, true, nat_eq, not, sym, ap, ◌∙◌, subst}
+use Rattle.std.proofs.Common.{◌≡◌, ◌↔◌, ℕ, List, true, nat_eq, not, sym, ap, ◌∙◌, subst}
 use Rattle.std.specs.List.{All, AllPairs, list_any}
 use Rattle.wgr_text.specs.Prefix.{AddrValue, IsAddr}
 use Rattle.wgr_peers.specs.declared.peer.Peer.{Peer}
@@ -12,13 +12,16 @@ use Rattle.wgr_peers.proofs.peer_table.PeerTable.remove_all.Goals as goal
 pub invariant_of-self : goal.invariant_of-self
 invariant_of-self c =
     let items = c.self.inside.peers.items in
-    let gone = c.args.gone.now.keys in
+    let gone = c.args.gone.now in
     let left = c.drop_peers.ensures.left in
-    let seen = ap (λ (ps : List Peer). peers_left ps gone) (sym c.self.view_is) ∙ sym left in
+    let seen = ap (λ (ps : List Peer). peers_left ps c.as_slice.result.now) c.deref.ensures.value ∙ ap (peers_left items) c.as_slice.ensures ∙ sym left in
     record {
       in_order = subst (AllPairs IsNumberedBelow) (sym left) (AllPairs-filter IsNumberedBelow (λ p. not (list_any (nat_eq p.number) gone)) items c.self.invariant.in_order);
       by_key = λ key.
-          c.forget_keys.ensures.by_key key ∙ ap (λ (ps : List Peer). key_holder (peers_left ps gone) key) c.deref.ensures.value ∙ sym (ap (λ (ps : List Peer). key_holder ps key) left);
-      by_address = subst (λ (ps : List Peer). (b : AddrValue) → IsAddr b → IsHeld c.in_ok-self-inside.field-0 b ↔ (is_own ps b ≡ true)) seen c.in_ok-self-inside.ensures;
-      ends = subst (All (EndsFrom c.soonest_end-self-inside.result)) c.deref-2.ensures.value c.soonest_end-self-inside.ensures;
+          c.forget_keys.ensures.by_key key
+          ∙ ap (λ (ps : List Peer). key_holder (peers_left ps c.as_slice-2.result.now) key) c.deref-2.ensures.value
+          ∙ ap (λ (gs : List ℕ). key_holder (peers_left items gs) key) c.as_slice-2.ensures
+          ∙ sym (ap (λ (ps : List Peer). key_holder ps key) left);
+      by_address = subst (λ (ps : List Peer). (b : AddrValue) → IsAddr b → IsHeld c.forget_addresses.new.addresses b ↔ (is_own ps b ≡ true)) seen c.forget_addresses.ensures;
+      ends = subst (All (EndsFrom c.soonest_end-self-inside.result)) c.deref-3.ensures.value c.soonest_end-self-inside.ensures;
     }

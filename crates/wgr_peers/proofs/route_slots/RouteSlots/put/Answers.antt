@@ -1,10 +1,11 @@
-use Rattle.std.proofs.Common.{◌≡◌, ℕ, ◌+◌, ◌<◌, ◌≤◌, ◌^◌, Bool, not, cond, nat_eq, length, sym, ap, subst, ◌∙◌, arith}
+use Rattle.std.proofs.Common.{◌≡◌, ℕ, ◌+◌, ◌<◌, ◌≤◌, ◌^◌, Bool, true, false, not, cond, nat_eq, length, sym, ap, subst, ◌∙◌, arith}
 use Rattle.std.specs.HashSet.{contains}
+use Rattle.std.specs.Prelude.{IsSome}
 use Rattle.std.specs.List.{filter}
 use Rattle.wgr_text.specs.Prefix.{PrefixValue, IsAddr}
 use Rattle.wgr_peers.specs.Routes.{Routes, assign_route, route_of}
 use Rattle.wgr_peers.specs.RouteSlots.{AreSlots, IsMasked}
-use Rattle.wgr_peers.proofs.SlotLemmas.{filled_put, filled_length, filter_shorter, slots_put}
+use Rattle.wgr_peers.proofs.SlotLemmas.{filled_put, filled_length, filter_shorter, slots_put, some_filled}
 use Rattle.wgr_peers.proofs.route_slots.RouteSlots.put.Goals as goal
 
 pub overflow_add-self : goal.overflow_add-self
@@ -65,3 +66,12 @@ returns-else-is_new-clause-ok c =
     ap (filter q) c.in_ok-put_route.ensures.put
     ∙ filled_put q slots c.args.prefix c.args.number c.reserve_number.ensures.slots.ordered (ap not c.reserve_number.ensures.reserved)
     ∙ ap (λ (routes : Routes). assign_route routes c.args.prefix c.args.number) (c.reserve_number.ensures.same ∙ c.self.view_is)
+
+pub returns-in_err-put_route-clause-succeeds : goal.returns-in_err-put_route-clause-succeeds
+returns-in_err-put_route-clause-succeeds c = λ some.
+    let q = λ (r : PrefixValue × ℕ). not (contains nat_eq c.reserve_number.new.vacant r.1) in
+    let slots = c.reserve_number.new.slots.items in
+    let p = c.args.prefix in
+    let standing = some_filled q slots p (subst (λ (routes : Routes). IsSome (route_of routes p)) (sym (c.reserve_number.ensures.same ∙ c.self.view_is)) some) in
+    let bad : false ≡ true = c.in_err-put_route.ensures.succeeds standing in
+    cc

@@ -10,7 +10,7 @@ returns c =
     let a = c.args.address.now in
     let seen = c.as_slice-runs.ensures.value ∙ c.self.view_is in
     let p = c.place_above-place in
-    let runs = subst (AreRunsFrom 0) (sym c.as_slice-runs.ensures.value) c.self.invariant in (
+    let runs = subst (AreRunsFrom 0) (sym c.as_slice-runs.ensures.value) c.self.invariant.0 in (
       (λ h. subst (λ xs. IsHeld xs a) seen (held_before c.as_slice-runs.result.now p.result a a p.ensures.within p.ensures.below (c.is_in_last.ensures.has h) refl)),
       (λ h. elim (decide c.is_in_last.result) [
         | inl t ↦ t

@@ -2,7 +2,7 @@ use Rattle.std.proofs.Common.{rules}
 use Rattle.std.proofs.lemmas.List.Sorted.{answers_always}
 use Rattle.wgr_pool.specs.PrefixTests.{is_before}
 use Rattle.wgr_core.proofs.PartsLemmas.{ordered_iff}
-use Rattle.wgr_core.proofs.parts.are_ordered.Goals as goal
+use Rattle.wgr_core.proofs.arrange.are_ordered.Goals as goal
 
 pub returns : goal.returns
 returns c =
