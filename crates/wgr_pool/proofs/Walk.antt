@@ -6,19 +6,20 @@ use Rattle.std.proofs.lemmas.List.Elements.{All-push}
 use Rattle.wgr_text.specs.declared.prefix.Span.{Span}
 use Rattle.wgr_text.specs.Prefix.{AddrValue, PrefixValue, IsAddr, rank, first_rank, width}
 use Rattle.wgr_pool.proofs.Ranges.{between_family}
+use Rattle.wgr_pool.proofs.RunLists.{held_append}
 use Rattle.wgr_pool.specs.Pool.{IsRangeOf}
-use Rattle.wgr_pool.specs.Spans.{IsHeld, RisesFrom, IsLowestFree, IsFull, StopsAt}
+use Rattle.wgr_pool.specs.Spans.{IsHeld, RisesFrom, IsLowestFree, IsFull, IsFilledBy, StopsAt}
 
 -- `old` was to come and `new` still is; the addresses from `lo` to below `at` are held, and those from `at` on are free of what was taken
 pub record Walk (old new : List Span) (lo at : AddrValue) : Type 0 where
   pub covered : (a : AddrValue) → rank lo ≤ rank a → rank a < rank at → IsHeld old a
-  pub gone : (a : AddrValue) → rank at ≤ rank a → IsHeld old a → IsHeld new a
   pub early : List Span
   pub parts : old ≡ early ++ new
   pub early_begin : All (λ s. rank s.lo ≤ rank at) early
+  pub passed : (a : AddrValue) → rank at ≤ rank a → IsHeld early a → ⊥
 
 pub walk_start : (old : List Span) (lo : AddrValue) → Walk old old lo lo
-walk_start old lo = record { covered = λ a h l. absurd (omega (arith, h, l)); gone = λ a h i. i; early = []; parts = refl; early_begin = λ k d h. absurd (omega arith) }
+walk_start old lo = record { covered = λ a h l. absurd (omega (arith, h, l)); passed = λ a h i. i; early = []; parts = refl; early_begin = λ k d h. absurd (omega arith) }
 
 pub held_later : (early new : List Span) (a : AddrValue) → IsHeld new a → IsHeld (early ++ new) a
 held_later [] new a h = h
@@ -30,11 +31,15 @@ walk_on old new s lo at next w begins on covers past = record {
     | inl l ↦ w.covered a from l
     | inr g ↦ subst (λ xs. IsHeld xs a) (sym w.parts) (held_later w.early (s ∷ new) a (inl (omega (arith, begins, g), covers a g below)))
   ];
-  gone = λ a g h. elim (w.gone a (omega (arith, on, g)) h) [ inl i ↦ absurd (omega (arith, i.1, g, past)) | inr i ↦ i ];
+  passed = λ a g h. elim ((held_append w.early (s ∷ []) a).0 h) [ inl i ↦ w.passed a (omega (arith, on, g)) i | inr i ↦ elim i [ inl j ↦ omega (arith, j.1, g, past) | inr j ↦ j ] ];
   early = w.early ++ s ∷ [];
   parts = w.parts ∙ sym (append_assoc w.early (s ∷ []) new);
   early_begin = All-push (λ s. rank s.lo ≤ rank next) w.early s (λ k d l. omega (arith, w.early_begin k d l, on)) (omega (arith, begins, on));
 }
+
+-- what was taken has no address from `at` on
+still_held : (old new : List Span) (lo at a : AddrValue) → Walk old new lo at → rank at ≤ rank a → IsHeld old a → IsHeld new a
+still_held old new lo at a w from h = elim ((held_append w.early new a).0 (subst (λ xs. IsHeld xs a) w.parts h)) [ inl i ↦ absurd (w.passed a from i) | inr i ↦ i ]
 
 -- no span of those that begin above a place has it
 pub none_before : (floor : ℕ) (spans : List Span) (a : AddrValue) → RisesFrom floor spans → rank a < floor → IsHeld spans a → ⊥
@@ -44,7 +49,7 @@ none_before floor (s ∷ spans) a r l (inr h) = none_before (rank s.lo) spans a 
 
 pub walk_free : (pool : PrefixValue) (old new : List Span) (lo last at : AddrValue) → IsRangeOf pool lo last → Walk old new lo at → IsAddr at → rank lo ≤ rank at → rank at ≤ rank last → (IsHeld new at → ⊥) → IsLowestFree pool old at
 walk_free pool old new lo last at range w fits from to free = record {
-  is_free = (fits, (range.between at fits).1 (from, to), λ h. free (w.gone at (omega arith) h));
+  is_free = (fits, (range.between at fits).1 (from, to), λ h. free (still_held old new lo at at w (omega arith) h));
   is_least = λ b is. elim (cases_lt (rank b) (rank at)) [ inl l ↦ absurd (is.2 (w.covered b (((range.between b is.0).0 is.1).0) l)) | inr g ↦ g ];
 }
 
@@ -58,6 +63,15 @@ walk_full pool old new s lo last at range w begins ends a fits is =
       | inl l ↦ w.covered a b.0 l
       | inr g ↦ subst (λ xs. IsHeld xs a) (sym w.parts) (held_later w.early (s ∷ new) a (inl (omega (arith, begins, g), omega (arith, b.1, ends))))
     ]
+
+-- the span that fills the pool is the last that was taken
+pub walk_fills : (pool : PrefixValue) (old new : List Span) (s : Span) (lo last at : AddrValue) → IsRangeOf pool lo last → Walk old (s ∷ new) lo at → IsAddr at → rank lo ≤ rank at → rank at ≤ rank last → IsFilledBy pool old new
+walk_fills pool old new s lo last at range w fits from to = record {
+  early = w.early;
+  last = s;
+  parts = w.parts;
+  free_before = (at, (fits, (range.between at fits).1 (from, to), w.passed at (omega arith)));
+}
 
 -- the address after a span's last, where that is below the pool's last
 pub next_is : (pool : PrefixValue) (lo last at hi next : AddrValue) → IsRangeOf pool lo last → rank lo ≤ rank at → rank at ≤ rank hi → rank hi < rank last → IsAddr hi → next ≡ record { family = last.family; number = hi.number + 1 } → IsAddr next × (rank next ≡ rank hi + 1)

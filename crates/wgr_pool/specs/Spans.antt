@@ -49,3 +49,11 @@ pub record StopsAt (old new : List Span) (a : AddrValue) : Type 0 where
   pub parts : old ≡ early ++ (late ++ new)
   pub early_begin : All (λ s. rank s.lo ≤ rank a) early
   pub one_late : length late ≤ 1
+
+-- what was taken of the spans `old` to leave `new`, where they fill the pool: the last of them
+-- fills it, and an address is free of those before
+pub record IsFilledBy (pool : PrefixValue) (old new : List Span) : Type 0 where
+  pub early : List Span
+  pub last : Span
+  pub parts : old ≡ early ++ (last ∷ new)
+  pub free_before : (a : AddrValue) × IsFree pool early a

@@ -1,7 +1,7 @@
-ghost use Rattle.std.specs.Prelude.{◌≡◌, ℕ, ◌+◌, ◌^◌, ◌<◌, ◌≤◌, ◌↔◌, List, IsTrue, IfOk, IfErr, IfSome, MatchOption};
+ghost use Rattle.std.specs.Prelude.{◌≡◌, ℕ, ◌+◌, ◌^◌, ◌<◌, ◌≤◌, ◌↔◌, List, IsTrue, IfOk, IfErr, IfSome, IfNone, MatchOption};
 ghost use Rattle.wgr_text.specs.Prefix.{rank, width};
 ghost use Rattle.wgr_text.specs.declared.prefix.Span.{Span};
-ghost use Rattle.wgr_pool.specs.Spans.{RisesFrom, Takes, IsLowestFree, IsFull, StopsAt};
+ghost use Rattle.wgr_pool.specs.Spans.{RisesFrom, Takes, IsLowestFree, IsFull, IsFilledBy, StopsAt};
 
 use crate::pool::Pool;
 use wgr_text::{Addr, Span};
@@ -23,7 +23,7 @@ pub trait Holds {
     /// Whether it gives just these.
     ghost honest: { Self → Type 0 };
 
-    /// No span that it gives from now on begins below this place.
+    /// No span that it gives from now on begins below this place, which never falls.
     ghost floor: { Self → ℕ };
 
     /// How many spans it can still give at most.
@@ -34,6 +34,7 @@ pub trait Holds {
 
     fn next_hold(&mut self) -> Result<Option<Span>, Stop>
         ensures falls { IfOk result (λ given. IfSome given (λ _. left self.new < left self.old)) }
+        ensures floor { floor self.old ≤ floor self.new }
         ensures rises { IfOk result (λ given. IfSome given (λ s. (floor self.old ≤ rank s.lo) × (floor self.new ≡ rank s.lo))) }
         ensures first { honest self.new → IfOk result (λ given. Takes (rest self.old) given (rest self.new)) }
         ensures stops { IfErr result (λ why. stopped self.new why) }
@@ -42,11 +43,14 @@ pub trait Holds {
     ghost in_order: { (s : Self) → honest s → RisesFrom (floor s) (rest s) };
 }
 
-/// The lowest address that the pool may give and that no span of the source has.
+/// The lowest address that the pool may give and that no span of the source has. Of the source it
+/// takes no span after the first that tells: the one that begins above the address, or the one that
+/// fills the pool.
 pub fn lowest_free<H: Holds>(pool: &Pool, holds: &mut H) -> Result<Option<Addr>, Stop>
     ensures lowest { H.honest holds.new → IfOk result (λ found. MatchOption found (IsFull pool.now (H.rest holds.old)) (IsLowestFree pool.now (H.rest holds.old))) }
     ensures stop { IfErr result (λ why. H.stopped holds.new why) }
     ensures taken { H.honest holds.new → IfOk result (λ found. IfSome found (StopsAt (H.rest holds.old) (H.rest holds.new))) }
+    ensures filled { H.honest holds.new → IfOk result (λ found. IfNone found (IsFilledBy pool.now (H.rest holds.old) (H.rest holds.new))) }
 {
     let Span { lo, hi: last } = pool.assignable();
     let mut candidate = lo;

@@ -2,7 +2,7 @@ use Rattle.std.proofs.Common.{◌+◌, ◌<◌, ◌∷◌, ◌≡◌, [], inl, i
 use Rattle.std.proofs.lemmas.Bool.{cases_lt}
 use Rattle.wgr_text.specs.Prefix.{rank}
 use Rattle.wgr_pool.specs.Spans.{RisesFrom, IsHeld}
-use Rattle.wgr_pool.proofs.Walk.{Walk, walk_on, walk_free, walk_full, walk_stops, none_first, next_is}
+use Rattle.wgr_pool.proofs.Walk.{Walk, walk_on, walk_free, walk_fills, walk_full, walk_stops, none_first, next_is}
 use Rattle.wgr_pool.proofs.allot.lowest_free.Goals as goal
 
 pub returns-then-not-is_at_most-clause-lowest : goal.returns-then-not-is_at_most-clause-lowest
@@ -29,6 +29,13 @@ returns-then-is_at_most-clause-lowest g c = λ h.
     let begins = c.if-not-is_at_most.ensures.0 refl in
     let ends = c.if-is_at_most.ensures.0 refl in
     walk_full _ _ _ _ _ _ _ c.assignable-lo.ensures w begins ends
+
+pub returns-then-is_at_most-clause-filled : goal.returns-then-is_at_most-clause-filled
+returns-then-is_at_most-clause-filled g c = λ h.
+    let before = c.in_ok-span.ensures.was_honest h in
+    let took = rw c.in-Some.is at (c.in_ok-span.ensures.first h) in
+    let w = subst (λ xs. Walk (g.H.Holds.rest c.args.holds.now) xs c.assignable-lo.result.lo c.loop-span.candidate) took (c.loop-span.invariant.3 before) in
+    walk_fills _ _ _ _ _ _ _ c.assignable-lo.ensures w c.loop-span.invariant.0 c.loop-span.invariant.1 c.loop-span.invariant.2
 
 pub loop-span-preserved-then-is_at_most-2 : goal.loop-span-preserved-then-is_at_most-2
 loop-span-preserved-then-is_at_most-2 g c =
