@@ -10,7 +10,7 @@ use Rattle.wgr_core.specs.declared.reply.Reply.TheVariants as reply
 use Rattle.wgr_core.specs.Network.{NetworkValue}
 use Rattle.wgr_model.specs.Register.{Bytes, Register, id_of, is_same, tenant_view}
 use Rattle.wgr_model.specs.Consistent.{is_pool, overlaps}
-use Rattle.wgr_model.specs.Steps.{Event, Answer, Settings, act, first_refusal, given, has_digest, has_endpoint, has_name, has_slot, is_full, granted, network_added, new_network, outcome, overlapping, pool_refusal, refuse, with_new_network, with_tenant, with_token}
+use Rattle.wgr_model.specs.Steps.{Event, Answer, Settings, act, first_refusal, given, has_digest, has_endpoint, has_name, has_slot, granted, network_added, new_network, outcome, overlapping, pool_refusal, refuse, with_new_network, with_tenant, with_token}
 use Rattle.wgr_model.specs.Steps.{Ask, Networks, AddTenant, Grant, EndToken, AddNetwork, EndNetwork}
 use Rattle.wgr_model.specs.Steps.{Replied, UnknownToken, NoSuchNetwork, Done, Refused}
 use Rattle.wgr_model.specs.Steps.{NameHeld, NoSuchTenant, DigestHeld, PoolOverlaps, BadPool, PortHeld, NoSuchToken, NoNetwork, RegisterFull}
