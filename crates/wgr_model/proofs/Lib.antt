@@ -27,3 +27,5 @@ pub mod ServeLemmas
 pub mod OrderSteps
 pub mod ListingLemmas
 pub mod ActLemmas
+pub mod NewNetworkLemmas
+pub mod ExistLemmas
