@@ -29,3 +29,4 @@ pub mod ListingLemmas
 pub mod ActLemmas
 pub mod NewNetworkLemmas
 pub mod ExistLemmas
+pub mod RowExamples
