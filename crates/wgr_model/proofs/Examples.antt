@@ -10,7 +10,7 @@ use Rattle.wgr_core.specs.declared.reply.Reply.TheVariants as reply
 use Rattle.wgr_core.specs.Network.{NetworkValue}
 use Rattle.wgr_model.specs.Register.{Bytes, Register, id_of, is_same, tenant_view}
 use Rattle.wgr_model.specs.Consistent.{is_pool, overlaps}
-use Rattle.wgr_model.specs.Steps.{Event, Answer, Settings, act, first_refusal, given, has_digest, has_endpoint, has_name, has_slot, is_full, granted, network_added, new_network, outcome, overlapping, pool_refusal, refuse, with_new_network, with_tenant, with_token}
+use Rattle.wgr_model.specs.Steps.{Event, Answer, Settings, act, first_refusal, given, has_digest, has_endpoint, has_name, has_slot, granted, network_added, new_network, outcome, overlapping, pool_refusal, refuse, with_new_network, with_tenant, with_token}
 use Rattle.wgr_model.specs.Steps.{Ask, Networks, AddTenant, Grant, EndToken, AddNetwork, EndNetwork}
 use Rattle.wgr_model.specs.Steps.{Replied, UnknownToken, NoSuchNetwork, Done, Refused}
 use Rattle.wgr_model.specs.Steps.{NameHeld, NoSuchTenant, DigestHeld, PoolOverlaps, BadPool, PortHeld, NoSuchToken, NoNetwork, RegisterFull}
@@ -21,6 +21,10 @@ ten_eight c d length = record { address = record { family = V4; number = 10 * 2 
 
 abbrev at_port : PrefixValue → ℕ → Settings
 at_port pool port = record { pool = pool; host = codes "vpn.example.net"; port = port; server = record { 0 = replicate 32 9 }; capacity = 4096 }
+
+-- the same on another host
+abbrev elsewhere : PrefixValue → ℕ → Settings
+elsewhere pool port = record (at_port pool port) { host = codes "office.example.net" }
 
 abbrev lab : NetworkValue
 lab = new_network (at_port (ten_eight 0 0 25) 51820)
@@ -90,6 +94,11 @@ digest_held : answer (Grant (codes "bolt") (replicate 32 1)) ≡ Refused DigestH
 unfolding is_same
 digest_held = refl
 
+-- the tenant is looked for before the token
+tenant_before_digest : answer (Grant (codes "nobody") (replicate 32 1)) ≡ Refused NoSuchTenant
+unfolding is_same
+tenant_before_digest = refl
+
 no_such_token : answer (EndToken (replicate 32 3)) ≡ Refused NoSuchToken
 unfolding is_same
 no_such_token = refl
@@ -112,18 +121,56 @@ too_long : answer (AddNetwork (codes "cato") (codes "office") (at_port (ten_eigh
 unfolding is_same is_pool overlaps
 too_long = refl
 
--- the name is looked at before the pool
-name_first : answer (AddNetwork (codes "acme") (codes "lab") (at_port (ten_eight 0 1 24) 1)) ≡ Refused NameHeld
+-- Of two checks that fail, the earlier one is told: here and for a register that is full (below) for
+-- each two that stand side by side and can both fail. The tenant comes before the pool; without it
+-- there is no name that could be held.
+tenant_before_pool : answer (AddNetwork (codes "nobody") (codes "lab") (at_port (ten_eight 0 1 24) 51820)) ≡ Refused NoSuchTenant
 unfolding is_same is_pool overlaps
-name_first = refl
+tenant_before_pool = refl
+
+-- 10.8.0.1/24 has host bits, and addresses in common with two pools
+bits_and_overlap : pool_refusal (overlapping house.tenants house.networks (ten_eight 0 1 24)) ≡ Some (PoolOverlaps (codes "acme") (codes "lab"))
+unfolding is_same overlaps
+bits_and_overlap = refl
+
+pool_before_overlap : answer (AddNetwork (codes "cato") (codes "office") (at_port (ten_eight 0 1 24) 51820)) ≡ Refused BadPool
+unfolding is_same is_pool overlaps
+pool_before_overlap = refl
+
+overlap_before_port : answer (AddNetwork (codes "cato") (codes "office") (at_port (ten_eight 0 0 24) 51820)) ≡ Refused (PoolOverlaps (codes "acme") (codes "lab"))
+unfolding is_same is_pool overlaps
+overlap_before_port = refl
+
+-- the name is looked at before the pool
+name_before_pool : answer (AddNetwork (codes "acme") (codes "lab") (at_port (ten_eight 0 1 24) 1)) ≡ Refused NameHeld
+unfolding is_same is_pool overlaps
+name_before_pool = refl
 
 port_held : answer (AddNetwork (codes "cato") (codes "lab") (at_port (ten_eight 1 0 24) 51820)) ≡ Refused PortHeld
 unfolding is_same is_pool overlaps
 port_held = refl
 
+-- an endpoint is a host and a port: the port of another host is free, and so is another port
+port_elsewhere : answer (AddNetwork (codes "cato") (codes "lab") (elsewhere (ten_eight 1 0 24) 51820)) ≡ Done
+unfolding is_same is_pool overlaps
+port_elsewhere = refl
+
 new_network_done : answer (AddNetwork (codes "cato") (codes "lab") (at_port (ten_eight 1 0 24) 1)) ≡ Done
 unfolding is_same is_pool overlaps
 new_network_done = refl
+
+-- a new network with a host, a server key and a capacity of its own
+abbrev small : Settings
+small = record { pool = ten_eight 1 0 24; host = codes "office.example.net"; port = 51820; server = record { 0 = replicate 32 7 }; capacity = 100 }
+
+small_network : (outcome house (AddNetwork (codes "cato") (codes "lab") small) 6).1.networks
+    ≡ record { id = 6; tenant = 3; name = codes "lab"; network = record { pool = ten_eight 1 0 24; host = codes "office.example.net"; port = 51820; server = record { 0 = replicate 32 7 }; capacity = 100; next = 1; peers = []; routes = [] } } ∷ house.networks
+unfolding is_same is_pool overlaps
+small_network = refl
+
+nobodys_network : answer (EndNetwork (codes "nobody") (codes "lab")) ≡ Refused NoSuchTenant
+unfolding is_same
+nobodys_network = refl
 
 no_network : answer (EndNetwork (codes "acme") (codes "a")) ≡ Refused NoNetwork
 unfolding is_same
@@ -166,6 +213,12 @@ tokens_full r tenant digest id new many known free =
     ap (λ o. (granted r digest o).0) known
     ∙ ap (λ b. token_answer r digest id b (nat_lt (length r.tokens) 65536)) free
     ∙ ap (token_answer r digest id false) (fills (length r.tokens) many)
+
+-- a digest that is held is told before that there is none
+held_digest_told : (r : Register) (tenant digest : Bytes) (id new : ℕ) → id_of r.tenants tenant ≡ Some id → has_digest r.tokens digest ≡ true → (outcome r (Grant tenant digest) new).0 ≡ Refused DigestHeld
+held_digest_told r tenant digest id new known held =
+    ap (λ o. (granted r digest o).0) known
+    ∙ ap (λ b. token_answer r digest id b (nat_lt (length r.tokens) 65536)) held
 
 token_taken : (r : Register) (tenant digest : Bytes) (id new : ℕ) → length r.tokens < 65536 → id_of r.tenants tenant ≡ Some id → has_digest r.tokens digest ≡ false → (outcome r (Grant tenant digest) new).0 ≡ Done
 token_taken r tenant digest id new few known free =

@@ -123,7 +123,7 @@ pair_tells : (n p : ℕ) (a b : AllowedRow) → (nat_eq a.network n && nat_eq a.
 pair_tells n p a b h k = grind (arith, nat_tests, h, k)
 
 -- a number is read back from its peer's id
-number_back : (network number : ℕ) → number_in network (peer_id network number) ≡ number
+pub number_back : (network number : ℕ) → number_in network (peer_id network number) ≡ number
 number_back network number = omega arith
 
 module _ (r : Register) (t : Tables) (rows : AreRowsOf r t) (good : IsConsistent r) (h : Holding) (held : Has r.networks h) where

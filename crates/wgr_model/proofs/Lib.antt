@@ -27,3 +27,6 @@ pub mod ServeLemmas
 pub mod OrderSteps
 pub mod ListingLemmas
 pub mod ActLemmas
+pub mod NewNetworkLemmas
+pub mod ExistLemmas
+pub mod RowExamples

@@ -21,7 +21,7 @@ use Rattle.wgr_model.proofs.GatherLemmas.{eqb_self, in_filter}
 use Rattle.wgr_model.proofs.HolderLemmas.{member, one_or_apart, one_or_related}
 use Rattle.wgr_model.proofs.SameLemmas.{at_has, eqb_sym}
 
-none_at : {A : Type 0} (f : A → Bool) (xs : List A) (a : A) → list_any f xs ≡ false → Has xs a → f a ≡ false
+pub none_at : {A : Type 0} (f : A → Bool) (xs : List A) (a : A) → list_any f xs ≡ false → Has xs a → f a ≡ false
 none_at f [] a none h = elim h [ ]
 none_at f (x ∷ xs) a none (inl e) = ap f (sym e) ∙ (or_false (f x) (list_any f xs) none).0
 none_at f (x ∷ xs) a none (inr h) = none_at f xs a (or_false (f x) (list_any f xs) none).1 h

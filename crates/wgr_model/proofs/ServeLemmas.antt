@@ -4,11 +4,26 @@ use Rattle.std.specs.Option.{option_map}
 use Rattle.std.proofs.lemmas.List.{take_more, length-take-le}
 use Rattle.wgr_model.specs.declared.answer.Answer as answer
 use Rattle.wgr_model.specs.declared.run.Event as event
-use Rattle.wgr_model.specs.Calls.{answer_of, event_of, served}
+use Rattle.wgr_model.specs.Calls.{AreAnswered, answer_of, event_of}
 use Rattle.wgr_model.specs.Register.{Register}
 use Rattle.wgr_model.specs.Runs.{AreProper, IsRun, IsServed, Served}
 use Rattle.wgr_model.specs.Steps.{Answer, Event, IsProper}
 use Rattle.wgr_model.proofs.RunLemmas.{same_itself}
+
+-- each event with its answer, as far as there are answers
+abbrev pub served : List event.Event → List (Option answer.Answer) → List Served
+served [] answers = []
+served (e ∷ es) [] = []
+served (e ∷ es) (a ∷ answers) = (event_of e, option_map answer_of a) ∷ served es answers
+
+-- where there is one for each, that is the whole list
+pub served_whole : (es : List event.Event) (answers : List (Option answer.Answer)) → length answers ≡ length es → AreAnswered es answers (served es answers)
+served_whole [] [] h = record { asked = refl; told = refl }
+served_whole [] (a ∷ answers) h = absurd (omega (arith, h))
+served_whole (e ∷ es) [] h = absurd (omega (arith, h))
+served_whole (e ∷ es) (a ∷ answers) h =
+    let rest = served_whole es answers (omega (arith, h)) in
+    record { asked = ap (λ xs. event_of e ∷ xs) rest.asked; told = ap (λ xs. option_map answer_of a ∷ xs) rest.told }
 
 -- a run to this very register
 abbrev pub IsExactRun : Register → List Served → Register → Type 0

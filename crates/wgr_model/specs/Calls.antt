@@ -1,5 +1,5 @@
 -- What the calls of the plain register are in the words of the definitions.
-use Rattle.std.specs.Prelude.{◌≡◌, ℕ, false, List, [], ◌∷◌, Option, Some, None, Result, Ok, Err, string_bytes}
+use Rattle.std.specs.Prelude.{◌≡◌, ℕ, false, List, map, Option, Some, None, Result, Ok, Err, string_bytes}
 use Rattle.std.specs.Option.{option_map}
 use Rattle.wgr_text.specs.Prefix.{PrefixValue}
 use Rattle.wgr_core.specs.Network.{NetworkValue}
@@ -15,7 +15,7 @@ use Rattle.wgr_model.specs.declared.order.Order as order
 use Rattle.wgr_model.specs.declared.order.Order.TheVariants as ordered
 use Rattle.wgr_model.specs.declared.run.Event as event
 use Rattle.wgr_model.specs.declared.run.Event.TheVariants as events
-use Rattle.wgr_model.specs.Runs.{Served}
+use Rattle.wgr_model.specs.Runs.{AreServed, Served}
 use Rattle.wgr_model.specs.Consistent.{IsId}
 use Rattle.wgr_model.specs.Register.{Bytes, Holding, Register}
 use Rattle.wgr_model.specs.Steps.{Event, Ask, Networks, AddTenant, Grant, EndToken, AddNetwork, EndNetwork, OrderRefusal, NameHeld, NoSuchTenant, DigestHeld, PoolOverlaps, BadPool, PortHeld, NoSuchToken, NoNetwork, RegisterFull, Answer, Replied, Declined, Listed, UnknownToken, NoSuchNetwork, Done, Refused, Settings, IsStep, first_refusal, has_network, network_checks, new_network}
@@ -53,11 +53,10 @@ event_of (events.Ask digest name now command) = Ask digest name now command
 event_of (events.Networks digest) = Networks digest
 event_of (events.Order order) = order_event order
 
--- each event with its answer, or with none
-abbrev pub served : List event.Event → List (Option answer.Answer) → List Served
-served [] answers = []
-served (e ∷ es) [] = []
-served (e ∷ es) (a ∷ answers) = (event_of e, option_map answer_of a) ∷ served es answers
+-- the list of these events, each with its answer, or with none where memory was refused: one answer
+-- for each event
+abbrev pub AreAnswered : List event.Event → List (Option answer.Answer) → List Served → Type 0
+AreAnswered events answers es = AreServed (map event_of events) (map (option_map answer_of) answers) es
 
 -- what a command gives on a network is answered, and the network after it is handed out
 abbrev pub IsActed : Result (Reply × NetworkValue) Refusal → Answer → Option NetworkValue → Type 0

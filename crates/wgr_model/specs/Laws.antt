@@ -1,12 +1,14 @@
 -- What follows of the definitions.
 use Rattle.std.specs.Prelude.{◌≡◌, ℕ, ◌<◌, ◌⊎◌, ◌↔◌, true, false, nat_eq, List, [], ◌∷◌, length, Some}
 use Rattle.std.specs.List.{list_any}
+use Rattle.std.specs.FinMap as map_
 use Rattle.wgr_text.specs.Prefix.{PrefixValue, AreDisjoint}
 use Rattle.wgr_pool.specs.Pool.{IsPool}
 use Rattle.wgr_peers.specs.declared.peer.Peer.{Peer}
+use Rattle.wgr_core.specs.Network.{NetworkValue}
 use Rattle.wgr_model.specs.Register.{Bytes, Register, View, Holding, IsSame, empty_register, tenant_view}
 use Rattle.wgr_model.specs.Consistent.{IsConsistent, IsId, is_pool, overlaps}
-use Rattle.wgr_model.specs.Steps.{Event, Answer, PoolOverlaps, IsProper, IsStep, comes_before, is_done, overlapping, pool_refusal}
+use Rattle.wgr_model.specs.Steps.{AddNetwork, Event, Answer, Done, PoolOverlaps, Settings, IsProper, IsStep, comes_before, is_done, overlapping, pool_refusal}
 use Rattle.wgr_model.specs.Tenants.{Agree, Fits, own_events, tenant_after, tenant_answer, tenant_run, told}
 use Rattle.wgr_model.specs.Runs.{Served, AreProper, IsRun, acknowledged}
 
@@ -82,3 +84,22 @@ pub record IsFirst (ps : List (Bytes × Bytes)) (first : Bytes × Bytes) : Type 
 abbrev pub FirstIsNamed : Type 0
 FirstIsNamed = (r : Register) (pool : PrefixValue) (tenant network : Bytes) → pool_refusal (overlapping r.tenants r.networks pool) ≡ Some (PoolOverlaps tenant network)
     → IsFirst (overlapping r.tenants r.networks pool) (tenant, network)
+
+-- ---- new networks
+
+-- a network of these settings to which nobody has come yet
+pub record HasSettings (n : NetworkValue) (s : Settings) : Type 0 where
+  pub pool : n.pool ≡ s.pool
+  pub host : n.host ≡ s.host
+  pub port : n.port ≡ s.port
+  pub server : n.server ≡ s.server
+  pub capacity : n.capacity ≡ s.capacity
+  pub first_number : n.next ≡ 1
+  pub no_peers : n.peers ≡ []
+  pub no_routes : n.routes ≡ []
+
+-- after an accepted order for a network, the tenant has under that name one with the settings that
+-- were asked
+abbrev pub NetworksAreAsAsked : Type 0
+NetworksAreAsAsked = (r s : Register) (tenant name : Bytes) (settings : Settings) → IsConsistent r → IsProper (AddNetwork tenant name settings) → IsStep r (AddNetwork tenant name settings) Done s
+    → (n : NetworkValue) × (map_.get (tenant_view s tenant).networks name ≡ Some n) × HasSettings n settings

@@ -11,3 +11,4 @@ pub mod Rows
 pub mod RowLaws
 pub mod RowRules
 pub mod RowAsks
+pub mod RowsExist

@@ -1,11 +1,16 @@
 -- Lists of events.
-use Rattle.std.specs.Prelude.{List, [], ◌∷◌, Option, Some, None, ⊤}
+use Rattle.std.specs.Prelude.{◌≡◌, List, [], ◌∷◌, map, Option, Some, None, ⊤}
 use Rattle.wgr_model.specs.Register.{Register, IsSame}
 use Rattle.wgr_model.specs.Steps.{Event, Answer, IsStep, IsProper}
 
 -- an event with its answer, or with none where it was answered Unavailable
 abbrev pub Served : Type 0
 Served = Event × Option Answer
+
+-- the list of these events with these answers: there is one answer for each event
+pub record AreServed (events : List Event) (answers : List (Option Answer)) (es : List Served) : Type 0 where
+  pub asked : map (λ e. e.0) es ≡ events
+  pub told : map (λ e. e.1) es ≡ answers
 
 abbrev pub with_answer : Event → Option Answer → List (Event × Answer) → List (Event × Answer)
 with_answer event None es = es

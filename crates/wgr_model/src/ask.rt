@@ -33,6 +33,7 @@ impl Register {
             return Ok(Answer::NoSuchNetwork);
         };
         let Acted { answer, after } = act_on(alloc, &self.networks[place].network, now, command)?;
+        command.tell_forms();
         match after {
             Some(network) => {
                 put_network(&mut self.networks, place, network);

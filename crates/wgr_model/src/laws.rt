@@ -1,8 +1,9 @@
 //! What follows of the model. Each function does nothing: its contract is the law.
-ghost use Rattle.wgr_model.specs.Laws.{AnIdIsUnused, EmptyIsConsistent, EveryEventHasAStep, FirstIsNamed, OrderIsNoAccount, OverlapsAreTold, PoolsAreTold, RunsAreIsolated, StepsAreIsolated, TwoWorlds};
+ghost use Rattle.wgr_model.specs.Laws.{AnIdIsUnused, EmptyIsConsistent, EveryEventHasAStep, FirstIsNamed, NetworksAreAsAsked, OrderIsNoAccount, OverlapsAreTold, PoolsAreTold, RunsAreIsolated, StepsAreIsolated, TwoWorlds};
 ghost use Rattle.wgr_model.specs.RowAsks.{ChangesReplaceRows, NetworksAreFound, ReadingsLeaveRows, RefusalsLeaveRows};
 ghost use Rattle.wgr_model.specs.RowLaws.{CommitsReplace, NoRowsAreConsistent, OrderIsUnseen, RowsAreIsolated, RowsAreRead, RowsOfTwoWorlds, RowsStayConsistent};
 ghost use Rattle.wgr_model.specs.RowRules.{ConsistentRowsKeepRules, NetworksGain, NetworksLose, TenantsGain, TokensGain, TokensLose};
+ghost use Rattle.wgr_model.specs.RowsExist.{EveryEventHasARowStep, RowsExist, StepsHaveRows};
 
 /// A register without entries is consistent.
 pub fn empty_is_consistent()
@@ -42,6 +43,14 @@ pub fn rows_are_read()
     ensures none { NoRowsAreConsistent }
 {}
 
+/// Every consistent register has rows, and on consistent rows every event has a step; so the laws of
+/// rows are about something.
+pub fn rows_exist()
+    ensures rows { RowsExist }
+    ensures after { StepsHaveRows }
+    ensures step { EveryEventHasARowStep }
+{}
+
 /// What a commit owes, to leave the rows of the register with one changed network.
 pub fn commits_replace()
     ensures { CommitsReplace }
@@ -71,6 +80,12 @@ pub fn pools_are_told()
     ensures pool { PoolsAreTold }
     ensures overlap { OverlapsAreTold }
     ensures first { FirstIsNamed }
+{}
+
+/// An accepted order for a network leaves one with the pool, endpoint, server key and capacity that
+/// were asked, and without peers.
+pub fn networks_are_as_asked()
+    ensures { NetworksAreAsAsked }
 {}
 
 /// What consistency says of single rows: each peer has one address row, whose address its network's

@@ -4,13 +4,13 @@
 
 mod answer;
 mod ask;
+mod forms;
 pub mod laws;
 mod listing;
 mod look;
 mod operate;
 mod order;
 mod overlap;
-mod proper;
 mod register;
 mod run;
 

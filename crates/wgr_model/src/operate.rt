@@ -7,6 +7,7 @@ ghost use Rattle.wgr_model.specs.Register.{is_same};
 ghost use Rattle.wgr_model.specs.Steps.{AddNetwork, AddTenant, EndNetwork, EndToken, Grant, IsStep, is_full};
 
 use crate::answer::{Answer, OrderFault, OrderRefusal};
+use crate::forms::{tell_digest, tell_name, tell_settings};
 use crate::look::{
     has_endpoint, id_of, is_same, network_ids, place_of, tenant_ids, tenant_of_token, unused_id,
 };
@@ -59,6 +60,7 @@ impl Register {
             id: unused_id(&ids),
             name: name.copy()?,
         };
+        tell_name(name);
         push(&mut self.tenants, tenant)?;
         Ok(())
     }
@@ -79,6 +81,7 @@ impl Register {
             digest: *digest,
             tenant: id,
         };
+        tell_digest(digest);
         push(&mut self.tokens, token)?;
         Ok(())
     }
@@ -107,6 +110,8 @@ impl Register {
         };
         let pool = self.checked_pool(alloc, id, name, settings)?;
         let holding = new_holding(alloc, &self.networks, id, name, settings, pool)?;
+        tell_name(name);
+        tell_settings(settings);
         push(&mut self.networks, holding)?;
         Ok(())
     }

@@ -63,11 +63,14 @@ pub struct Register {
 }
 
 impl Model for Register {
+    ghost use Rattle.wgr_model.specs.Consistent.{IsConsistent};
     ghost use Rattle.wgr_model.specs.Register.{Register};
 
     ghost Value = { Register };
 
     ghost view = { λ r. record { tenants = r.tenants.items; tokens = r.tokens.items; networks = r.networks.items } };
+
+    ghost invariant = { λ r. IsConsistent (record { tenants = r.tenants.items; tokens = r.tokens.items; networks = r.networks.items }) };
 }
 
 impl Register {
@@ -81,5 +84,12 @@ impl Register {
             tokens: Vec::new(alloc),
             networks: Vec::new(alloc),
         }
+    }
+
+    /// Does nothing. Every register is consistent.
+    pub fn tell_rules(&self)
+        ensures { IsConsistent self.now }
+    {
+        let _tenants = &self.tenants;
     }
 }

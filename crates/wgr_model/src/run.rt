@@ -1,10 +1,9 @@
 //! Lists of events.
-ghost use Rattle.std.specs.Prelude.{◌≡◌, IfOk, OnErr};
+ghost use Rattle.std.specs.Prelude.{◌≡◌, List, length, IfOk, OnErr};
 ghost use Rattle.std.specs.Option.{option_map};
-ghost use Rattle.wgr_model.specs.Calls.{answer_of, event_of, served};
-ghost use Rattle.wgr_model.specs.Consistent.{IsConsistent};
+ghost use Rattle.wgr_model.specs.Calls.{AreAnswered, answer_of, event_of};
 ghost use Rattle.wgr_model.specs.Laws.{IsIsolated};
-ghost use Rattle.wgr_model.specs.Runs.{IsRun, IsServed};
+ghost use Rattle.wgr_model.specs.Runs.{IsRun, IsServed, Served};
 ghost use Rattle.wgr_model.specs.Steps.{IsStep};
 
 use crate::answer::Answer;
@@ -32,8 +31,9 @@ pub enum Event {
 }
 
 impl Register {
-    /// Takes all events in turn. Where one can't be done for want of memory it has no answer, and
-    /// the register is as before it; where there is no memory for the answers no event is done.
+    /// Takes all events in turn and answers each in its place. Where one can't be done for want of
+    /// memory, `None` stands there, and the register is as before it; where there is no memory for
+    /// the answers no event is done.
     ///
     /// Each tenant has the answers and the networks that it would have alone.
     pub fn run(
@@ -41,10 +41,12 @@ impl Register {
         alloc: Global,
         events: &[Event],
     ) -> Result<Vec<Option<Answer>>, AllocError>
-        ensures run { IfOk result (λ answers. IsRun self.old (served events.now answers.items) self.new) }
-        ensures isolated { IfOk result (λ answers. IsConsistent self.old → IsIsolated self.old (served events.now answers.items) self.new) }
+        ensures each { IfOk result (λ answers. length answers.items ≡ length events.now) }
+        ensures run { IfOk result (λ answers. (es : List Served) × AreAnswered events.now answers.items es × IsRun self.old es self.new) }
+        ensures isolated { IfOk result (λ answers. (es : List Served) × AreAnswered events.now answers.items es × IsIsolated self.old es self.new) }
         ensures undone { OnErr result (self.new ≡ self.old) }
     {
+        self.tell_rules();
         let mut answers = Vec::with_capacity(alloc, events.len())?;
         for event in events {
             event.tell_forms();

@@ -1,8 +1,8 @@
 //! The register of many tenants: what events come to, one after the other. Events are lines of words,
 //! so that a test is a table:
 //!
-//! - `tenant NAME`, `grant TENANT TOKEN`, `end-token TOKEN`, `network TENANT NAME POOL HOST PORT`
-//!   and `end-network TENANT NAME`;
+//! - `tenant NAME`, `grant TENANT TOKEN`, `end-token TOKEN`, `network TENANT NAME POOL HOST PORT
+//!   CAPACITY`, where the capacity may be left out, and `end-network TENANT NAME`;
 //! - `networks TOKEN`;
 //! - `list TOKEN NETWORK` and each other command as `network.rt` writes it, with `TOKEN NETWORK`
 //!   behind its first word;
@@ -42,17 +42,26 @@ fn digest(rt: &(impl Abort + AllocGlobal), text: &str) -> [u8; 32] {
     [byte(rt, text); 32]
 }
 
+// How many peers a network may have, 4,096 where no word says it.
+fn room(rt: &(impl Abort + AllocGlobal), text: &str) -> u16 {
+    if text.is_empty() {
+        return 4096;
+    }
+    u16::try_from(number(rt, text)).expect(rt, "a capacity")
+}
+
 fn settings(rt: &(impl Abort + AllocGlobal), words: &mut Words<'_>) -> Settings {
     let (address, length) = read_loose(word(words).as_bytes()).expect(rt, "a prefix");
     let host = host(rt, word(words));
     let number = u16::try_from(number(rt, word(words))).expect(rt, "a port");
+    let room = room(rt, word(words));
     Settings {
         address,
         length,
         host,
         port: port(rt, number),
         server: key(9),
-        capacity: capacity(rt, 4096),
+        capacity: capacity(rt, room),
     }
 }
 

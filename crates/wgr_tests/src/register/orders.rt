@@ -14,6 +14,7 @@ fn orders_are_checked(rt: HostRuntime) {
             (0, "grant acme 1", "done"),
             (0, "tenant bolt", "done"),
             (0, "grant bolt 1", "digest_held"),
+            (0, "grant nobody 1", "no_such_tenant"),
             (0, "grant bolt 2", "done"),
             (0, "end-token 3", "no_such_token"),
             (
@@ -43,7 +44,27 @@ fn orders_are_checked(rt: HostRuntime) {
             ),
             (
                 0,
+                "network nobody office 10.8.0.1/24 vpn.example.net 51820",
+                "no_such_tenant",
+            ),
+            (
+                0,
+                "network acme lab 10.8.0.1/24 vpn.example.net 51820",
+                "bad_pool",
+            ),
+            (
+                0,
+                "network acme lab 10.8.0.0/25 vpn.example.net 51820",
+                "pool_overlaps acme office",
+            ),
+            (
+                0,
                 "network bolt office 10.9.0.0/24 vpn.example.net 51821",
+                "done",
+            ),
+            (
+                0,
+                "network bolt lab 10.10.0.0/24 lab.example.net 51820",
                 "done",
             ),
             (0, "networks 1", "office"),
@@ -51,9 +72,9 @@ fn orders_are_checked(rt: HostRuntime) {
             (0, "end-network nobody lab", "no_such_tenant"),
             (0, "end-token 1", "done"),
             (0, "networks 1", "unknown_token"),
-            (0, "networks 2", "office"),
+            (0, "networks 2", "lab office"),
             (0, "grant bolt 1", "done"),
-            (0, "networks 1", "office"),
+            (0, "networks 1", "lab office"),
         ],
     );
 }
@@ -112,6 +133,22 @@ fn a_network_goes_with_its_peers(rt: HostRuntime) {
             (0, "list 1 office", ""),
             (0, "add 1 office 2", "1 10.8.0.2/32"),
             (0, "list 1 lab", "1 10.9.0.2/32"),
+        ],
+    );
+}
+
+#[test]
+fn a_network_has_its_settings(rt: HostRuntime) {
+    check(
+        &rt,
+        &mut Register::new(rt.alloc()),
+        &[
+            (0, "tenant acme", "done"),
+            (0, "grant acme 1", "done"),
+            (0, "network acme kit 10.7.0.0/24 h 1 1", "done"),
+            (0, "add 1 kit 9", "server_key"),
+            (0, "add 1 kit 1", "1 10.7.0.2/32"),
+            (0, "add 1 kit 2", "capacity_reached"),
         ],
     );
 }

@@ -1,10 +1,10 @@
-use Rattle.std.proofs.Common.{rules, ◌+◌, take, sym, ap, subst, ◌∙◌, le_trans}
+use Rattle.std.proofs.Common.{◌≡◌, rules, ◌+◌, length, take, arith, sym, ap, subst, ◌∙◌, le_trans}
 use Rattle.std.proofs.lemmas.List.{take_all}
 use Rattle.std.specs.Option.{option_map}
-use Rattle.wgr_model.specs.Calls.{answer_of, event_of, served}
+use Rattle.wgr_model.specs.Calls.{answer_of, event_of}
 use Rattle.wgr_model.specs.Runs.{AreProper}
 use Rattle.wgr_model.proofs.RunLemmas.{runs_isolated}
-use Rattle.wgr_model.proofs.ServeLemmas.{IsExactRun, exact_is_run, proper_more, run_more, served_more}
+use Rattle.wgr_model.proofs.ServeLemmas.{IsExactRun, exact_is_run, proper_more, run_more, served, served_more, served_whole}
 use Rattle.wgr_model.proofs.register.Register.run.Goals as goal
 
 pub loop-event-preserved : goal.loop-event-preserved
@@ -30,4 +30,11 @@ returns c =
     let run = exact_is_run es c.args.self.now c.loop-event.self
     (subst (λ xs. IsExactRun c.args.self.now (served xs c.loop-event.answers.items) c.loop-event.self) all c.loop-event.invariant.run) in
     let proper = subst (λ xs. AreProper (served xs c.loop-event.answers.items)) all c.loop-event.invariant.proper in
-    record { run = run; isolated = λ good. runs_isolated c.args.self.now c.loop-event.self es good proper run; undone = tt }
+    let each : length c.loop-event.answers.items ≡ length c.args.events.now = omega (arith, c.loop-event.invariant.long, c.loop-event.auto.event-index-end, c.loop-event-test.false) in
+    let whole = served_whole c.args.events.now c.loop-event.answers.items each in
+    record {
+      each = each;
+      run = (es, whole, run);
+      isolated = (es, whole, runs_isolated c.args.self.now c.loop-event.self es c.tell_rules.ensures proper run);
+      undone = tt;
+    }

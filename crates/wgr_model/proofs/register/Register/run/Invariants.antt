@@ -1,8 +1,7 @@
 use Rattle.std.proofs.Common.{◌≡◌, ◌≤◌, length, take}
 use Rattle.std.specs.Prelude.{vec_capacity}
-use Rattle.wgr_model.specs.Calls.{served}
 use Rattle.wgr_model.specs.Runs.{AreProper}
-use Rattle.wgr_model.proofs.ServeLemmas.{IsExactRun}
+use Rattle.wgr_model.proofs.ServeLemmas.{IsExactRun, served}
 use Rattle.wgr_model.proofs.register.Register.run.Given as goal
 
 -- the events so far are run and of their forms, and there is room for all answers

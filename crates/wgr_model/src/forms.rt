@@ -40,7 +40,7 @@ impl Order {
     }
 }
 
-fn tell_settings(settings: &Settings)
+pub(crate) fn tell_settings(settings: &Settings)
     ensures { IsProperSettings settings.now }
 {
     tell_key(&settings.server);
@@ -49,14 +49,14 @@ fn tell_settings(settings: &Settings)
     let _capacity = settings.capacity.peers();
 }
 
-fn tell_name(name: &Name)
+pub(crate) fn tell_name(name: &Name)
     ensures { IsName name.now }
 {
     let _text = name.as_str();
 }
 
 // A digest has 32 bytes.
-fn tell_digest(digest: &[u8; 32])
+pub(crate) fn tell_digest(digest: &[u8; 32])
     ensures { IsDigest digest.now }
 {
     tell_bytes(digest);
