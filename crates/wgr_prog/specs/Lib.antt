@@ -1,4 +1,3 @@
-pub mod CommandLine
 pub mod Lines
 pub mod Plan
 pub mod PlanFault

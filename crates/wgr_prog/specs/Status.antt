@@ -5,13 +5,13 @@ use Rattle.std.specs.declared.io.ErrorKind.TheVariants.{InvalidData}
 use Rattle.clap.specs.Words.{IsAmong, Kinds, Text}
 use Rattle.clap.specs.declared.error.kind.ErrorKind.{ErrorKind}
 use Rattle.clap.specs.declared.error.kind.ErrorKind.TheVariants.{DisplayHelp, DisplayVersion, OutOfMemory}
+use Rattle.wgr_command_line.specs.Words.{pool_asked, wrong_with}
 use Rattle.wgr_text.specs.Prefix.{PrefixValue}
 use Rattle.wgr_text.specs.PrefixText.{Spells}
 use Rattle.wgr_pool.specs.Pool.{IsPool}
 use Rattle.wgr_prog.specs.declared.plan.PlanFault.{PlanFault}
 use Rattle.wgr_prog.specs.declared.plan.PlanFault.TheVariants.{Refused, NoMemory, Read, Write}
 use Rattle.wgr_prog.specs.declared.program.TheConstants.{DONE, FAULT, REFUSED}
-use Rattle.wgr_prog.specs.CommandLine.{pool_asked, wrong_with}
 use Rattle.wgr_prog.specs.PlanFault.{Answers, Streams}
 
 -- the streams of a reader and a writer

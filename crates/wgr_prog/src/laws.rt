@@ -1,13 +1,7 @@
 //! What follows of the definitions. The functions do nothing: their contracts are the laws.
-ghost use Rattle.wgr_prog.specs.CommandLine.{PoolIsAsked};
 ghost use Rattle.wgr_prog.specs.PlanLaws.{OnePlan};
 
 /// A text has one plan at most.
 pub fn plans_are_unique()
     ensures { OnePlan }
-{}
-
-/// The word after `plan` is the pool, unless it begins as a flag does.
-pub fn pool_is_asked()
-    ensures { PoolIsAsked }
 {}

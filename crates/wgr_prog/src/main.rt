@@ -1,7 +1,6 @@
 //! The program `wgr`.
 #![tactic(auto)]
 
-mod command_line;
 mod laws;
 mod lines;
 mod plan;

@@ -5,13 +5,13 @@ ghost use Rattle.std.specs.declared.io.ErrorKind.TheVariants.{InvalidData};
 ghost use Rattle.clap.specs.Words.{kind_of};
 ghost use Rattle.wgr_prog.specs.Status.{LacksWords, RunsPlan, Serves, fault_status, kind_status, streams};
 
-use crate::command_line::{Request, read_words};
 use crate::plan::{PlanFault, plan};
 use clap::error::ErrorKind;
 use std::alloc::Global;
 use std::convert::AsStr;
 use std::fmt::Write as _;
 use std::{fmt, io};
+use wgr_command_line::{Request, read_words};
 use wgr_core::Pool;
 use wgr_io::{Read, Write, write_all};
 use wgr_text::read_loose;

@@ -2,7 +2,7 @@
 use Rattle.std.proofs.Common.{◌≡◌, [], ◌∷◌, Some, None, codes, refl}
 use Rattle.clap.specs.declared.error.kind.ErrorKind.TheVariants as kind
 use Rattle.clap.proofs.OnLiterals.{clap_on_literals}
-use Rattle.wgr_prog.specs.CommandLine.{pool_asked, wrong_with}
+use Rattle.wgr_command_line.specs.Words.{pool_asked, wrong_with}
 
 plan : pool_asked (codes "plan" ∷ codes "10.8.0.0/24" ∷ []) ≡ Some (codes "10.8.0.0/24")
 unfolding clap_on_literals

@@ -4,8 +4,8 @@ use Rattle.std.proofs.lemmas.Bool.{ne_eqb}
 use Rattle.clap.specs.Lexer.{long_of, short_of}
 use Rattle.clap.specs.Words.{Text}
 use Rattle.clap.proofs.OnLiterals.{clap_on_literals}
-use Rattle.wgr_prog.specs.CommandLine.{pool_asked}
-use Rattle.wgr_prog.proofs.laws.pool_is_asked.Goals as goal
+use Rattle.wgr_command_line.specs.Words.{pool_asked}
+use Rattle.wgr_command_line.proofs.laws.pool_is_asked.Goals as goal
 
 no_text : pool_asked (codes "plan" ∷ [] ∷ []) ≡ Some []
 unfolding clap_on_literals

@@ -1,10 +1,11 @@
 //! The command line, read by `clap`.
 //!
-//! A first check of a command takes long, so this file has nothing else. A further subcommand is a
-//! function beside [`plan_command`], a variant of [`Request`] and an arm in [`request_of`].
+//! A first check of a command takes long, so this crate has nothing else, and is proved beside those of
+//! networks. A further subcommand is a function beside [`plan_command`], a variant of [`Request`] and an
+//! arm in [`request_of`].
 ghost use Rattle.std.specs.Prelude.{◌≡◌, true, Some, IfErr, IfOk, is_some, map, option_and_then, option_map};
 ghost use Rattle.clap.specs.Words.{HasKind, app_of, kind_of, subcommand_rows_of};
-ghost use Rattle.wgr_prog.specs.CommandLine.{plan_app, plan_pool, pool_asked, pool_of, wgr_app, wrong_with};
+ghost use Rattle.wgr_command_line.specs.Words.{plan_app, plan_pool, pool_asked, pool_of, wgr_app, wrong_with};
 
 use clap::error::ErrorKind;
 use clap::{Arg, ArgMatches, Command, Error};

@@ -1,8 +1,8 @@
 use Rattle.std.proofs.Common.{◌≡◌, ◌∙◌, Option, Some, None, List, codes, option_map, option_and_then, refl, sym, ap}
 use Rattle.clap.specs.Words.{Row, Text, first_of, found_of, rows_of, subcommand_name_of, subcommand_rows_of}
 use Rattle.clap.proofs.WalkLemmas.{first_value-rows}
-use Rattle.wgr_prog.specs.CommandLine.{plan_pool, pool_of}
-use Rattle.wgr_prog.proofs.command_line.request_of.Goals as goal
+use Rattle.wgr_command_line.specs.Words.{plan_pool, pool_of}
+use Rattle.wgr_command_line.proofs.request.request_of.Goals as goal
 
 mapped : {A B C : Type 0} (f : B → C) (g : A → B) (o : Option A) → option_map (λ x. f (g x)) o ≡ option_map f (option_map g o)
 mapped f g None = refl

@@ -5,8 +5,8 @@ use Rattle.clap.specs.declared.error.Error.{Error}
 use Rattle.clap.specs.declared.error.kind.ErrorKind.TheVariants.{OutOfMemory}
 use Rattle.clap.proofs.OnLiterals.{clap_on_literals}
 use Rattle.clap.proofs.TakesLemmas.{passed_up}
-use Rattle.wgr_prog.specs.CommandLine.{plan_named, plan_pool, unless_wrong, wgr_app}
-use Rattle.wgr_prog.proofs.command_line.read_words.Goals as goal
+use Rattle.wgr_command_line.specs.Words.{plan_named, plan_pool, unless_wrong, wgr_app}
+use Rattle.wgr_command_line.proofs.request.read_words.Goals as goal
 
 simple : is_simple wgr_app ≡ true
 unfolding clap_on_literals

@@ -5,8 +5,8 @@ use Rattle.clap.specs.Kinds.{or_else}
 use Rattle.clap.specs.Simple.{new_shape}
 use Rattle.clap.specs.Words.{App, Kinds, Row, Rule, Text, fault_of, first_of, new_app, new_rule, subcommand_of, with_rule, with_subcommand}
 use Rattle.clap.specs.declared.error.kind.ErrorKind.TheVariants.{MissingSubcommand}
-use Rattle.wgr_prog.specs.declared.command_line.Request.{Request}
-use Rattle.wgr_prog.specs.declared.command_line.Request.TheVariants.{Plan}
+use Rattle.wgr_command_line.specs.declared.request.Request.{Request}
+use Rattle.wgr_command_line.specs.declared.request.Request.TheVariants.{Plan}
 
 -- `POOL`: one value, which has to be there
 abbrev pub pool_rule : Rule

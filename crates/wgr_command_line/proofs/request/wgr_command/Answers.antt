@@ -1,7 +1,7 @@
 use Rattle.std.proofs.Common.{rules, ◌≡◌, ◌∙◌, ◌&&◌, Bool, not, true, false, refl, ap, ap₂}
 use Rattle.clap.specs.Words.{App, app_of, with_subcommand}
-use Rattle.wgr_prog.specs.CommandLine.{wgr_alone}
-use Rattle.wgr_prog.proofs.command_line.wgr_command.Goals as goal
+use Rattle.wgr_command_line.specs.Words.{wgr_alone}
+use Rattle.wgr_command_line.proofs.request.wgr_command.Goals as goal
 
 -- a plain command has no global argument
 no_globals : (groupless others globals rest : Bool) → (groupless && (not others && (not globals && rest))) ≡ true → globals ≡ false
