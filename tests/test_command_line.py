@@ -15,6 +15,8 @@ HELP = [
     ("plan --help", ["plan", "--help"], "plan_help.txt"),
     ("plan -h", ["plan", "-h"], "plan_help.txt"),
     ("help plan", ["help", "plan"], "plan_help.txt"),
+    ("behind the pool", ["plan", "10.8.0.0/24", "--help"], "plan_help.txt"),
+    ("help help", ["help", "help"], "help_help.txt"),
 ]
 
 # The words, and a part of what standard error says.

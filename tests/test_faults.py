@@ -81,6 +81,11 @@ def directory():
         os.close(stream)
 
 
+def with_memory(kib):
+    """To be called in the new process, which then gets no more memory than this for its data."""
+    return lambda: resource.setrlimit(resource.RLIMIT_DATA, (kib << 10, kib << 10))
+
+
 def close(stream):
     """To be called in the new process, which then has no such stream."""
     return lambda: os.close(stream)
@@ -155,9 +160,23 @@ class Memory(unittest.TestCase):
         answers = set()
         # From too little memory for this plan to more than enough, in KiB.
         for room in range(512, 8192, 128):
-            limit = (room << 10, room << 10)
             with self.subTest(room=room):
-                left = run(words, text, prepare=lambda: resource.setrlimit(resource.RLIMIT_DATA, limit))
+                left = run(words, text, prepare=with_memory(room))
                 self.assertTrue(left in (NO_MEMORY, whole), (left.status, len(left.out), left.err))
                 answers.add(left)
         self.assertEqual((whole.status, len(answers)), (0, 2))
+
+    def test_want_of_memory_for_the_words(self):
+        # Only once all words are there is the one found that isn't UTF-8, or too much.
+        little = with_memory(512)
+        self.assertEqual(run(PLAN, K0.encode(), prepare=little), Left(0, ROW))
+        words = [*PLAN, *["x" * 100_000] * 10]
+        for name, last, told in [
+            ("a word too many", b"x", b"error: unexpected argument 'xxxxx"),
+            ("not UTF-8", b"\xff", b"wgr: the command line is not UTF-8\n"),
+        ]:
+            with self.subTest(name):
+                self.assertEqual(run([*words, last], K0.encode(), prepare=little), NO_MEMORY)
+                left = run([*words, last], K0.encode())
+                self.assertEqual((left.status, left.out), (2, b""))
+                self.assertTrue(left.err.startswith(told), left.err[:100])

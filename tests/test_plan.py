@@ -163,6 +163,14 @@ class Plan(unittest.TestCase):
             with self.subTest(name):
                 self.assertEqual(run(["plan", pool], K0.encode()), Left(2, b"", error.encode()))
 
+    def test_more_than_10_megabytes(self):
+        keys = numbered_keys(4096)
+        text = "".join(f"{key}\n" for key in keys * 64).encode()
+        self.assertGreater(len(text), 11_000_000)
+        left = run(["plan", "10.0.0.0/8"], text)
+        self.assertEqual((left.status, left.err), (2, b"wgr: line 4097: key_held 1\n"))
+        self.assertEqual(left.out.count(b"\n"), 4096)
+
     def test_4096_peers_at_most(self):
         keys = numbered_keys(4097)
         left = run(["plan", "10.0.0.0/8"], "\n".join(keys).encode())

@@ -11,7 +11,7 @@ abbrev pub seen_peer : LineValue → SeenPeer
 seen_peer line = record {
   key = line.key;
   allowed = line.allowed;
-  status = record { handshake = line.handshake; received = line.received; sent = line.sent };
+  status = record { handshake = line.handshake.value; received = line.received.value; sent = line.sent.value };
   keepalive = line.keepalive;
 }
 

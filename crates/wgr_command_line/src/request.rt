@@ -3,14 +3,14 @@
 //! A first check of a command takes long, so this crate has nothing else, and is proved beside those of
 //! networks. A further subcommand is a function beside [`plan_command`], a variant of [`Request`] and an
 //! arm in [`request_of`].
-ghost use Rattle.std.specs.Prelude.{◌≡◌, true, Some, IfErr, IfOk, is_some, option_and_then, option_map};
-ghost use Rattle.clap.specs.Walk.{texts};
+ghost use Rattle.std.specs.Prelude.{◌≡◌, true, Some, IfErr, IfOk, is_some, map, option_and_then, option_map};
 ghost use Rattle.clap.specs.Words.{HasKind, app_of, kind_of, subcommand_rows_of};
 ghost use Rattle.wgr_command_line.specs.Words.{plan_app, plan_pool, pool_asked, pool_of, wgr_app, wrong_with};
 
 use clap::error::ErrorKind;
 use clap::{Arg, ArgMatches, Command, Error};
 use std::alloc::Global;
+use std::convert::AsStr;
 
 /// What a command line asks for.
 #[derive(Clone, Copy)]
@@ -82,10 +82,10 @@ fn request_of<'a>(matches: &ArgMatches<'a>) -> Option<Request<'a>>
 /// What the words ask for. An error is also the text of `--help` and of `--version`.
 ///
 /// Words that ask for something are refused only for want of memory.
-pub fn read_words<'a>(alloc: Global, words: &'a [&'a str]) -> Result<Request<'a>, Error>
-    ensures ok { IfOk result (λ request. pool_asked (texts words.now) ≡ Some (pool_of request)) }
-    ensures err { IfErr result (λ error. is_some (pool_asked (texts words.now)) ≡ true → kind_of error ≡ ErrorKind.OutOfMemory) }
-    ensures kinds { IfErr result (HasKind (wrong_with (texts words.now))) }
+pub fn read_words<'a, S: AsStr>(alloc: Global, words: &'a [S]) -> Result<Request<'a>, Error>
+    ensures ok { IfOk result (λ request. pool_asked (map S.text words.now) ≡ Some (pool_of request)) }
+    ensures err { IfErr result (λ error. is_some (pool_asked (map S.text words.now)) ≡ true → kind_of error ≡ ErrorKind.OutOfMemory) }
+    ensures kinds { IfErr result (HasKind (wrong_with (map S.text words.now))) }
 {
     let mut command = wgr_command(alloc)?;
     let matches = command.try_get_matches_from_mut(words)?;

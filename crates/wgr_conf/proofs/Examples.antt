@@ -57,6 +57,12 @@ second_of_two : peer_config (office (peer 1 (v4 10 8 0 2) 0 0 ∷ peer 2 (v4 10 
 unfolding line address_line section_head key_line allowed_line keepalive_line endpoint_line digits octets_of_number encode_symbols
 second_of_two = refl
 
+-- a route that is the pool lies in it, and one that covers more doesn't
+around_the_pool : peer_config (record (office (peer 1 (v4 10 8 0 2) 0 0 ∷ peer 2 (v4 10 8 0 3) 0 0 ∷ [])) { routes = (record { address = v4 10 8 0 0; length = 23 }, 2) ∷ (pool, 2) ∷ [] }) 0 1 Wg
+    ≡ Some (codes "[Interface]\n\n[Peer]\nPublicKey = CQkJCQkJCQkJCQkJCQkJCQkJCQkJCQkJCQkJCQkJCQk=\nAllowedIPs = 10.8.0.0/24, 10.8.0.0/23\nEndpoint = vpn.example.net:51820\n")
+unfolding line address_line section_head key_line allowed_line keepalive_line endpoint_line digits octets_of_number encode_symbols
+around_the_pool = refl
+
 ended : peer_config (office (peer 1 (v4 10 8 0 2) 0 0 ∷ peer 2 (v4 10 8 0 3) 100 25 ∷ [])) 100 2 Wg ≡ None
 ended = refl
 

@@ -3,7 +3,7 @@
 use Rattle.std.specs.Prelude.{ℕ, ◌≡◌, ◌==◌, cond, List, [], ◌∷◌, Option}
 use Rattle.wgr_text.specs.declared.key.Key.{Key}
 use Rattle.wgr_text.specs.Prefix.{PrefixValue}
-use Rattle.wgr_dump.specs.Fields.{Each, IsOf, a_key_or_none, a_word, fields_of, SpellsKey, SpellsOptionalKey, SpellsPort, SpellsAllowed, SpellsCount, SpellsKeepalive}
+use Rattle.wgr_dump.specs.Fields.{Each, IsOf, a_key_or_none, a_word, fields_of, SpellsKey, SpellsOptionalKey, SpellsPort, SpellsAllowed, CountValue, SpellsCount, SpellsKeepalive}
 
 -- a byte before the first of some lines, or a line of its own where there is none
 abbrev pub before_lines : ℕ → List (List ℕ) → List (List ℕ)
@@ -41,9 +41,9 @@ pub record IsInterfaceLine (line : List ℕ) (i : InterfaceValue) : Type 0 where
 pub record LineValue : Type 0 where
   pub key : Key
   pub allowed : List PrefixValue
-  pub handshake : ℕ
-  pub received : ℕ
-  pub sent : ℕ
+  pub handshake : CountValue
+  pub received : CountValue
+  pub sent : CountValue
   pub keepalive : ℕ
 
 pub record IsPeerLine (line : List ℕ) (v : LineValue) : Type 0 where

@@ -51,9 +51,13 @@ SpellsKeepalive field n = ((field ≡ codes "off") × (n ≡ 0)) ⊎ SpellsPort 
 abbrev pub kept_count : ℕ → ℕ
 kept_count n = cond (nat_lt 9223372036854775807 n) 9223372036854775807 n
 
--- a count of bytes or seconds, as it is kept
-abbrev pub SpellsCount : List ℕ → ℕ → Type 0
-SpellsCount field n = (written : ℕ) × SpellsNumber 20 field written × (n ≡ kept_count written)
+-- a count of bytes or seconds: its digits as they stand in the field, and the number as it is kept
+pub record CountValue : Type 0 where
+  pub digits : List ℕ
+  pub value : ℕ
+
+abbrev pub SpellsCount : List ℕ → CountValue → Type 0
+SpellsCount field count = (count.digits ≡ field) × (written : ℕ) × SpellsNumber 20 field written × (count.value ≡ kept_count written)
 
 -- an address with a length or alone, with its host bits zero
 abbrev pub SpellsMasked : List ℕ → PrefixValue → Type 0
@@ -84,7 +88,7 @@ IsOf a_key_or_none field = (key : Option Key) × SpellsOptionalKey field key
 IsOf a_port field = (n : ℕ) × SpellsPort field n
 IsOf a_word field = IsWord field
 IsOf prefixes field = (ps : List PrefixValue) × SpellsAllowed field ps
-IsOf a_count field = (n : ℕ) × SpellsCount field n
+IsOf a_count field = (count : CountValue) × SpellsCount field count
 IsOf a_keepalive field = (n : ℕ) × SpellsKeepalive field n
 
 -- private-key, public-key, listen-port and fwmark

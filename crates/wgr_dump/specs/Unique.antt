@@ -6,7 +6,7 @@ use Rattle.wgr_text.specs.Prefix.{PrefixValue, mask}
 use Rattle.wgr_text.proofs.KeyLemmas.{length-key_text, key_text_injective}
 use Rattle.wgr_text.proofs.RoundTrips.{Spells_unique}
 use Rattle.wgr_dump.specs.Dump.{InterfaceValue, LineValue, IsInterfaceLine, IsPeerLine, IsDump}
-use Rattle.wgr_dump.specs.Fields.{Each, none_text, SpellsKey, SpellsOptionalKey, SpellsNumber, SpellsPort, SpellsKeepalive, kept_count, SpellsCount, SpellsMasked, SpellsAllowed}
+use Rattle.wgr_dump.specs.Fields.{Each, none_text, SpellsKey, SpellsOptionalKey, SpellsNumber, SpellsPort, SpellsKeepalive, kept_count, CountValue, SpellsCount, SpellsMasked, SpellsAllowed}
 
 pub one_key : (field : List ℕ) (one other : Key) → SpellsKey field one → SpellsKey field other → one ≡ other
 one_key field one other s t =
@@ -38,8 +38,11 @@ one_keepalive field m n (inl s) (inr t) = absurd (off_is_no_number n (subst (λ 
 one_keepalive field m n (inr s) (inl t) = absurd (off_is_no_number m (subst (λ f. SpellsPort f m) t.0 s))
 one_keepalive field m n (inr s) (inr t) = one_port field m n s t
 
-pub one_count : (field : List ℕ) (m n : ℕ) → SpellsCount field m → SpellsCount field n → m ≡ n
-one_count field m n s t = s.2 ∙ ap kept_count (one_number 20 field s.0 t.0 s.1 t.1) ∙ sym t.2
+pub one_count : (field : List ℕ) (one other : CountValue) → SpellsCount field one → SpellsCount field other → one ≡ other
+one_count field one other s t =
+    let digits = s.0 ∙ sym t.0 in
+    let value = s.3 ∙ ap kept_count (one_number 20 field s.1 t.1 s.2 t.2) ∙ sym t.3 in
+    λ k. record { digits = digits k; value = value k }
 
 pub one_masked : (item : List ℕ) (p q : PrefixValue) → SpellsMasked item p → SpellsMasked item q → p ≡ q
 one_masked item p q s t =

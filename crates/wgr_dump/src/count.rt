@@ -1,6 +1,6 @@
 //! Counts and moments.
-ghost use Rattle.std.specs.Prelude.{◌≡◌, ◌≤◌, ℕ, IfSome, IfNone};
-ghost use Rattle.wgr_dump.specs.Fields.{SpellsCount, kept_count};
+ghost use Rattle.std.specs.Prelude.{◌≡◌, ◌≤◌, IfSome, IfNone};
+ghost use Rattle.wgr_dump.specs.Fields.{CountValue, SpellsCount, kept_count};
 
 use crate::numbers::read_number;
 use std::marker::Model;
@@ -14,18 +14,20 @@ pub struct Count<'a> {
 }
 
 impl<'a> Model for Count<'a> {
-    ghost Value = { ℕ };
+    ghost use Rattle.wgr_dump.specs.Fields.{CountValue, SpellsCount};
 
-    ghost view = { λ c. c.value };
+    ghost Value = { CountValue };
 
-    ghost invariant = { λ c. SpellsCount c.digits.now c.value };
+    ghost view = { λ c. record { digits = c.digits.now; value = c.value } };
+
+    ghost invariant = { λ c. SpellsCount c.digits.now (record { digits = c.digits.now; value = c.value }) };
 }
 
 impl<'a> Count<'a> {
     /// The count of 1 to 20 digits.
     pub(crate) fn read(field: &'a [u8]) -> Option<Count<'a>>
         ensures spelled { IfSome result (SpellsCount field.entry.now) }
-        ensures none { IfNone result ((n : ℕ) → ¬ (SpellsCount field.entry.now n)) }
+        ensures none { IfNone result ((count : CountValue) → ¬ (SpellsCount field.entry.now count)) }
     {
         let written = read_number(field, 20)?;
         Some(Count {
@@ -36,14 +38,15 @@ impl<'a> Count<'a> {
 
     /// The digits as they stand in the dump.
     pub fn digits(&self) -> &'a [u8]
-        ensures { SpellsCount result.now self.now }
+        ensures bytes { result.now ≡ self.now.digits }
+        ensures spelled { SpellsCount result.now self.now }
     {
         self.digits
     }
 
     /// The number, or the greatest that is kept.
     pub fn value(&self) -> u64
-        ensures value { result ≡ self.now }
+        ensures value { result ≡ self.now.value }
         ensures kept { result ≤ 9223372036854775807 }
     {
         self.value

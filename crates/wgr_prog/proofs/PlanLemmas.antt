@@ -1,10 +1,9 @@
 -- One line of a plan.
-use Rattle.std.proofs.Common.{◌≡◌, ℕ, ◌+◌, Bool, true, false, List, [], ◌∷◌, ◌++◌, Option, Some, None, refl, sym, ap, ◌∙◌, subst, append_assoc, append-nil}
+use Rattle.std.proofs.Common.{◌≡◌, ℕ, ◌+◌, false, List, [], ◌∷◌, ◌++◌, Option, Some, None, sym, ap, ◌∙◌, subst, append_assoc, append-nil}
 use Rattle.std.specs.Prelude.{Result, Ok, Err}
 use Rattle.wgr_text.specs.declared.key.Key.{Key}
 use Rattle.wgr_text.specs.Prefix.{AddrValue}
 use Rattle.wgr_peers.specs.declared.peer.Peer.{Peer}
-use Rattle.wgr_core.specs.declared.change.Change.{Change}
 use Rattle.wgr_core.specs.declared.refusal.Refusal.{Refusal}
 use Rattle.wgr_core.specs.declared.reply.Reply.{Reply}
 use Rattle.wgr_core.specs.declared.reply.Reply.TheVariants as reply
@@ -12,8 +11,8 @@ use Rattle.wgr_core.specs.declared.reply.PeerView.{PeerView}
 use Rattle.wgr_core.specs.declared.fault.ActFault.TheVariants.{Refused}
 use Rattle.wgr_core.specs.Network.{NetworkValue, live_at}
 use Rattle.wgr_core.specs.Outcome.{Outcome, unless, at_place, joined, join_refusal, place, kept_if, view_of, outcome_of}
-use Rattle.wgr_core.specs.Change.{Meets, applied_if}
-use Rattle.wgr_prog.specs.Plan.{Plan, Plans, ends, no_key, refused, joined as joined_first, no_more, refused_at, after, joining, RefusesLine, spells_no_key, network_refuses, JoinsLine, AddsLine, row_text}
+use Rattle.wgr_core.specs.Change.{Meets}
+use Rattle.wgr_prog.specs.Plan.{Plan, Plans, ends, no_key, refused, joined as joined_first, no_more, refused_at, after, joining, RefusesLine, spells_no_key, network_refuses, JoinsLine, row_text}
 
 pub refused_is : (n : NetworkValue) (why : Refusal) (o : Outcome) → Meets n (Err (Refused why)) o → o ≡ Err why
 refused_is n why (Err is) same = ap Err (sym same)

@@ -1,5 +1,5 @@
 -- The plan of a text of keys: the lines that are printed, and the first line that is refused.
-use Rattle.std.specs.Prelude.{ℕ, ◌≡◌, ◌≢◌, ◌+◌, ◌≤◌, true, Bool, List, [], ◌∷◌, ◌++◌, length, take, replicate, codes, decimal, Option, Some, None, Result, Ok, Err}
+use Rattle.std.specs.Prelude.{ℕ, ◌≡◌, ◌≢◌, ◌+◌, List, [], ◌∷◌, ◌++◌, length, replicate, codes, decimal, Option, Some, None, Ok, Err}
 use Rattle.base64.specs.GeneralPurpose.{IsBytes}
 use Rattle.wgr_text.specs.declared.key.Key.{Key}
 use Rattle.wgr_text.specs.Prefix.{PrefixValue}

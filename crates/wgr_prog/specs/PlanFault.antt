@@ -21,11 +21,16 @@ pub record Streams : Type 0 where
   pub written : Option (List ℕ)
   pub write_failed : Bool
 
+-- no read or write has failed that had not failed before
+abbrev pub AreSound : Streams → Streams → Type 0
+AreSound old new = (new.read_failed ≡ old.read_failed) × (new.write_failed ≡ old.write_failed)
+
 -- the lines before the refused one are written, all lines where none is; a fault of memory or of
--- the reader leaves the writer as it was; a fault of the writer tells how many bytes it took
+-- the reader leaves the writer as it was; a fault of the writer tells how many bytes it took, and
+-- each fault of a device is marked at that device alone
 abbrev pub Answers : PrefixValue → Streams → Streams → Result (Unit {0}) PlanFault → Type 0
-Answers pool old new (Ok done) = (p : Plan) × Reads pool old.input new.input p × Appends old.written new.written p.printed × (p.refused ≡ None)
-Answers pool old new (Err (Refused line why)) = (p : Plan) × Reads pool old.input new.input p × Appends old.written new.written p.printed × (p.refused ≡ Some (line, why))
-Answers pool old new (Err NoMemory) = new.written ≡ old.written
-Answers pool old new (Err Read) = (new.read_failed ≡ true) × (new.written ≡ old.written)
-Answers pool old new (Err (Write sent)) = (p : Plan) × Reads pool old.input new.input p × Appends old.written new.written (take sent p.printed) × (sent < length p.printed) × (new.write_failed ≡ true)
+Answers pool old new (Ok done) = (p : Plan) × Reads pool old.input new.input p × Appends old.written new.written p.printed × (p.refused ≡ None) × AreSound old new
+Answers pool old new (Err (Refused line why)) = (p : Plan) × Reads pool old.input new.input p × Appends old.written new.written p.printed × (p.refused ≡ Some (line, why)) × AreSound old new
+Answers pool old new (Err NoMemory) = (new.written ≡ old.written) × AreSound old new
+Answers pool old new (Err Read) = (new.read_failed ≡ true) × (new.written ≡ old.written) × (new.write_failed ≡ old.write_failed)
+Answers pool old new (Err (Write sent)) = (p : Plan) × Reads pool old.input new.input p × Appends old.written new.written (take sent p.printed) × (sent < length p.printed) × (new.write_failed ≡ true) × (new.read_failed ≡ old.read_failed)

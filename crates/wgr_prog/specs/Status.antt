@@ -1,8 +1,11 @@
 -- What a run of `wgr` leaves, and its exit status.
-use Rattle.std.specs.Prelude.{ℕ, ◌≡◌, ◌≢◌, ◌⊎◌, true, Bool, List, Option, Result, Ok, Err}
+use Rattle.std.specs.Prelude.{ℕ, ◌≡◌, ◌≢◌, ◌⊎◌, true, Bool, List, Option, Result, Ok, Err, IfSome, IfNone}
+use Rattle.std.specs.declared.io.ErrorKind as io
+use Rattle.std.specs.declared.io.ErrorKind.TheVariants.{InvalidData}
 use Rattle.clap.specs.Words.{IsAmong, Kinds, Text}
 use Rattle.clap.specs.declared.error.kind.ErrorKind.{ErrorKind}
 use Rattle.clap.specs.declared.error.kind.ErrorKind.TheVariants.{DisplayHelp, DisplayVersion, OutOfMemory}
+use Rattle.wgr_command_line.specs.Words.{pool_asked, wrong_with}
 use Rattle.wgr_text.specs.Prefix.{PrefixValue}
 use Rattle.wgr_text.specs.PrefixText.{Spells}
 use Rattle.wgr_pool.specs.Pool.{IsPool}
@@ -61,18 +64,34 @@ kind_status DisplayVersion = DONE
 kind_status OutOfMemory = FAULT
 kind_status mistake = REFUSED
 
+-- nothing is read
+abbrev pub ReadsNothing : Streams → Streams → Type 0
+ReadsNothing old new = (new.input ≡ old.input) × (new.read_failed ≡ old.read_failed)
+
 -- the text of help or of the version can't be written
-abbrev pub FailsToWrite : Streams → ℕ → Type 0
-FailsToWrite new status = (new.write_failed ≡ true) × (status ≡ FAULT)
+abbrev pub FailsToWrite : Streams → Streams → ℕ → Type 0
+FailsToWrite old new status = ReadsNothing old new × (new.write_failed ≡ true) × (status ≡ FAULT)
 
 -- an error of one of the kinds is told, without a failure of the writer; nothing is printed on a mistake
 pub record TellsKind (kinds : Kinds) (old new : Streams) (status : ℕ) : Type 0 where
   pub kind : ErrorKind
   pub among : IsAmong kind kinds
   pub told : status ≡ kind_status kind
+  pub unread : ReadsNothing old new
   pub sound : new.write_failed ≡ old.write_failed
   pub kept : kind_status kind ≢ DONE → new ≡ old
 
 -- the words ask for no pool
 abbrev pub TellsError : Kinds → Streams → Streams → ℕ → Type 0
-TellsError kinds old new status = LacksMemory old new status ⊎ FailsToWrite new status ⊎ TellsKind kinds old new status
+TellsError kinds old new status = LacksMemory old new status ⊎ FailsToWrite old new status ⊎ TellsKind kinds old new status
+
+-- the words ask for a pool, or for none
+pub record Serves (words : List Text) (old new : Streams) (status : ℕ) : Type 0 where
+  pub planned : IfSome (pool_asked words) (λ pool. ServesPool pool old new status)
+  pub told : IfNone (pool_asked words) (TellsError (wrong_with words) old new status)
+
+-- the words can't be had: they aren't UTF-8, or memory is wanting; nothing is read or printed
+pub record LacksWords (why : io.ErrorKind) (old new : Streams) (status : ℕ) : Type 0 where
+  pub kept : new ≡ old
+  pub not_utf8 : why ≡ InvalidData → status ≡ REFUSED
+  pub fault : why ≢ InvalidData → status ≡ FAULT

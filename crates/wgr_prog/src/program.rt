@@ -1,15 +1,14 @@
 //! The program over any streams.
-ghost use Rattle.std.specs.Prelude.{◌≡◌, ◌≢◌, ◌⊎◌, true, IfNone, IfSome};
+ghost use Rattle.std.specs.Prelude.{◌≡◌, ◌≢◌, ◌⊎◌, true, IfOk, IfErr, drop, map, string_bytes};
 ghost use Rattle.std.specs.IoError.{error_kind};
 ghost use Rattle.std.specs.declared.io.ErrorKind.TheVariants.{InvalidData};
-ghost use Rattle.clap.specs.Walk.{texts};
 ghost use Rattle.clap.specs.Words.{kind_of};
-ghost use Rattle.wgr_command_line.specs.Words.{pool_asked, wrong_with};
-ghost use Rattle.wgr_prog.specs.Status.{RunsPlan, ServesPool, TellsError, fault_status, kind_status, streams};
+ghost use Rattle.wgr_prog.specs.Status.{LacksWords, RunsPlan, Serves, fault_status, kind_status, streams};
 
 use crate::plan::{PlanFault, plan};
 use clap::error::ErrorKind;
 use std::alloc::Global;
+use std::convert::AsStr;
 use std::fmt::Write as _;
 use std::{fmt, io};
 use wgr_command_line::{Request, read_words};
@@ -24,18 +23,45 @@ const FAULT: u8 = 1;
 /// A refusal, or a command line that does not read.
 const REFUSED: u8 = 2;
 
-/// Does what the words ask for, and answers the exit status.
+/// Does what the program's arguments ask for, of which the first is its own name, and answers the
+/// exit status; or says why there are none.
 ///
 /// Where standard error fails there is nobody to tell, and the status stays.
-pub fn program<H: AllocGlobal, R: Read, W: Write, E: Write>(
+pub fn run<H: AllocGlobal, R: Read, W: Write, E: Write>(
     rt: &H,
-    words: &[&str],
+    arguments: &io::Result<Vec<String>>,
     input: &mut R,
     out: &mut W,
     err: &mut E,
 ) -> u8
-    ensures planned { IfSome (pool_asked (texts words.now)) (λ pool. ServesPool pool (streams R.remaining R.failed W.contents W.failed input.old out.old) (streams R.remaining R.failed W.contents W.failed input.new out.new) result) }
-    ensures told { IfNone (pool_asked (texts words.now)) (TellsError (wrong_with (texts words.now)) (streams R.remaining R.failed W.contents W.failed input.old out.old) (streams R.remaining R.failed W.contents W.failed input.new out.new) result) }
+    ensures serves { IfOk arguments.now (λ all. Serves (map string_bytes (drop 1 all.items)) (streams R.remaining R.failed W.contents W.failed input.old out.old) (streams R.remaining R.failed W.contents W.failed input.new out.new) result) }
+    ensures lacks { IfErr arguments.now (λ error. LacksWords (error_kind error) (streams R.remaining R.failed W.contents W.failed input.old out.old) (streams R.remaining R.failed W.contents W.failed input.new out.new) result) }
+{
+    match arguments {
+        Ok(all) => program(rt, words_of(all), input, out, err),
+        Err(error) => no_words(error, err),
+    }
+}
+
+/// All but the first of the arguments.
+fn words_of(arguments: &[String]) -> &[String]
+    ensures { result.now ≡ drop 1 arguments.now }
+{
+    match arguments.split_first() {
+        Some((_, words)) => words,
+        None => arguments,
+    }
+}
+
+/// Does what the words ask for, and answers the exit status.
+fn program<H: AllocGlobal, S: AsStr, R: Read, W: Write, E: Write>(
+    rt: &H,
+    words: &[S],
+    input: &mut R,
+    out: &mut W,
+    err: &mut E,
+) -> u8
+    ensures { Serves (map S.text words.now) (streams R.remaining R.failed W.contents W.failed input.old out.old) (streams R.remaining R.failed W.contents W.failed input.new out.new) result }
 {
     let alloc = rt.alloc();
     match read_words(alloc, words) {
@@ -44,23 +70,22 @@ pub fn program<H: AllocGlobal, R: Read, W: Write, E: Write>(
     }
 }
 
-/// Says that memory is wanting.
-pub fn no_memory<E: Write>(err: &mut E) -> u8
-    ensures status { result ≡ FAULT }
-{
-    fault(err, b"wgr: no_memory\n")
-}
-
 /// Says why the words of the command line can't be had.
-pub fn no_words<E: Write>(error: &io::Error, err: &mut E) -> u8
-    ensures encoding { error_kind error.now ≡ InvalidData → result ≡ REFUSED }
-    ensures memory { error_kind error.now ≢ InvalidData → result ≡ FAULT }
+fn no_words<E: Write>(error: &io::Error, err: &mut E) -> u8
+    ensures not_utf8 { error_kind error.now ≡ InvalidData → result ≡ REFUSED }
+    ensures fault { error_kind error.now ≢ InvalidData → result ≡ FAULT }
 {
     if error.kind() == io::ErrorKind::InvalidData {
         refusal(err, b"wgr: the command line is not UTF-8\n")
     } else {
         no_memory(err)
     }
+}
+
+fn no_memory<E: Write>(err: &mut E) -> u8
+    ensures status { result ≡ FAULT }
+{
+    fault(err, b"wgr: no_memory\n")
 }
 
 fn fault<E: Write>(err: &mut E, text: &[u8]) -> u8

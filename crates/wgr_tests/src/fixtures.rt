@@ -153,3 +153,28 @@ pub(crate) fn full_of_routes(rt: &(impl Abort + AllocGlobal)) -> Parts {
 pub(crate) fn address_after(rt: &(impl Abort + AllocGlobal), first: u32, count: u32) -> Addr {
     Addr::new(Family::V4, u128::from(first) + u128::from(count)).expect(rt, "an address")
 }
+
+// The peer at this place of a crowd; its key has the place.
+fn peer_at(rt: &(impl Abort + AllocGlobal), place: u16) -> Peer {
+    let [high, low] = place.to_be_bytes();
+    let mut peer = peer(rt, u32::from(place) + 1, 7, "10.100.100.100");
+    peer.key.0[0] = high;
+    peer.key.0[1] = low;
+    peer.address = address_after(
+        rt,
+        0x0a64_6464,
+        u32::from(place / 100) * 256 + u32::from(place % 100),
+    );
+    peer
+}
+
+/// The parts of a network of so many peers, each of whose addresses has 14 characters:
+/// 10.100.100.100 and so on.
+pub(crate) fn crowd(rt: &(impl Abort + AllocGlobal), peers: u16) -> Parts {
+    let mut parts = empty(rt, "10.100.0.0/16");
+    for place in 0..peers {
+        add_peer(rt, &mut parts, peer_at(rt, place));
+    }
+    parts.next = u32::from(peers) + 1;
+    parts
+}

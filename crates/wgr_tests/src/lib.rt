@@ -23,3 +23,5 @@ mod pool;
 mod register;
 #[cfg(test)]
 mod shown;
+#[cfg(test)]
+mod size;

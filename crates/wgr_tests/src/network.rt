@@ -221,7 +221,13 @@ pub(crate) fn answer(
 /// A line of a script: the moment, the command, and what it answers.
 pub(crate) type Step<'a> = (u64, &'a str, &'a str);
 
-fn said(rt: &(impl Abort + AllocGlobal), network: &mut Network, now: u64, line: &str) -> Vec<u8> {
+/// What a line is answered.
+pub(crate) fn said(
+    rt: &(impl Abort + AllocGlobal),
+    network: &mut Network,
+    now: u64,
+    line: &str,
+) -> Vec<u8> {
     let (name, rest) = line.split_once(' ').unwrap_or((line, ""));
     let command = command(rt, name, rest);
     answer(rt, network, now, &command)

@@ -3,7 +3,38 @@ use crate::fixtures::{address, pool};
 use std::alloc::AllocGlobal;
 use std::process::Abort;
 use wgr_pool::{AddressSet, Pool, SortedSpans, lowest_free};
-use wgr_text::{Addr, Span};
+use wgr_text::{Addr, Span, read_loose};
+
+#[test]
+fn pools_give_addresses(rt: HostRuntime) {
+    for (text, first, last) in [
+        ("10.0.0.0/8", "10.0.0.2", "10.255.255.254"),
+        ("10.8.0.4/30", "10.8.0.6", "10.8.0.6"),
+        ("fd00::/48", "fd00::2", "fd00::ffff:ffff:ffff:ffff:ffff"),
+        ("fd00::/126", "fd00::2", "fd00::3"),
+    ] {
+        let Span { lo, hi } = pool(&rt, text).assignable();
+        assert!(rt;
+            lo == address(&rt, first) && hi == address(&rt, last),
+            "{text}"
+        );
+    }
+}
+
+#[test]
+fn refuses_pools(rt: HostRuntime) {
+    for text in [
+        "10.0.0.0/7",
+        "10.8.0.4/31",
+        "10.8.0.1/24",
+        "fd00::/47",
+        "fd00::2/127",
+        "fd00::1/64",
+    ] {
+        let (address, length) = read_loose(text.as_bytes()).expect(&rt, "a prefix");
+        assert!(rt; Pool::new(address, length).is_err(), "{text}");
+    }
+}
 
 // The lowest address that is free where these are held.
 fn lowest(rt: &(impl Abort + AllocGlobal), pool: &Pool, set: &AddressSet) -> Option<Addr> {

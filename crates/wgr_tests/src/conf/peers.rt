@@ -6,6 +6,11 @@ use std::process::Abort;
 use wgr_conf::Form;
 use wgr_core::Network;
 
+/// How the section of the server begins.
+const SERVER: &str = "\n[Peer]\nPublicKey = CQkJCQkJCQkJCQkJCQkJCQkJCQkJCQkJCQkJCQkJCQk=\n";
+
+const ENDPOINT: &str = "Endpoint = vpn.example.net:51820\n";
+
 #[test]
 fn two_peers(rt: HostRuntime) {
     let network = office(&rt, "vpn.example.net", &["192.168.4.0/24", "fd00:4::/64"]);
@@ -17,36 +22,39 @@ fn two_peers(rt: HostRuntime) {
                 0,
                 Some(1),
                 Form::Quick,
-                "[Interface]\n\
-                 Address = 10.8.0.2/32\n\
-                 \n\
-                 [Peer]\n\
-                 PublicKey = CQkJCQkJCQkJCQkJCQkJCQkJCQkJCQkJCQkJCQkJCQk=\n\
-                 AllowedIPs = 10.8.0.0/24, 192.168.4.0/24, fd00:4::/64\n\
-                 Endpoint = vpn.example.net:51820\n",
+                &[
+                    "[Interface]\nAddress = 10.8.0.2/32\n",
+                    SERVER,
+                    "AllowedIPs = 10.8.0.0/24, 192.168.4.0/24, fd00:4::/64\n",
+                    ENDPOINT,
+                ],
             ),
             (
                 0,
                 Some(2),
                 Form::Wg,
-                "[Interface]\n\
-                 \n\
-                 [Peer]\n\
-                 PublicKey = CQkJCQkJCQkJCQkJCQkJCQkJCQkJCQkJCQkJCQkJCQk=\n\
-                 AllowedIPs = 10.8.0.0/24\n\
-                 Endpoint = vpn.example.net:51820\n\
-                 PersistentKeepalive = 25\n",
+                &[
+                    "[Interface]\n",
+                    SERVER,
+                    "AllowedIPs = 10.8.0.0/24\n",
+                    ENDPOINT,
+                    "PersistentKeepalive = 25\n",
+                ],
             ),
-            (0, Some(0), Form::Wg, "no file"),
-            (0, Some(3), Form::Quick, "no file"),
+            (0, Some(0), Form::Wg, &["no file"]),
+            (0, Some(3), Form::Quick, &["no file"]),
         ],
     );
 }
 
 #[test]
 fn other_routes_and_hosts(rt: HostRuntime) {
-    // The second route lies wholly in the pool, the first covers more than it.
-    let network = office(&rt, "2001:DB8::1", &["0.0.0.0/0", "10.8.0.16/28"]);
+    // The first route covers more than the pool; the second is the pool, and the third lies in it.
+    let network = office(
+        &rt,
+        "2001:DB8::1",
+        &["0.0.0.0/0", "10.8.0.0/24", "10.8.0.16/28"],
+    );
     check(
         &rt,
         &network,
@@ -54,12 +62,12 @@ fn other_routes_and_hosts(rt: HostRuntime) {
             0,
             Some(1),
             Form::Wg,
-            "[Interface]\n\
-             \n\
-             [Peer]\n\
-             PublicKey = CQkJCQkJCQkJCQkJCQkJCQkJCQkJCQkJCQkJCQkJCQk=\n\
-             AllowedIPs = 10.8.0.0/24, 0.0.0.0/0\n\
-             Endpoint = [2001:db8::1]:51820\n",
+            &[
+                "[Interface]\n",
+                SERVER,
+                "AllowedIPs = 10.8.0.0/24, 0.0.0.0/0\n",
+                "Endpoint = [2001:db8::1]:51820\n",
+            ],
         )],
     );
 }
@@ -85,37 +93,34 @@ fn ended_leases(rt: HostRuntime) {
                 99,
                 Some(1),
                 Form::Quick,
-                "[Interface]\n\
-                 Address = fd00::2/128\n\
-                 \n\
-                 [Peer]\n\
-                 PublicKey = CQkJCQkJCQkJCQkJCQkJCQkJCQkJCQkJCQkJCQkJCQk=\n\
-                 AllowedIPs = fd00::/64, 192.168.4.0/24\n\
-                 Endpoint = vpn.example.net:51820\n",
+                &[
+                    "[Interface]\nAddress = fd00::2/128\n",
+                    SERVER,
+                    "AllowedIPs = fd00::/64, 192.168.4.0/24\n",
+                    ENDPOINT,
+                ],
             ),
             (
                 100,
                 Some(1),
                 Form::Wg,
-                "[Interface]\n\
-                 \n\
-                 [Peer]\n\
-                 PublicKey = CQkJCQkJCQkJCQkJCQkJCQkJCQkJCQkJCQkJCQkJCQk=\n\
-                 AllowedIPs = fd00::/64\n\
-                 Endpoint = vpn.example.net:51820\n",
+                &[
+                    "[Interface]\n",
+                    SERVER,
+                    "AllowedIPs = fd00::/64\n",
+                    ENDPOINT,
+                ],
             ),
-            (100, Some(2), Form::Wg, "no file"),
+            (100, Some(2), Form::Wg, &["no file"]),
             (
                 100,
                 None,
                 Form::Quick,
-                "[Interface]\n\
-                 Address = fd00::1/64\n\
-                 ListenPort = 51820\n\
-                 \n\
-                 [Peer]\n\
-                 PublicKey = AQEBAQEBAQEBAQEBAQEBAQEBAQEBAQEBAQEBAQEBAQE=\n\
-                 AllowedIPs = fd00::2/128\n",
+                &[
+                    "[Interface]\nAddress = fd00::1/64\nListenPort = 51820\n",
+                    "\n[Peer]\nPublicKey = AQEBAQEBAQEBAQEBAQEBAQEBAQEBAQEBAQEBAQEBAQE=\n",
+                    "AllowedIPs = fd00::2/128\n",
+                ],
             ),
         ],
     );

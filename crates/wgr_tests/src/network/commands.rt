@@ -111,6 +111,14 @@ fn routes_lead_to_one_peer(rt: HostRuntime) {
             (0, "route 1 10.8.0.2/31", "1 10.8.0.6/32 10.8.0.2/31"),
             (0, "add 2", "2 10.8.0.4/32"),
             (0, "add 3 10.8.0.3", "3 10.8.0.3/32"),
+            // a route that is the pool holds the last address that was free
+            (
+                0,
+                "route 1 10.8.0.0/29",
+                "1 10.8.0.6/32 10.8.0.0/29 10.8.0.2/31",
+            ),
+            (0, "add 4", "pool_full"),
+            (0, "add 4 10.8.0.5", "4 10.8.0.5/32"),
         ],
     );
 }

@@ -1,7 +1,9 @@
 //! Tenants beside each other, and lists of events.
 use super::{check, event, name, put_shown, shown};
+use crate::fixtures::crowd;
 use crate::network::Step;
 use crate::shown::Shown;
+use crate::size::adoption;
 use std::alloc::AllocGlobal;
 use std::process::Abort;
 use wgr_core::{Command, Label, LeaseEnd};
@@ -66,9 +68,19 @@ fn add(
         until: LeaseEnd::never(),
         keepalive: 0,
     };
+    ask(rt, register, token, &command)
+}
+
+// What the network `office` of the tenant whose token repeats the byte answers.
+fn ask(
+    rt: &(impl Abort + AllocGlobal),
+    register: &mut Register,
+    token: u8,
+    command: &Command,
+) -> Vec<u8> {
     let office = name(rt, "office");
     let answer = register
-        .ask(rt.alloc(), &[token; 32], &office, 0, &command)
+        .ask(rt.alloc(), &[token; 32], &office, 0, command)
         .expect(rt, "memory");
     shown(rt, &answer)
 }
@@ -148,6 +160,28 @@ fn a_long_list_of_events(rt: HostRuntime) {
             ],
         );
     }
+}
+
+#[test]
+fn an_ask_among_2000_peers(rt: HostRuntime) {
+    let mut register = Register::new(rt.alloc());
+    check(&rt, &mut register, &OFFICE[..2]);
+    check(
+        &rt,
+        &mut register,
+        &[(
+            0,
+            "network acme office 10.100.0.0/16 vpn.example.net 51820",
+            "done",
+        )],
+    );
+    let command = adoption(&rt, &crowd(&rt, 2000).peers);
+    let adopted = ask(&rt, &mut register, 1, &command);
+    assert!(rt; adopted.ends_with(b" 1999 2000 known 0"));
+    assert_eq!(rt;
+        add(&rt, &mut register, 1, [8; 32]).as_slice(),
+        b"2001 10.100.0.2/32".as_slice()
+    );
 }
 
 fn put_answer(

@@ -1,5 +1,4 @@
-use Rattle.std.proofs.Common.{◌≡◌, ◌∙◌, true, List, [], ◌∷◌, Option, is_some, inl, inr, option_and_then, refl, sym, ap, ap₂, subst}
-use Rattle.clap.specs.Walk.{texts}
+use Rattle.std.proofs.Common.{◌≡◌, ◌∙◌, true, List, [], ◌∷◌, Option, is_some, map, inl, inr, option_and_then, refl, sym, ap, ap₂, subst}
 use Rattle.clap.specs.Words.{App, HasKind, Kinds, Text, fault_of, is_simple, is_simple_and_free, subcommand_of, kind_of}
 use Rattle.clap.specs.Kinds.{or_else}
 use Rattle.clap.specs.declared.error.Error.{Error}
@@ -33,22 +32,22 @@ first_kinds [] next error (inr none) = absurd none
 first_kinds (kind ∷ kinds) next error has = has
 
 pub returns-in_err-matches-clause-err : goal.returns-in_err-matches-clause-err
-returns-in_err-matches-clause-err c =
-    let words = texts c.args.words.now in
+returns-in_err-matches-clause-err g c =
+    let words = map g.S.AsStr.text c.args.words.now in
     let error = c.in_err-matches.field-0.0 in
     let fault = has_fault _ words error c.in_ok-command.ensures.app c.in_err-matches.ensures.kinds in
     passed_up _ _ _ c.from_residual-in_err-matches.ensures.1 (memory_alone (fault_of wgr_app words) (plan_named words) error fault)
 
 pub returns-in_err-matches-clause-kinds : goal.returns-in_err-matches-clause-kinds
-returns-in_err-matches-clause-kinds c =
-    let words = texts c.args.words.now in
+returns-in_err-matches-clause-kinds g c =
+    let words = map g.S.AsStr.text c.args.words.now in
     let error = c.in_err-matches.field-0.0 in
     let fault = has_fault _ words error c.in_ok-command.ensures.app c.in_err-matches.ensures.kinds in
     passed_up _ _ _ c.from_residual-in_err-matches.ensures.1 (first_kinds (fault_of wgr_app words) _ error fault)
 
 pub returns-in-Some-clause-ok : goal.returns-in-Some-clause-ok
-returns-in-Some-clause-ok c =
-    let words = texts c.args.words.now in
+returns-in-Some-clause-ok g c =
+    let words = map g.S.AsStr.text c.args.words.now in
     let app = c.in_ok-command.ensures.app in
     let fault : fault_of wgr_app words ≡ [] = sym (ap (λ (a : App). fault_of a words) app) ∙ c.in_ok-matches.ensures.kinds (ap is_simple_and_free app ∙ simple_and_free) in
     let rows = (c.in_ok-matches.ensures.ok.2 (ap is_simple app ∙ simple)).1 in

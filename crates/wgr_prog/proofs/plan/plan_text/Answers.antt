@@ -1,4 +1,4 @@
-use Rattle.std.proofs.Common.{◌≡◌, ℕ, List, [], Some, sym, ◌∙◌, ap, subst}
+use Rattle.std.proofs.Common.{◌≡◌, Some, sym, ◌∙◌, ap, subst}
 use Rattle.wgr_core.specs.Network.{NetworkValue}
 use Rattle.wgr_prog.specs.Lines.{lines_of}
 use Rattle.wgr_prog.specs.Plan.{Plans, plan_network}

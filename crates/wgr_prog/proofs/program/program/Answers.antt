@@ -6,7 +6,7 @@ use Rattle.clap.specs.declared.error.kind.ErrorKind.{ErrorKind}
 use Rattle.clap.specs.declared.error.kind.ErrorKind.TheVariants.{OutOfMemory}
 use Rattle.wgr_prog.specs.declared.program.TheConstants.{DONE, FAULT}
 use Rattle.wgr_prog.specs.PlanFault.{Streams}
-use Rattle.wgr_prog.specs.Status.{ServesPool, TellsError, kind_status, streams}
+use Rattle.wgr_prog.specs.Status.{ReadsNothing, ServesPool, TellsError, kind_status, streams}
 use Rattle.wgr_prog.proofs.program.program.Goals as goal
 
 -- how the status of an error goes with its kind
@@ -26,24 +26,24 @@ lacks_memory (Some pool) old new kind status memory kept told =
     let is : kind_status kind ≡ FAULT = ap kind_status (memory refl) in
     inl (kept (λ done. cc (is, done)), follows_memory kind status (memory refl) told)
 
-tells_fault : (kinds : Kinds) (old new : Streams) (status : ℕ) → status ≡ FAULT → (new ≡ old) ⊎ (new.write_failed ≡ true) → TellsError kinds old new status
-tells_fault kinds old new status fault (inl kept) = inl (kept, fault)
-tells_fault kinds old new status fault (inr failed) = inr (inl (failed, fault))
+tells_fault : (kinds : Kinds) (old new : Streams) (status : ℕ) → ReadsNothing old new → status ≡ FAULT → (new ≡ old) ⊎ (new.write_failed ≡ true) → TellsError kinds old new status
+tells_fault kinds old new status unread fault (inl kept) = inl (kept, fault)
+tells_fault kinds old new status unread fault (inr failed) = inr (inl (unread, failed, fault))
 
 is_fault : (status : ℕ) → (status ≡ FAULT) ⊎ (status ≢ FAULT)
 is_fault status = elim (eqb_tells status FAULT) [ inl e ↦ inl e.1 | inr e ↦ inr e.1 ]
 
 -- and where none is asked for it is of one of the kinds
-tells_error : (kinds : Kinds) (error : Error) (old new : Streams) (status : ℕ) → HasKind kinds error → Follows (kind_of error) status
+tells_error : (kinds : Kinds) (error : Error) (old new : Streams) (status : ℕ) → ReadsNothing old new → HasKind kinds error → Follows (kind_of error) status
     → (kind_status (kind_of error) ≢ DONE → new ≡ old) → (status ≡ FAULT → (new ≡ old) ⊎ (new.write_failed ≡ true))
     → (status ≢ FAULT → new.write_failed ≡ old.write_failed) → TellsError kinds old new status
-tells_error kinds error old new status has (inl fault) kept failed sound = tells_fault kinds old new status fault (failed fault)
-tells_error kinds error old new status (inl memory) (inr told) kept failed sound =
+tells_error kinds error old new status unread has (inl fault) kept failed sound = tells_fault kinds old new status unread fault (failed fault)
+tells_error kinds error old new status unread (inl memory) (inr told) kept failed sound =
     let fault : status ≡ FAULT = told ∙ ap kind_status memory in
-    tells_fault kinds old new status fault (failed fault)
-tells_error kinds error old new status (inr among) (inr told) kept failed sound = elim (is_fault status) [
-  | inl fault ↦ tells_fault kinds old new status fault (failed fault)
-  | inr other ↦ inr (inr (record { kind = kind_of error; among = among; told = told; sound = sound other; kept = kept }))
+    tells_fault kinds old new status unread fault (failed fault)
+tells_error kinds error old new status unread (inr among) (inr told) kept failed sound = elim (is_fault status) [
+  | inl fault ↦ tells_fault kinds old new status unread fault (failed fault)
+  | inr other ↦ inr (inr (record { kind = kind_of error; among = among; told = told; unread = unread; sound = sound other; kept = kept }))
 ]
 
 if_none : {P : Type 0} (asked : Option Text) → P → IfNone asked P
@@ -58,13 +58,13 @@ kept_streams : {R W : Type 0} (remaining : R → Option (List ℕ)) (read_failed
     → new ≡ old → streams remaining read_failed contents write_failed input new ≡ streams remaining read_failed contents write_failed input old
 kept_streams remaining read_failed contents write_failed input old new kept = ap (streams remaining read_failed contents write_failed input) kept
 
-pub returns-in-Err-clause-planned : goal.returns-in-Err-clause-planned
-returns-in-Err-clause-planned g c =
-    lacks_memory _ _ _ _ _ c.in-Err.ensures.err (λ other. kept_streams g.R.Read.remaining g.R.Read.failed g.W.Write.contents g.W.Write.failed c.args.input.now _ _ (c.no_request.ensures.kept other)) c.no_request.ensures.status
-
-pub returns-in-Err-clause-told : goal.returns-in-Err-clause-told
-returns-in-Err-clause-told g c =
-    if_none _ (tells_error _ c.in-Err.answer _ _ _ c.in-Err.ensures.kinds c.no_request.ensures.status
-    (λ other. kept_streams g.R.Read.remaining g.R.Read.failed g.W.Write.contents g.W.Write.failed c.args.input.now _ _ (c.no_request.ensures.kept other))
-    (λ fault. left_of (kept_streams g.R.Read.remaining g.R.Read.failed g.W.Write.contents g.W.Write.failed c.args.input.now _ _) (c.no_request.ensures.fault fault))
-    c.no_request.ensures.sound)
+pub returns-in-Err : goal.returns-in-Err
+returns-in-Err g c =
+    let kept = kept_streams g.R.Read.remaining g.R.Read.failed g.W.Write.contents g.W.Write.failed c.args.input.now _ _ in
+    record {
+      planned = lacks_memory _ _ _ _ _ c.in-Err.ensures.err (λ other. kept (c.no_request.ensures.kept other)) c.no_request.ensures.status;
+      told = if_none _ (tells_error _ c.in-Err.answer _ _ _ (refl, refl) c.in-Err.ensures.kinds c.no_request.ensures.status
+          (λ other. kept (c.no_request.ensures.kept other))
+          (λ fault. left_of kept (c.no_request.ensures.fault fault))
+          c.no_request.ensures.sound);
+    }
