@@ -1,0 +1,4 @@
+pub mod FieldLemmas
+pub mod DigitLemmas
+pub mod HeadLemmas
+pub mod ReadLemmas
