@@ -1,4 +1,7 @@
+pub mod Ending
 pub mod FieldLemmas
+pub mod Deciding
 pub mod DigitLemmas
+pub mod Growing
 pub mod HeadLemmas
 pub mod ReadLemmas

@@ -7,13 +7,16 @@
 
 mod field;
 mod head;
+pub mod laws;
 mod length;
 mod message;
+mod reading;
 mod reply;
 mod status_code;
 mod token;
 
 pub use message::{Message, MessageFault};
+pub use reading::read_message;
 pub use reply::{Kind, write_reply};
 pub use status_code::StatusCode;
 pub use token::is_token;
