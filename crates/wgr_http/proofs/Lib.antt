@@ -1,4 +1,5 @@
 pub mod Ending
+pub mod Examples
 pub mod FieldLemmas
 pub mod Deciding
 pub mod DigitLemmas
