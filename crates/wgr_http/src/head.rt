@@ -101,7 +101,7 @@ fn wanted_of(authorization: Field, content_length: Field, transfer_encoding: Fie
 }
 
 /// Where the parts of the head are in the front of the bytes.
-fn spans_of(bytes: &[u8], headers: &mut [HeaderSpan; 32]) -> Option<RequestSpans>
+fn spans_of(bytes: &[u8], headers: &mut [HeaderSpan; MAX_HEADERS]) -> Option<RequestSpans>
     ensures none { IfNone result (HasNoHead bytes.now) }
     ensures head { IfSome result (λ spans. (h : RequestHead)
         × HasHead bytes.now h (drop spans.len bytes.now) × IsRequestAt (take 8192 bytes.now) headers.new spans h) }

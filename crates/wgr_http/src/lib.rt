@@ -20,3 +20,6 @@ pub use reading::read_message;
 pub use reply::{Kind, write_reply};
 pub use status_code::StatusCode;
 pub use token::is_token;
+
+#[cfg(test)]
+mod tests;
