@@ -1,0 +1,152 @@
+-- What heads and the bytes after them are, tokens and replies, by computation.
+use Rattle.std.proofs.Common.{◌≡◌, ℕ, List, [], ◌∷◌, ◌++◌, length, codes, Option, Some, None, refl}
+use Rattle.std.specs.Fmt.{digits}
+use Rattle.std.specs.Prelude.{Result, Ok, Err}
+use Rattle.httparse.proofs.OnLiterals.{httparse_on_literals}
+use Rattle.httparse.specs.Grammar.{RequestHead, Field, crlf}
+use Rattle.wgr_http.specs.Extent.{wanted}
+use Rattle.wgr_http.specs.Field.{absent, once}
+use Rattle.wgr_http.specs.Message.{MessageView, headless, message_of}
+use Rattle.wgr_http.specs.Reply.{first_lines, last_lines, reply_bytes}
+use Rattle.wgr_http.specs.Token.{token_in}
+use Rattle.wgr_http.specs.declared.message.MessageFault.{MessageFault}
+use Rattle.wgr_http.specs.declared.message.MessageFault.TheVariants.{BadHead, TooLarge, LengthRequired, Truncated}
+use Rattle.wgr_http.specs.declared.reply.Kind.TheVariants.{Json, Text}
+use Rattle.wgr_http.specs.declared.status_code.StatusCode.TheVariants as status
+
+abbrev line : List ℕ → List ℕ → Field
+line name raw = record { name = name; raw = raw; end = crlf }
+
+-- what a request of this method and of these fields is
+abbrev asked : List ℕ → List Field → List ℕ → Result MessageView MessageFault
+asked method fields rest =
+    message_of (record { blank = []; method = method; target = codes "/networks"; minor = 1; line_end = crlf; fields = fields; last = crlf }) rest
+
+abbrev token : Field
+token = line (codes "Authorization") (codes " Bearer abc")
+
+abbrev coding : Field
+coding = line (codes "Transfer-Encoding") (codes " chunked")
+
+-- a whole message, and bytes after it
+whole : asked (codes "POST") (token ∷ line (codes "CONTENT-length") (codes " 02\t") ∷ []) (codes "{}GET ")
+    ≡ Ok (record { method = codes "POST"; target = codes "/networks"; token = Some (codes "abc"); body = codes "{}" })
+unfolding httparse_on_literals
+whole = refl
+
+no_length : asked (codes "GET") [] (codes "{}")
+    ≡ Ok (record { method = codes "GET"; target = codes "/networks"; token = None; body = [] })
+unfolding httparse_on_literals
+no_length = refl
+
+length_of_a_get : asked (codes "GET") (line (codes "Content-Length") (codes "1") ∷ []) (codes "{}")
+    ≡ Ok (record { method = codes "GET"; target = codes "/networks"; token = None; body = codes "{" })
+unfolding httparse_on_literals
+length_of_a_get = refl
+
+-- where two checks fail, the first one tells
+two_tokens_and_a_coding : asked (codes "POST") (token ∷ coding ∷ line (codes "authorization") (codes "") ∷ []) [] ≡ Err BadHead
+unfolding httparse_on_literals
+two_tokens_and_a_coding = refl
+
+two_lengths_and_a_coding : asked (codes "POST")
+    (line (codes "Content-Length") (codes " 0") ∷ line (codes "content-length") (codes " 0") ∷ coding ∷ []) [] ≡ Err BadHead
+unfolding httparse_on_literals
+two_lengths_and_a_coding = refl
+
+coding_and_a_bad_length : asked (codes "POST") (coding ∷ line (codes "Content-Length") (codes " x") ∷ []) [] ≡ Err LengthRequired
+unfolding httparse_on_literals
+coding_and_a_bad_length = refl
+
+coding_and_a_great_length : asked (codes "GET") (line (codes "Content-Length") (codes " 2097153") ∷ coding ∷ []) [] ≡ Err LengthRequired
+unfolding httparse_on_literals
+coding_and_a_great_length = refl
+
+two_codings : asked (codes "GET") (coding ∷ coding ∷ []) [] ≡ Err LengthRequired
+unfolding httparse_on_literals
+two_codings = refl
+
+post_without_length : asked (codes "POST") (token ∷ []) (codes "{}") ≡ Err LengthRequired
+unfolding httparse_on_literals
+post_without_length = refl
+
+no_digits : asked (codes "POST") (line (codes "Content-Length") (codes " ") ∷ []) [] ≡ Err BadHead
+unfolding httparse_on_literals
+no_digits = refl
+
+sign : asked (codes "POST") (line (codes "Content-Length") (codes " +2") ∷ []) (codes "{}") ≡ Err BadHead
+unfolding httparse_on_literals
+sign = refl
+
+twenty_digits : asked (codes "POST") (line (codes "Content-Length") (codes " 00000000000000000001") ∷ []) (codes "{}")
+    ≡ Ok (record { method = codes "POST"; target = codes "/networks"; token = None; body = codes "{" })
+unfolding httparse_on_literals
+twenty_digits = refl
+
+twenty_one_digits : asked (codes "POST") (line (codes "Content-Length") (codes " 000000000000000000001") ∷ []) (codes "{}") ≡ Err BadHead
+unfolding httparse_on_literals
+twenty_one_digits = refl
+
+too_large_and_truncated : asked (codes "POST") (line (codes "Content-Length") (codes " 2097153") ∷ []) [] ≡ Err TooLarge
+unfolding httparse_on_literals
+too_large_and_truncated = refl
+
+largest_body_is_missing : asked (codes "POST") (line (codes "Content-Length") (codes " 2097152") ∷ []) [] ≡ Err Truncated
+unfolding httparse_on_literals
+largest_body_is_missing = refl
+
+last_byte_is_missing : asked (codes "POST") (line (codes "Content-Length") (codes " 3") ∷ []) (codes "{}") ≡ Err Truncated
+unfolding httparse_on_literals
+last_byte_is_missing = refl
+
+-- no head
+no_bytes : headless [] ≡ Truncated
+no_bytes = refl
+
+bytes_8192 : (bytes : List ℕ) → length bytes ≡ 8192 → headless bytes ≡ BadHead
+bytes_8192 bytes is = rw is refl
+
+bytes_8193 : (bytes : List ℕ) → length bytes ≡ 8193 → headless bytes ≡ TooLarge
+bytes_8193 bytes is = rw is refl
+
+-- what is read of a body
+largest_body_is_wanted : wanted absent (once (codes "2097152")) absent ≡ 2097152
+largest_body_is_wanted = refl
+
+larger_body_is_not : wanted absent (once (codes "2097153")) absent ≡ 0
+larger_body_is_not = refl
+
+-- tokens
+spaces_before_the_token : token_in (codes "bEARER   a.b~") ≡ Some (codes "a.b~")
+spaces_before_the_token = refl
+
+another_scheme : token_in (codes "Basic abc") ≡ None
+another_scheme = refl
+
+no_space : token_in (codes "Bearerabc") ≡ None
+no_space = refl
+
+tab : token_in (codes "Bearer\tabc") ≡ None
+tab = refl
+
+blank_in_the_token : token_in (codes "Bearer a b") ≡ None
+blank_in_the_token = refl
+
+no_token : token_in (codes "Bearer") ≡ None
+no_token = refl
+
+-- replies
+not_found : reply_bytes status.NotFound Json (codes "GET") (codes "{\"error\":\"no_such_network\"}")
+    ≡ codes "HTTP/1.1 404 Not Found\r\nContent-Type: application/json\r\nContent-Length: 27\r\nConnection: close\r\n\r\n{\"error\":\"no_such_network\"}"
+unfolding first_lines last_lines digits
+not_found = refl
+
+unauthorized : reply_bytes status.Unauthorized Json [] (codes "{\"error\":\"unknown_token\"}")
+    ≡ codes "HTTP/1.1 401 Unauthorized\r\nContent-Type: application/json\r\nContent-Length: 25\r\nWWW-Authenticate: Bearer\r\nConnection: close\r\n\r\n{\"error\":\"unknown_token\"}"
+unfolding first_lines last_lines digits
+unauthorized = refl
+
+method_not_allowed : reply_bytes status.MethodNotAllowed Text (codes "GET, POST") []
+    ≡ codes "HTTP/1.1 405 Method Not Allowed\r\nContent-Type: text/plain\r\nContent-Length: 0\r\nAllow: GET, POST\r\nConnection: close\r\n\r\n"
+unfolding first_lines last_lines digits
+method_not_allowed = refl

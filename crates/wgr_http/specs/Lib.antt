@@ -1,0 +1,10 @@
+pub mod Extent
+pub mod Field
+pub mod Head
+pub mod Laws
+pub mod Length
+pub mod Message
+pub mod Reading
+pub mod Reply
+pub mod StatusCode
+pub mod Token

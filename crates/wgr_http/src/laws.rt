@@ -1,0 +1,20 @@
+//! What follows of the definition of a message. Each function does nothing: its contract is the
+//! law.
+ghost use Rattle.wgr_http.specs.Laws.{HeadsDecide, LongHeadsDecide, MessagesEnd, OneAnswer};
+
+/// Bytes are one message at most, or have one first fault.
+pub fn answers_are_unique()
+    ensures { OneAnswer }
+{}
+
+/// What comes after the body of a message is no part of it.
+pub fn messages_end()
+    ensures { MessagesEnd }
+{}
+
+/// However the bytes of a message are cut, it is decided by its head and the body that the head
+/// wants, or by its first 8,193 bytes where these have no head.
+pub fn beginnings_decide()
+    ensures head { HeadsDecide }
+    ensures no_head { LongHeadsDecide }
+{}

@@ -1,0 +1,151 @@
+//! One request message.
+ghost use Rattle.std.specs.Prelude.{◌≡◌};
+ghost use Rattle.wgr_http.specs.Field.{field_view};
+ghost use Rattle.wgr_http.specs.Length.{length_value};
+ghost use Rattle.wgr_http.specs.Message.{Answers, body_view, fault_status, headless, judged, sized_by, view_result};
+
+use crate::StatusCode;
+use crate::field::Field;
+use crate::head::{Head, MAX_HEAD};
+use crate::length::{MAX_BODY, length_of};
+use crate::token::token_of;
+use std::fmt;
+
+/// A request message, as slices of its bytes. What comes after its body is no part of it.
+#[derive(Clone, Copy)]
+pub struct Message<'a> {
+    pub method: &'a [u8],
+    /// The request target (RFC 9112 section 3.2), which is UTF-8.
+    pub target: &'a [u8],
+    /// The bearer token, where there is one of the form that [`is_token`](crate::is_token) tells.
+    pub token: Option<&'a [u8]>,
+    /// At most 2,097,152 bytes.
+    pub body: &'a [u8],
+}
+
+/// Why bytes are no message.
+#[derive(Clone, Copy, Debug, PartialEq, Eq)]
+pub enum MessageFault {
+    /// There is no head, or two `Authorization` or `Content-Length` lines, or a length that is no
+    /// number of 1 to 20 digits.
+    BadHead,
+    /// The head has more than 8,192 bytes, or the body more than 2,097,152.
+    TooLarge,
+    /// A `Transfer-Encoding`, or a POST without `Content-Length`.
+    LengthRequired,
+    /// The body has fewer bytes than `Content-Length` says, or the message has none.
+    Truncated,
+}
+
+impl MessageFault {
+    /// The status of the reply that tells it.
+    pub fn status(self) -> StatusCode
+        ensures { result ≡ fault_status self }
+    {
+        match self {
+            MessageFault::BadHead => StatusCode::BadRequest,
+            MessageFault::TooLarge => StatusCode::ContentTooLarge,
+            MessageFault::LengthRequired => StatusCode::LengthRequired,
+            MessageFault::Truncated => StatusCode::BadRequest,
+        }
+    }
+}
+
+impl fmt::Display for MessageFault {
+    fn fmt<W: fmt::Write>(&self, f: &mut fmt::Formatter<W>) -> fmt::Result {
+        f.write_str(match self {
+            MessageFault::BadHead => "bad_head",
+            MessageFault::TooLarge => "too_large",
+            MessageFault::LengthRequired => "length_required",
+            MessageFault::Truncated => "truncated",
+        })
+    }
+}
+
+impl<'a> Message<'a> {
+    /// The message at the front of the bytes, or its first fault.
+    pub fn read(bytes: &'a [u8]) -> Result<Message<'a>, MessageFault>
+        ensures { Answers bytes.now (view_result result) }
+    {
+        match Head::read(bytes) {
+            Some(head) => judge(
+                head.method,
+                head.target,
+                head.authorization,
+                head.content_length,
+                head.transfer_encoding,
+                &bytes[head.len..],
+            ),
+            None => Err(headless_fault(bytes)),
+        }
+    }
+}
+
+/// The message of a head and of the bytes after it.
+fn judge<'a>(
+    method: &'a [u8],
+    target: &'a [u8],
+    authorization: Field<'a>,
+    content_length: Field<'a>,
+    transfer_encoding: Field<'a>,
+    rest: &'a [u8],
+) -> Result<Message<'a>, MessageFault>
+    ensures { view_result result ≡ judged method.now target.now (field_view authorization.entry)
+        (field_view content_length.entry) (field_view transfer_encoding.entry) rest.now }
+{
+    let token = match authorization {
+        Field::Repeated => return Err(MessageFault::BadHead),
+        Field::Absent => None,
+        Field::Once(credentials) => token_of(credentials),
+    };
+    let length = match content_length {
+        Field::Repeated => return Err(MessageFault::BadHead),
+        Field::Absent => None,
+        Field::Once(value) => Some(value),
+    };
+    match transfer_encoding {
+        Field::Absent => {}
+        Field::Once(_) | Field::Repeated => return Err(MessageFault::LengthRequired),
+    }
+    let body = match length {
+        Some(value) => body_of(value, rest)?,
+        None if method == b"POST".as_slice() => return Err(MessageFault::LengthRequired),
+        None => &[],
+    };
+    Ok(Message {
+        method,
+        target,
+        token,
+        body,
+    })
+}
+
+/// The body of the length that the value of `Content-Length` writes.
+fn body_of<'a>(value: &[u8], rest: &'a [u8]) -> Result<&'a [u8], MessageFault>
+    ensures { body_view result ≡ sized_by rest.now (length_value value.now) }
+{
+    let Some(length) = length_of(value) else {
+        return Err(MessageFault::BadHead);
+    };
+    if length > MAX_BODY {
+        return Err(MessageFault::TooLarge);
+    }
+    let length = length as usize;
+    if rest.len() < length {
+        return Err(MessageFault::Truncated);
+    }
+    Ok(&rest[..length])
+}
+
+/// The fault of bytes that have no head.
+fn headless_fault(bytes: &[u8]) -> MessageFault
+    ensures { result ≡ headless bytes.now }
+{
+    if bytes.is_empty() {
+        MessageFault::Truncated
+    } else if bytes.len() > MAX_HEAD {
+        MessageFault::TooLarge
+    } else {
+        MessageFault::BadHead
+    }
+}
