@@ -1,0 +1,4 @@
+pub use Rattle.wgr_sql.specs.Steps
+pub mod Layout
+pub mod Texts
+pub mod Decode

@@ -1,0 +1,2 @@
+//! The tables of the register.
+#![tactic(auto)]
