@@ -29,18 +29,46 @@ module _ (old new : Database) (register : IsRegister old) (tree : ℕ) (after : 
       let allowed = stays 10 refl refl in
       λ k. record { meta = map meta_in (meta k); tenants = map tenant_in (tenants k); tokens = map token_in (tokens k); networks = map network_in (networks k); peers = map peer_in (peers k); allowed = map allowed_in (allowed k) }
 
-  pub register_after : IsDatabase new → AreTrees (with_tree old.trees tree after) → IsRegister new
-  register_after sound written = record {
-    others = register.others;
-    schema_is = e.schema_is;
-    apart = register.apart;
-    sound = sound;
-    written = record {
-      meta = subst (AreWritten _ _ _) (sym (stays 0 refl refl)) written.meta;
-      tenants = subst (AreWritten _ _ _) (sym (stays 1 refl refl)) written.tenants;
-      tokens = subst (AreWritten _ _ _) (sym (stays 3 refl refl)) written.tokens;
-      networks = subst AreNetworks (sym (stays 5 refl refl)) written.networks;
-      peers = subst ArePeers (sym (stays 8 refl refl)) written.peers;
-      allowed = subst AreAllowed (sym (stays 10 refl refl)) written.allowed;
-    };
-  }
+  module _ (sound : IsDatabase new) where
+    pub register_after : AreTrees (with_tree old.trees tree after) → IsRegister new
+    register_after written = record {
+      others = register.others;
+      schema_is = e.schema_is;
+      apart = register.apart;
+      sound = sound;
+      written = record {
+        meta = subst (AreWritten _ _ _) (sym (stays 0 refl refl)) written.meta;
+        tenants = subst (AreWritten _ _ _) (sym (stays 1 refl refl)) written.tenants;
+        tokens = subst (AreWritten _ _ _) (sym (stays 3 refl refl)) written.tokens;
+        networks = subst AreNetworks (sym (stays 5 refl refl)) written.networks;
+        peers = subst ArePeers (sym (stays 8 refl refl)) written.peers;
+        allowed = subst AreAllowed (sym (stays 10 refl refl)) written.allowed;
+      };
+    }
+
+-- ---- the rows of one table change
+
+module _ (old new : Database) (after : List Row) (register : IsRegister old) (sound : IsDatabase new) where
+  abbrev good : AreTrees old.trees
+  good = register.written
+
+  module _ (e : Edits (schema_with register.others) 5 after old new) where
+    pub networks_after : tables_of new ≡ record (tables_of old) { networks = map network_in after }
+    networks_after = tables_after old new register 5 after e
+
+    pub register_networks : AreNetworks after → IsRegister new
+    register_networks networks = register_after old new register 5 after e sound (record { meta = good.meta; tenants = good.tenants; tokens = good.tokens; networks = networks; peers = good.peers; allowed = good.allowed })
+
+  module _ (e : Edits (schema_with register.others) 8 after old new) where
+    pub peers_after : tables_of new ≡ record (tables_of old) { peers = map peer_in after }
+    peers_after = tables_after old new register 8 after e
+
+    pub register_peers : ArePeers after → IsRegister new
+    register_peers peers = register_after old new register 8 after e sound (record { meta = good.meta; tenants = good.tenants; tokens = good.tokens; networks = good.networks; peers = peers; allowed = good.allowed })
+
+  module _ (e : Edits (schema_with register.others) 10 after old new) where
+    pub allowed_after : tables_of new ≡ record (tables_of old) { allowed = map allowed_in after }
+    allowed_after = tables_after old new register 10 after e
+
+    pub register_allowed : AreAllowed after → IsRegister new
+    register_allowed allowed = register_after old new register 10 after e sound (record { meta = good.meta; tenants = good.tenants; tokens = good.tokens; networks = good.networks; peers = good.peers; allowed = allowed })

@@ -4,3 +4,13 @@ pub mod LayoutLemmas
 pub mod Meanings
 pub mod EditLemmas
 pub mod WrittenLemmas
+pub mod Made
+pub mod Rests
+pub mod WriteLemmas
+pub mod DropLemmas
+pub mod NextLemmas
+pub mod UniqueLemmas
+pub mod AllowedLemmas
+pub mod RestLemmas
+pub mod RouteRests
+pub mod PeerLemmas

@@ -1,4 +1,6 @@
-pub use Rattle.wgr_sql.specs.Steps
 pub mod Layout
 pub mod Texts
 pub mod Decode
+pub mod TableSteps
+pub mod Writes
+pub mod Standing
