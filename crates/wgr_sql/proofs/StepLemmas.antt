@@ -93,3 +93,8 @@ module _ {T : Type 0} (good : Database → Type 0) (view : Database → T) where
   pub chain_then_step : {X Y : Type 0} (E : Type 0) (P Q : T → T → Type 0) (a b c : State) (x : X) (r : Result Y E) → StepsFrom {E = E} good (Makes good view P) a b (Ok x) → StepsOn good (Makes good view Q) b c r
       → StepsOn good (Makes good view (Then P Q)) a c r
   chain_then_step E P Q a b c x r first next = chain_ends good {E = E} (Makes good view P) (Makes good view Q) (Makes good view (Then P Q)) a b c x r (made_then P Q) (λ p q h. h.sound) first next
+
+  -- a chain, and a chain
+  pub chain_then_chain : {X Y : Type 0} (E : Type 0) (P Q : T → T → Type 0) (a b c : State) (x : X) (r : Result Y E) → StepsFrom {E = E} good (Makes good view P) a b (Ok x) → StepsFrom good (Makes good view Q) b c r
+      → StepsFrom good (Makes good view (Then P Q)) a c r
+  chain_then_chain E P Q a b c x r first next = chain_then good {E = E} (Makes good view P) (Makes good view Q) (Makes good view (Then P Q)) a b c x r (made_then P Q) (λ p q h. h.sound) first next

@@ -14,3 +14,5 @@ pub mod AllowedLemmas
 pub mod RestLemmas
 pub mod RouteRests
 pub mod PeerLemmas
+pub mod PeerRests
+pub mod CommitRows

@@ -11,6 +11,7 @@ use Rattle.sqlite_value.proofs.OrderLemmas.{value_cmp_total}
 use Rattle.sqlite.specs.Edit.{edit_of}
 use Rattle.sqlite.specs.Rowids.TheVariants.{Chosen}
 use Rattle.sqlite.specs.Rows.{stamped}
+use Rattle.sqlite.specs.Values.{bound}
 use Rattle.sqlite.specs.Effect.{value_rows}
 use Rattle.sqlite.specs.State.{State, Executes}
 use Rattle.sqlite_trees.specs.Tree.{Trees, rowid, put_row}
@@ -25,6 +26,7 @@ use Rattle.wgr_sql.proofs.KeyedLemmas.{not_taken}
 use Rattle.wgr_sql.proofs.TableLemmas.{cast_null, cast_int, put_one}
 use Rattle.wgr_tables.specs.Layout.{peer_at}
 use Rattle.wgr_tables.specs.Decode.{IsRegister, peer_in, tables_of, number_at, peer_numbers, number_of, bytes_of, bytes_at, family_of}
+use Rattle.wgr_tables.specs.Parameters.{status_value}
 use Rattle.wgr_tables.specs.TableSteps.{PeerRowComes}
 use Rattle.wgr_tables.proofs.EditLemmas.{peers_after, register_peers}
 use Rattle.wgr_tables.proofs.Made.{Made}
@@ -33,14 +35,14 @@ use Rattle.wgr_tables.proofs.UniqueLemmas.{from_model}
 use Rattle.wgr_tables.proofs.WriteLemmas.{row_inserted}
 use Rattle.wgr_tables.proofs.WrittenLemmas.{IsWritten, written_put}
 
--- the three values of a status
-abbrev pub status_values : Option Status → Row
+-- the three places of a status
+abbrev status_values : Option Status → Row
 status_values None = Null ∷ Null ∷ Null ∷ []
 status_values (Some s) = Int (pos s.handshake) ∷ Int (pos s.received) ∷ Int (pos s.sent) ∷ []
 
 -- the parameters of a peer's row, and the row as the table stores it
 abbrev pub peer_params : PeerRow → Row
-peer_params p = Int (pos p.id) ∷ Int (pos p.network) ∷ Blob p.key.0 ∷ Text p.label ∷ Int (pos p.until) ∷ Int (pos p.keepalive) ∷ status_values p.status
+peer_params p = Int (pos p.id) ∷ Int (pos p.network) ∷ Blob p.key.0 ∷ Text p.label ∷ Int (pos p.until) ∷ Int (pos p.keepalive) ∷ bound (status_value (λ s. s.handshake) p.status ∷ status_value (λ s. s.received) p.status ∷ status_value (λ s. s.sent) p.status ∷ [])
 
 abbrev stored_peer : PeerRow → Row
 stored_peer p = Int (pos p.id) ∷ Null ∷ Int (pos p.network) ∷ Blob p.key.0 ∷ Text p.label ∷ Int (pos p.until) ∷ Int (pos p.keepalive) ∷ status_values p.status

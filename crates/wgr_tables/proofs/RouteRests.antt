@@ -72,7 +72,7 @@ module _ {X : Type 0} (below same : X → Bool) (x : X) where
       go false false f (inr (inl q, n)) rec = inr (inl q)
       go false false f (inr (inr later, n)) rec = inr (inr later)
 
-false_from : (b : Bool) → (b ≡ true → ⊥) → b ≡ false
+pub false_from : (b : Bool) → (b ≡ true → ⊥) → b ≡ false
 false_from true h = absurd (h refl)
 false_from false h = refl
 
@@ -103,16 +103,16 @@ never true true false d = refl
 never true false c d = refl
 never false b c d = refl
 
-allowed_sym : (x y : ℕ × ℕ × ℕ × ℕ) → same_allowed x y ≡ same_allowed y x
+pub allowed_sym : (x y : ℕ × ℕ × ℕ × ℕ) → same_allowed x y ≡ same_allowed y x
 allowed_sym x y = λ k. eqb_sym x.0 y.0 k && eqb_sym x.1 y.1 k && eqb_sym x.2 y.2 k && eqb_sym x.3 y.3 k
 
-allowed_self : (x : ℕ × ℕ × ℕ × ℕ) → same_allowed x x ≡ true
+pub allowed_self : (x : ℕ × ℕ × ℕ × ℕ) → same_allowed x x ≡ true
 allowed_self x = λ k. eqb_self x.0 k && eqb_self x.1 k && eqb_self x.2 k && eqb_self x.3 k
 
-pair_sym : (x y : ℕ × ℕ) → same_pair x y ≡ same_pair y x
+pub pair_sym : (x y : ℕ × ℕ) → same_pair x y ≡ same_pair y x
 pair_sym x y = λ k. eqb_sym x.0 y.0 k && eqb_sym x.1 y.1 k
 
-all_apart : (k : ℕ × ℕ × ℕ × ℕ) (rows : List AllowedRow) → ((a : AllowedRow) → Has rows a → same_allowed (allowed_key a) k ≡ false) → AllByRecursion (λ y. same_allowed k y ≡ false) (map allowed_key rows)
+pub all_apart : (k : ℕ × ℕ × ℕ × ℕ) (rows : List AllowedRow) → ((a : AllowedRow) → Has rows a → same_allowed (allowed_key a) k ≡ false) → AllByRecursion (λ y. same_allowed k y ≡ false) (map allowed_key rows)
 all_apart k [] h = tt
 all_apart k (a ∷ rows) h = (allowed_sym k (allowed_key a) ∙ h a (inl refl), all_apart k rows (λ b here. h b (inr here)))
 

@@ -1,6 +1,7 @@
 pub mod Layout
 pub mod Texts
 pub mod Decode
+pub mod Parameters
 pub mod TableSteps
 pub mod Writes
 pub mod Standing

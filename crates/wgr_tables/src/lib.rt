@@ -1,2 +1,12 @@
-//! The tables of the register.
+//! The rows of the register in its tables.
+//!
+//! Every contract speaks of the rows as `wgr_model` has them, and of what stands in the database
+//! also where its store was shut by a fault.
 #![tactic(auto)]
+
+mod enter;
+mod leave;
+mod route;
+mod value;
+
+pub use wgr_sql::Fault;
