@@ -4,9 +4,11 @@
 //! also where its store was shut by a fault.
 #![tactic(auto)]
 
+mod commit;
 mod enter;
 mod leave;
 mod route;
 mod value;
 
+pub use commit::commit_change;
 pub use wgr_sql::Fault;
