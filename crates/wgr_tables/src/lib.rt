@@ -6,7 +6,9 @@
 
 mod commit;
 mod enter;
+mod field;
 mod leave;
+mod read;
 mod route;
 mod value;
 
