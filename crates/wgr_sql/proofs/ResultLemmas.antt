@@ -1,5 +1,5 @@
 -- Facts of results.
-use Rattle.std.proofs.Common.{◌≡◌, Result, Ok, Err, OnOk, OnErr, IfErr, IfOk, is_ok}
+use Rattle.std.proofs.Common.{◌≡◌, Result, Ok, Err, OnOk, OnErr, IfErr, IfOk, IfSome, IfNone, Option, Some, None, is_ok}
 
 pub if_ok : {X E : Type 0} (r : Result X E) (P Q : X → Type 0) → ((x : X) → P x → Q x) → IfOk r P → IfOk r Q
 if_ok (Ok x) P Q f h = f x h
@@ -30,3 +30,11 @@ if_err (Err e) (Err d) P Q f h same = f e h
 pub push_if : {X E : Type 0} (r : Result X E) (A : Type 0) (P : E → Type 0) → (A → IfErr r P) → IfErr r (λ e. A → P e)
 push_if (Ok x) A P h = tt
 push_if (Err e) A P h = h
+
+pub if_some : {X : Type 0} (o : Option X) (P Q : X → Type 0) → ((x : X) → P x → Q x) → IfSome o P → IfSome o Q
+if_some (Some x) P Q f h = f x h
+if_some None P Q f h = tt
+
+pub if_none : {X : Type 0} (o : Option X) (P Q : Type 0) → (P → Q) → IfNone o P → IfNone o Q
+if_none (Some x) P Q f h = tt
+if_none None P Q f h = f h

@@ -16,3 +16,5 @@ pub mod RouteRests
 pub mod PeerLemmas
 pub mod PeerRests
 pub mod CommitRows
+pub mod LoadLemmas
+pub mod ListedLemmas

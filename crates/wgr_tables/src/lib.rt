@@ -8,9 +8,11 @@ mod commit;
 mod enter;
 mod field;
 mod leave;
+mod load;
 mod read;
 mod route;
 mod value;
 
 pub use commit::commit_change;
+pub use load::load_network;
 pub use wgr_sql::Fault;
