@@ -1,13 +1,12 @@
 -- What a plain SELECT answers.
-use Rattle.std.proofs.Common.{◌≡◌, ℕ, ◌+◌, ◌-◌, ◌<◌, ◌^◌, List, [], ◌∷◌, length, map, filter, get_or, set, swap, Bool, true, false, cond, if◌then◌else◌, Some, None, unwrap_or, flat_map, slice_get, nat_le, ◌++◌, IsSortedBy, is_lt, Ok, Err, refl, sym, ap, subst, ◌∙◌, IsPermutation, IsSorted, arith}
+use Rattle.std.proofs.Common.{◌≡◌, ℕ, ◌+◌, ◌-◌, ◌^◌, List, [], ◌∷◌, length, map, filter, get_or, set, swap, Bool, true, false, if◌then◌else◌, None, unwrap_or, flat_map, slice_get, nat_le, ◌++◌, IsSortedBy, is_lt, refl, sym, ap, subst, ◌∙◌, IsPermutation, IsSorted, arith}
 use Rattle.std.proofs.lemmas.List.{map-set}
 use Rattle.std.proofs.Math.ListN.{get_or-map, length-map}
-use Rattle.std.proofs.lemmas.List.Sorted.{IsPermutation-refl, IsPermutation-swap, IsPermutation-trans, IsPermutation-keeps, length_permutation}
-use Rattle.std.specs.List.{list_all}
+use Rattle.std.proofs.lemmas.List.Sorted.{IsPermutation-refl, IsPermutation-swap, IsPermutation-trans, IsPermutation-keeps}
 use Rattle.sqlite.specs.declared.types.Value.TheVariants.{Null}
 use Rattle.sqlite.specs.Order.{Row}
-use Rattle.sqlite.specs.Term.{Term, Env, eval_all, holds}
-use Rattle.sqlite.specs.Query.{Query, inner, end, IsAnswer, output, output_cmp, sort_cmp, page, Output, matches}
+use Rattle.sqlite.specs.Term.{Term}
+use Rattle.sqlite.specs.Query.{IsAnswer, output, output_cmp, Output}
 use Rattle.sqlite.specs.Program.{overlay}
 use Rattle.sqlite.specs.Tree.{Trees}
 use Rattle.sqlite_value.specs.declared.keys.Key.{Key}

@@ -1,13 +1,13 @@
 -- Where a connection stands after a transaction.
-use Rattle.std.proofs.Common.{◌≡◌, ◌⊎◌, ◌≤◌, true, false, IsTrue, ℕ, List, [], ◌∷◌, Result, Ok, Err, IfOk, IfErr, OnOk, OnErr, inl, inr, refl, sym, ap, subst, ◌∙◌, arith, true≢false}
+use Rattle.std.proofs.Common.{◌≡◌, true, false, IsTrue, List, [], ◌∷◌, Result, Ok, inl, inr, refl, sym, ap, subst, ◌∙◌, arith, true≢false}
 use Rattle.sqlite.specs.Tree.{Trees}
 use Rattle.sqlite.specs.Effect.{Database}
 use Rattle.sqlite.specs.declared.error.Error.{Error}
-use Rattle.sqlite.specs.State.{State, HasCleanDisk, Survives, Shows, KeepsCommit, KeepsCounts, IsRolledBack}
+use Rattle.sqlite.specs.State.{HasCleanDisk, Survives, Shows, KeepsCommit, IsRolledBack}
 use Rattle.sqlite.specs.Steps.{FailsToCommit}
 use Rattle.sqlite.specs.Store.{Ghosts}
 use Rattle.sqlite.specs.Held.{Held, state}
-use Rattle.sqlite.proofs.StateLemmas.{survives_then, survives_weaker}
+use Rattle.sqlite.proofs.StateLemmas.{survives_then}
 use Rattle.sqlite.proofs.Callers.{survives_begin}
 use Rattle.wgr_sql.specs.Steps.{StepsOn}
 use Rattle.wgr_sql.specs.Standing.{Stands}

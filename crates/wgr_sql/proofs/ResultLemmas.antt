@@ -9,7 +9,6 @@ pub if_both : {X E : Type 0} (r : Result X E) (P Q R : X → Type 0) → ((x : X
 if_both (Ok x) P Q R f p q = f x p q
 if_both (Err e) P Q R f p q = tt
 
-
 pub on_err : {X E : Type 0} (r : Result X E) (P : Type 0) → P → OnErr r P
 on_err (Ok x) P h = tt
 on_err (Err e) P h = h

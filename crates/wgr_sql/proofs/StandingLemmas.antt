@@ -1,6 +1,5 @@
 -- A connection stands where it stood.
-use Rattle.std.proofs.Common.{◌≡◌, ◌⊎◌, false, IsTrue, ℕ, List, [], ◌∷◌, inl, inr, refl, sym, ap, subst, ◌∙◌, arith}
-use Rattle.sqlite_rules.specs.Lists.{Has}
+use Rattle.std.proofs.Common.{◌≡◌, false, IsTrue, ℕ, List, [], ◌∷◌, inl, inr, refl, sym, ap, subst, ◌∙◌, arith}
 use Rattle.sqlite.specs.Tree.{Trees}
 use Rattle.sqlite.specs.Schema.{Schema}
 use Rattle.sqlite.specs.Effect.{Database}

@@ -1,16 +1,14 @@
 -- What each kind of statement makes of a database.
-use Rattle.std.proofs.Common.{◌≡◌, ◌≢◌, ◌⊎◌, ◌/◌, inl, inr, ℕ, ℤ, pos, negsuc, MatchBool, if◌then◌else◌, is_lt, int_cmp, List, [], ◌∷◌, length, map, drop, codes, slice_get, Bool, true, false, cond, Option, Some, None, Ok, Err, Result, refl, sym, ap, subst, ◌∙◌}
+use Rattle.std.proofs.Common.{◌≡◌, ◌⊎◌, ◌/◌, inl, inr, ℕ, ℤ, MatchBool, if◌then◌else◌, is_lt, int_cmp, List, [], length, map, slice_get, true, false, cond, Option, Some, None, Ok, Err, Result, sym, ap, subst, ◌∙◌}
 use Rattle.sqlite.specs.Order.{Row}
 use Rattle.sqlite.specs.Term.{Term}
 use Rattle.sqlite.specs.Table.{Table}
 use Rattle.sqlite.specs.Schema.{Schema}
 use Rattle.sqlite.specs.Source.TheVariants.{Values}
-use Rattle.sqlite.specs.Command.{Command}
-use Rattle.sqlite.specs.Command.TheVariants.{Insert, Select, Delete, CreateTable}
-use Rattle.sqlite.specs.Edit.{Edit, edit_of, edited}
-use Rattle.sqlite_rules.specs.Edit.{numbered, row_at, without_all, put_all, are_fresh, IsNoIndex, taken_by}
-use Rattle.sqlite_rules.specs.Action.{Work, works}
-use Rattle.sqlite_rules.specs.Cast.{cast_row}
+use Rattle.sqlite.specs.Command.TheVariants.{Insert, Delete, CreateTable}
+use Rattle.sqlite.specs.Edit.{edit_of}
+use Rattle.sqlite_rules.specs.Edit.{row_at, without_all, put_all, are_fresh}
+use Rattle.sqlite_rules.specs.Action.{works}
 use Rattle.sqlite_rules.specs.Calls.{ids_of}
 use Rattle.sqlite_schema.specs.declared.schema.Keys.TheVariants.{Enforced}
 use Rattle.sqlite_schema.specs.declared.program.Program.{Program}

@@ -1,5 +1,5 @@
 -- Chains of steps in a transaction.
-use Rattle.std.proofs.Common.{◌≡◌, true, IsTrue, ℕ, List, [], ◌∷◌, ◌++◌, Ok, Err, Result, OnOk, refl, sym, subst, ◌∙◌}
+use Rattle.std.proofs.Common.{true, IsTrue, ℕ, List, [], ◌∷◌, ◌++◌, Ok, Err, Result, refl, sym, subst, ◌∙◌}
 use Rattle.sqlite.specs.Effect.{Database}
 use Rattle.sqlite.specs.State.{State, Shows, KeepsCommit}
 use Rattle.wgr_sql.specs.Steps.{StepsOn, StepsFrom, Makes, Then, Each}
@@ -43,11 +43,16 @@ module _ (good : Database → Type 0) where
   chain_then {Y = Y} {E = E} P Q R a b c x (Err e) join sound first next inside start = (still_keeps {Y = Y} P Q a b c x (Err e) sound first next inside start, tt)
   chain_then {E = E} P Q R a b c x (Ok y) join sound first next inside start =
       let one = first inside start in
-      let two = next (next_inside E P sound a b x first inside start) (next_good E P sound a b x first inside start) in
-      (keeps_then a b c one.0 two.0, (two.1.0, λ live.
-        let p = one.1.1 live in
-        let q = two.1.1 p.1.is_open in
-        (join _ _ _ p.0 q.0, shows_then a b c p.1 q.1)))
+      let two = next (next_inside E P sound a b x first inside start) (next_good E P sound a b x first inside start) in (
+        keeps_then a b c one.0 two.0,
+        (
+          two.1.0,
+          λ live.
+              let p = one.1.1 live in
+              let q = two.1.1 p.1.is_open in
+              (join _ _ _ p.0 q.0, shows_then a b c p.1 q.1),
+        ),
+      )
 
   -- a chain that a plain step ends: its success says that the store was open all along
   pub chain_ends : {X Y E : Type 0} (P Q R : Database → Database → Type 0) (a b c : State) (x : X) (r : Result Y E) → ((d e f : Database) → P d e → Q e f → R d f) → ((d e : Database) → P d e → good e)

@@ -1,5 +1,5 @@
 -- Steps after which a crash leaves nothing new.
-use Rattle.std.proofs.Common.{◌≡◌, ◌≤◌, ◌⊎◌, inl, inr, refl, arith}
+use Rattle.std.proofs.Common.{inl, refl, arith}
 use Rattle.sqlite.specs.State.{State, Survives}
 use Rattle.sqlite.proofs.StateLemmas.{survives_then}
 

@@ -1,12 +1,9 @@
 -- What a lookup by a TEXT column finds.
-use Rattle.std.proofs.Common.{◌≡◌, ◌≢◌, ◌+◌, Ordering, Less, Equal, Greater, not, ℕ, ℤ, pos, bytes_eq, List, [], ◌∷◌, map, Bool, true, false, Some, None, Ok, slice_get, option_map, MatchOption, Option, IsPermutation, refl, sym, ap, subst, ◌∙◌, inl, inr}
-use Rattle.std.specs.List.{list_all}
+use Rattle.std.proofs.Common.{◌≡◌, ◌+◌, Ordering, Less, Equal, Greater, not, ℕ, bytes_eq, List, true, false, Some, slice_get, refl, sym, ap, subst, ◌∙◌}
 use Rattle.std.specs.Ordering.{is_eq, is_ne}
-use Rattle.std.proofs.lemmas.Bool.{and_parts}
 use Rattle.std.proofs.lemmas.Map.Text.{is_eq-slice_cmp}
 use Rattle.std.proofs.lemmas.Map.Lookups.{exact_bytes}
 use Rattle.std.proofs.lemmas.Cmp.{tied_itself}
-use Rattle.std.proofs.lemmas.List.Sorted.{IsPermutation-sym}
 use Rattle.sqlite.specs.declared.types.Value.{Value}
 use Rattle.sqlite.specs.declared.types.Value.TheVariants.{Null, Int, Real, Text, Blob}
 use Rattle.sqlite_value.specs.Order.{Row, column, bytes, value_cmp}
@@ -16,7 +13,6 @@ use Rattle.sqlite.specs.Ops.{binary, is_true}
 use Rattle.sqlite.specs.Collation.TheVariants.{Binary}
 use Rattle.sqlite_sql.specs.declared.ops.BinaryOp.TheVariants.{Compare}
 use Rattle.sqlite_sql.specs.declared.ops.CompareOp.TheVariants.{Eq, Ne}
-use Rattle.sqlite.specs.Term.{col, eval_all, holds}
 use Rattle.sqlite.specs.Kind.TheVariants as kind
 use Rattle.sqlite_schema.specs.declared.schema.Column.{Column}
 use Rattle.sqlite_schema.specs.Rules.{is_of}
@@ -25,11 +21,8 @@ use Rattle.sqlite_sql.specs.Ops.{is_null}
 use Rattle.sqlite.specs.Table.{Table}
 use Rattle.sqlite.specs.Schema.{Schema}
 use Rattle.sqlite.specs.Tree.{Trees}
-use Rattle.sqlite.specs.Effect.{Database, IsDatabase}
-use Rattle.sqlite.specs.State.{State, Shown}
-use Rattle.sqlite.proofs.Callers.{reads_as}
+use Rattle.sqlite.specs.Effect.{IsDatabase}
 use Rattle.sqlite_rules.specs.Lists.{Has}
-use Rattle.sqlite_rules.proofs.ListLemmas.{has_filtered, has_kept}
 use Rattle.wgr_sql.proofs.Values.{is_equal, truth_of, suits_here, present_here}
 
 tied_text : (a : Value) (d : List ℕ) → value_cmp a (Text d) ≡ Equal → a ≡ Text d

@@ -1,9 +1,8 @@
 -- The statements on prefixes that lead to a peer.
-use Rattle.std.proofs.Common.{◌≡◌, ◌≢◌, ◌<◌, ◌^◌, ◌/◌, ◌⊎◌, ℕ, pos, List, [], ◌∷◌, map, length, filter, nat_eq, codes, bytes_eq, Bool, true, false, not, cond, ◌&&◌, Ok, IsPermutation, refl, sym, ap, ap₂, subst, ◌∙◌, inl, inr, arith, true≢false}
-use Rattle.std.specs.List.{list_all, list_any, AllByRecursion}
+use Rattle.std.proofs.Common.{◌≡◌, ◌<◌, ◌^◌, ℕ, pos, List, [], ◌∷◌, map, nat_eq, bytes_eq, Bool, true, false, not, ◌&&◌, Ok, IsPermutation, refl, sym, ap, subst, ◌∙◌, inl, inr, arith, true≢false}
+use Rattle.std.specs.List.{list_all}
 use Rattle.std.specs.Ordering.{is_eq}
-use Rattle.std.proofs.lemmas.Bool.{and_parts, not-true}
-use Rattle.std.proofs.lemmas.List.Sorted.{IsPermutation-map, IsPermutation-sym}
+use Rattle.std.proofs.lemmas.List.Sorted.{IsPermutation-map}
 use Rattle.sqlite.specs.declared.types.Value.{Value}
 use Rattle.sqlite.specs.declared.types.Value.TheVariants.{Int, Text, Blob}
 use Rattle.sqlite.specs.Order.{Row}
@@ -15,18 +14,16 @@ use Rattle.sqlite_sql.specs.declared.ops.CompareOp.TheVariants.{Eq}
 use Rattle.sqlite.specs.Edit.{edit_of}
 use Rattle.sqlite.specs.Rowids.TheVariants.{Chosen}
 use Rattle.sqlite.specs.Rows.{stamped}
-use Rattle.sqlite.specs.Term.{Term, holds}
+use Rattle.sqlite.specs.Term.{holds}
 use Rattle.sqlite.specs.State.{State, Executes}
-use Rattle.sqlite.specs.Effect.{Database, IsDatabase, value_rows}
-use Rattle.sqlite.specs.Kind.TheVariants as kind
+use Rattle.sqlite.specs.Effect.{IsDatabase, value_rows}
 use Rattle.sqlite_trees.specs.Tree.{rowid, put_row}
-use Rattle.sqlite_rules.specs.Edit.{id_in, next_rowid, is_taken}
+use Rattle.sqlite_rules.specs.Edit.{id_in, next_rowid}
 use Rattle.sqlite_rules.specs.Lists.{Has}
 use Rattle.wgr_text.specs.declared.addr.Family.{Family}
 use Rattle.wgr_text.specs.declared.addr.Family.TheVariants.{V4, V6}
-use Rattle.wgr_text.specs.Prefix.{AddrValue, PrefixValue, width}
+use Rattle.wgr_text.specs.Prefix.{PrefixValue, width}
 use Rattle.wgr_model.specs.Rows.{family_number, last_of, allowed_row, allowed_key, same_allowed, peer_id}
-use Rattle.wgr_model.specs.Laws as model
 use Rattle.wgr_model.proofs.GatherLemmas.{eqb_self}
 use Rattle.wgr_model.proofs.CollectLemmas.{from_map}
 use Rattle.sqlite_value.specs.Order.{value_cmp}
@@ -38,7 +35,7 @@ use Rattle.sqlite.proofs.Callers.{IsPlain, command_of}
 use Rattle.sqlite.specs.Command.TheVariants.{Insert}
 use Rattle.sqlite.specs.Source.TheVariants.{Values}
 use Rattle.wgr_tables.specs.Layout.{Others, schema_with, allowed_at}
-use Rattle.wgr_tables.specs.Decode.{IsRegister, AreAllowed, tables_of, allowed_in, number_at, bytes_at, bytes_of, number_of, family_of, route_kind, allowed_numbers, allowed_addresses}
+use Rattle.wgr_tables.specs.Decode.{IsRegister, tables_of, allowed_in, number_at, bytes_at, bytes_of, number_of, family_of, route_kind, allowed_numbers, allowed_addresses}
 use Rattle.wgr_tables.specs.TableSteps.{AllowedComes, RouteGoes, is_route_at}
 use Rattle.wgr_tables.proofs.ByteLemmas.{number_back}
 use Rattle.wgr_sql.proofs.KeyedLemmas.{has_moved, not_taken}
@@ -149,9 +146,9 @@ route_gone old new register network p count low ran =
         let at = λ (v : Value) (place : ℕ). is_true (binary (Compare Eq Binary) (column r place) v) in
         let one : at (Int (pos network)) 1 ≡ nat_eq (number_at r 1) network = ap (λ v. is_true (binary (Compare Eq Binary) v (Int (pos network)))) (good.numbers_are r here 1 (inl refl)) ∙ equal_nats (number_at r 1) network in
         let two : at (Int (pos (family_number p.address.family))) 2 ≡ nat_eq (family_number (family_of (number_at r 2))) (family_number p.address.family) =
-            ap (λ v. is_true (binary (Compare Eq Binary) v (Int (pos (family_number p.address.family))))) (good.numbers_are r here 2 (inr (inl refl))) ∙ equal_nats (number_at r 2) _ ∙ ap (λ n. nat_eq n (family_number p.address.family)) (good.families_are r here 2 (inl refl)) in
+        ap (λ v. is_true (binary (Compare Eq Binary) v (Int (pos (family_number p.address.family))))) (good.numbers_are r here 2 (inr (inl refl))) ∙ equal_nats (number_at r 2) _ ∙ ap (λ n. nat_eq n (family_number p.address.family)) (good.families_are r here 2 (inl refl)) in
         let three : at (Blob (bytes_of p.address.number)) 3 ≡ nat_eq (number_of (bytes_at r 3)) p.address.number =
-            ap (λ v. is_true (binary (Compare Eq Binary) v (Blob (bytes_of p.address.number)))) span ∙ equal_spelled _ _ (spelled_back (column r 3) span) (number_back p.address.number low) in
+        ap (λ v. is_true (binary (Compare Eq Binary) v (Blob (bytes_of p.address.number)))) span ∙ equal_spelled _ _ (spelled_back (column r 3) span) (number_back p.address.number low) in
         let four : at (Int (pos p.length)) 4 ≡ nat_eq (number_at r 4) p.length = ap (λ v. is_true (binary (Compare Eq Binary) v (Int (pos p.length)))) (good.numbers_are r here 4 (inr (inr (inl refl)))) ∙ equal_nats (number_at r 4) p.length in
         λ k. one k && (two k && (three k && (four k && (and_true (is_true (binary (Compare Eq Binary) (column r 7) (Text route_kind))) ∙ kind_is r here) k)))
 
@@ -168,7 +165,7 @@ allowed_came kind text is_plain is old new register network p hi number count lo
     let rows = old.now.trees 10 in
     let row = stored_allowed rows kind network p hi peer in
     let news : (edit_of old.now.trees (allowed_at 10) [] Chosen 0 (value_rows (stamped (allowed_at 10) (allowed_params network p hi peer)) 8 1 (allowed_values kind))).news ≡ row ∷ [] =
-        rw (cast_null, cast_int (pos network), cast_int (pos (family_number p.address.family)), cast_int (pos p.length), cast_int (pos peer)) in
+    rw (cast_null, cast_int (pos network), cast_int (pos (family_number p.address.family)), cast_int (pos p.length), cast_int (pos peer)) in
     let done = row_inserted old new register text (allowed_params network p hi peer) count ran (is_plain register.others) 5 (allowed_at 10) refl refl (allowed_values kind) 8 (is register.others) refl row news in
     let same = stored_is rows kind network p hi number low high last in
     record {
@@ -178,19 +175,19 @@ allowed_came kind text is_plain is old new register network p hi number count lo
         subst (λ x. IsPermutation (x ∷ map allowed_in rows) (map allowed_in (put_row row rows))) same (IsPermutation-map allowed_in _ _ (put_one row rows done.1)),
         allowed_after old.now new.now _ register done.0.sound done.0.edits,
         λ a here.
-          let at = from_map allowed_in rows a here in
-          let r = at.0 in
-          let there = from_model rows r at.1 in
-          let old_id = register.written.allowed.keyed.ints r there in
-          let moved = has_moved (row ∷ rows) (put_row row rows) in
-          let perm = put_one row rows done.1 in
-          let sound_new : IsDatabase (record { schema = schema_with register.others; trees = new.now.trees }) = subst (λ s. IsDatabase (record { schema = s; trees = new.now.trees })) done.0.edits.schema_is done.0.sound in
-          let new_here : Has (new.now.trees 10) row = subst (λ l. Has l row) (sym done.0.edits.rows) (moved row perm (inl refl)) in
-          let old_here : Has (new.now.trees 10) r = subst (λ l. Has l r) (sym done.0.edits.rows) (moved r perm (inr there)) in
-          let cmp : is_eq (value_cmp (Int (id_in (rowid r))) (Int (next_rowid rows))) ≡ false = ap (λ v. is_eq (value_cmp v (Int (next_rowid rows)))) (sym old_id) ∙ not_taken rows row r done.1 there in
-          let apart : differ (rowid r) (rowid row) ≡ true = ap (λ v. differ v (rowid row)) old_id ∙ differ_ints _ _ cmp in
-          ap (λ x. same_allowed (allowed_key x) (allowed_key (allowed_row network (bytes_eq kind route_kind) p number))) (sym at.2)
-          ∙ sym (agrees r there) ∙ allowed_apart register.others new.now.trees sound_new row r new_here old_here apart,
+            let at = from_map allowed_in rows a here in
+            let r = at.0 in
+            let there = from_model rows r at.1 in
+            let old_id = register.written.allowed.keyed.ints r there in
+            let moved = has_moved (row ∷ rows) (put_row row rows) in
+            let perm = put_one row rows done.1 in
+            let sound_new : IsDatabase (record { schema = schema_with register.others; trees = new.now.trees }) = subst (λ s. IsDatabase (record { schema = s; trees = new.now.trees })) done.0.edits.schema_is done.0.sound in
+            let new_here : Has (new.now.trees 10) row = subst (λ l. Has l row) (sym done.0.edits.rows) (moved row perm (inl refl)) in
+            let old_here : Has (new.now.trees 10) r = subst (λ l. Has l r) (sym done.0.edits.rows) (moved r perm (inr there)) in
+            let cmp : is_eq (value_cmp (Int (id_in (rowid r))) (Int (next_rowid rows))) ≡ false = ap (λ v. is_eq (value_cmp v (Int (next_rowid rows)))) (sym old_id) ∙ not_taken rows row r done.1 there in
+            let apart : differ (rowid r) (rowid row) ≡ true = ap (λ v. differ v (rowid row)) old_id ∙ differ_ints _ _ cmp in
+            ap (λ x. same_allowed (allowed_key x) (allowed_key (allowed_row network (bytes_eq kind route_kind) p number))) (sym at.2)
+            ∙ sym (agrees r there) ∙ allowed_apart register.others new.now.trees sound_new row r new_here old_here apart,
       );
     }
   where
@@ -201,9 +198,9 @@ allowed_came kind text is_plain is old new register network p hi number count lo
         let at = λ (v : Value) (place : ℕ). is_true (binary (Compare Eq Binary) (column r place) v) in
         let one : at (Int (pos network)) 1 ≡ nat_eq (number_at r 1) network = ap (λ v. is_true (binary (Compare Eq Binary) v (Int (pos network)))) (good.numbers_are r here 1 (inl refl)) ∙ equal_nats (number_at r 1) network in
         let two : at (Int (pos (family_number p.address.family))) 2 ≡ nat_eq (family_number (family_of (number_at r 2))) (family_number p.address.family) =
-            ap (λ v. is_true (binary (Compare Eq Binary) v (Int (pos (family_number p.address.family))))) (good.numbers_are r here 2 (inr (inl refl))) ∙ equal_nats (number_at r 2) _ ∙ ap (λ n. nat_eq n (family_number p.address.family)) (good.families_are r here 2 (inl refl)) in
+        ap (λ v. is_true (binary (Compare Eq Binary) v (Int (pos (family_number p.address.family))))) (good.numbers_are r here 2 (inr (inl refl))) ∙ equal_nats (number_at r 2) _ ∙ ap (λ n. nat_eq n (family_number p.address.family)) (good.families_are r here 2 (inl refl)) in
         let three : at (Blob (bytes_of p.address.number)) 3 ≡ nat_eq (number_of (bytes_at r 3)) p.address.number =
-            ap (λ v. is_true (binary (Compare Eq Binary) v (Blob (bytes_of p.address.number)))) span ∙ equal_spelled _ _ (spelled_back (column r 3) span) (number_back p.address.number low) in
+        ap (λ v. is_true (binary (Compare Eq Binary) v (Blob (bytes_of p.address.number)))) span ∙ equal_spelled _ _ (spelled_back (column r 3) span) (number_back p.address.number low) in
         let length_same : at (Int (pos p.length)) 4 ≡ nat_eq (number_at r 4) p.length = ap (λ v. is_true (binary (Compare Eq Binary) v (Int (pos p.length)))) (good.numbers_are r here 4 (inr (inr (inl refl)))) ∙ equal_nats (number_at r 4) p.length in
         agree_four r (stored_allowed (old.now.trees 10) kind network p hi (peer_id network number)) ∙ (λ k. one k && (two k && (three k && (and_true (at (Int (pos p.length)) 4) ∙ length_same) k))) ∙ left_four (nat_eq (number_at r 1) network) (nat_eq (family_number (family_of (number_at r 2))) (family_number p.address.family)) (nat_eq (number_of (bytes_at r 3)) p.address.number) (nat_eq (number_at r 4) p.length)
 

@@ -1,6 +1,5 @@
 -- A number and its 16 bytes.
-use Rattle.std.proofs.Common.{◌≡◌, ◌<◌, ◌+◌, ◌*◌, ◌/◌, ◌%◌, ◌^◌, ℕ, Bool, true, false, nat_eq, refl, sym, ap, subst, ◌∙◌, arith}
-use Rattle.std.specs.Int.{w128, from_be_bytes, to_be_bytes}
+use Rattle.std.proofs.Common.{◌≡◌, ◌<◌, ◌+◌, ◌*◌, ◌/◌, ◌%◌, ◌^◌, ℕ, arith}
 use native.Mathlib.Nat as nat
 use Rattle.wgr_tables.specs.Decode.{bytes_of, number_of}
 

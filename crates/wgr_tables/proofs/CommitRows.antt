@@ -1,9 +1,9 @@
 -- What the statements of a change make of the rows of a consistent register.
-use Rattle.std.proofs.Common.{◌≡◌, ℕ, ◌⊎◌, ◌↔◌, List, [], ◌∷◌, ◌++◌, map, flat_map, nat_eq, Bool, true, false, IsPermutation, refl, sym, ap, subst, ◌∙◌, inl, inr}
+use Rattle.std.proofs.Common.{◌≡◌, ℕ, ◌⊎◌, ◌↔◌, List, [], ◌∷◌, map, flat_map, nat_eq, false, IsPermutation, refl, sym, ap, subst, ◌∙◌, inl, inr}
 use Rattle.wgr_core.specs.Network.{NetworkValue, without_peers}
 use Rattle.wgr_core.specs.Change.{applied, put_peers, assign_routes, without_routes}
 use Rattle.wgr_core.specs.declared.change.Change.{Change}
-use Rattle.wgr_model.specs.Consistent.{IsConsistent, IsHolding}
+use Rattle.wgr_model.specs.Consistent.{IsHolding}
 use Rattle.wgr_model.specs.Laws.{Has}
 use Rattle.wgr_model.specs.Register.{Holding}
 use Rattle.wgr_model.specs.RowLaws.{AreConsistent}
@@ -13,8 +13,7 @@ use Rattle.wgr_model.proofs.CommitLemmas.{own_peers, own_allowed}
 use Rattle.wgr_model.proofs.HolderLemmas.{one_or_apart}
 use Rattle.wgr_model.proofs.SameLemmas.{eqb_sym}
 use Rattle.wgr_tables.proofs.Rests.{Rests}
-use Rattle.wgr_sql.specs.Steps.{Each}
-use Rattle.wgr_tables.specs.TableSteps.{NextSets, ChangeMakes, RoutePuts}
+use Rattle.wgr_tables.specs.TableSteps.{NextSets, ChangeMakes}
 use Rattle.wgr_tables.proofs.RestLemmas.{peers_leave}
 use Rattle.wgr_tables.proofs.RouteRests.{routes_come, routes_go}
 use Rattle.wgr_tables.proofs.PeerRests.{peers_put}

@@ -12,7 +12,7 @@ use Rattle.sqlite.specs.Ops.{binary, is_true}
 use Rattle.sqlite_sql.specs.declared.ops.BinaryOp.TheVariants.{Compare}
 use Rattle.sqlite_sql.specs.declared.ops.CompareOp.TheVariants.{Eq, Ne}
 use Rattle.sqlite.specs.Term.{Term, eval_all, holds}
-use Rattle.sqlite.specs.Effect.{Database, IsDatabase}
+use Rattle.sqlite.specs.Effect.{IsDatabase}
 use Rattle.sqlite.specs.Listing.{understood, reads_listing}
 use Rattle.sqlite.specs.State.{State, Shown}
 use Rattle.sqlite.proofs.Callers.{IsPlain, command_of, reads_as}
@@ -24,8 +24,32 @@ use Rattle.wgr_sql.proofs.TextLemmas.{text_at, equal_texts, differ_texts}
 use Rattle.wgr_sql.proofs.Values.{and_true}
 use Rattle.wgr_tables.specs.Layout.{schema_with, allowed_at}
 use Rattle.wgr_tables.specs.Decode.{IsRegister, tables_of, network_in, peer_in, allowed_in, number_at, bytes_at, route_kind}
-use Rattle.wgr_tables.proofs.Meanings.{peers_text, peers_is, peers_plain, peers_unlisted, peer_places, of_network, rising, addresses_text, addresses_is, addresses_plain, addresses_unlisted, allowed_places, of_addresses,
-    routes_text, routes_is, routes_plain, routes_unlisted, of_routes, network_text, network_is, network_plain, network_unlisted, network_places, by_id}
+use Rattle.wgr_tables.proofs.Meanings.{
+  peers_text,
+  peers_is,
+  peers_plain,
+  peers_unlisted,
+  peer_places,
+  of_network,
+  rising,
+  addresses_text,
+  addresses_is,
+  addresses_plain,
+  addresses_unlisted,
+  allowed_places,
+  of_addresses,
+  routes_text,
+  routes_is,
+  routes_plain,
+  routes_unlisted,
+  of_routes,
+  network_text,
+  network_is,
+  network_plain,
+  network_unlisted,
+  network_places,
+  by_id,
+}
 
 -- a query that shows all places of the rows that pass
 module _ (old new : State) (register : IsRegister old.now) (text : List ℕ) (params : Row) (tree : ℕ) (terms places : List Term) (order : List (Term × Key)) (names : List (List ℕ))

@@ -1,7 +1,7 @@
 -- The statement that sets the next number of a network.
-use Rattle.std.proofs.Common.{◌≡◌, ◌≢◌, ℕ, ℤ, pos, List, [], ◌∷◌, map, drop, slice_get, nat_eq, unsigned_abs, Bool, true, false, not, cond, ◌&&◌, Some, Ok, IsPermutation, refl, sym, ap, ap₂, subst, ◌∙◌, inl, inr}
+use Rattle.std.proofs.Common.{◌≡◌, ℕ, pos, List, [], ◌∷◌, map, drop, nat_eq, unsigned_abs, Bool, true, false, cond, ◌&&◌, Ok, IsPermutation, refl, sym, ap, subst, ◌∙◌, inl, inr}
 use Rattle.std.specs.List.{list_all}
-use Rattle.std.proofs.lemmas.List.Sorted.{IsPermutation-map, IsPermutation-sym}
+use Rattle.std.proofs.lemmas.List.Sorted.{IsPermutation-map}
 use Rattle.sqlite.specs.declared.types.Value.{Value}
 use Rattle.sqlite.specs.declared.types.Value.TheVariants.{Int, Text, Blob}
 use Rattle.sqlite.specs.Order.{Row}
@@ -13,9 +13,8 @@ use Rattle.sqlite_sql.specs.declared.ops.BinaryOp.TheVariants.{Compare}
 use Rattle.sqlite_sql.specs.declared.ops.CompareOp.TheVariants.{Eq}
 use Rattle.sqlite_rules.specs.Cast.{cast_row}
 use Rattle.sqlite.specs.Term.{Term, col, eval_all, holds}
-use Rattle.sqlite_trees.specs.Tree.{rowid, Trees}
-use Rattle.sqlite_rules.specs.Calls.{ids_of}
-use Rattle.sqlite_rules.specs.Edit.{id_in, put_all, without_all, are_fresh}
+use Rattle.sqlite_trees.specs.Tree.{rowid}
+use Rattle.sqlite_rules.specs.Edit.{id_in}
 use Rattle.sqlite_rules.specs.Lists.{Has}
 use Rattle.sqlite_value.specs.Order.{column, bytes}
 use Rattle.sqlite.specs.Effect.{Database, IsDatabase}
@@ -23,14 +22,13 @@ use Rattle.sqlite.specs.Schema.{Schema}
 use Rattle.sqlite.specs.State.{State, Executes}
 use Rattle.wgr_model.specs.Rows.{with_next, family_number}
 use Rattle.wgr_tables.specs.Layout.{network_at, schema_with}
-use Rattle.wgr_tables.specs.Decode.{IsRegister, network_in, network_numbers, number_at, bytes_at, number_of, bytes_of, family_of, tables_of}
+use Rattle.wgr_tables.specs.Decode.{IsRegister, network_in, network_numbers, number_at, bytes_at, number_of, bytes_of, family_of}
 use Rattle.wgr_tables.specs.TableSteps.{NextSets}
 use Rattle.wgr_tables.proofs.Made.{Made}
 use Rattle.wgr_tables.proofs.Meanings.{by_id, next_terms, set_next_text, set_next_is, set_next_plain}
-use Rattle.wgr_sql.proofs.Updates.{updates, stored_as}
-use Rattle.wgr_sql.proofs.KeyedLemmas.{updated_rows, revised, keyed_revised, keyed_moved, has_moved}
-use Rattle.wgr_sql.proofs.TableLemmas.{cast_int, unmapped}
-use Rattle.wgr_sql.proofs.Answers.{answers, map-both}
+use Rattle.wgr_sql.proofs.KeyedLemmas.{revised}
+use Rattle.wgr_sql.proofs.TableLemmas.{cast_int}
+use Rattle.wgr_sql.proofs.Answers.{map-both}
 use Rattle.wgr_sql.proofs.RowLemmas.{equal_nats, map_alike}
 use Rattle.wgr_tables.proofs.EditLemmas.{networks_after, register_networks}
 use Rattle.wgr_tables.proofs.WriteLemmas.{rows_updated}

@@ -1,9 +1,8 @@
 -- The statement that adds the row of a peer.
-use Rattle.std.proofs.Common.{◌≡◌, ◌/◌, ℕ, pos, List, [], ◌∷◌, map, length, nat_eq, unsigned_abs, Bool, true, false, Option, Some, None, Ok, IsPermutation, refl, sym, ap, subst, ◌∙◌, inl, inr, arith, true≢false}
+use Rattle.std.proofs.Common.{◌≡◌, ℕ, pos, [], ◌∷◌, map, nat_eq, Bool, true, false, Option, Some, None, Ok, IsPermutation, refl, sym, ap, subst, ◌∙◌, inl, inr, arith, true≢false}
 use Rattle.std.specs.Ordering.{is_eq}
 use Rattle.std.proofs.lemmas.List.Sorted.{IsPermutation-map}
 use Rattle.std.proofs.lemmas.Cmp.{tied_itself}
-use Rattle.sqlite.specs.declared.types.Value.{Value}
 use Rattle.sqlite.specs.declared.types.Value.TheVariants.{Null, Int, Text, Blob}
 use Rattle.sqlite.specs.Order.{Row}
 use Rattle.sqlite_value.specs.Order.{column, value_cmp}
@@ -15,17 +14,14 @@ use Rattle.sqlite.specs.Values.{bound}
 use Rattle.sqlite.specs.Effect.{value_rows}
 use Rattle.sqlite.specs.State.{State, Executes}
 use Rattle.sqlite_trees.specs.Tree.{Trees, rowid, put_row}
-use Rattle.sqlite_rules.specs.Edit.{id_in, is_taken}
 use Rattle.sqlite_rules.specs.Lists.{Has}
-use Rattle.wgr_text.specs.declared.key.Key.{Key}
-use Rattle.wgr_peers.specs.declared.peer.Peer.{Peer}
 use Rattle.wgr_peers.specs.declared.peer.Status.{Status}
-use Rattle.wgr_model.specs.Rows.{PeerRow, peer_id, peer_row}
+use Rattle.wgr_model.specs.Rows.{PeerRow}
 use Rattle.wgr_model.proofs.CollectLemmas.{from_map}
 use Rattle.wgr_sql.proofs.KeyedLemmas.{not_taken}
 use Rattle.wgr_sql.proofs.TableLemmas.{cast_null, cast_int, put_one}
 use Rattle.wgr_tables.specs.Layout.{peer_at}
-use Rattle.wgr_tables.specs.Decode.{IsRegister, peer_in, tables_of, number_at, peer_numbers, number_of, bytes_of, bytes_at, family_of}
+use Rattle.wgr_tables.specs.Decode.{IsRegister, peer_in, number_at, peer_numbers}
 use Rattle.wgr_tables.specs.Parameters.{status_value}
 use Rattle.wgr_tables.specs.TableSteps.{PeerRowComes}
 use Rattle.wgr_tables.proofs.EditLemmas.{peers_after, register_peers}
@@ -87,9 +83,9 @@ peer_came old new register p count ran =
         subst (λ x. IsPermutation (x ∷ map peer_in rows) (map peer_in (put_row row rows))) (stored_is p p.status) (IsPermutation-map peer_in _ _ (put_one row rows done.1)),
         peers_after old.now new.now _ register done.0.sound done.0.edits,
         λ a here.
-          let at = from_map peer_in rows a here in
-          let there = from_model rows at.0 at.1 in
-          let id = register.written.peers.numbers_are at.0 there 0 (inl refl) in
-          ap (λ (x : PeerRow). nat_eq x.id p.id) (sym at.2) ∙ untied (number_at at.0 0) p.id (ap (λ v. is_eq (value_cmp v (rowid row))) (sym id) ∙ not_taken rows row at.0 done.1 there),
+            let at = from_map peer_in rows a here in
+            let there = from_model rows at.0 at.1 in
+            let id = register.written.peers.numbers_are at.0 there 0 (inl refl) in
+            ap (λ (x : PeerRow). nat_eq x.id p.id) (sym at.2) ∙ untied (number_at at.0 0) p.id (ap (λ v. is_eq (value_cmp v (rowid row))) (sym id) ∙ not_taken rows row at.0 done.1 there),
       );
     }

@@ -1,13 +1,11 @@
 -- Peers that come, as a step of one network's value.
-use Rattle.std.proofs.Common.{◌≡◌, ◌<◌, ℕ, ◌+◌, ◌-◌, ◌*◌, ◌⊎◌, ◌↔◌, List, [], ◌∷◌, ◌++◌, map, nat_eq, nat_lt, Bool, true, false, not, ◌&&◌, ◌||◌, cond, IsPermutation, refl, sym, ap, ap₂, subst, ◌∙◌, inl, inr, arith, true≢false}
-use Rattle.std.specs.List.{filter, list_any, IsDistinct, AllByRecursion, AllPairs}
+use Rattle.std.proofs.Common.{◌≡◌, ◌<◌, ℕ, ◌⊎◌, ◌↔◌, List, [], ◌∷◌, ◌++◌, map, nat_eq, nat_lt, Bool, true, false, not, ◌&&◌, ◌||◌, cond, IsPermutation, refl, sym, ap, ap₂, subst, ◌∙◌, inl, inr, arith, true≢false}
+use Rattle.std.specs.List.{filter, IsDistinct, AllByRecursion}
 use Rattle.std.proofs.lemmas.Bool.Decides.{nat_tests}
 use Rattle.std.proofs.lemmas.Map.Keys.{IsDistinct-cons, IsDistinct-IsPermutation}
 use Rattle.std.proofs.lemmas.List.Elements.{recursion_from_All}
 use Rattle.std.proofs.lemmas.List.Sorted.{IsPermutation-sym, IsPermutation-map}
-use Rattle.wgr_pool.specs.PrefixTests.{full}
 use Rattle.wgr_pool.proofs.Lists.{AllPairs-head, AllPairs-tail, AllPairs-filter}
-use Rattle.wgr_pool.proofs.PrefixLemmas.{nat_eq_is}
 use Rattle.wgr_peers.specs.declared.peer.Peer.{Peer}
 use Rattle.wgr_peers.specs.Peers.{put_peer, AreNumbered, IsNumberedBelow}
 use Rattle.wgr_peers.proofs.OrderedLemmas.{put_pairs}
@@ -24,8 +22,8 @@ use Rattle.wgr_model.proofs.SameLemmas.{at_has, eqb_sym, has_permutation}
 use Rattle.wgr_sql.specs.Steps.{Each}
 use Rattle.wgr_tables.specs.TableSteps.{PeerRowsGo, PeerComes, PeersPut, is_peer, is_address_of}
 use Rattle.wgr_tables.proofs.Rests.{Rests}
-use Rattle.wgr_tables.proofs.RestLemmas.{same_ids, filters_turn, not_true, not_false, and_left, and_false}
-use Rattle.wgr_tables.proofs.RouteRests.{LaterApart, put_from, put_to, false_from, all_apart, allowed_sym, allowed_self, pair_sym}
+use Rattle.wgr_tables.proofs.RestLemmas.{same_ids, filters_turn, not_true, and_left, and_false}
+use Rattle.wgr_tables.proofs.RouteRests.{LaterApart, put_from, put_to, all_apart, allowed_sym, allowed_self, pair_sym}
 
 -- ---- the rows of a peer go, but for the routes to it
 
@@ -156,7 +154,7 @@ pub all_rows_gone : (ps : List Peer) (id : ℕ) (t u v : Tables) (n : NetworkVal
 all_rows_gone [] id t u v n rests done = subst (λ m. Rests id t m v) (λ i. record n { peers = kept_none n.peers i }) (subst (Rests id t n) done rests)
 all_rows_gone (p ∷ ps) id t u v n rests (m, step, later) =
     let is : record u { peers = filter (λ q. not (is_peer id (peer_id id p.number) q)) u.peers; allowed = filter (λ a. not (is_address_of id (peer_id id p.number) a)) u.allowed } ≡ m
-        = sym (step.2 ∙ ap (λ (s : Tables). record s { allowed = filter (λ a. not (is_address_of id (peer_id id p.number) a)) s.allowed }) step.1) in
+    = sym (step.2 ∙ ap (λ (s : Tables). record s { allowed = filter (λ a. not (is_address_of id (peer_id id p.number) a)) s.allowed }) step.1) in
     subst (λ l. Rests id t (record n { peers = l }) v) (without_more p.number (numbers_of ps) n.peers)
     (all_rows_gone ps id t m v (record n { peers = without_number n.peers p.number }) (subst (Rests id t (record n { peers = without_number n.peers p.number })) is (rows_gone id p.number t u n rests)) later)
 

@@ -1,20 +1,19 @@
 -- Steps of a commit, as steps of one network's value.
-use Rattle.std.proofs.Common.{◌≡◌, ℕ, ◌+◌, ◌*◌, ◌⊎◌, ◌↔◌, List, [], ◌∷◌, ◌++◌, map, nat_eq, Bool, true, false, not, ◌&&◌, ◌||◌, cond, refl, sym, ap, ap₂, subst, ◌∙◌, inl, inr, arith, true≢false}
-use Rattle.std.specs.List.{filter, list_any, IsDistinct}
+use Rattle.std.proofs.Common.{◌≡◌, ℕ, ◌⊎◌, ◌↔◌, List, [], ◌∷◌, ◌++◌, map, nat_eq, Bool, true, false, not, ◌&&◌, ◌||◌, cond, refl, sym, ap, subst, ◌∙◌, inl, inr, arith}
+use Rattle.std.specs.List.{filter, IsDistinct}
 use Rattle.wgr_peers.specs.declared.peer.Peer.{Peer}
 use Rattle.wgr_peers.specs.Routes.{Routes}
 use Rattle.wgr_text.specs.Prefix.{PrefixValue}
 use Rattle.wgr_core.specs.Network.{NetworkValue, is_among, without_peers}
 use Rattle.wgr_model.specs.Laws.{Has}
-use Rattle.wgr_model.specs.Rows.{PeerRow, AllowedRow, Tables, AreKeyed, peer_id, number_in, peer_row, address_row, route_row, allowed_key, same_allowed, same_pair}
+use Rattle.wgr_model.specs.Rows.{PeerRow, AllowedRow, Tables, peer_id, number_in, peer_row, address_row, route_row, allowed_key, same_allowed, same_pair}
 use Rattle.wgr_model.proofs.CollectLemmas.{has_map, from_map, has_left, has_right, from_append}
 use Rattle.wgr_model.proofs.GatherLemmas.{in_filter, eqb_self}
 use Rattle.wgr_model.proofs.KeptLemmas.{distinct_filter}
 use Rattle.wgr_model.proofs.OrderLemmas.{from_filter}
-use Rattle.wgr_pool.proofs.PrefixLemmas.{nat_eq_is}
 use Rattle.wgr_tables.proofs.Rests.{Rests}
-use Rattle.wgr_sql.specs.Steps.{Then, Each}
-use Rattle.wgr_tables.specs.TableSteps.{PeerLeaves, PeerGoes, AllowedGoes, is_peer, is_of_peer}
+use Rattle.wgr_sql.specs.Steps.{Each}
+use Rattle.wgr_tables.specs.TableSteps.{PeerLeaves, is_peer, is_of_peer}
 
 -- a test on the ids of rows is one on numbers
 pub same_ids : (id m n : ℕ) → nat_eq (peer_id id m) (peer_id id n) ≡ nat_eq m n
@@ -167,7 +166,7 @@ without_twice n k ks = λ i. record n { peers = peers n.peers i; routes = routes
       where
         go : (b : Bool) → filter (λ y. not (is_among ks (f y))) (filter (λ y. not (is_among (k ∷ []) (f y))) xs) ≡ filter (λ y. not (is_among (k ∷ ks) (f y))) xs
             → filter (λ y. not (is_among ks (f y))) (cond b (x ∷ filter (λ y. not (is_among (k ∷ []) (f y))) xs) (filter (λ y. not (is_among (k ∷ []) (f y))) xs))
-              ≡ cond (b && not (is_among ks (f x))) (x ∷ filter (λ y. not (is_among (k ∷ ks) (f y))) xs) (filter (λ y. not (is_among (k ∷ ks) (f y))) xs)
+            ≡ cond (b && not (is_among ks (f x))) (x ∷ filter (λ y. not (is_among (k ∷ ks) (f y))) xs) (filter (λ y. not (is_among (k ∷ ks) (f y))) xs)
         go true later = ap (λ l. cond (not (is_among ks (f x))) (x ∷ l) l) later
         go false later = later
 
@@ -185,5 +184,5 @@ pub peers_leave : (ks : List ℕ) (id : ℕ) (t u v : Tables) (n : NetworkValue)
 peers_leave [] id t u v n rests done = subst (λ m. Rests id t m v) (λ i. record n { peers = all_stay n.peers i; routes = all_stay n.routes i }) (subst (Rests id t n) done rests)
 peers_leave (k ∷ ks) id t u v n rests (m, step, later) =
     let is : record u { peers = filter (λ p. not (is_peer id (peer_id id k) p)) u.peers; allowed = filter (λ a. not (is_of_peer id (peer_id id k) a)) u.allowed } ≡ m
-        = sym (step.2 ∙ ap (λ (s : Tables). record s { allowed = filter (λ a. not (is_of_peer id (peer_id id k) a)) s.allowed }) step.1) in
+    = sym (step.2 ∙ ap (λ (s : Tables). record s { allowed = filter (λ a. not (is_of_peer id (peer_id id k) a)) s.allowed }) step.1) in
     subst (λ x. Rests id t x v) (without_twice n k ks) (peers_leave ks id t m v (without_peers n (k ∷ [])) (subst (Rests id t (without_peers n (k ∷ []))) is (peer_left id k t u n rests)) later)

@@ -1,5 +1,5 @@
 -- The rows between the steps of a commit.
-use Rattle.std.proofs.Common.{◌≡◌, ℕ, ◌⊎◌, ◌↔◌, false, nat_eq, List, ◌++◌, map}
+use Rattle.std.proofs.Common.{◌≡◌, ℕ, ◌⊎◌, ◌↔◌, false, nat_eq, ◌++◌, map}
 use Rattle.wgr_core.specs.Network.{NetworkValue}
 use Rattle.wgr_model.specs.Laws.{Has}
 use Rattle.wgr_model.specs.Rows.{PeerRow, AllowedRow, Tables, AreKeyed, peer_row, address_row, route_row}

@@ -1,13 +1,13 @@
 -- A route that comes, as a step of one network's value.
-use Rattle.std.proofs.Common.{◌≡◌, ℕ, ◌⊎◌, ◌↔◌, List, [], ◌∷◌, ◌++◌, map, nat_eq, Bool, true, false, not, ◌&&◌, cond, IsPermutation, refl, sym, ap, ap₂, subst, ◌∙◌, inl, inr, true≢false}
+use Rattle.std.proofs.Common.{◌≡◌, ℕ, ◌⊎◌, List, [], ◌∷◌, ◌++◌, map, nat_eq, Bool, true, false, not, ◌&&◌, cond, IsPermutation, refl, sym, ap, subst, ◌∙◌, inl, inr, true≢false}
 use Rattle.std.specs.Prelude.{⊤}
-use Rattle.std.specs.List.{filter, IsDistinct, AllByRecursion, AllPairs}
+use Rattle.std.specs.List.{filter, IsDistinct, AllByRecursion}
 use Rattle.std.proofs.lemmas.Map.Keys.{IsDistinct-cons, IsDistinct-IsPermutation}
 use Rattle.std.proofs.lemmas.List.Elements.{recursion_from_All}
 use Rattle.std.proofs.lemmas.List.Sorted.{IsPermutation-sym, IsPermutation-map}
 use Rattle.wgr_text.specs.declared.addr.Family.{Family}
 use Rattle.wgr_text.specs.declared.addr.Family.TheVariants.{V4, V6}
-use Rattle.wgr_text.specs.Prefix.{PrefixValue, IsAddr, width}
+use Rattle.wgr_text.specs.Prefix.{PrefixValue, width}
 use Rattle.wgr_pool.specs.PrefixTests.{same_prefix, same_family, is_before}
 use Rattle.wgr_pool.proofs.Lists.{AllPairs-head, AllPairs-tail}
 use Rattle.wgr_peers.specs.Ordered.{put_in_order}
@@ -26,7 +26,7 @@ use Rattle.wgr_model.proofs.KeptLemmas.{distinct_filter}
 use Rattle.wgr_model.proofs.OrderLemmas.{from_filter, filter_permutation}
 use Rattle.wgr_model.proofs.SameLemmas.{at_has, eqb_sym, has_permutation}
 use Rattle.wgr_tables.proofs.Rests.{Rests}
-use Rattle.wgr_sql.specs.Steps.{Then, Each}
+use Rattle.wgr_sql.specs.Steps.{Each}
 use Rattle.wgr_tables.specs.TableSteps.{RoutePuts, RouteGoes, is_route_at}
 use Rattle.wgr_tables.proofs.RestLemmas.{filters_turn, not_true, not_false, and_left, and_false}
 
@@ -161,7 +161,7 @@ route_comes id r t u v n ordered rests (m, gone, (real, (rows, perm, is, apart))
     address_keys =
         let moved = filter_permutation allowed_key same_allowed allowed_self allowed_sym (λ (a : AllowedRow). not a.is_route) (row ∷ kept) rows first_keys keys put_rows in
         let before = subst (λ l. IsDistinct same_pair (map (λ (a : AllowedRow). (a.network, a.peer)) l)) (filters_turn (λ a. not (q a)) (λ (a : AllowedRow). not a.is_route) u.allowed)
-            (distinct_filter same_pair (λ (a : AllowedRow). (a.network, a.peer)) (λ a. not (q a)) (filter (λ a. not a.is_route) u.allowed) rests.keyed.address_keys) in
+        (distinct_filter same_pair (λ (a : AllowedRow). (a.network, a.peer)) (λ a. not (q a)) (filter (λ a. not a.is_route) u.allowed) rests.keyed.address_keys) in
         IsDistinct-IsPermutation same_pair pair_sym (map (λ (a : AllowedRow). (a.network, a.peer)) (filter (λ a. not a.is_route) kept)) (map (λ (a : AllowedRow). (a.network, a.peer)) (filter (λ a. not a.is_route) rows))
         (IsPermutation-map (λ (a : AllowedRow). (a.network, a.peer)) (filter (λ a. not a.is_route) kept) (filter (λ a. not a.is_route) rows) moved) before
 

@@ -1,5 +1,5 @@
 -- Rows that are written as such stay so.
-use Rattle.std.proofs.Common.{◌≡◌, ℕ, pos, List, [], ◌∷◌, filter, Bool, true, false, cond, IsPermutation, sym, subst, inl, inr}
+use Rattle.std.proofs.Common.{◌≡◌, ℕ, pos, List, ◌∷◌, filter, Bool, true, false, cond, IsPermutation, sym, subst, inl, inr}
 use Rattle.std.proofs.lemmas.List.Sorted.{IsPermutation-sym}
 use Rattle.sqlite.specs.declared.types.Value.TheVariants.{Int, Blob}
 use Rattle.sqlite.specs.Order.{Row}

@@ -1,6 +1,6 @@
 -- The rows of the model, read from the rows of the database. A table's columns stand from place 1
 -- on, and its rowid, which is an INTEGER PRIMARY KEY where it has one, at place 0.
-use Rattle.std.specs.Prelude.{◌≡◌, ℕ, pos, ◌+◌, Bool, cond, nat_eq, List, [], ◌∷◌, map, codes, bytes_eq, Option, Some, None, unsigned_abs}
+use Rattle.std.specs.Prelude.{◌≡◌, ℕ, pos, ◌+◌, cond, nat_eq, List, [], ◌∷◌, map, codes, bytes_eq, Option, Some, None, unsigned_abs}
 use Rattle.std.specs.Int.{w128, from_be_bytes, to_be_bytes}
 use Rattle.sqlite_value.specs.Order.{Row, column, bytes}
 use Rattle.sqlite_rules.specs.Edit.{id_in}

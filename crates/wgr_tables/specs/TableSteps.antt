@@ -1,9 +1,8 @@
 -- What the statements of a commit make of the rows.
-use Rattle.std.specs.Prelude.{◌≡◌, ℕ, ◌⊎◌, ◌↔◌, Bool, true, false, not, ◌&&◌, nat_eq, List, [], ◌∷◌, ◌++◌, map}
+use Rattle.std.specs.Prelude.{◌≡◌, ℕ, Bool, false, not, ◌&&◌, nat_eq, List, ◌∷◌, map}
 use Rattle.std.specs.List.{filter}
 use Rattle.std.specs.List.Sorted.{IsPermutation}
 use Rattle.wgr_text.specs.Prefix.{PrefixValue}
-use Rattle.wgr_pool.specs.PrefixTests.{same_prefix}
 use Rattle.wgr_peers.specs.declared.peer.Peer.{Peer}
 use Rattle.wgr_peers.specs.Routes.{HasAddr}
 use Rattle.wgr_core.specs.declared.change.Change.{Change}

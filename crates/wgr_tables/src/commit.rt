@@ -21,11 +21,7 @@ use wgr_core::Change;
 use wgr_sql::{Fault, execute, fault_of};
 
 /// Sets the next number of a network.
-fn set_next<S: Alter>(
-    tx: &mut Transaction<'_, S>,
-    network: u32,
-    next: u32,
-) -> Result<usize, Fault>
+fn set_next<S: Alter>(tx: &mut Transaction<'_, S>, network: u32, next: u32) -> Result<usize, Fault>
     ensures same_reference { tx.new.conn.ghost_name ≡ tx.old.conn.ghost_name }
     ensures step { HasCleanDisk (state S.Store tx.new.conn.now) → StepsOn (NextSets network next) (state S.Store tx.old.conn.now) (state S.Store tx.new.conn.now) result }
     ensures survives { Survives (state S.Store tx.old.conn.now) (state S.Store tx.new.conn.now) (λ _. ⊥) }

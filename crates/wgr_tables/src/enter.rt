@@ -61,10 +61,7 @@ fn drop_address<S: Alter>(
     execute(
         tx,
         "DELETE FROM allowed WHERE network = ?1 AND peer = ?2 AND kind <> 'route'",
-        &[
-            number_value(network),
-            peer_id_value(network, number),
-        ],
+        &[number_value(network), peer_id_value(network, number)],
     )
 }
 

@@ -24,10 +24,7 @@ pub(crate) fn drop_peer_row<S: Alter>(
     execute(
         tx,
         "DELETE FROM peer WHERE network = ?1 AND id = ?2",
-        &[
-            number_value(network),
-            peer_id_value(network, number),
-        ],
+        &[number_value(network), peer_id_value(network, number)],
     )
 }
 
@@ -44,10 +41,7 @@ fn drop_allowed_rows<S: Alter>(
     execute(
         tx,
         "DELETE FROM allowed WHERE network = ?1 AND peer = ?2",
-        &[
-            number_value(network),
-            peer_id_value(network, number),
-        ],
+        &[number_value(network), peer_id_value(network, number)],
     )
 }
 

@@ -205,10 +205,7 @@ fn only(mut rows: Vec<Row>) -> Result<Option<Row>, Fault>
 }
 
 /// The row of the network of this id.
-fn network_row<S: Alter>(
-    conn: &mut Connection<S>,
-    network: u32,
-) -> Result<Option<Row>, Fault>
+fn network_row<S: Alter>(conn: &mut Connection<S>, network: u32) -> Result<Option<Row>, Fault>
     requires idle { conn.old.in_transaction ≡ false }
     ensures idle { conn.new.in_transaction ≡ false }
     ensures stands { (db : Database) (pending : List Written) → Stands S.Store conn.old db pending → Stands S.Store conn.new db pending }

@@ -1,8 +1,7 @@
-use Rattle.std.proofs.Common.{rules, ◌≡◌, ℕ, List, true, IsTrue, sym, subst, ap, ◌∙◌, arith}
+use Rattle.std.proofs.Common.{rules, ◌≡◌, true, IsTrue, sym, subst, ◌∙◌, arith}
 use Rattle.sqlite.specs.Values.{bound}
 use Rattle.sqlite.specs.State.{HasCleanDisk}
 use Rattle.sqlite.specs.Held.{state}
-use Rattle.wgr_sql.specs.Calls.{Answered}
 use Rattle.wgr_sql.proofs.ResultLemmas.{if_ok}
 use Rattle.wgr_sql.proofs.QueryLemmas.{shown_open, committed_same, query_open}
 use Rattle.wgr_sql.proofs.statement.query.Goals as goal

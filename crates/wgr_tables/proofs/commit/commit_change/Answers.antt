@@ -1,4 +1,4 @@
-use Rattle.std.proofs.Common.{rules, ◌≡◌, ℕ, true, IsTrue, List, [], ◌∷◌, Ok, Err, Result, OnOk, OnErr, IfOk, IfErr, sym, subst, ◌∙◌, arith}
+use Rattle.std.proofs.Common.{rules, ◌≡◌, ℕ, [], ◌∷◌, sym, subst}
 use Rattle.sqlite.specs.Effect.{Database}
 use Rattle.sqlite.specs.State.{HasCleanDisk}
 use Rattle.sqlite.specs.Held.{state}
@@ -50,11 +50,11 @@ returns-clause-done g c db pending w stood good here is clean =
     let same : end ≡ c.conn-2-1.given.0 = search rules in
     let late : HasCleanDisk (state g.S.Store end) = subst (λ h. HasCleanDisk (state g.S.Store h)) (sym same) clean in
     let done = stands_done IsRegister Writes g.S.Store old mid end db pending stood settled (rw begun at c.write_change.ensures.survives) c.commit.ensures.ended Fault P (λ d e h. h.sound) c.in_ok-write_change.field-0 (rw begun at c.in_ok-write_change.ensures.step)
-        c.commit.ensures.survives late in
+    c.commit.ensures.survives late in
     let shows = c.commit.ensures.ok late in
     on_ok c.commit.result c.map_err.result _ _ (λ h.
-      let it = done h.1 (λ trees live may. g.met.S.Store.settled end.store trees live may) in
-      (it.0, writes_it c.args.change.now db it.0 w good here c.args.network is it.1, subst (λ h. Stands g.S.Store h it.0 []) same it.2)) shows c.map_err.ensures.variant
+    let it = done h.1 (λ trees live may. g.met.S.Store.settled end.store trees live may) in
+    (it.0, writes_it c.args.change.now db it.0 w good here c.args.network is it.1, subst (λ h. Stands g.S.Store h it.0 []) same it.2)) shows c.map_err.ensures.variant
 
 pub returns-clause-fault : goal.returns-clause-fault
 returns-clause-fault g c db pending w stood good here is =
@@ -67,5 +67,5 @@ returns-clause-fault g c db pending w stood good here is =
     let settled = c.is_autocommit-settled.ensures.settled (rw (c.is_autocommit-settled.ensures.value, c.requires.idle)) in
     let same : end ≡ c.conn-2-1.given.0 = search rules in
     let left = stands_left IsRegister Writes g.S.Store old mid end db pending stood settled (rw begun at c.write_change.ensures.survives) c.commit.ensures.ended Fault P (λ d e h. h.sound) c.in_ok-write_change.field-0 (rw begun at c.in_ok-write_change.ensures.step)
-        c.commit.ensures.survives one (λ next made. writes_it c.args.change.now db next w good here c.args.network is made) in
+    c.commit.ensures.survives one (λ next made. writes_it c.args.change.now db next w good here c.args.network is made) in
     if_err c.commit.result c.map_err.result _ _ (λ e fails. subst (λ h. Stands g.S.Store h db (one ∷ pending)) same (left e fails)) (push_if c.commit.result _ _ c.commit.ensures.err) c.map_err.ensures.variant

@@ -1,4 +1,3 @@
-use Rattle.std.proofs.Common.{rules, ◌≡◌, ℕ, pos, OnOk, ◌∷◌}
 use Rattle.sqlite.specs.Held.{state}
 use Rattle.wgr_sql.proofs.ResultLemmas.{if_ok}
 use Rattle.wgr_tables.proofs.NextLemmas.{next_set}

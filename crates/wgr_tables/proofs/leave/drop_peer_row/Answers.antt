@@ -1,4 +1,3 @@
-use Rattle.std.proofs.Common.{rules, ◌≡◌, ℕ, pos, OnOk, ◌∷◌, ◌<◌, ◌^◌, ◌+◌, ◌-◌, subst, sym, ap, ◌∙◌, arith}
 use Rattle.sqlite.specs.Held.{state}
 use Rattle.wgr_model.specs.Rows.{peer_id}
 use Rattle.wgr_sql.proofs.ResultLemmas.{if_ok}

@@ -1,4 +1,4 @@
-use Rattle.std.proofs.Common.{rules, ◌≡◌, ℕ, List, IfSome, IfNone, nat_eq, false, subst}
+use Rattle.std.proofs.Common.{◌≡◌, IfSome, IfNone, nat_eq, false, subst}
 use Rattle.wgr_model.specs.Laws.{Has}
 use Rattle.wgr_model.specs.Rows.{NetworkRow}
 use Rattle.wgr_tables.specs.Decode.{tables_of, network_in, number_at}

@@ -1,8 +1,6 @@
-use Rattle.std.proofs.Common.{rules, ◌≡◌, ℕ, List, [], ◌∷◌, map, filter, nat_eq, not, ◌&&◌, true, IsTrue, sym, ap, ◌∙◌, subst, IfOk, IsPermutation, arith}
-use Rattle.sqlite.specs.Effect.{Database}
-use Rattle.wgr_model.specs.Rows.{peer_row, address_row, route_row}
-use Rattle.wgr_sql.proofs.ResultLemmas.{if_ok, if_both}
-use Rattle.wgr_tables.specs.Decode.{tables_of, network_in, peer_in, allowed_in}
+use Rattle.std.proofs.Common.{map, filter, nat_eq, not, ◌&&◌, sym, ap, ◌∙◌, subst, IsPermutation}
+use Rattle.wgr_sql.proofs.ResultLemmas.{if_ok}
+use Rattle.wgr_tables.specs.Decode.{tables_of, peer_in, allowed_in}
 use Rattle.wgr_tables.proofs.load.load_peers.Goals as goal
 
 pub returns-in_err-addresses-clause-stands : goal.returns-in_err-addresses-clause-stands

@@ -1,8 +1,6 @@
-use Rattle.std.proofs.Common.{rules, ◌≡◌, ℕ, List, [], ◌∷◌, map, filter, nat_eq, not, ◌&&◌, true, IsTrue, sym, ap, ◌∙◌, subst, IfOk, IsPermutation, arith}
-use Rattle.sqlite.specs.Effect.{Database}
-use Rattle.wgr_model.specs.Rows.{peer_row, address_row, route_row}
-use Rattle.wgr_sql.proofs.ResultLemmas.{if_ok, if_both}
-use Rattle.wgr_tables.specs.Decode.{tables_of, network_in, peer_in, allowed_in}
+use Rattle.std.proofs.Common.{◌∙◌}
+use Rattle.wgr_sql.proofs.ResultLemmas.{if_both}
+use Rattle.wgr_tables.specs.Decode.{tables_of, network_in}
 use Rattle.wgr_tables.proofs.LoadLemmas.{network_is_read}
 use Rattle.wgr_tables.proofs.load.load_row.Goals as goal
 

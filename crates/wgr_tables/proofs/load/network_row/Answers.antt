@@ -1,5 +1,4 @@
-use Rattle.std.proofs.Common.{rules, ◌≡◌, ℕ, List, [], ◌∷◌, map, filter, nat_eq, subst, IfOk, IfSome, IfNone, IsPermutation}
-use Rattle.sqlite.specs.Effect.{Database}
+use Rattle.std.proofs.Common.{map, filter, nat_eq, subst, IsPermutation}
 use Rattle.wgr_sql.proofs.ResultLemmas.{if_ok, if_some, if_none}
 use Rattle.wgr_tables.specs.Decode.{tables_of, network_in}
 use Rattle.wgr_tables.proofs.LoadLemmas.{none_listed, one_listed}

@@ -1,4 +1,4 @@
-use Rattle.std.proofs.Common.{rules, ◌≡◌, ℕ, pos, OnOk, ◌∷◌, ◌<◌, ◌^◌, ◌+◌, ◌-◌, subst, sym, ap, ◌∙◌, arith}
+use Rattle.std.proofs.Common.{subst}
 use Rattle.sqlite.specs.Held.{state}
 use Rattle.wgr_text.specs.Prefix.{IsAddr}
 use Rattle.wgr_sql.proofs.ResultLemmas.{if_ok}
