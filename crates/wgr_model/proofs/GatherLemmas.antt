@@ -27,7 +27,7 @@ use Rattle.wgr_core.specs.Network.{IsNetwork, IsRoute, NetworkValue}
 use Rattle.wgr_model.specs.Consistent.{IsConsistent, IsHolding}
 use Rattle.wgr_model.specs.Laws.{Has}
 use Rattle.wgr_model.specs.Register.{Holding, IsSame, Register}
-use Rattle.wgr_model.specs.Rows.{AllowedRow, AreRowsOf, PeerRow, Tables, address_of, address_row, allowed_key, allowed_rows, family_number, holding_of, network_row, number_in, peer_id, peer_row, peer_rows, peer_value, peers_of, prefix_cmp, prefix_key, register_of, route_row, route_value, routes_of, same_allowed, same_pair}
+use Rattle.wgr_model.specs.Rows.{AllowedRow, AreKeyed, AreRowsOf, PeerRow, Tables, address_of, address_row, allowed_key, allowed_rows, family_number, holding_of, network_row, number_in, peer_id, peer_row, peer_rows, peer_value, peers_of, prefix_cmp, prefix_key, register_of, route_row, route_value, routes_of, same_allowed, same_pair}
 use Rattle.wgr_model.proofs.CollectLemmas.{collected, from_append, from_flat, from_map, has_flat, has_left, has_map, has_right}
 use Rattle.wgr_model.proofs.HolderLemmas.{one_or_apart}
 use Rattle.wgr_model.proofs.SameLemmas.{at_has, eqb_sym, has_find}
@@ -35,10 +35,10 @@ use Rattle.wgr_model.proofs.SameLemmas.{at_has, eqb_sym, has_find}
 pub eqb_self : (a : ℕ) → nat_eq a a ≡ true
 eqb_self a = grind (arith, nat_tests)
 
-prefix_total : IsTotalOrder prefix_cmp
+pub prefix_total : IsTotalOrder prefix_cmp
 prefix_total = then_total (on_total (λ p. p.0) nat_cmp_total) (then_total (on_total (λ p. p.1) nat_cmp_total) (on_total (λ p. p.2) nat_cmp_total))
 
-prefix_exact : IsAntisymmetric prefix_cmp
+pub prefix_exact : IsAntisymmetric prefix_cmp
 prefix_exact p q h = ap (λ (z : ℕ × (ℕ × ℕ)). (z.0, z.1.0, z.1.1)) (exact_pairs nat_cmp (λ (x y : ℕ × ℕ). ordering_then (nat_cmp x.0 y.0) (nat_cmp x.1 y.1)) exact_unsigned (exact_pairs nat_cmp nat_cmp exact_unsigned exact_unsigned) (p.0, (p.1, p.2)) (q.0, (q.1, q.2)) h)
 
 pub in_filter : {A : Type 0} (p : A → Bool) (xs : List A) (a : A) → Has xs a → p a ≡ true → Has (filter p xs) a
@@ -95,10 +95,10 @@ weaken : {A : Type 0} (P Q : A → Type 0) → ((x : A) → P x → Q x) → (xs
 weaken P Q h [] all = tt
 weaken P Q h (x ∷ xs) all = (h x all.0, weaken P Q h xs all.1)
 
-peers_sorted : (n : NetworkValue) → IsNetwork n → IsStrictlySortedBy nat_cmp (map (λ p. p.number) n.peers)
+pub peers_sorted : (n : NetworkValue) → IsNetwork n → IsStrictlySortedBy nat_cmp (map (λ p. p.number) n.peers)
 peers_sorted n rules = in_sorted nat_cmp (λ p. p.number) IsNumberedBelow (λ _. ⊤) (λ p q _ _ lt. number_below p.number q.number lt) n.peers (everywhere n.peers) rules.numbered
 
-routes_sorted : (n : NetworkValue) → IsNetwork n → IsStrictlySortedBy prefix_cmp (map (λ r. prefix_key r.0) n.routes)
+pub routes_sorted : (n : NetworkValue) → IsNetwork n → IsStrictlySortedBy prefix_cmp (map (λ r. prefix_key r.0) n.routes)
 routes_sorted n rules = in_sorted prefix_cmp (λ r. prefix_key r.0) ComesBefore (λ r. IsAddr r.0.address) (λ r s a b lt. before_below r.0 s.0 a b lt) n.routes
     (weaken (IsRoute n) (λ r. IsAddr r.0.address) (λ r is. is.masked.0) n.routes (recursion_from_All (IsRoute n) n.routes rules.routes)) rules.ordered
 
@@ -126,6 +126,28 @@ pair_tells n p a b h k = grind (arith, nat_tests, h, k)
 pub number_back : (network number : ℕ) → number_in network (peer_id network number) ≡ number
 number_back network number = omega arith
 
+-- the address of a peer is that of its row
+pub address_read : (t : Tables) → AreKeyed t → (id : ℕ) (v : Peer) → Has t.allowed (address_row id v) → address_of t.allowed id (peer_id id v.number) ≡ v.address
+unfolding address_in
+address_read t keyed id v here = address_found t.allowed id (peer_id id v.number) ∙ ap address_in
+    (has_find (λ a. nat_eq a.network id && nat_eq a.peer (peer_id id v.number)) (λ a. (a.network, a.peer)) same_pair (pair_tells id (peer_id id v.number)) (filter (λ a. not a.is_route) t.allowed) (address_row id v) keyed.address_keys
+    (in_filter (λ a. not a.is_route) t.allowed (address_row id v) here refl) (ap₂ (λ x y. x && y) (eqb_self id) (eqb_self (peer_id id v.number))))
+
+-- two rows of a network with one key are told to be the same
+pub peer_keys_tell : (id : ℕ) (a b : PeerRow) → nat_eq a.network id ≡ true → nat_eq b.network id ≡ true → number_in a.network a.id ≡ number_in b.network b.id
+    → same_pair (a.network, number_in a.network a.id) (b.network, number_in b.network b.id) ≡ true
+peer_keys_tell id a b x y e =
+    let networks : nat_eq a.network b.network ≡ true = grind (arith, nat_tests, x, y) in
+    ap₂ (λ u v. u && v) networks (ap (nat_eq (number_in a.network a.id)) (sym e) ∙ eqb_self (number_in a.network a.id))
+
+pub route_keys_tell : (id : ℕ) (a b : AllowedRow) → (a.is_route && nat_eq a.network id) ≡ true → (b.is_route && nat_eq b.network id) ≡ true → prefix_key a.prefix ≡ prefix_key b.prefix → same_allowed (allowed_key a) (allowed_key b) ≡ true
+route_keys_tell id a b x y e =
+    let p = eqb-true a.network id (and_true a.is_route (nat_eq a.network id) x).1 in
+    let q = eqb-true b.network id (and_true b.is_route (nat_eq b.network id) y).1 in
+    let key = prefix_key a.prefix in
+    subst (λ z. same_allowed (allowed_key a) z ≡ true) (λ i. ((p ∙ sym q) i, (e i).0, (e i).1, (e i).2))
+    (ap₂ (λ u v. u && v) (ap₂ (λ u v. u && v) (ap₂ (λ u v. u && v) (eqb_self a.network) (eqb_self key.0)) (eqb_self key.1)) (eqb_self key.2))
+
 module _ (r : Register) (t : Tables) (rows : AreRowsOf r t) (good : IsConsistent r) (h : Holding) (held : Has r.networks h) where
   one_id : (k : Holding) → Has r.networks k → nat_eq k.id h.id ≡ true → k ≡ h
   one_id k kk e = elim (one_or_apart (λ x. x.id) nat_eq eqb_sym r.networks k h good.network_ids kk held) [ inl same ↦ same | inr other ↦ absurd (true≢false (sym e ∙ other)) ]
@@ -137,11 +159,7 @@ module _ (r : Register) (t : Tables) (rows : AreRowsOf r t) (good : IsConsistent
   allowed_there a k = (rows.allowed a).0 (has_flat allowed_rows r.networks h a held k)
 
   address_is : (v : Peer) → Has h.network.peers v → address_of t.allowed h.id (peer_id h.id v.number) ≡ v.address
-  unfolding address_in
-  address_is v k = address_found t.allowed h.id (peer_id h.id v.number) ∙ ap address_in
-      (has_find (λ a. nat_eq a.network h.id && nat_eq a.peer (peer_id h.id v.number)) (λ a. (a.network, a.peer)) same_pair (pair_tells h.id (peer_id h.id v.number)) (filter (λ a. not a.is_route) t.allowed) (address_row h.id v) rows.keyed.address_keys
-      (in_filter (λ a. not a.is_route) t.allowed (address_row h.id v) (allowed_there (address_row h.id v) (has_left (map (address_row h.id) h.network.peers) (map (route_row h.id) h.network.routes) (address_row h.id v) (has_map (address_row h.id) h.network.peers v k))) refl)
-      (ap₂ (λ x y. x && y) (eqb_self h.id) (eqb_self (peer_id h.id v.number))))
+  address_is v k = address_read t rows.keyed h.id v (allowed_there (address_row h.id v) (has_left (map (address_row h.id) h.network.peers) (map (route_row h.id) h.network.routes) (address_row h.id v) (has_map (address_row h.id) h.network.peers v k)))
 
   peer_to : (v : Peer) → Has h.network.peers v → Has t.peers (peer_row h.id v) × (nat_eq (peer_row h.id v).network h.id ≡ true) × (number_in h.id (peer_id h.id v.number) ≡ v.number) × (peer_value t (peer_row h.id v) ≡ v)
   peer_to v k = (
@@ -158,13 +176,8 @@ module _ (r : Register) (t : Tables) (rows : AreRowsOf r t) (good : IsConsistent
       let same : f.0 ≡ h = one_id f.0 f.1 (ap (λ x. nat_eq x.network h.id) v.2 ∙ e) in
       (v.0, subst (λ x. Has x.network.peers v.0) same v.1, ap (λ x. peer_row x.id v.0) (sym same) ∙ v.2)
 
-  peer_tells : (a b : PeerRow) → nat_eq a.network h.id ≡ true → nat_eq b.network h.id ≡ true → number_in a.network a.id ≡ number_in b.network b.id → same_pair (a.network, number_in a.network a.id) (b.network, number_in b.network b.id) ≡ true
-  peer_tells a b x y e =
-      let networks : nat_eq a.network b.network ≡ true = grind (arith, nat_tests, x, y) in
-      ap₂ (λ u v. u && v) networks (ap (nat_eq (number_in a.network a.id)) (sym e) ∙ eqb_self (number_in a.network a.id))
-
   pub peers_read : peers_of t h.id ≡ h.network.peers
-  peers_read = collected nat_cmp nat_cmp_total nat_cmp-IsAntisymmetric (λ v. v.number) (λ p. nat_eq p.network h.id) (λ p. number_in p.network p.id) (peer_value t) (peer_row h.id) (λ p. (p.network, number_in p.network p.id)) same_pair t.peers h.network.peers peer_tells rows.keyed.peer_keys (peers_sorted h.network rules) peer_to peer_from
+  peers_read = collected nat_cmp nat_cmp_total nat_cmp-IsAntisymmetric (λ v. v.number) (λ p. nat_eq p.network h.id) (λ p. number_in p.network p.id) (peer_value t) (peer_row h.id) (λ p. (p.network, number_in p.network p.id)) same_pair t.peers h.network.peers (peer_keys_tell h.id) rows.keyed.peer_keys (peers_sorted h.network rules) peer_to peer_from
 
   route_to : (v : PrefixValue × ℕ) → Has h.network.routes v → Has t.allowed (route_row h.id v) × ((true && nat_eq h.id h.id) ≡ true) × (prefix_key v.0 ≡ prefix_key v.0) × (route_value (route_row h.id v) ≡ v)
   route_to v k = (allowed_there (route_row h.id v) (has_right (map (address_row h.id) h.network.peers) (map (route_row h.id) h.network.routes) (route_row h.id v) (has_map (route_row h.id) h.network.routes v k)), eqb_self h.id, refl, λ i. (v.0, number_back h.id v.1 i))
@@ -181,16 +194,8 @@ module _ (r : Register) (t : Tables) (rows : AreRowsOf r t) (good : IsConsistent
             (v.0, subst (λ z. Has z.network.routes v.0) same v.1, ap (λ z. route_row z.id v.0) (sym same) ∙ v.2)
       ]
 
-  route_tells : (a b : AllowedRow) → (a.is_route && nat_eq a.network h.id) ≡ true → (b.is_route && nat_eq b.network h.id) ≡ true → prefix_key a.prefix ≡ prefix_key b.prefix → same_allowed (allowed_key a) (allowed_key b) ≡ true
-  route_tells a b x y e =
-      let p = eqb-true a.network h.id (and_true a.is_route (nat_eq a.network h.id) x).1 in
-      let q = eqb-true b.network h.id (and_true b.is_route (nat_eq b.network h.id) y).1 in
-      let key = prefix_key a.prefix in
-      subst (λ z. same_allowed (allowed_key a) z ≡ true) (λ i. ((p ∙ sym q) i, (e i).0, (e i).1, (e i).2))
-      (ap₂ (λ u v. u && v) (ap₂ (λ u v. u && v) (ap₂ (λ u v. u && v) (eqb_self a.network) (eqb_self key.0)) (eqb_self key.1)) (eqb_self key.2))
-
   pub routes_read : routes_of t h.id ≡ h.network.routes
-  routes_read = collected prefix_cmp prefix_total prefix_exact (λ v. prefix_key v.0) (λ a. a.is_route && nat_eq a.network h.id) (λ a. prefix_key a.prefix) route_value (route_row h.id) allowed_key same_allowed t.allowed h.network.routes route_tells rows.keyed.allowed_keys (routes_sorted h.network rules) route_to route_from
+  routes_read = collected prefix_cmp prefix_total prefix_exact (λ v. prefix_key v.0) (λ a. a.is_route && nat_eq a.network h.id) (λ a. prefix_key a.prefix) route_value (route_row h.id) allowed_key same_allowed t.allowed h.network.routes (route_keys_tell h.id) rows.keyed.allowed_keys (routes_sorted h.network rules) route_to route_from
 
   pub holding_read : holding_of t (network_row h) ≡ h
   holding_read = λ i. record { id = h.id; tenant = h.tenant; name = h.name; network = record { pool = h.network.pool; host = h.network.host; port = h.network.port; server = h.network.server; capacity = h.network.capacity; next = h.network.next; peers = peers_read i; routes = routes_read i } }

@@ -1,0 +1,14 @@
+pub mod Values
+pub mod TextLemmas
+pub mod TableLemmas
+pub mod KeyedLemmas
+pub mod Answers
+pub mod Statements
+pub mod Updates
+pub mod RowLemmas
+pub mod ResultLemmas
+pub mod QueryLemmas
+pub mod SurvivesLemmas
+pub mod StepLemmas
+pub mod StandingLemmas
+pub mod CommitLemmas

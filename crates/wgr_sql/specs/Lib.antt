@@ -1,0 +1,5 @@
+pub mod Effects
+pub mod Keyed
+pub mod Calls
+pub mod Steps
+pub mod Standing

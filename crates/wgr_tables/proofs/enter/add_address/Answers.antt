@@ -1,0 +1,30 @@
+use Rattle.std.proofs.Common.{◌≡◌, ◌+◌, ◌-◌, ℕ, arith}
+use Rattle.wgr_text.specs.Prefix.{block, width}
+use Rattle.wgr_text.specs.declared.addr.Family.{Family}
+use Rattle.wgr_text.specs.declared.addr.Family.TheVariants.{V4, V6}
+use Rattle.wgr_pool.specs.PrefixTests.{full}
+use Rattle.sqlite.specs.Held.{state}
+use Rattle.wgr_sql.proofs.ResultLemmas.{if_ok}
+use Rattle.wgr_tables.specs.Decode.{address_kind}
+use Rattle.wgr_tables.proofs.AllowedLemmas.{allowed_came, fits_128}
+use Rattle.wgr_tables.proofs.Meanings.{insert_address_text, insert_address_plain, insert_address_is}
+use Rattle.wgr_tables.proofs.enter.add_address.Goals as goal
+
+-- an address at full length is the last of its prefix
+last_itself : (f : Family) (n : ℕ) → n ≡ n + block f (width f) - 1
+last_itself V4 n = omega arith
+last_itself V6 n = omega arith
+
+pub returns-clause-step : goal.returns-clause-step
+returns-clause-step g c clean inside register =
+    let old = state g.S.Store c.args.tx.now.conn.now in
+    let new = state g.S.Store c.execute.new.tx.conn.now in
+    let address = c.args.peer.now.address in
+    let low = fits_128 address.family address.number c.family-family.ensures.fits in (
+      c.execute.ensures.kept clean inside,
+      if_ok c.execute.result _ _ (λ count h. (
+        allowed_came address_kind insert_address_text insert_address_plain insert_address_is old new (register h.1.was_open) c.args.network (full address) address.number c.args.peer.now.number count low low (last_itself address.family address.number)
+            (rw (c.bytes_of-bytes.ensures, c.number.ensures.value, c.number_value.ensures, c.family_value.ensures, c.peer_id_value.ensures, c.number_value-2.ensures, c.from.ensures, c.width.ensures, c.family-family.ensures.value) at h.0),
+        h.1,
+      )) (c.execute.ensures.ran clean inside),
+    )

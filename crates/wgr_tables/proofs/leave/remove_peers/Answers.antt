@@ -1,0 +1,28 @@
+use Rattle.std.proofs.Common.{◌≡◌, ℕ, [], ◌∷◌, ◌++◌, ◌+◌, take, get_or, Ok, sym, subst, ◌∙◌, arith}
+use Rattle.std.proofs.lemmas.List.{take_more}
+use Rattle.sqlite.specs.State.{HasCleanDisk}
+use Rattle.sqlite.specs.Held.{state}
+use Rattle.wgr_sql.specs.declared.fault.Fault.{Fault}
+use Rattle.wgr_sql.specs.Steps.{Each}
+use Rattle.wgr_tables.specs.TableSteps.{PeerLeaves}
+use Rattle.wgr_tables.specs.Standing.{StepsFrom}
+use Rattle.wgr_sql.proofs.SurvivesLemmas.{survives_next}
+use Rattle.wgr_sql.proofs.StepLemmas.{loop_more}
+use Rattle.wgr_tables.specs.Decode.{IsRegister, tables_of}
+use Rattle.wgr_tables.proofs.leave.remove_peers.Goals as goal
+
+pub loop-number-preserved : goal.loop-number-preserved
+loop-number-preserved g c =
+    let at = c.loop-number.number-index in
+    let d : ℕ = get_or c.args.numbers.now at 0 in
+    let start = state g.S.Store c.args.tx.now.conn.now in
+    let before = state g.S.Store c.loop-number.tx.conn.now in
+    let after = state g.S.Store c.remove_peer.new.tx.conn.now in
+    let more : take (at + 1) c.args.numbers.now ≡ take at c.args.numbers.now ++ d ∷ [] = take_more c.args.numbers.now at _ c.loop-number-test.true in (
+      c.remove_peer.ensures.same_reference ∙ c.loop-number.invariant.0,
+      survives_next _ _ _ c.loop-number.invariant.1 c.remove_peer.ensures.survives,
+      λ clean.
+          let was : HasCleanDisk before = omega (arith, c.remove_peer.ensures.survives.clean, clean) in
+          subst (λ l. StepsFrom {X = ℕ} {E = Fault} (Each (PeerLeaves c.args.network) l) start after (Ok 0)) (sym more)
+          (loop_more IsRegister tables_of Fault (PeerLeaves c.args.network) (take at c.args.numbers.now) d start before after c.in_ok-remove_peer.field-0 (c.loop-number.invariant.2 was) (c.in_ok-remove_peer.ensures.step clean)),
+    )

@@ -1,0 +1,13 @@
+use Rattle.std.proofs.Common.{subst}
+use Rattle.sqlite.specs.Held.{state}
+use Rattle.wgr_text.specs.Prefix.{IsAddr}
+use Rattle.wgr_sql.proofs.ResultLemmas.{if_ok}
+use Rattle.wgr_tables.proofs.AllowedLemmas.{route_gone, fits_128}
+use Rattle.wgr_tables.proofs.route.drop_route.Goals as goal
+
+pub returns-clause-step : goal.returns-clause-step
+returns-clause-step g c clean inside register =
+    let old = state g.S.Store c.args.tx.now.conn.now in
+    let new = state g.S.Store c.execute.new.tx.conn.now in
+    let low = fits_128 _ _ (subst IsAddr c.address-address.ensures.value c.address-address.ensures.fits) in
+    (c.execute.ensures.kept clean inside, if_ok c.execute.result _ _ (λ count h. (route_gone old new (register h.1.was_open) c.args.network c.args.prefix.now count low (rw (c.bytes_of-lo.ensures, c.number.ensures.value, c.number_value.ensures, c.family_value.ensures, c.family.ensures.value, c.number_value-2.ensures, c.from.ensures, c.length.ensures.value, c.address-address.ensures.value) at h.0), h.1)) (c.execute.ensures.ran clean inside))

@@ -1,0 +1,29 @@
+use Rattle.std.proofs.Common.{◌≡◌, ℕ, [], ◌∷◌, ◌++◌, ◌+◌, take, Ok, sym, ap, subst, ◌∙◌, arith}
+use Rattle.std.proofs.lemmas.List.{take_more}
+use Rattle.sqlite.specs.State.{HasCleanDisk}
+use Rattle.sqlite.specs.Held.{state}
+use Rattle.wgr_sql.specs.declared.fault.Fault.{Fault}
+use Rattle.wgr_sql.specs.Steps.{Each}
+use Rattle.wgr_tables.specs.TableSteps.{RouteGoes}
+use Rattle.wgr_tables.specs.Standing.{StepsFrom}
+use Rattle.wgr_text.specs.Prefix.{PrefixValue}
+use Rattle.wgr_sql.proofs.SurvivesLemmas.{survives_next}
+use Rattle.wgr_sql.proofs.StepLemmas.{loop_more}
+use Rattle.wgr_tables.specs.Decode.{IsRegister, tables_of}
+use Rattle.wgr_tables.proofs.route.drop_routes.Goals as goal
+
+pub loop-prefix-preserved : goal.loop-prefix-preserved
+loop-prefix-preserved g c =
+    let at = c.loop-prefix.prefix-index in
+    let d : PrefixValue = c.prefix-item.result in
+    let start = state g.S.Store c.args.tx.now.conn.now in
+    let before = state g.S.Store c.loop-prefix.tx.conn.now in
+    let after = state g.S.Store c.drop_route.new.tx.conn.now in
+    let more : take (at + 1) c.args.prefixes.now ≡ take at c.args.prefixes.now ++ d ∷ [] = take_more c.args.prefixes.now at d c.loop-prefix-test.true ∙ ap (λ x. take at c.args.prefixes.now ++ x ∷ []) (sym c.prefix-item.is) in (
+      c.drop_route.ensures.same_reference ∙ c.loop-prefix.invariant.0,
+      survives_next _ _ _ c.loop-prefix.invariant.1 c.drop_route.ensures.survives,
+      λ clean.
+          let was : HasCleanDisk before = omega (arith, c.drop_route.ensures.survives.clean, clean) in
+          subst (λ l. StepsFrom {X = ℕ} {E = Fault} (Each (RouteGoes c.args.network) l) start after (Ok 0)) (sym more)
+          (loop_more IsRegister tables_of Fault (RouteGoes c.args.network) (take at c.args.prefixes.now) d start before after c.in_ok-drop_route.field-0 (c.loop-prefix.invariant.2 was) (c.in_ok-drop_route.ensures.step clean)),
+    )

@@ -1,0 +1,25 @@
+-- Steps on the rows of the register, and the rows at which it stands.
+use Rattle.std.specs.Prelude.{Result, List}
+use Rattle.sqlite.specs.Effect.{Database}
+use Rattle.sqlite.specs.State.{State}
+use Rattle.sqlite.specs.Store.{Ghosts}
+use Rattle.sqlite.specs.Held.{Held}
+use Rattle.wgr_model.specs.Rows.{Tables}
+use Rattle.wgr_sql.specs.Steps as steps
+use Rattle.wgr_sql.specs.Standing as standing
+use Rattle.wgr_tables.specs.Decode.{IsRegister, tables_of}
+use Rattle.wgr_tables.specs.Writes.{Written, Writes}
+
+-- The register is held by this database, in no transaction. A stop at this moment leaves its rows,
+-- or those after one of the writes that are pending: those that were answered by a fault since the
+-- last that was acknowledged.
+abbrev pub Stands : {S : Type 0} → Ghosts S → Held S → Database → List Written → Type 0
+Stands g conn db pending = standing.Stands IsRegister Writes g conn db pending
+
+-- a step of a transaction makes this of the rows
+abbrev pub StepsOn : {X E : Type 0} → (Tables → Tables → Type 0) → State → State → Result X E → Type 0
+StepsOn P old new r = steps.StepsOn IsRegister (steps.Makes IsRegister tables_of P) old new r
+
+-- so does a chain of steps, which may be empty
+abbrev pub StepsFrom : {X E : Type 0} → (Tables → Tables → Type 0) → State → State → Result X E → Type 0
+StepsFrom P old new r = steps.StepsFrom IsRegister (steps.Makes IsRegister tables_of P) old new r

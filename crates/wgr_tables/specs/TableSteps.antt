@@ -1,0 +1,79 @@
+-- What the statements of a commit make of the rows.
+use Rattle.std.specs.Prelude.{◌≡◌, ℕ, Bool, false, not, ◌&&◌, nat_eq, List, ◌∷◌, map}
+use Rattle.std.specs.List.{filter}
+use Rattle.std.specs.List.Sorted.{IsPermutation}
+use Rattle.wgr_text.specs.Prefix.{PrefixValue}
+use Rattle.wgr_peers.specs.declared.peer.Peer.{Peer}
+use Rattle.wgr_peers.specs.Routes.{HasAddr}
+use Rattle.wgr_core.specs.declared.change.Change.{Change}
+use Rattle.wgr_model.specs.Laws.{Has}
+use Rattle.wgr_model.specs.Rows.{NetworkRow, PeerRow, AllowedRow, Tables, peer_id, peer_row, address_row, route_row, family_number, allowed_key, same_allowed, with_next}
+use Rattle.wgr_sql.specs.Steps.{Then, Each}
+
+-- ---- peers that leave
+
+abbrev pub is_peer : ℕ → ℕ → PeerRow → Bool
+is_peer network id p = nat_eq p.network network && nat_eq p.id id
+
+abbrev pub is_of_peer : ℕ → ℕ → AllowedRow → Bool
+is_of_peer network id a = nat_eq a.network network && nat_eq a.peer id
+
+abbrev pub PeerGoes : ℕ → ℕ → Tables → Tables → Type 0
+PeerGoes network id t u = u ≡ record t { peers = filter (λ p. not (is_peer network id p)) t.peers }
+
+abbrev pub AllowedGoes : (AllowedRow → Bool) → Tables → Tables → Type 0
+AllowedGoes q t u = u ≡ record t { allowed = filter (λ a. not (q a)) t.allowed }
+
+-- a peer leaves with all that leads to it
+abbrev pub PeerLeaves : ℕ → ℕ → Tables → Tables → Type 0
+PeerLeaves network number = Then (PeerGoes network (peer_id network number)) (AllowedGoes (is_of_peer network (peer_id network number)))
+
+-- ---- routes that come and go
+
+-- a row comes, whose key no other has
+abbrev pub AllowedComes : AllowedRow → Tables → Tables → Type 0
+AllowedComes row t u = (rows : List AllowedRow) × IsPermutation (row ∷ t.allowed) rows × (u ≡ record t { allowed = rows }) × ((a : AllowedRow) → Has t.allowed a → same_allowed (allowed_key a) (allowed_key row) ≡ false)
+
+-- the route for this prefix of the network
+abbrev pub is_route_at : ℕ → PrefixValue → AllowedRow → Bool
+is_route_at network p a = nat_eq a.network network && (nat_eq (family_number a.prefix.address.family) (family_number p.address.family) && (nat_eq a.prefix.address.number p.address.number && (nat_eq a.prefix.length p.length && a.is_route)))
+
+abbrev pub RouteGoes : ℕ → PrefixValue → Tables → Tables → Type 0
+RouteGoes network p = AllowedGoes (is_route_at network p)
+
+abbrev pub RouteComes : ℕ → PrefixValue × ℕ → Tables → Tables → Type 0
+RouteComes network r t u = HasAddr r × AllowedComes (route_row network r) t u
+
+-- a prefix leads to the peer of the number from now on
+abbrev pub RoutePuts : ℕ → PrefixValue × ℕ → Tables → Tables → Type 0
+RoutePuts network r = Then (RouteGoes network r.0) (RouteComes network r)
+
+-- ---- peers that come, or take the place of the one of their number
+
+abbrev pub is_address_of : ℕ → ℕ → AllowedRow → Bool
+is_address_of network id a = nat_eq a.network network && (nat_eq a.peer id && not a.is_route)
+
+-- the row of the peer of the number goes, and that of its address; routes to it stay
+abbrev pub PeerRowsGo : ℕ → ℕ → Tables → Tables → Type 0
+PeerRowsGo network number = Then (PeerGoes network (peer_id network number)) (AllowedGoes (is_address_of network (peer_id network number)))
+
+-- a row comes, whose id no other has
+abbrev pub PeerRowComes : PeerRow → Tables → Tables → Type 0
+PeerRowComes row t u = (rows : List PeerRow) × IsPermutation (row ∷ t.peers) rows × (u ≡ record t { peers = rows }) × ((a : PeerRow) → Has t.peers a → nat_eq a.id row.id ≡ false)
+
+abbrev pub PeerComes : ℕ → Peer → Tables → Tables → Type 0
+PeerComes network p = Then (PeerRowComes (peer_row network p)) (AllowedComes (address_row network p))
+
+-- the rows of all go before the first comes, since two may change their addresses
+abbrev pub PeersPut : ℕ → List Peer → Tables → Tables → Type 0
+PeersPut network ps = Then (Each (λ p. PeerRowsGo network p.number) ps) (Each (PeerComes network) ps)
+
+-- ---- all of it
+
+-- the network of this id has another next number
+abbrev pub NextSets : ℕ → ℕ → Tables → Tables → Type 0
+NextSets id next t u = (rows : List NetworkRow) × IsPermutation (map (with_next id next) t.networks) rows × (u ≡ record t { networks = rows })
+
+-- what the statements of a change make
+abbrev pub ChangeMakes : ℕ → Change → Tables → Tables → Type 0
+ChangeMakes id c = Then (Each (PeerLeaves id) c.removed) (Then (Each (RouteGoes id) c.routes_gone) (Then (PeersPut id c.peers) (Then (Each (RoutePuts id) c.routes_put) (NextSets id c.next))))

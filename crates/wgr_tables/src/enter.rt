@@ -1,0 +1,195 @@
+//! Peers that come to a network, or take the place of the one of their number.
+ghost use Rattle.std.specs.Prelude.{◌≡◌, pos};
+ghost use Rattle.sqlite.specs.declared.types.ValueRef.TheVariants.{Int};
+ghost use Rattle.sqlite.specs.State.{HasCleanDisk, Survives};
+ghost use Rattle.sqlite.specs.Held.{state};
+ghost use Rattle.wgr_model.specs.Rows.{peer_id, peer_row, address_row};
+ghost use Rattle.wgr_sql.specs.Steps.{Each};
+ghost use Rattle.wgr_tables.specs.Parameters.{status_value};
+ghost use Rattle.wgr_tables.specs.TableSteps.{AllowedGoes, AllowedComes, PeerRowsGo, PeerRowComes, PeerComes, PeersPut, is_address_of};
+ghost use Rattle.wgr_tables.specs.Standing.{StepsOn, StepsFrom};
+
+use crate::leave::drop_peer_row;
+use crate::value::{bytes_of, family_value, number_value, peer_id_value};
+use sqlite::types::ValueRef;
+use sqlite::{Alter, Transaction};
+use wgr_peers::{Count, LeaseEnd, Peer, Status};
+use wgr_sql::{Fault, execute};
+
+/// When a lease ends.
+fn end_value(end: LeaseEnd) -> ValueRef<'static>
+    ensures { result ≡ Int (pos end) }
+{
+    ValueRef::Int(end.seconds() as i64)
+}
+
+/// A count.
+fn count_value(count: Count) -> ValueRef<'static>
+    ensures { result ≡ Int (pos count) }
+{
+    ValueRef::Int(count.value() as i64)
+}
+
+/// The latest handshake, and the bytes received and sent; all three NULL where there is no status.
+fn status_values(
+    status: Option<Status>,
+) -> (ValueRef<'static>, ValueRef<'static>, ValueRef<'static>)
+    ensures handshake { result.0 ≡ status_value (λ s. s.handshake) status }
+    ensures received { result.1 ≡ status_value (λ s. s.received) status }
+    ensures sent { result.2 ≡ status_value (λ s. s.sent) status }
+{
+    match status {
+        None => (ValueRef::Null, ValueRef::Null, ValueRef::Null),
+        Some(status) => (
+            count_value(status.handshake),
+            count_value(status.received),
+            count_value(status.sent),
+        ),
+    }
+}
+
+/// Takes the row of a peer's address away.
+fn drop_address<S: Alter>(
+    tx: &mut Transaction<'_, S>,
+    network: u32,
+    number: u32,
+) -> Result<usize, Fault>
+    ensures same_reference { tx.new.conn.ghost_name ≡ tx.old.conn.ghost_name }
+    ensures step { HasCleanDisk (state S.Store tx.new.conn.now) → StepsOn (AllowedGoes (is_address_of network (peer_id network number))) (state S.Store tx.old.conn.now) (state S.Store tx.new.conn.now) result }
+    ensures survives { Survives (state S.Store tx.old.conn.now) (state S.Store tx.new.conn.now) (λ _. ⊥) }
+{
+    execute(
+        tx,
+        "DELETE FROM allowed WHERE network = ?1 AND peer = ?2 AND kind <> 'route'",
+        &[number_value(network), peer_id_value(network, number)],
+    )
+}
+
+/// Takes the rows of a peer and of its address away; the routes to it stay.
+fn drop_rows<S: Alter>(
+    tx: &mut Transaction<'_, S>,
+    network: u32,
+    number: u32,
+) -> Result<usize, Fault>
+    ensures same_reference { tx.new.conn.ghost_name ≡ tx.old.conn.ghost_name }
+    ensures step { HasCleanDisk (state S.Store tx.new.conn.now) → StepsOn (PeerRowsGo network number) (state S.Store tx.old.conn.now) (state S.Store tx.new.conn.now) result }
+    ensures survives { Survives (state S.Store tx.old.conn.now) (state S.Store tx.new.conn.now) (λ _. ⊥) }
+{
+    drop_peer_row(tx, network, number)?;
+    drop_address(tx, network, number)
+}
+
+/// Takes the rows of each of these peers away.
+fn drop_all_rows<S: Alter>(
+    tx: &mut Transaction<'_, S>,
+    network: u32,
+    peers: &[Peer],
+) -> Result<(), Fault>
+    ensures same_reference { tx.new.conn.ghost_name ≡ tx.old.conn.ghost_name }
+    ensures step { HasCleanDisk (state S.Store tx.new.conn.now) → StepsFrom (Each (λ p. PeerRowsGo network p.number) peers.now) (state S.Store tx.old.conn.now) (state S.Store tx.new.conn.now) result }
+    ensures survives { Survives (state S.Store tx.old.conn.now) (state S.Store tx.new.conn.now) (λ _. ⊥) }
+{
+    for peer in peers {
+        drop_rows(tx, network, peer.number)?;
+    }
+    Ok(())
+}
+
+/// Adds the row of a peer.
+fn add_peer_row<S: Alter>(
+    tx: &mut Transaction<'_, S>,
+    network: u32,
+    peer: &Peer,
+) -> Result<usize, Fault>
+    ensures same_reference { tx.new.conn.ghost_name ≡ tx.old.conn.ghost_name }
+    ensures step { HasCleanDisk (state S.Store tx.new.conn.now) → StepsOn (PeerRowComes (peer_row network peer.now)) (state S.Store tx.old.conn.now) (state S.Store tx.new.conn.now) result }
+    ensures survives { Survives (state S.Store tx.old.conn.now) (state S.Store tx.new.conn.now) (λ _. ⊥) }
+{
+    let status = status_values(peer.status);
+    execute(
+        tx,
+        "INSERT INTO peer (id, network, key, label, until, keepalive, handshake, received, sent) VALUES (?1, ?2, ?3, ?4, ?5, ?6, ?7, ?8, ?9)",
+        &[
+            peer_id_value(network, peer.number),
+            number_value(network),
+            ValueRef::Blob(&peer.key.0),
+            ValueRef::Text(peer.label.as_str().as_bytes()),
+            end_value(peer.until),
+            number_value(u32::from(peer.keepalive)),
+            status.0,
+            status.1,
+            status.2,
+        ],
+    )
+}
+
+/// Adds the row of a peer's address.
+fn add_address<S: Alter>(
+    tx: &mut Transaction<'_, S>,
+    network: u32,
+    peer: &Peer,
+) -> Result<usize, Fault>
+    ensures same_reference { tx.new.conn.ghost_name ≡ tx.old.conn.ghost_name }
+    ensures step { HasCleanDisk (state S.Store tx.new.conn.now) → StepsOn (AllowedComes (address_row network peer.now)) (state S.Store tx.old.conn.now) (state S.Store tx.new.conn.now) result }
+    ensures survives { Survives (state S.Store tx.old.conn.now) (state S.Store tx.new.conn.now) (λ _. ⊥) }
+{
+    let family = peer.address.family();
+    let bytes = bytes_of(peer.address.number());
+    execute(
+        tx,
+        "INSERT INTO allowed (network, family, lo, length, hi, peer, kind) VALUES (?1, ?2, ?3, ?4, ?5, ?6, 'address')",
+        &[
+            number_value(network),
+            family_value(family),
+            ValueRef::Blob(&bytes),
+            number_value(u32::from(family.width())),
+            ValueRef::Blob(&bytes),
+            peer_id_value(network, peer.number),
+        ],
+    )
+}
+
+/// Adds the rows of a peer and of its address.
+fn add_peer<S: Alter>(
+    tx: &mut Transaction<'_, S>,
+    network: u32,
+    peer: &Peer,
+) -> Result<usize, Fault>
+    ensures same_reference { tx.new.conn.ghost_name ≡ tx.old.conn.ghost_name }
+    ensures step { HasCleanDisk (state S.Store tx.new.conn.now) → StepsOn (PeerComes network peer.now) (state S.Store tx.old.conn.now) (state S.Store tx.new.conn.now) result }
+    ensures survives { Survives (state S.Store tx.old.conn.now) (state S.Store tx.new.conn.now) (λ _. ⊥) }
+{
+    add_peer_row(tx, network, peer)?;
+    add_address(tx, network, peer)
+}
+
+/// Adds the rows of each of these peers.
+fn add_peers<S: Alter>(
+    tx: &mut Transaction<'_, S>,
+    network: u32,
+    peers: &[Peer],
+) -> Result<(), Fault>
+    ensures same_reference { tx.new.conn.ghost_name ≡ tx.old.conn.ghost_name }
+    ensures step { HasCleanDisk (state S.Store tx.new.conn.now) → StepsFrom (Each (PeerComes network) peers.now) (state S.Store tx.old.conn.now) (state S.Store tx.new.conn.now) result }
+    ensures survives { Survives (state S.Store tx.old.conn.now) (state S.Store tx.new.conn.now) (λ _. ⊥) }
+{
+    for peer in peers {
+        add_peer(tx, network, peer)?;
+    }
+    Ok(())
+}
+
+/// Puts each of these peers in the place of the one of its number. The rows of all go first, since
+/// two of them may have changed their addresses.
+pub(crate) fn put_peers<S: Alter>(
+    tx: &mut Transaction<'_, S>,
+    network: u32,
+    peers: &[Peer],
+) -> Result<(), Fault>
+    ensures same_reference { tx.new.conn.ghost_name ≡ tx.old.conn.ghost_name }
+    ensures step { HasCleanDisk (state S.Store tx.new.conn.now) → StepsFrom (PeersPut network peers.now) (state S.Store tx.old.conn.now) (state S.Store tx.new.conn.now) result }
+    ensures survives { Survives (state S.Store tx.old.conn.now) (state S.Store tx.new.conn.now) (λ _. ⊥) }
+{
+    drop_all_rows(tx, network, peers)?;
+    add_peers(tx, network, peers)
+}

@@ -1,0 +1,18 @@
+//! The rows of the register in its tables.
+//!
+//! Every contract speaks of the rows as `wgr_model` has them, and of what stands in the database
+//! also where its store was shut by a fault.
+#![tactic(auto)]
+
+mod commit;
+mod enter;
+mod field;
+mod leave;
+mod load;
+mod read;
+mod route;
+mod value;
+
+pub use commit::commit_change;
+pub use load::load_network;
+pub use wgr_sql::Fault;

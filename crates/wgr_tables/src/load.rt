@@ -1,0 +1,243 @@
+//! A network, loaded from its rows.
+ghost use Rattle.std.specs.Prelude.{◌≡◌, ℕ, List, [], ◌∷◌, IfOk, IfSome, IfNone, IsPermutation, map, not, ◌&&◌, nat_eq, false};
+ghost use Rattle.std.specs.List.{filter};
+ghost use Rattle.sqlite.specs.Effect.{Database};
+ghost use Rattle.sqlite.specs.State.{HasCleanDisk};
+ghost use Rattle.sqlite.specs.Held.{state};
+ghost use Rattle.wgr_core.specs.Network.{IsNetwork};
+ghost use Rattle.wgr_core.specs.Parts.{network_of};
+ghost use Rattle.wgr_model.specs.Laws.{Has};
+ghost use Rattle.wgr_model.specs.Rows.{AreKeyed, NetworkRow, address_row, holding_of, peer_row, route_row};
+ghost use Rattle.wgr_tables.specs.Decode.{tables_of, network_in, peer_in, allowed_in, number_at};
+ghost use Rattle.wgr_tables.specs.Loads.{network_with};
+ghost use Rattle.wgr_tables.specs.Writes.{Written};
+ghost use Rattle.wgr_tables.specs.Standing.{Stands};
+
+use crate::field::{host_at, key_at, pool_in, short_at, word_at};
+use crate::read::{peers_of, routes_of};
+use crate::value::number_value;
+use sqlite::{Alter, Connection, Row};
+use std::alloc::Global;
+use wgr_core::{Network, Parts};
+use wgr_peers::{Capacity, Peer, Port};
+use wgr_sql::{Fault, query};
+use wgr_text::Prefix;
+
+/// The rows of the network's peers, in the order of their ids.
+fn peer_rows<S: Alter>(conn: &mut Connection<S>, network: u32) -> Result<Vec<Row>, Fault>
+    requires idle { conn.old.in_transaction ≡ false }
+    ensures idle { conn.new.in_transaction ≡ false }
+    ensures stands { (db : Database) (pending : List Written) → Stands S.Store conn.old db pending → Stands S.Store conn.new db pending }
+    ensures clean { HasCleanDisk (state S.Store conn.new) → HasCleanDisk (state S.Store conn.old) }
+    ensures listed { (db : Database) (pending : List Written) → Stands S.Store conn.old db pending → HasCleanDisk (state S.Store conn.new)
+        → IfOk result (λ rows. IsPermutation (filter (λ p. nat_eq p.network network) (tables_of db).peers) (map peer_in rows.items)) }
+{
+    query(
+        conn,
+        "SELECT id, NULL, network, key, label, until, keepalive, handshake, received, sent FROM peer WHERE network = ?1 ORDER BY id",
+        &[number_value(network)],
+    )
+}
+
+/// The rows of their addresses, in the order of the peers.
+fn address_rows<S: Alter>(conn: &mut Connection<S>, network: u32) -> Result<Vec<Row>, Fault>
+    requires idle { conn.old.in_transaction ≡ false }
+    ensures idle { conn.new.in_transaction ≡ false }
+    ensures stands { (db : Database) (pending : List Written) → Stands S.Store conn.old db pending → Stands S.Store conn.new db pending }
+    ensures clean { HasCleanDisk (state S.Store conn.new) → HasCleanDisk (state S.Store conn.old) }
+    ensures listed { (db : Database) (pending : List Written) → Stands S.Store conn.old db pending → HasCleanDisk (state S.Store conn.new)
+        → IfOk result (λ rows. IsPermutation (filter (λ a. nat_eq a.network network && not a.is_route) (tables_of db).allowed) (map allowed_in rows.items)) }
+{
+    query(
+        conn,
+        "SELECT NULL, network, family, lo, length, hi, peer, kind FROM allowed WHERE network = ?1 AND kind <> 'route' ORDER BY peer",
+        &[number_value(network)],
+    )
+}
+
+/// The rows of the network's routes, in the order of their prefixes.
+fn route_rows<S: Alter>(conn: &mut Connection<S>, network: u32) -> Result<Vec<Row>, Fault>
+    requires idle { conn.old.in_transaction ≡ false }
+    ensures idle { conn.new.in_transaction ≡ false }
+    ensures stands { (db : Database) (pending : List Written) → Stands S.Store conn.old db pending → Stands S.Store conn.new db pending }
+    ensures clean { HasCleanDisk (state S.Store conn.new) → HasCleanDisk (state S.Store conn.old) }
+    ensures listed { (db : Database) (pending : List Written) → Stands S.Store conn.old db pending → HasCleanDisk (state S.Store conn.new)
+        → IfOk result (λ rows. IsPermutation (filter (λ a. a.is_route && nat_eq a.network network) (tables_of db).allowed) (map allowed_in rows.items)) }
+{
+    query(
+        conn,
+        "SELECT NULL, network, family, lo, length, hi, peer, kind FROM allowed WHERE network = ?1 AND kind = 'route' ORDER BY family, lo, length",
+        &[number_value(network)],
+    )
+}
+
+/// The row of the network of this id, if there is one.
+fn network_rows<S: Alter>(conn: &mut Connection<S>, network: u32) -> Result<Vec<Row>, Fault>
+    requires idle { conn.old.in_transaction ≡ false }
+    ensures idle { conn.new.in_transaction ≡ false }
+    ensures stands { (db : Database) (pending : List Written) → Stands S.Store conn.old db pending → Stands S.Store conn.new db pending }
+    ensures clean { HasCleanDisk (state S.Store conn.new) → HasCleanDisk (state S.Store conn.old) }
+    ensures listed { (db : Database) (pending : List Written) → Stands S.Store conn.old db pending → HasCleanDisk (state S.Store conn.new)
+        → IfOk result (λ rows. IsPermutation (filter (λ w. nat_eq w.id network) (tables_of db).networks) (map network_in rows.items)) }
+{
+    query(
+        conn,
+        "SELECT id, NULL, tenant, name, family, lo, length, host, port, server, capacity, next FROM network WHERE id = ?1",
+        &[number_value(network)],
+    )
+}
+
+/// The network's peers.
+fn load_peers<S: Alter>(
+    alloc: Global,
+    conn: &mut Connection<S>,
+    network: u32,
+) -> Result<Vec<Peer>, Fault>
+    requires idle { conn.old.in_transaction ≡ false }
+    ensures idle { conn.new.in_transaction ≡ false }
+    ensures stands { (db : Database) (pending : List Written) → Stands S.Store conn.old db pending → Stands S.Store conn.new db pending }
+    ensures clean { HasCleanDisk (state S.Store conn.new) → HasCleanDisk (state S.Store conn.old) }
+    ensures rows { (db : Database) (pending : List Written) → Stands S.Store conn.old db pending → HasCleanDisk (state S.Store conn.new)
+        → IfOk result (λ peers. IsPermutation (filter (λ p. nat_eq p.network network) (tables_of db).peers) (map (peer_row network) peers.items)) }
+    ensures addresses { (db : Database) (pending : List Written) → Stands S.Store conn.old db pending → HasCleanDisk (state S.Store conn.new)
+        → IfOk result (λ peers. IsPermutation (filter (λ a. nat_eq a.network network && not a.is_route) (tables_of db).allowed) (map (address_row network) peers.items)) }
+{
+    let rows = peer_rows(conn, network)?;
+    let addresses = address_rows(conn, network)?;
+    peers_of(alloc, rows.as_slice(), addresses.as_slice(), network)
+}
+
+/// The network's routes.
+fn load_routes<S: Alter>(
+    alloc: Global,
+    conn: &mut Connection<S>,
+    network: u32,
+) -> Result<Vec<(Prefix, u32)>, Fault>
+    requires idle { conn.old.in_transaction ≡ false }
+    ensures idle { conn.new.in_transaction ≡ false }
+    ensures stands { (db : Database) (pending : List Written) → Stands S.Store conn.old db pending → Stands S.Store conn.new db pending }
+    ensures clean { HasCleanDisk (state S.Store conn.new) → HasCleanDisk (state S.Store conn.old) }
+    ensures rows { (db : Database) (pending : List Written) → Stands S.Store conn.old db pending → HasCleanDisk (state S.Store conn.new)
+        → IfOk result (λ routes. IsPermutation (filter (λ a. a.is_route && nat_eq a.network network) (tables_of db).allowed) (map (route_row network) routes.items)) }
+{
+    let rows = route_rows(conn, network)?;
+    routes_of(alloc, rows.as_slice(), network)
+}
+
+/// The parts of the network whose row this is, with these peers and routes.
+fn parts_of(
+    alloc: Global,
+    row: &Row,
+    peers: Vec<Peer>,
+    routes: Vec<(Prefix, u32)>,
+) -> Result<Parts, Fault>
+    ensures { IfOk result (λ parts. network_of parts ≡ network_with (network_in row.now) peers.items routes.items) }
+{
+    let pool = pool_in(row)?;
+    let Some(port) = Port::new(short_at(row, 8)?) else {
+        return Err(Fault::Store);
+    };
+    let Some(capacity) = Capacity::new(short_at(row, 10)?) else {
+        return Err(Fault::Store);
+    };
+    let server = key_at(row, 9)?;
+    let next = word_at(row, 11)?;
+    let host = host_at(alloc, row, 7)?;
+    Ok(Parts {
+        pool,
+        host,
+        port,
+        server,
+        capacity,
+        next,
+        peers,
+        routes,
+    })
+}
+
+/// The network of a row, with these peers and routes.
+fn make_network(
+    alloc: Global,
+    row: &Row,
+    peers: Vec<Peer>,
+    routes: Vec<(Prefix, u32)>,
+) -> Result<Network, Fault>
+    ensures value { IfOk result (λ n. n ≡ network_with (network_in row.now) peers.items routes.items) }
+    ensures rules { IfOk result (λ _. IsNetwork (network_with (network_in row.now) peers.items routes.items)) }
+{
+    let parts = parts_of(alloc, row, peers, routes)?;
+    match Network::of(alloc, parts) {
+        Ok(Some(network)) => Ok(network),
+        Ok(None) => Err(Fault::Store),
+        Err(_) => Err(Fault::NoMemory),
+    }
+}
+
+/// The network whose row this is.
+fn load_row<S: Alter>(
+    alloc: Global,
+    conn: &mut Connection<S>,
+    row: &Row,
+    network: u32,
+) -> Result<Network, Fault>
+    requires idle { conn.old.in_transaction ≡ false }
+    ensures idle { conn.new.in_transaction ≡ false }
+    ensures stands { (db : Database) (pending : List Written) → Stands S.Store conn.old db pending → Stands S.Store conn.new db pending }
+    ensures clean { HasCleanDisk (state S.Store conn.new) → HasCleanDisk (state S.Store conn.old) }
+    ensures read { (db : Database) (pending : List Written) → Stands S.Store conn.old db pending → AreKeyed (tables_of db) → HasCleanDisk (state S.Store conn.new) → number_at row.now 0 ≡ network
+        → IfOk result (λ n. n ≡ (holding_of (tables_of db) (network_in row.now)).network) }
+{
+    let peers = load_peers(alloc, conn, network)?;
+    let routes = load_routes(alloc, conn, network)?;
+    make_network(alloc, row, peers, routes)
+}
+
+/// The one row, if there is one. A key can't have two.
+fn only(mut rows: Vec<Row>) -> Result<Option<Row>, Fault>
+    ensures some { IfOk result (λ found. IfSome found (λ row. rows.items ≡ row ∷ [])) }
+    ensures none { IfOk result (λ found. IfNone found (rows.items ≡ [])) }
+{
+    let row = rows.pop();
+    if !rows.is_empty() {
+        return Err(Fault::Store);
+    }
+    Ok(row)
+}
+
+/// The row of the network of this id.
+fn network_row<S: Alter>(conn: &mut Connection<S>, network: u32) -> Result<Option<Row>, Fault>
+    requires idle { conn.old.in_transaction ≡ false }
+    ensures idle { conn.new.in_transaction ≡ false }
+    ensures stands { (db : Database) (pending : List Written) → Stands S.Store conn.old db pending → Stands S.Store conn.new db pending }
+    ensures clean { HasCleanDisk (state S.Store conn.new) → HasCleanDisk (state S.Store conn.old) }
+    ensures some { (db : Database) (pending : List Written) → Stands S.Store conn.old db pending → HasCleanDisk (state S.Store conn.new)
+        → IfOk result (λ found. IfSome found (λ row. Has (tables_of db).networks (network_in row) × (number_at row 0 ≡ network))) }
+    ensures none { (db : Database) (pending : List Written) → Stands S.Store conn.old db pending → HasCleanDisk (state S.Store conn.new)
+        → IfOk result (λ found. IfNone found ((w : NetworkRow) → Has (tables_of db).networks w → nat_eq w.id network ≡ false)) }
+{
+    let rows = network_rows(conn, network)?;
+    only(rows)
+}
+
+/// The network whose row has this id, or `None` where no row has it. A row that is none of a
+/// network's, or rows that form none, are a fault of the store.
+pub fn load_network<S: Alter>(
+    alloc: Global,
+    conn: &mut Connection<S>,
+    network: u32,
+) -> Result<Option<Network>, Fault>
+    requires idle { conn.old.in_transaction ≡ false }
+    ensures idle { conn.new.in_transaction ≡ false }
+    ensures stands { (db : Database) (pending : List Written) → Stands S.Store conn.old db pending → Stands S.Store conn.new db pending }
+    ensures clean { HasCleanDisk (state S.Store conn.new) → HasCleanDisk (state S.Store conn.old) }
+    ensures some { (db : Database) (pending : List Written) → Stands S.Store conn.old db pending → AreKeyed (tables_of db) → HasCleanDisk (state S.Store conn.new)
+        → IfOk result (λ found. IfSome found (λ n. (w : NetworkRow) × Has (tables_of db).networks w × (w.id ≡ network) × (n ≡ (holding_of (tables_of db) w).network))) }
+    ensures none { (db : Database) (pending : List Written) → Stands S.Store conn.old db pending → HasCleanDisk (state S.Store conn.new)
+        → IfOk result (λ found. IfNone found ((w : NetworkRow) → Has (tables_of db).networks w → nat_eq w.id network ≡ false)) }
+{
+    let Some(row) = network_row(conn, network)? else {
+        return Ok(None);
+    };
+    let loaded = load_row(alloc, conn, &row, network)?;
+    Ok(Some(loaded))
+}

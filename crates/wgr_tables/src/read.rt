@@ -1,0 +1,129 @@
+//! Peers and routes of a network, read from their rows.
+ghost use Rattle.std.specs.Prelude.{◌≡◌, ℕ, IfOk, map, false};
+ghost use Rattle.wgr_pool.specs.PrefixTests.{full};
+ghost use Rattle.wgr_model.specs.Rows.{allowed_row, peer_row, address_row, route_row};
+ghost use Rattle.wgr_tables.specs.Decode.{status_at, peer_in, allowed_in};
+
+use crate::field::{
+    address_at, address_number_at, count_at, end_at, is_number, is_route, key_at, label_at,
+    peer_number_at, prefix_in, short_at,
+};
+use sqlite::Row;
+use sqlite::types::ValueRef;
+use std::alloc::Global;
+use wgr_peers::{Peer, Status};
+use wgr_sql::Fault;
+use wgr_text::{Addr, Prefix};
+
+/// What a running interface last showed of a peer, at the places 7 to 9.
+fn status_of(row: &Row) -> Result<Option<Status>, Fault>
+    ensures { IfOk result (λ status. status ≡ status_at row.now) }
+{
+    if let Ok(ValueRef::Null) = row.get_ref(7) {
+        return Ok(None);
+    }
+    Ok(Some(Status {
+        handshake: count_at(row, 7)?,
+        received: count_at(row, 8)?,
+        sent: count_at(row, 9)?,
+    }))
+}
+
+/// The address of the network's peer of this number, whose row of `allowed` this is.
+fn address_of(row: &Row, network: u32, number: u32) -> Result<Addr, Fault>
+    ensures { IfOk result (λ address. allowed_row network false (full address) number ≡ allowed_in row.now) }
+{
+    let address = address_at(row, 2, 3)?;
+    let width = u64::from(address.family().width());
+    if !is_number(row, 1, u64::from(network))? || !is_number(row, 4, width)? {
+        return Err(Fault::Store);
+    }
+    if address_number_at(row, 5)? != address.number() {
+        return Err(Fault::Store);
+    }
+    if peer_number_at(row, 6, network)? != number || is_route(row)? {
+        return Err(Fault::Store);
+    }
+    Ok(address)
+}
+
+/// The network's peer whose rows of `peer` and of `allowed` these are.
+fn peer_of(alloc: Global, row: &Row, address: &Row, network: u32) -> Result<Peer, Fault>
+    ensures row { IfOk result (λ p. peer_row network p ≡ peer_in row.now) }
+    ensures address { IfOk result (λ p. address_row network p ≡ allowed_in address.now) }
+{
+    if !is_number(row, 2, u64::from(network))? {
+        return Err(Fault::Store);
+    }
+    let number = peer_number_at(row, 0, network)?;
+    let key = key_at(row, 3)?;
+    let until = end_at(row, 5)?;
+    let keepalive = short_at(row, 6)?;
+    let status = status_of(row)?;
+    let address = address_of(address, network, number)?;
+    let label = label_at(alloc, row, 4)?;
+    Ok(Peer {
+        number,
+        key,
+        label,
+        address,
+        until,
+        keepalive,
+        status,
+    })
+}
+
+/// The peers of a network, of their rows and those of their addresses, both in the order of ids.
+pub(crate) fn peers_of(
+    alloc: Global,
+    rows: &[Row],
+    addresses: &[Row],
+    network: u32,
+) -> Result<Vec<Peer>, Fault>
+    ensures rows { IfOk result (λ peers. map (peer_row network) peers.items ≡ map peer_in rows.now) }
+    ensures addresses { IfOk result (λ peers. map (address_row network) peers.items ≡ map allowed_in addresses.now) }
+{
+    if rows.len() != addresses.len() {
+        return Err(Fault::Store);
+    }
+    let mut peers = Vec::new(alloc);
+    for at in 0..rows.len() {
+        let peer = peer_of(alloc, &rows[at], &addresses[at], network)?;
+        if peers.push(peer).is_err() {
+            return Err(Fault::NoMemory);
+        }
+    }
+    Ok(peers)
+}
+
+/// The route of the network whose row this is.
+fn route_of(row: &Row, network: u32) -> Result<(Prefix, u32), Fault>
+    ensures { IfOk result (λ r. route_row network r ≡ allowed_in row.now) }
+{
+    let prefix = prefix_in(row)?;
+    if !is_number(row, 1, u64::from(network))? || !is_route(row)? {
+        return Err(Fault::Store);
+    }
+    if address_number_at(row, 5)? != prefix.span().hi.number() {
+        return Err(Fault::Store);
+    }
+    Ok((prefix, peer_number_at(row, 6, network)?))
+}
+
+/// The routes of a network, of their rows.
+pub(crate) fn routes_of(
+    alloc: Global,
+    rows: &[Row],
+    network: u32,
+) -> Result<Vec<(Prefix, u32)>, Fault>
+    ensures { IfOk result (λ routes. map (route_row network) routes.items ≡ map allowed_in rows.now) }
+{
+    let mut routes = Vec::new(alloc);
+    for row in rows {
+        let route = route_of(row, network)?;
+        if routes.push(route).is_err() {
+            return Err(Fault::NoMemory);
+        }
+    }
+    Ok(routes)
+}

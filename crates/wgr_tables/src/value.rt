@@ -1,0 +1,39 @@
+//! Values as a statement takes them.
+ghost use Rattle.std.specs.Prelude.{◌≡◌, pos};
+ghost use Rattle.sqlite.specs.declared.types.ValueRef.TheVariants.{Int};
+ghost use Rattle.wgr_model.specs.Rows.{peer_id, family_number};
+ghost use Rattle.wgr_tables.specs.Decode.{bytes_of};
+
+use sqlite::types::ValueRef;
+use wgr_text::Family;
+
+/// A number.
+pub(crate) fn number_value(number: u32) -> ValueRef<'static>
+    ensures { result ≡ Int (pos number) }
+{
+    ValueRef::Int(i64::from(number))
+}
+
+/// The id of a peer's row.
+pub(crate) fn peer_id_value(network: u32, number: u32) -> ValueRef<'static>
+    ensures { result ≡ Int (pos (peer_id network number)) }
+{
+    ValueRef::Int(i64::from(network) * 1_048_576 + i64::from(number))
+}
+
+/// A family: 4 or 6.
+pub(crate) fn family_value(family: Family) -> ValueRef<'static>
+    ensures { result ≡ Int (pos (family_number family)) }
+{
+    match family {
+        Family::V4 => ValueRef::Int(4),
+        Family::V6 => ValueRef::Int(6),
+    }
+}
+
+/// The 16 bytes of an address's number, highest first.
+pub(crate) fn bytes_of(number: u128) -> [u8; 16]
+    ensures { result ≡ bytes_of number }
+{
+    number.to_be_bytes()
+}
