@@ -1,15 +1,17 @@
 -- A network that is read from rows is the one that they form.
-use Rattle.std.proofs.Common.{◌≡◌, ℕ, Bool, true, false, not, ◌&&◌, List, [], ◌∷◌, eqb-true, map, filter, nat_eq, IsPermutation, refl, sym, subst, inl}
+use Rattle.std.proofs.Common.{◌≡◌, ℕ, Bool, true, false, not, ◌&&◌, List, [], ◌∷◌, eqb-true, map, filter, nat_eq, IsPermutation, ◌∙◌, refl, sym, subst, inl}
 use Rattle.std.specs.Ordering.{nat_cmp}
 use Rattle.std.specs.Cmp.{nat_cmp_total}
 use Rattle.std.specs.FinMap.{nat_cmp-IsAntisymmetric}
-use Rattle.std.proofs.lemmas.List.Sorted.{IsPermutation-sym}
+use Rattle.std.proofs.lemmas.List.Sorted.{IsPermutation-map, IsPermutation-sym, IsPermutation-trans}
 use Rattle.wgr_text.specs.Prefix.{PrefixValue}
 use Rattle.wgr_peers.specs.declared.peer.Peer.{Peer}
 use Rattle.wgr_core.specs.Network.{NetworkValue, IsNetwork}
 use Rattle.wgr_model.specs.Laws.{Has}
 use Rattle.wgr_model.specs.Rows.{AllowedRow, AreKeyed, NetworkRow, PeerRow, Tables, address_row, allowed_key, holding_of, number_in, peer_id, peer_row, peer_value, peers_of, prefix_cmp, prefix_key, route_row, route_value, routes_of, same_allowed, same_pair}
-use Rattle.wgr_tables.specs.Loads.{network_with}
+use Rattle.wgr_core.specs.declared.parts.Parts.{Parts}
+use Rattle.wgr_core.specs.Parts.{IsNetworkOf, network_of}
+use Rattle.wgr_tables.specs.Loads.{IsMade, network_with}
 use Rattle.wgr_model.proofs.CollectLemmas.{collected, from_map, has_map}
 use Rattle.wgr_model.proofs.GatherLemmas.{in_filter, eqb_self, address_read, number_back, peers_sorted, routes_sorted, prefix_total, prefix_exact, peer_keys_tell, route_keys_tell}
 use Rattle.wgr_model.proofs.OrderLemmas.{from_filter}
@@ -52,14 +54,25 @@ module _ (t : Tables) (id : ℕ) (keyed : AreKeyed t) (n : NetworkValue) (rules 
   routes_are_read = collected prefix_cmp prefix_total prefix_exact (λ v. prefix_key v.0) (λ a. a.is_route && nat_eq a.network id) (λ a. prefix_key a.prefix) route_value (route_row id) allowed_key same_allowed t.allowed n.routes
       (route_keys_tell id) keyed.allowed_keys (routes_sorted n rules) route_to route_from
 
-pub network_is_read : (t : Tables) (w : NetworkRow) (id : ℕ) → w.id ≡ id → AreKeyed t → (peers : List Peer) (routes : List (PrefixValue × ℕ)) → IsNetwork (network_with w peers routes)
-    → IsPermutation (filter (λ p. nat_eq p.network id) t.peers) (map (peer_row id) peers) → IsPermutation (filter (λ a. nat_eq a.network id && not a.is_route) t.allowed) (map (address_row id) peers)
-    → IsPermutation (filter (λ a. a.is_route && nat_eq a.network id) t.allowed) (map (route_row id) routes) → network_with w peers routes ≡ (holding_of t w).network
-network_is_read t w id is keyed peers routes rules rows addresses led =
-    let n = network_with w peers routes in
-    let own : n.peers ≡ peers_of t w.id = subst (λ i. n.peers ≡ peers_of t i) (sym is) (sym (peers_are_read t id keyed n rules rows addresses led)) in
-    let ways : n.routes ≡ routes_of t w.id = subst (λ i. n.routes ≡ routes_of t i) (sym is) (sym (routes_are_read t id keyed n rules rows addresses led)) in
-    λ k. network_with w (own k) (ways k)
+pub network_is_read : (t : Tables) (w : NetworkRow) (id : ℕ) → w.id ≡ id → AreKeyed t → (joined : List Peer) (led : List (PrefixValue × ℕ)) (n : NetworkValue) → IsMade w joined led n
+    → IsPermutation (filter (λ p. nat_eq p.network id) t.peers) (map (peer_row id) joined) → IsPermutation (filter (λ a. nat_eq a.network id && not a.is_route) t.allowed) (map (address_row id) joined)
+    → IsPermutation (filter (λ a. a.is_route && nat_eq a.network id) t.allowed) (map (route_row id) led) → n ≡ (holding_of t w).network
+network_is_read t w id is keyed joined led n made rows addresses ways =
+    let peers = IsPermutation-trans _ _ _ rows (IsPermutation-map (peer_row id) joined n.peers made.peers) in
+    let own = IsPermutation-trans _ _ _ addresses (IsPermutation-map (address_row id) joined n.peers made.peers) in
+    let to = IsPermutation-trans _ _ _ ways (IsPermutation-map (route_row id) led n.routes made.routes) in
+    let here : n.peers ≡ peers_of t w.id = subst (λ i. n.peers ≡ peers_of t i) (sym is) (sym (peers_are_read t id keyed n made.rules peers own to)) in
+    let there : n.routes ≡ routes_of t w.id = subst (λ i. n.routes ≡ routes_of t i) (sym is) (sym (routes_are_read t id keyed n made.rules peers own to)) in
+    made.value ∙ (λ k. network_with w (here k) (there k))
+
+-- the network of the parts that were read from a row
+pub network_is_made : (w : NetworkRow) (joined : List Peer) (led : List (PrefixValue × ℕ)) (parts : Parts) (n : NetworkValue) → network_of parts ≡ network_with w joined led → IsNetworkOf parts n → IsNetwork n → IsMade w joined led n
+network_is_made w joined led parts n e is rules = record {
+  value = (λ k. record { pool = is.pool k; host = is.host k; port = is.port k; server = is.server k; capacity = is.capacity k; next = is.next k; peers = n.peers; routes = n.routes }) ∙ (λ k. record (e k) { peers = n.peers; routes = n.routes });
+  peers = subst (λ l. IsPermutation l n.peers) (λ k. (e k).peers) is.peers.0;
+  routes = subst (λ l. IsPermutation l n.routes) (λ k. (e k).routes) is.routes.0;
+  rules = rules;
+}
 
 -- the rows of a network's id are none, or one
 pub none_listed : (networks : List NetworkRow) (n : ℕ) → IsPermutation (filter (λ w. nat_eq w.id n) networks) [] → (w : NetworkRow) → Has networks w → nat_eq w.id n ≡ false

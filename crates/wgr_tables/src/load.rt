@@ -9,7 +9,7 @@ ghost use Rattle.wgr_core.specs.Parts.{network_of};
 ghost use Rattle.wgr_model.specs.Laws.{Has};
 ghost use Rattle.wgr_model.specs.Rows.{AreKeyed, NetworkRow, address_row, holding_of, peer_row, route_row};
 ghost use Rattle.wgr_tables.specs.Decode.{tables_of, network_in, peer_in, allowed_in, number_at};
-ghost use Rattle.wgr_tables.specs.Loads.{network_with};
+ghost use Rattle.wgr_tables.specs.Loads.{IsMade, network_with};
 ghost use Rattle.wgr_tables.specs.Writes.{Written};
 ghost use Rattle.wgr_tables.specs.Standing.{Stands};
 
@@ -155,19 +155,21 @@ fn parts_of(
     })
 }
 
-/// The network of a row, with these peers and routes.
+/// The network of a row, with these peers and routes, which may come in any order.
 fn make_network(
     alloc: Global,
     row: &Row,
     peers: Vec<Peer>,
     routes: Vec<(Prefix, u32)>,
 ) -> Result<Network, Fault>
-    ensures value { IfOk result (λ n. n ≡ network_with (network_in row.now) peers.items routes.items) }
-    ensures rules { IfOk result (λ _. IsNetwork (network_with (network_in row.now) peers.items routes.items)) }
+    ensures { IfOk result (λ n. IsMade (network_in row.now) peers.items routes.items n) }
 {
     let parts = parts_of(alloc, row, peers, routes)?;
     match Network::of(alloc, parts) {
-        Ok(Some(network)) => Ok(network),
+        Ok(Some(network)) => {
+            let _rules = network.pool();
+            Ok(network)
+        }
         Ok(None) => Err(Fault::Store),
         Err(_) => Err(Fault::NoMemory),
     }
