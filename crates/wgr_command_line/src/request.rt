@@ -21,21 +21,26 @@ pub enum Request<'a> {
 const PLAN_HELP: &str = "\
 Standard input has one public key a line, as `wg pubkey` prints it. Each key is given the
 lowest free address, and a line is printed for it: its number, the key and ADDRESS/LENGTH,
-separated by tabs.
+separated by tabs. An empty line is no key, nor is one with a carriage return: strip both
+with `tr -d '\\r' | sed '/^$/d'`.
 
 A pool is an IPv4 prefix of length 8 to 30 or an IPv6 prefix of length 48 to 126, with all
 host bits zero. Its first address is never given and the second is the server's; the last
 address of an IPv4 pool is never given either. A pool serves 4096 keys.
 
-The first line that is refused ends the plan. The lines before it are printed, and
-`wgr: line N: REASON` goes to standard error. The reasons: `bad_field key` (not the base64
-of 32 bytes), `key_held NUMBER` (an earlier line has the key), `server_key` (the key is kept
-for the server), `capacity_reached` and `pool_full`.
+The first line that is refused ends the plan; the lines before it are printed.
 
-Exit status:
-  0  all lines are printed
-  1  a fault: no memory, or a stream that failed
-  2  a refused pool or line, or a command line that does not read
+Messages on standard error, with the exit status, and what to do:
+  wgr: bad_field pool            2  POOL is no address and no prefix: mend it
+  wgr: bad_pool                  2  its length or a host bit is wrong: mend it
+  wgr: line N: bad_field key     2  the line is not the base64 of 32 bytes: mend it
+  wgr: line N: key_held NUMBER   2  an earlier line has the key: leave this one out
+  wgr: line N: server_key        2  the key is kept for the server: leave it out
+  wgr: line N: capacity_reached  2  4096 keys have an address: plan the others apart
+  wgr: line N: pool_full         2  no address is free: take a larger pool
+  wgr: device                    1  a stream failed, or the output was closed: look there
+  wgr: no_memory                 1  memory was refused: free some, and try again
+The status is 0 where all lines are printed, and 2 for a command line that does not read.
 
 Example:
   $ printf '%s\\n' AAAAAAAAAAAAAAAAAAAAAAAAAAAAAAAAAAAAAAAAAAA= | wgr plan 10.8.0.0/24

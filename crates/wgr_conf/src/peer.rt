@@ -1,3 +1,4 @@
+//! The file of one peer.
 ghost use Rattle.std.specs.Prelude.{◌≡◌, ◌++◌, ℕ, List, IfOk, OnOk, is_some, map, nat_eq, not, ◌&&◌, ◌==◌, option_map, string_bytes};
 ghost use Rattle.std.specs.List.{filter, list_any};
 ghost use Rattle.std.specs.Option.{option_copied};
@@ -11,6 +12,7 @@ use crate::lines::{
 };
 use std::alloc::{AllocError, Global};
 use wgr_core::{Form, Host, Network, Peer, Port};
+use wgr_pool::covers;
 use wgr_text::Prefix;
 
 /// The file of the live peer of this number at this moment: its interface, and the server as its
@@ -96,14 +98,7 @@ fn is_live_route(network: &Network, now: u64, route: &(Prefix, u32)) -> bool
 fn is_beside(pool: &Prefix, number: u32, route: &(Prefix, u32)) -> bool
     ensures { result ≡ (not (nat_eq route.now.1 number) && not (covers pool.now route.now.0)) }
 {
-    route.1 != number && !is_covered(pool, &route.0)
-}
-
-// Whether each address of the prefix is in the pool.
-fn is_covered(pool: &Prefix, prefix: &Prefix) -> bool
-    ensures { result ≡ covers pool.now prefix.now }
-{
-    pool.length() <= prefix.length() && pool.contains(&prefix.address())
+    route.1 != number && !covers(pool, &route.0)
 }
 
 // Appends the endpoint.

@@ -1,3 +1,4 @@
+//! The server's file.
 ghost use Rattle.std.specs.Prelude.{◌≡◌, ◌++◌, flat_map, IfOk, OnOk};
 ghost use Rattle.wgr_conf.specs.Files.{live_section, peer_section, server_address_line, server_config, server_interface};
 

@@ -1,3 +1,4 @@
+//! A command on a network, and its outcome.
 ghost use Rattle.std.specs.Prelude.{◌≡◌, not, is_some, IfOk, IfSome};
 ghost use Rattle.wgr_core.specs.Change.{Fits, Meets, MeetsLive};
 ghost use Rattle.wgr_core.specs.Outcome.{is_reading, leaving, live_outcome, outcome_of};

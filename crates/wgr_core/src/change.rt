@@ -1,3 +1,4 @@
+//! What an accepted command changes, and the two ways to make the change.
 ghost use Rattle.std.specs.Prelude.{◌≡◌, ℕ, ◌≤◌, ◌↔◌, [], ◌∷◌, length, not, ◌&&◌, nat_eq, All, Some, IfOk, IfSome, IsOk, OnOk, OnErr, IsTrue, false};
 ghost use Rattle.std.specs.List.{filter};
 ghost use Rattle.std.specs.HashSet.{contains};
@@ -165,9 +166,11 @@ impl Change {
 }
 
 impl Network {
-    /// Makes the change; for want of memory the network is as before. One that only removes, moves
-    /// and renews takes no memory. No peer is copied where one comes at most. A change by which only one peer comes, is renewed, moves or goes, or only one
-    /// route comes or goes, walks over no peers.
+    /// Makes the change; for want of memory the network is as before.
+    ///
+    /// A change that only removes, moves and renews takes no memory. No peer is copied where one
+    /// comes at most. One peer that comes, is renewed, moves or goes alone, or one route that comes
+    /// or goes alone, walks over no peers.
     pub fn apply(&mut self, alloc: Global, change: Change) -> Result<(), AllocError>
         requires { Fits change self.old }
         ensures ok { OnOk result (self.new ≡ applied change self.old) }

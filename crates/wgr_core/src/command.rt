@@ -1,3 +1,4 @@
+//! What may be asked of a network.
 use crate::form::Form;
 use crate::seen_peer::SeenPeer;
 use wgr_peers::{Items, Label, LeaseEnd};

@@ -1,3 +1,4 @@
+//! Why a command has no outcome.
 use crate::refusal::{LineRefusal, Refusal};
 use std::alloc::AllocError;
 

@@ -1,3 +1,5 @@
+//! The forms of a configuration file.
+
 /// The form of a configuration file.
 #[derive(Clone, Copy, Debug, Drop, PartialEq, Eq)]
 pub enum Form {

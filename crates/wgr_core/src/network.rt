@@ -1,3 +1,4 @@
+//! A network: its parts, its rules, and its live part.
 ghost use Rattle.std.specs.Prelude.{◌≡◌, [], ◌∷◌, ◌↔◌, IsSome, IfSome, IfOk, IsOk, OnOk, OnErr, Some, not, is_some};
 ghost use Rattle.std.specs.List.{filter};
 ghost use Rattle.std.specs.Option.{option_copied};

@@ -1,3 +1,4 @@
+//! Why a command is refused.
 use std::fmt;
 
 /// A field of a request or a word of the command line that isn't of its form.

@@ -1,3 +1,4 @@
+//! What an accepted command answers.
 use crate::form::Form;
 use wgr_peers::{Items, Peer};
 use wgr_text::Prefix;

@@ -1,3 +1,4 @@
+//! A peer as an interface shows it.
 use wgr_peers::{Items, Status};
 use wgr_text::{Key, Prefix};
 

@@ -4,7 +4,7 @@ use Rattle.std.specs.Prelude.{◌⊎◌}
 use Rattle.std.specs.List.{AllByRecursion, join_with_byte, onto_first}
 use Rattle.std.proofs.lemmas.Bool.{eq-eqb, eqb-true, false≢true}
 use Rattle.std.proofs.lemmas.List.Splits.{join_with_byte-slice_split}
-use Rattle.wgr_dump.specs.Dump.{before_lines, lines_of, dump_lines}
+use Rattle.wgr_text.specs.Lines.{before_lines, lines_of, lines_or_one}
 use Rattle.wgr_dump.specs.Fields.{parts_at, fields_of}
 use Rattle.wgr_dump.proofs.LawLemmas.{some_first}
 
@@ -55,7 +55,7 @@ joined_one : (b : ℕ) (v : Bool) → (v ≡ true → b ≡ 10) → IsJoined (b 
 joined_one b true is = inr (ap (λ n. n ∷ []) (sym (is refl)))
 joined_one b false is = inl refl
 
-pub lines_joined : (text : List ℕ) → IsJoined text (dump_lines text)
+pub lines_joined : (text : List ℕ) → IsJoined text (lines_or_one text)
 lines_joined [] = inl refl
 lines_joined (b ∷ []) = joined_one b (b == 10) (eqb-true b 10)
 lines_joined (b ∷ next ∷ text) =
@@ -63,6 +63,6 @@ lines_joined (b ∷ next ∷ text) =
     let rest = subst (λ lines. IsJoined (next ∷ text) lines) split.2 (lines_joined (next ∷ text)) in
     subst (λ lines. IsJoined (b ∷ next ∷ text) (cond (b == 10) ([] ∷ lines) (before_lines b lines))) (sym split.2) (joined_more b (b == 10) (next ∷ text) split.0 split.1 (eqb-true b 10) rest)
 
-pub no_newline_within : (text : List ℕ) → AllByRecursion (λ line. AllByRecursion (λ b. b ≢ 10) line) (dump_lines text)
+pub no_newline_within : (text : List ℕ) → AllByRecursion (λ line. AllByRecursion (λ b. b ≢ 10) line) (lines_or_one text)
 no_newline_within [] = (tt, tt)
 no_newline_within (b ∷ text) = no_newline (b ∷ text)

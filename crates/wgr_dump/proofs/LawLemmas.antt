@@ -1,6 +1,7 @@
 -- Proofs of the laws.
 use Rattle.std.proofs.Common.{◌≡◌, ◌==◌, ◌+◌, ℕ, suc, zero, Bool, true, false, cond, List, [], ◌∷◌, refl, sym, ap, subst, ◌∙◌, arith, ◌↔◌}
-use Rattle.wgr_dump.specs.Dump.{InterfaceValue, LineValue, IsInterfaceLine, IsPeerLine, IsDump, before_lines, lines_of, dump_lines}
+use Rattle.wgr_dump.specs.Dump.{InterfaceValue, LineValue, IsInterfaceLine, IsPeerLine, IsDump}
+use Rattle.wgr_text.specs.Lines.{before_lines, lines_of, lines_or_one}
 use Rattle.wgr_dump.specs.Fault.{AreOf, IsBadField, IsBadPeer, IsBadLine, IsFirstBad}
 use Rattle.wgr_dump.specs.Fields.{Form, Each, IsOf, a_key, a_key_or_none, a_port, a_word, prefixes, a_count, a_keepalive, fields_of, interface_forms, peer_forms}
 use Rattle.wgr_dump.specs.Laws.{DifferInPrivateKey, DifferInPresharedKey, DifferInSecrets}
@@ -37,7 +38,7 @@ one_bad_line (x ∷ xs) (suc k) (suc l) m n a b = let same = one_bad_peer xs k l
 
 pub one_fault : (text : List ℕ) (line field line' field' : ℕ) → IsFirstBad text line field → IsFirstBad text line' field' → (line ≡ line') × (field ≡ field')
 one_fault text line field line' field' a b =
-    let same = one_bad_line (dump_lines text) a.0 b.0 a.1 b.1 a.4 b.4 in
+    let same = one_bad_line (lines_or_one text) a.0 b.0 a.1 b.1 a.4 b.4 in
     (omega (arith, same.0, a.2, b.2), omega (arith, same.1, a.3, b.3))
 
 -- ---- a dump or a fault
@@ -103,7 +104,7 @@ peers_or_bad (l ∷ ls) each bad =
     (λ n here. bad 0 n here)
 
 -- there is a first line
-pub some_first : (text : List ℕ) → (first : List ℕ) × (others : List (List ℕ)) × (dump_lines text ≡ first ∷ others)
+pub some_first : (text : List ℕ) → (first : List ℕ) × (others : List (List ℕ)) × (lines_or_one text ≡ first ∷ others)
 some_first [] = ([], [], refl)
 some_first (b ∷ text) = by_case (b == 10) (lines_of text)
   where

@@ -1,24 +1,10 @@
 -- The text of `wg show <interface> dump` (wg(8)), and what is read of it: no private or preshared
 -- key, fwmark or endpoint is.
-use Rattle.std.specs.Prelude.{ℕ, ◌≡◌, ◌==◌, cond, List, [], ◌∷◌, Option}
+use Rattle.std.specs.Prelude.{ℕ, ◌≡◌, List, [], ◌∷◌, Option}
 use Rattle.wgr_text.specs.declared.key.Key.{Key}
+use Rattle.wgr_text.specs.Lines.{lines_or_one}
 use Rattle.wgr_text.specs.Prefix.{PrefixValue}
 use Rattle.wgr_dump.specs.Fields.{Each, IsOf, a_key_or_none, a_word, fields_of, SpellsKey, SpellsOptionalKey, SpellsPort, SpellsAllowed, CountValue, SpellsCount, SpellsKeepalive}
-
--- a byte before the first of some lines, or a line of its own where there is none
-abbrev pub before_lines : ℕ → List (List ℕ) → List (List ℕ)
-before_lines b [] = (b ∷ []) ∷ []
-before_lines b (line ∷ lines) = (b ∷ line) ∷ lines
-
--- A newline ends a line and is no part of it. What stands after the last one is a line, unless it is empty.
-abbrev pub lines_of : List ℕ → List (List ℕ)
-lines_of [] = []
-lines_of (b ∷ text) = cond (b == 10) ([] ∷ lines_of text) (before_lines b (lines_of text))
-
--- the lines of a dump: the empty text has one empty line
-abbrev pub dump_lines : List ℕ → List (List ℕ)
-dump_lines [] = [] ∷ []
-dump_lines (b ∷ text) = lines_of (b ∷ text)
 
 -- what is read of the interface's line
 pub record InterfaceValue : Type 0 where
@@ -73,6 +59,6 @@ pub record DumpValue : Type 0 where
 pub record IsDump (text : List ℕ) (i : InterfaceValue) (lines : List LineValue) : Type 0 where
   pub first : List ℕ
   pub others : List (List ℕ)
-  pub split : dump_lines text ≡ first ∷ others
+  pub split : lines_or_one text ≡ first ∷ others
   pub interface : IsInterfaceLine first i
   pub peers : Each IsPeerLine others lines

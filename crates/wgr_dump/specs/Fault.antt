@@ -1,7 +1,7 @@
 -- Where a text stops to be a dump.
 use Rattle.std.specs.Prelude.{ℕ, zero, suc, ◌≡◌, ◌+◌, List, [], ◌∷◌}
 use Rattle.wgr_dump.specs.Fields.{Form, IsOf, fields_of, interface_forms, peer_forms}
-use Rattle.wgr_dump.specs.Dump.{dump_lines}
+use Rattle.wgr_text.specs.Lines.{lines_or_one}
 
 -- the fields are of these forms, one by one
 abbrev pub AreOf : List Form → List (List ℕ) → Type 0
@@ -32,4 +32,4 @@ IsBadLine (first ∷ others) (suc line) n = AreOf interface_forms (fields_of fir
 
 -- the first bad line and the least bad field in it, both counted from 1
 abbrev pub IsFirstBad : List ℕ → ℕ → ℕ → Type 0
-IsFirstBad text line field = (good_lines : ℕ) × (good_fields : ℕ) × (line ≡ good_lines + 1) × (field ≡ good_fields + 1) × IsBadLine (dump_lines text) good_lines good_fields
+IsFirstBad text line field = (good_lines : ℕ) × (good_fields : ℕ) × (line ≡ good_lines + 1) × (field ≡ good_fields + 1) × IsBadLine (lines_or_one text) good_lines good_fields

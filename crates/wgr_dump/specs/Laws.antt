@@ -1,7 +1,8 @@
 -- Laws of dumps.
 use Rattle.std.specs.Prelude.{ℕ, ◌≡◌, ◌≢◌, ◌↔◌, ◌⊎◌, List, ◌∷◌, ◌++◌, codes}
 use Rattle.std.specs.List.{AllByRecursion, join_with_byte}
-use Rattle.wgr_dump.specs.Dump.{InterfaceValue, LineValue, IsDump, dump_lines}
+use Rattle.wgr_dump.specs.Dump.{InterfaceValue, LineValue, IsDump}
+use Rattle.wgr_text.specs.Lines.{lines_or_one}
 use Rattle.wgr_dump.specs.Fault.{IsFirstBad}
 use Rattle.wgr_dump.specs.Fields.{Each, IsOf, a_key_or_none, fields_of}
 
@@ -48,8 +49,8 @@ pub record DifferInSecrets (text other : List ℕ) : Type 0 where
   pub other_first : List ℕ
   pub peers : List (List ℕ)
   pub other_peers : List (List ℕ)
-  pub split : dump_lines text ≡ first ∷ peers
-  pub other_split : dump_lines other ≡ other_first ∷ other_peers
+  pub split : lines_or_one text ≡ first ∷ peers
+  pub other_split : lines_or_one other ≡ other_first ∷ other_peers
   pub interface : DifferInPrivateKey first other_first
   pub lines : Each DifferInPresharedKey peers other_peers
 
@@ -67,4 +68,4 @@ FieldsAreJoined = (line : List ℕ) → (join_with_byte 9 (fields_of line) ≡ l
 
 -- a text is its lines with a newline between each two, and with a last newline or without; no line has a newline
 abbrev pub LinesAreJoined : Type 0
-LinesAreJoined = (text : List ℕ) → ((join_with_byte 10 (dump_lines text) ≡ text) ⊎ (join_with_byte 10 (dump_lines text) ++ codes "\n" ≡ text)) × AllByRecursion (λ line. AllByRecursion (λ b. b ≢ 10) line) (dump_lines text)
+LinesAreJoined = (text : List ℕ) → ((join_with_byte 10 (lines_or_one text) ≡ text) ⊎ (join_with_byte 10 (lines_or_one text) ++ codes "\n" ≡ text)) × AllByRecursion (λ line. AllByRecursion (λ b. b ≢ 10) line) (lines_or_one text)

@@ -1,14 +1,16 @@
 //! A dump as a whole.
 ghost use Rattle.std.specs.Prelude.{◌≡◌, ◌<◌, ◌+◌, ℕ, List, length, IfOk, IfErr, MatchOption};
 ghost use Rattle.wgr_dump.specs.Fields.{Each};
-ghost use Rattle.wgr_dump.specs.Dump.{LineValue, IsPeerLine, IsDump, lines_of};
+ghost use Rattle.wgr_dump.specs.Dump.{LineValue, IsPeerLine, IsDump};
+ghost use Rattle.wgr_text.specs.Lines.{lines_of};
 ghost use Rattle.wgr_dump.specs.Fault.{IsBadPeer, IsFirstBad};
 ghost use Rattle.wgr_dump.specs.LinesTold.{LinesTold, LinesTold-prop};
 
 use crate::interface::InterfaceLine;
-use crate::lines::{Lines, first_line};
+use crate::lines::Lines;
 use crate::peer_line::PeerLine;
 use std::marker::Model;
+use wgr_text::first_line;
 
 /// Where a text stops to be a dump: its first bad line, and in it the least field that is absent,
 /// not of its form, or one too many.
@@ -29,7 +31,8 @@ pub struct Dump<'a> {
 }
 
 impl<'a> Model for Dump<'a> {
-    ghost use Rattle.wgr_dump.specs.Dump.{DumpValue, IsPeerLine, lines_of};
+    ghost use Rattle.wgr_dump.specs.Dump.{DumpValue, IsPeerLine};
+    ghost use Rattle.wgr_text.specs.Lines.{lines_of};
     ghost use Rattle.wgr_dump.specs.Told.{told};
 
     ghost Value = { DumpValue };

@@ -1,11 +1,13 @@
 //! The lines of peers.
-ghost use Rattle.std.specs.Prelude.{◌≡◌, ◌==◌, ◌<◌, ◌+◌, ◌∷◌, [], length, position, ◌⊎◌, IfSome, IfNone};
+ghost use Rattle.std.specs.Prelude.{◌≡◌, IfSome, IfNone};
 ghost use Rattle.std.specs.Iterator.{YieldsFirst, item_count};
-ghost use Rattle.wgr_dump.specs.Dump.{LineValue, IsPeerLine, lines_of, dump_lines};
+ghost use Rattle.wgr_dump.specs.Dump.{LineValue, IsPeerLine};
+ghost use Rattle.wgr_text.specs.Lines.{lines_of};
 ghost use Rattle.wgr_dump.specs.LinesTold.{LinesTold, LinesTold-prop};
 
 use crate::peer_line::PeerLine;
 use std::marker::Model;
+use wgr_text::first_line;
 
 /// The lines of peers that are still to come.
 #[derive(Drop)]
@@ -16,7 +18,8 @@ pub struct Lines<'a> {
 
 impl<'a> Model for Lines<'a> {
     ghost use Rattle.std.specs.Prelude.{List};
-    ghost use Rattle.wgr_dump.specs.Dump.{LineValue, IsPeerLine, lines_of};
+    ghost use Rattle.wgr_dump.specs.Dump.{LineValue, IsPeerLine};
+    ghost use Rattle.wgr_text.specs.Lines.{lines_of};
     ghost use Rattle.wgr_dump.specs.Told.{told};
 
     ghost Value = { List LineValue };
@@ -47,22 +50,4 @@ fn read_peer_line<'a>(line: &'a [u8]) -> Option<PeerLine<'a>>
     ensures none { IfNone result ((v : LineValue) → ¬ (IsPeerLine line.entry.now v)) }
 {
     PeerLine::read(line).ok()
-}
-
-/// What stands before the first newline and what stands after it, or all and nothing.
-pub(crate) fn first_line(text: &[u8]) -> (&[u8], &[u8])
-    ensures line { dump_lines text.now ≡ result.0.now ∷ lines_of result.1.now }
-    ensures shorter { (length result.1.now < length text.now) ⊎ (result.1.now ≡ []) }
-{
-    match newline(text) {
-        Some(end) => (&text[..end], &text[end + 1..]),
-        None => (text, &[]),
-    }
-}
-
-/// The place of the first newline.
-fn newline(text: &[u8]) -> Option<usize>
-    ensures { result ≡ position (λ byte. byte == 10) text.now }
-{
-    text.iter().position(|byte| *byte == b'\n')
 }

@@ -1,19 +1,19 @@
 //! Messages at their limits, readers in pieces and readers that fail, and replies. The rows follow
 //! from RFC 9112; no row is what this crate has answered.
-use crate::{Kind, Message, MessageFault, StatusCode, read_message, write_reply};
+use crate::{Kind, Message, MessageFault, StatusCode, is_token, read_message, write_reply};
 use std::alloc::AllocGlobal;
 use std::io;
 use std::process::Abort;
 use wgr_io::{Device, ReadFault};
 
-/// The name of what the bytes are.
-fn told(bytes: &[u8]) -> &'static str {
+/// Whether the bytes are a message, or else have the fault of this name.
+fn check(rt: &(impl Abort + AllocGlobal), bytes: &[u8], wanted: &str) {
     match Message::read(bytes) {
-        Ok(_) => "message",
-        Err(MessageFault::BadHead) => "bad_head",
-        Err(MessageFault::TooLarge) => "too_large",
-        Err(MessageFault::LengthRequired) => "length_required",
-        Err(MessageFault::Truncated) => "truncated",
+        Ok(_) => assert_eq!(rt; "message", wanted),
+        Err(fault) => {
+            let told = fault.to_string(rt.alloc()).expect(rt, "memory");
+            assert_eq!(rt; told.as_str(), wanted);
+        }
     }
 }
 
@@ -34,7 +34,7 @@ fn head(rt: &(impl Abort + AllocGlobal), fields: usize, value: usize) -> Vec<u8>
 
 #[test]
 fn messages(rt: HostRuntime) -> io::Result<()> {
-    let rows: [(&[u8], &str); 12] = [
+    let rows: [(&[u8], &str); 14] = [
         (b"", "truncated"),
         (b"GET /networks HTTP/1.1\r\n", "bad_head"),
         (b"GET /networks HTTP/1.1\r\n\r\n", "message"),
@@ -56,27 +56,79 @@ fn messages(rt: HostRuntime) -> io::Result<()> {
             b"POST / HTTP/1.1\r\nContent-Length: 3\r\n\r\n{}",
             "truncated",
         ),
+        (
+            b"POST / HTTP/1.1\r\nContent-Length: 2097152\r\n\r\n",
+            "truncated",
+        ),
+        (
+            b"POST / HTTP/1.1\r\nContent-Length: 2097153\r\n\r\n",
+            "too_large",
+        ),
     ];
     for (bytes, wanted) in rows {
-        assert_eq!(rt; told(bytes), wanted);
+        check(&rt, bytes, wanted);
     }
     Ok(())
 }
 
 #[test]
+fn parts(rt: HostRuntime) {
+    let message = Message::read(MESSAGE).expect(&rt, "a message");
+    assert_eq!(rt; message.method, b"POST".as_slice());
+    assert_eq!(rt; message.target, b"/x".as_slice());
+    assert_eq!(rt; message.token, Some(b"abc".as_slice()));
+    assert_eq!(rt; message.body, b"{ab}".as_slice());
+}
+
+#[test]
 fn heads_at_their_limits(rt: HostRuntime) -> io::Result<()> {
     let rows = [
-        (1usize, 8169usize, "message"),
-        (1, 8170, "too_large"),
-        (32, 0, "message"),
-        (33, 0, "bad_head"),
-        (33, 8192, "too_large"),
+        (1usize, 8169usize, 8192usize, "message"),
+        (1, 8170, 8193, "too_large"),
+        (1, 8170, 8192, "bad_head"),
+        (32, 0, 8192, "message"),
+        (33, 0, 8192, "bad_head"),
+        (33, 8192, 8193, "too_large"),
     ];
-    for (fields, value, wanted) in rows {
+    for (fields, value, most, wanted) in rows {
         let bytes = head(&rt, fields, value);
-        assert_eq!(rt; told(&bytes), wanted, "{fields} {value}");
+        check(&rt, &bytes[..most.min(bytes.len())], wanted);
     }
     Ok(())
+}
+
+/// The message's token where its one field line is this.
+fn token_of(rt: &(impl Abort + AllocGlobal), line: &str) -> Vec<u8> {
+    let mut bytes = Vec::new(rt.alloc());
+    let mut token = Vec::new(rt.alloc());
+    for part in ["GET / HTTP/1.1\r\n", line, "\r\n\r\n"] {
+        bytes
+            .extend_from_slice(part.as_bytes())
+            .expect(rt, "memory");
+    }
+    if let Some(text) = Message::read(&bytes).expect(rt, "a message").token {
+        token.extend_from_slice(text).expect(rt, "memory");
+    }
+    token
+}
+
+#[test]
+fn tokens(rt: HostRuntime) {
+    let rows = [
+        ("Authorization: Bearer a", "a"),
+        ("authorization:bEARER   !~", "!~"),
+        ("Authorization: Bearer a b", ""),
+        ("Authorization: Bearer\ta", ""),
+        ("Authorization: Bearera", ""),
+        ("Authorization: Bearer", ""),
+        ("Authorization: Basic a", ""),
+        ("Proxy-Authorization: Bearer a", ""),
+    ];
+    for (line, token) in rows {
+        assert_eq!(rt; token_of(&rt, line).as_slice(), token.as_bytes(), "{line}");
+    }
+    assert!(rt; is_token(&[b'!'; 128]) && !is_token(&[b'!'; 129]) && !is_token(b""));
+    assert!(rt; is_token(b"~") && !is_token(b"\x7f") && !is_token(b" "));
 }
 
 /// Gives at most `piece` bytes at a time; the call of number `fails_at` fails.
@@ -131,11 +183,46 @@ fn read_up_to_the_failure(rt: HostRuntime) -> io::Result<()> {
 }
 
 #[test]
-fn reply(rt: HostRuntime) -> io::Result<()> {
-    let bytes = write_reply(rt.alloc(), StatusCode::NotFound, Kind::Json, b"", b"{}")?;
-    assert_eq!(rt;
-        bytes.as_slice(),
-        b"HTTP/1.1 404 Not Found\r\nContent-Type: application/json\r\nContent-Length: 2\r\nConnection: close\r\n\r\n{}".as_slice()
-    );
+fn replies(rt: HostRuntime) -> io::Result<()> {
+    let rows = [
+        (StatusCode::Done, "200 OK", ""),
+        (StatusCode::BadRequest, "400 Bad Request", ""),
+        (
+            StatusCode::Unauthorized,
+            "401 Unauthorized",
+            "WWW-Authenticate: Bearer\r\n",
+        ),
+        (StatusCode::NotFound, "404 Not Found", ""),
+        (
+            StatusCode::MethodNotAllowed,
+            "405 Method Not Allowed",
+            "Allow: GET, POST\r\n",
+        ),
+        (StatusCode::Conflict, "409 Conflict", ""),
+        (StatusCode::LengthRequired, "411 Length Required", ""),
+        (StatusCode::ContentTooLarge, "413 Content Too Large", ""),
+        (
+            StatusCode::ServiceUnavailable,
+            "503 Service Unavailable",
+            "",
+        ),
+    ];
+    for (status, line, extra) in rows {
+        for (kind, name) in [(Kind::Json, "application/json"), (Kind::Text, "text/plain")] {
+            let bytes = write_reply(rt.alloc(), status, kind, b"GET, POST", b"{}")?;
+            let wanted = format!(in rt.alloc();
+                "HTTP/1.1 {line}\r\nContent-Type: {name}\r\nContent-Length: 2\r\n{extra}Connection: close\r\n\r\n{{}}"
+            )?;
+            assert_eq!(rt; bytes.as_slice(), wanted.as_bytes());
+        }
+    }
+    for (fault, status) in [
+        (MessageFault::BadHead, 400),
+        (MessageFault::TooLarge, 413),
+        (MessageFault::LengthRequired, 411),
+        (MessageFault::Truncated, 400),
+    ] {
+        assert_eq!(rt; fault.status().number(), status);
+    }
     Ok(())
 }

@@ -1,15 +1,13 @@
 -- No two peers of a consistent register hold one address.
 use Rattle.std.proofs.Common.{◌≡◌, ℕ, ◌+◌, ◌-◌, ◌*◌, ◌/◌, ◌^◌, ◌≤◌, Bool, true, false, not, ◌&&◌, List, [], ◌∷◌, map, nat_eq, nat_lt, sym, ap, ap₂, subst, ◌∙◌, arith, true≢false, ◌⊎◌, inl, inr}
 use Rattle.std.specs.List.{AllPairs, IsDistinct, AllByRecursion}
-use Rattle.std.proofs.Math.Nat.{div-div-eq-div-mul}
 use Rattle.std.proofs.lemmas.Bool.Decides.{nat_tests}
 use Rattle.std.proofs.lemmas.List.Elements.{recursion_from_All}
 use Rattle.std.proofs.lemmas.Map.Keys.{IsDistinct-head, IsDistinct-tail}
-use Rattle.std.proofs.lemmas.Nat.{pow-add}
 use Rattle.wgr_text.specs.Prefix.{AddrValue, PrefixValue, block, width}
 use Rattle.wgr_pool.proofs.Bools.{and_true, decide, or_left, or_right}
 use Rattle.wgr_pool.proofs.Lists.{AllPairs-head, AllPairs-tail}
-use Rattle.wgr_pool.proofs.PrefixLemmas.{nat_eq_is, nat_eq_self, same_address_self, same_family_is, same_family_self}
+use Rattle.wgr_pool.proofs.PrefixLemmas.{coarser, nat_eq_is, nat_eq_self, same_address_self, same_family_is, same_family_self}
 use Rattle.wgr_pool.specs.Pool.{reserved}
 use Rattle.wgr_pool.specs.PrefixTests.{covers, has, same_address, same_family}
 use Rattle.wgr_peers.specs.Peers.{IsApart}
@@ -42,13 +40,6 @@ one_or_related R (x ∷ xs) a b pairs (inr h) (inl k) = inr (inr (subst (λ z. R
 one_or_related R (x ∷ xs) a b pairs (inr h) (inr k) = one_or_related R xs a b (AllPairs-tail R x xs pairs) h k
 
 -- ---- pools
-
--- numbers that agree in their first bits agree in fewer of them
-coarser : (a b x z : ℕ) → x ≤ z → a / 2 ^ x ≡ b / 2 ^ x → a / 2 ^ z ≡ b / 2 ^ z
-coarser a b x z le same =
-    let parts : 2 ^ z ≡ 2 ^ x * 2 ^ (z - x) = ap (λ k. 2 ^ k) (omega (arith, le)) ∙ pow-add 2 x (z - x) in
-    ap (λ m. a / m) parts ∙ sym (div-div-eq-div-mul a (2 ^ x) (2 ^ (z - x))) ∙ ap (λ m. m / 2 ^ (z - x)) same
-    ∙ div-div-eq-div-mul b (2 ^ x) (2 ^ (z - x)) ∙ ap (λ m. b / m) (sym parts)
 
 -- of two prefixes with a common address, the shorter has all of the other
 pub shorter_covers : (p q : PrefixValue) (a : AddrValue) → nat_lt q.length p.length ≡ false → has p a ≡ true → has q a ≡ true → covers p q ≡ true

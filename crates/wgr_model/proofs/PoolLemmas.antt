@@ -12,7 +12,7 @@ use Rattle.wgr_text.specs.Prefix.{AddrValue, AreDisjoint, IsIn, PrefixValue, blo
 use Rattle.wgr_text.specs.declared.addr.Family.{Family}
 use Rattle.wgr_text.specs.declared.addr.Family.TheVariants.{V4, V6}
 use Rattle.wgr_pool.proofs.Bools.{and_true, decide, or_cases}
-use Rattle.wgr_pool.proofs.PrefixLemmas.{nat_eq_is, nat_eq_self, same_family_is, same_family_self}
+use Rattle.wgr_pool.proofs.PrefixLemmas.{has_in, is_in, nat_eq_is, nat_eq_self, same_family_is, same_family_self}
 use Rattle.wgr_pool.specs.Pool.{IsPool, IsPoolLength}
 use Rattle.wgr_pool.specs.PrefixTests.{covers, has, same_family}
 use Rattle.wgr_model.specs.Consistent.{is_pool, is_pool_length, overlaps}
@@ -40,15 +40,6 @@ pub pools_are_told : PoolsAreTold
 pools_are_told p = (is_pool_sound p, pool_told p)
 
 -- ---- overlap
-
-is_in : (p : PrefixValue) (a : AddrValue) → has p a ≡ true → IsIn p a
-is_in p a h =
-    let both = and_true (same_family p.address.family a.family) (nat_eq (a.number / block p.address.family p.length) (p.address.number / block p.address.family p.length)) h in
-    (sym (same_family_is p.address.family a.family both.0), nat_eq_is (a.number / block p.address.family p.length) (p.address.number / block p.address.family p.length) both.1)
-
-has_in : (p : PrefixValue) (a : AddrValue) → IsIn p a → has p a ≡ true
-has_in p a is = ap₂ (λ x y. x && y) (ap (same_family p.address.family) is.0 ∙ same_family_self p.address.family)
-    (ap (λ n. nat_eq n (p.address.number / block p.address.family p.length)) is.1 ∙ nat_eq_self (p.address.number / block p.address.family p.length))
 
 own_start : (p : PrefixValue) → IsIn p p.address
 own_start p = (refl, refl)

@@ -1,3 +1,4 @@
+//! What an event is answered.
 use std::alloc::AllocError;
 use std::fmt;
 use wgr_core::{Items, Name, Network, Refusal, Reply};

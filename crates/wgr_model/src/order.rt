@@ -1,3 +1,4 @@
+//! What an operator may order.
 ghost use Rattle.std.specs.Prelude.{◌≡◌, false, true, IfNone, IfOk, IfSome};
 ghost use Rattle.wgr_model.specs.Consistent.{is_pool};
 ghost use Rattle.wgr_model.specs.Steps.{new_network};

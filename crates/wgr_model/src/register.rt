@@ -1,3 +1,4 @@
+//! A register in memory: lists of tenants, tokens and networks.
 ghost use Rattle.std.specs.Prelude.{◌≡◌};
 ghost use Rattle.wgr_model.specs.Register.{empty_register};
 ghost use Rattle.wgr_model.specs.Consistent.{IsConsistent};

@@ -1,3 +1,4 @@
+//! Hosts of endpoints.
 ghost use Rattle.std.specs.Prelude.{◌≡◌, ℕ, List, true, false, IfOk, IfSome, IfNone, string_bytes};
 ghost use Rattle.std.specs.List.{list_all};
 ghost use Rattle.wgr_peers.specs.Host.{is_host_byte, is_host_name, IsHost, IsHostText};

@@ -1,3 +1,4 @@
+//! Labels of peers.
 ghost use Rattle.std.specs.Prelude.{◌≡◌, ℕ, List, [], IfOk, IfSome, IfNone, IsTrue, ◌↔◌, string_bytes};
 ghost use Rattle.wgr_peers.specs.Label.{IsLabel};
 

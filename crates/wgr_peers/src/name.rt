@@ -1,3 +1,4 @@
+//! Names of tenants and networks.
 ghost use Rattle.std.specs.Prelude.{◌≡◌, ℕ, List, true, false, IfOk, IfSome, IfNone, string_bytes};
 ghost use Rattle.std.specs.List.{list_all};
 ghost use Rattle.wgr_peers.specs.Name.{is_name, is_name_byte};

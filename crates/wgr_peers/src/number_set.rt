@@ -1,3 +1,4 @@
+//! Sets of numbers.
 ghost use Rattle.std.specs.Prelude.{◌≡◌, ℕ, Bool, true, cond, nat_eq, IsTrue, OnOk, OnErr};
 ghost use Rattle.std.specs.List.{list_any};
 

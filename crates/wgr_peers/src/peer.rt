@@ -1,3 +1,4 @@
+//! A peer, and what an interface shows of it.
 ghost use Rattle.std.specs.Prelude.{◌≡◌, IfOk, IsTrue};
 
 use crate::label::Label;

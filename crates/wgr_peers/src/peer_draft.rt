@@ -1,3 +1,4 @@
+//! Peers to which many come.
 ghost use Rattle.std.specs.Prelude.{◌≡◌, ◌<◌, ◌↔◌, ◌||◌, [], ◌∷◌, ◌++◌, length, IsTrue, IfOk, OnOk, OnErr, All, None};
 ghost use Rattle.std.specs.HashMap.{get};
 ghost use Rattle.wgr_text.specs.Prefix.{width};

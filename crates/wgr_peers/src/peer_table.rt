@@ -1,3 +1,4 @@
+//! The peers of a network, with their indexes.
 ghost use Rattle.std.specs.Prelude.{◌≡◌, ◌+◌, ◌<◌, ◌≤◌, ◌↔◌, ◌⊎◌, List, [], ◌∷◌, ◌++◌, length, map, IsTrue, IsSome, IfSome, IfNone, IfOk, OnOk, OnErr, All, Some, None, true};
 ghost use Rattle.std.specs.HashMap.{get};
 ghost use Rattle.std.specs.List.{filter};

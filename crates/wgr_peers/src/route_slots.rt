@@ -1,3 +1,4 @@
+//! Routes with room at the prefixes that are expected.
 ghost use Rattle.std.specs.Prelude.{◌≡◌, ◌↔◌, ◌⊎◌, [], length, Bool, true, false, nat_eq, IsSome, IsOk, IfOk, OnOk, OnErr, All};
 ghost use Rattle.std.specs.HashSet.{contains};
 ghost use Rattle.wgr_text.specs.Prefix.{AddrValue, IsAddr};

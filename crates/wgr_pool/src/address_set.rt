@@ -1,3 +1,4 @@
+//! Sets of addresses, as runs.
 ghost use Rattle.std.specs.Prelude.{◌≡◌, ℕ, ◌+◌, ◌-◌, ◌<◌, ◌≤◌, ◌↔◌, ◌⊎◌, true, false, List, [], length, slice_index_or, IsTrue, IsOk, IfOk, OnOk, OnErr};
 ghost use Rattle.std.specs.List.{list_any};
 ghost use Rattle.wgr_text.specs.Prefix.{AddrValue, IsAddr, rank};

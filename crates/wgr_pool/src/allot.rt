@@ -1,3 +1,4 @@
+//! The lowest address that is free.
 ghost use Rattle.std.specs.Prelude.{◌≡◌, ℕ, ◌+◌, ◌^◌, ◌<◌, ◌≤◌, ◌↔◌, List, IsTrue, IfOk, IfErr, IfSome, IfNone, MatchOption};
 ghost use Rattle.wgr_text.specs.Prefix.{rank, width};
 ghost use Rattle.wgr_text.specs.declared.prefix.Span.{Span};

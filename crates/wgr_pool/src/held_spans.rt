@@ -1,3 +1,4 @@
+//! A network's held spans: its addresses and its routes in one order.
 ghost use Rattle.std.specs.Prelude.{◌≡◌, ℕ, ◌+◌, ◌<◌, ◌≤◌, ◌↔◌, ◌⊎◌, Bool, true, List, length, [], ◌∷◌, nat_eq, IsTrue, MatchOption};
 ghost use Rattle.std.specs.HashSet.{contains};
 ghost use Rattle.std.specs.List.{All, AllPairs};
@@ -12,7 +13,7 @@ ghost use Rattle.wgr_pool.specs.HeldSpans.{span_of, is_routed, standing, standin
 
 use crate::address_set::AddressSet;
 use crate::allot::{Holds, Stop, lowest_free};
-use crate::pool::Pool;
+use crate::pool::{Pool, covers};
 use std::collections::HashSet;
 use wgr_text::{Addr, Prefix, Span};
 
@@ -32,7 +33,7 @@ impl RouteSpans<'_> {
     {
         while let Some((route, later)) = self.routes.split_first() {
             self.routes = later;
-            if is_covered(&self.pool, &route.0) && !self.over.contains(&route.1) {
+            if covers(&self.pool, &route.0) && !self.over.contains(&route.1) {
                 return Some(whole(&route.0));
             }
         }
@@ -123,13 +124,6 @@ impl Holds for HeldSpans<'_> {
     }
 
     ghost in_order = { λ s h. s.all_rise };
-}
-
-// Whether each address of the route is in the pool.
-fn is_covered(pool: &Prefix, route: &Prefix) -> bool
-    ensures { result ≡ covers pool.now route.now }
-{
-    pool.length() <= route.length() && pool.contains(&route.address())
 }
 
 // The route's span.

@@ -10,5 +10,5 @@ mod spans;
 pub use address_set::AddressSet;
 pub use allot::{Holds, Stop, lowest_free};
 pub use held_spans::lowest_address;
-pub use pool::{BadPool, Pool};
+pub use pool::{BadPool, Pool, covers};
 pub use spans::SortedSpans;

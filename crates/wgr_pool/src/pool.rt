@@ -1,7 +1,9 @@
+//! Pools, and the addresses that they may give.
 ghost use Rattle.std.specs.Prelude.{◌≡◌, ℕ, ◌+◌, ◌-◌, ◌*◌, ◌/◌, ◌%◌, ◌^◌, ◌<◌, ◌≤◌, ◌↔◌, IsTrue, IsSome, IfSome, IsOk, IfOk};
 ghost use Rattle.wgr_text.specs.Prefix.{AddrValue, PrefixValue, IsAddr, IsPrefix, IsIn, block, width, mask, rank};
 ghost use Rattle.wgr_pool.specs.Allot.{is_assignable};
 ghost use Rattle.wgr_pool.specs.Pool.{IsPool, IsPoolLength, IsRangeOf, reserved};
+ghost use Rattle.wgr_pool.specs.PrefixTests.{covers};
 
 use crate::allot::sibling;
 use std::marker::Model;
@@ -78,6 +80,13 @@ impl Pool {
             hi: sibling(&lo, hi.number() - reserved(lo.family())),
         }
     }
+}
+
+/// Whether each address of `inner` is in `outer`.
+pub fn covers(outer: &Prefix, inner: &Prefix) -> bool
+    ensures { result ≡ covers outer.now inner.now }
+{
+    outer.covers(inner)
 }
 
 fn is_pool_length(family: Family, length: u8) -> bool

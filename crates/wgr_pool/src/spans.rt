@@ -1,3 +1,4 @@
+//! Spans of a slice, as a source of what is held.
 ghost use Rattle.std.specs.Prelude.{◌≡◌, ℕ, ◌+◌, ◌-◌, ◌<◌, ◌≤◌, List, length, ◌↔◌};
 ghost use Rattle.wgr_text.specs.Prefix.{rank};
 ghost use Rattle.wgr_text.specs.declared.prefix.Span.{Span, Span as SpanValue};

@@ -14,7 +14,7 @@ use Rattle.wgr_core.specs.declared.reply.Reply.TheVariants as reply
 use Rattle.wgr_core.specs.declared.reply.PeerView.{PeerView}
 use Rattle.wgr_core.specs.Network.{NetworkValue}
 use Rattle.wgr_core.specs.Outcome.{outcome_of}
-use Rattle.wgr_prog.specs.Lines.{lines_of}
+use Rattle.wgr_text.specs.Lines.{lines_of}
 use Rattle.wgr_prog.specs.Plan.{Plan, Plans, ends, no_key, refused, joined, SpellsKey, no_more, refused_at, after, joining, row_text, plan_network, IsPlanOf}
 
 -- a text spells one key at most

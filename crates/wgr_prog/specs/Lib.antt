@@ -1,4 +1,3 @@
-pub mod Lines
 pub mod Plan
 pub mod PlanFault
 pub mod PlanLaws

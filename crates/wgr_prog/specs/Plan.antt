@@ -18,7 +18,7 @@ use Rattle.wgr_core.specs.declared.reply.Reply.TheVariants as reply
 use Rattle.wgr_pool.specs.PrefixTests.{full}
 use Rattle.wgr_core.specs.Network.{NetworkValue}
 use Rattle.wgr_core.specs.Outcome.{outcome_of}
-use Rattle.wgr_prog.specs.Lines.{lines_of}
+use Rattle.wgr_text.specs.Lines.{lines_of}
 
 pub record Plan : Type 0 where
   pub printed : List ℕ

@@ -7,14 +7,13 @@ ghost use Rattle.wgr_prog.specs.Plan.{AddsLine, IsPlanOf, Refuses, SpellsKey, jo
 ghost use Rattle.wgr_prog.specs.PlanFault.{Answers};
 ghost use Rattle.wgr_text.specs.KeyText.{key_text};
 
-use crate::lines::Lines;
 use std::alloc::{AllocError, Global};
 use wgr_core::{
     ActFault, Capacity, Command, Field, Host, Label, LeaseEnd, Network, Peer, PeerView, Pool, Port,
     Refusal, Reply,
 };
 use wgr_io::{Read, ReadFault, Write, read_to_end, write_all};
-use wgr_text::{Key, Prefix, write_key, write_prefix};
+use wgr_text::{Key, Prefix, TextLines, write_key, write_prefix};
 
 /// Why a plan ended early.
 #[derive(Clone, Copy, Debug, PartialEq, Eq)]
@@ -72,7 +71,7 @@ fn plan_text(alloc: Global, pool: &Pool, text: &[u8]) -> Result<Output, AllocErr
 {
     let mut network = empty_network(alloc, *pool)?;
     let mut printed = Vec::new(alloc);
-    for line in Lines::new(text) {
+    for line in TextLines::new(text) {
         if let Some(refusal) = add_line(alloc, &mut network, line, &mut printed)? {
             // Each line before has made a peer, so the next number is this line's.
             let refused = Some((network.next(), refusal));

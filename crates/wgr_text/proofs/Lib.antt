@@ -4,6 +4,7 @@ pub mod Bytes
 pub mod Hex
 pub mod KeyLemmas
 pub mod Lengths
+pub mod LineLemmas
 pub mod Recommended
 pub mod RoundTrips
 pub mod Slashes

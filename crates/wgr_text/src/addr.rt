@@ -1,3 +1,4 @@
+//! Addresses: a family and a number.
 ghost use Rattle.std.specs.Prelude.{◌≡◌, ℕ, ◌+◌, ◌-◌, ◌*◌, ◌/◌, ◌%◌, ◌^◌, ◌<◌, ◌≤◌, ◌↔◌, IsTrue, IsSome, IfSome, IfNone};
 ghost use Rattle.wgr_text.specs.Prefix.{AddrValue, IsAddr, width, rank};
 ghost use Rattle.wgr_text.specs.PrefixText.{SpellsAddr};

@@ -1,3 +1,4 @@
+//! Keys, and their texts in base64.
 ghost use Rattle.base64.specs.GeneralPurpose.{IsBytes};
 ghost use Rattle.std.specs.Prelude.{◌≡◌, ◌≢◌, ◌++◌, ℕ, List, length, IfSome, IfNone, OnOk, OnErr};
 ghost use Rattle.wgr_text.specs.KeyText.{key_text};

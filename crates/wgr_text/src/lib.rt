@@ -8,10 +8,12 @@
 mod addr;
 mod key;
 pub mod laws;
+mod lines;
 mod prefix;
 mod text;
 
 pub use addr::{Addr, Family};
 pub use key::{Key, write_key};
+pub use lines::{TextLines, first_line};
 pub use prefix::{Prefix, Span};
 pub use text::{read_loose, write_addr, write_prefix};

@@ -1,3 +1,4 @@
+//! Prefixes as sets of addresses.
 ghost use Rattle.std.specs.Prelude.{◌≡◌, ℕ, ◌+◌, ◌-◌, ◌*◌, ◌/◌, ◌%◌, ◌^◌, ◌<◌, ◌≤◌, ◌↔◌, IsTrue, IsSome, IfSome};
 ghost use Rattle.wgr_text.specs.Prefix.{AddrValue, PrefixValue, IsAddr, IsPrefix, IsIn, Covers, AreDisjoint, block, width, mask, IsSpanOf, IsEndsOf};
 
@@ -101,7 +102,8 @@ impl Prefix {
 
     /// Whether each address of `other` is in this prefix.
     pub fn covers(&self, other: &Prefix) -> bool
-        ensures { IsTrue result ↔ Covers self.now other.now }
+        ensures value { IsTrue result ↔ Covers self.now other.now }
+        ensures prefixes { IsPrefix self.now × IsPrefix other.now × IsAddr other.now.address }
     {
         let outer = self.span();
         let inner = other.span();

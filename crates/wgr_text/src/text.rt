@@ -1,3 +1,4 @@
+//! The texts of addresses and prefixes.
 ghost use Rattle.std.specs.Prelude.{◌≡◌, ◌≢◌, ◌++◌, ◌<◌, ◌≤◌, ◌+◌, ℕ, List, codes, decimal, IfSome, IfNone, OnOk, OnErr};
 ghost use Rattle.wgr_text.specs.Prefix.{AddrValue};
 ghost use Rattle.wgr_text.specs.PrefixText.{HasNoSlash, Spells, canonical_addr, canonical_text};

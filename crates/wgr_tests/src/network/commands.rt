@@ -95,6 +95,8 @@ fn routes_lead_to_one_peer(rt: HostRuntime) {
             (0, "unroute 192.168.4.0/24", "2 10.8.0.3/32"),
             (0, "route 2 10.0.0.0/8", "2 10.8.0.3/32 10.0.0.0/8"),
             (0, "route 1 0.0.0.0/0", "1 10.8.0.2/32 0.0.0.0/0"),
+            // a route around the pool holds nothing
+            (0, "add 3", "3 10.8.0.4/32"),
             (0, "owner 10.1.1.1", "2"),
             (0, "owner 1.1.1.1", "1"),
             (0, "owner 10.8.0.2", "1"),

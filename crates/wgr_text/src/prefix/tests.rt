@@ -129,12 +129,16 @@ fn members(rt: HostRuntime) {
 fn limits(rt: HostRuntime) {
     assert!(rt; Addr::new(Family::V4, 0xffffffff).is_some());
     assert!(rt; Addr::new(Family::V4, 0x100000000).is_none());
-    assert!(rt; Addr::new(Family::V6, u128::MAX).is_some());
+    let Some(last) = Addr::new(Family::V6, u128::MAX) else {
+        panic!(rt; "an address of 128 bits");
+    };
     let Some(address) = Addr::new(Family::V4, 0x0a080007) else {
         panic!(rt; "an address of 32 bits");
     };
+    assert_eq!(rt; (Family::V4.width(), Family::V6.width()), (32, 128));
     assert!(rt; Prefix::masked(address, 33).is_none());
     assert_eq!(rt; Some(Prefix::full(address)), Prefix::masked(address, 32));
+    assert_eq!(rt; Some(Prefix::full(last)), Prefix::masked(last, 128));
     for (length, number) in [(0, 0), (8, 0x0a000000), (31, 0x0a080006), (32, 0x0a080007)] {
         let Some(prefix) = Prefix::masked(address, length) else {
             panic!(rt; "a length of {length}");

@@ -1,8 +1,10 @@
 use Rattle.std.proofs.Common.{◌≡◌, ◌+◌, suc, [], ◌∷◌, length, inl, inr, sym, ap, subst, arith}
 use Rattle.wgr_dump.specs.Fields.{Each}
-use Rattle.wgr_dump.specs.Dump.{IsPeerLine, lines_of}
+use Rattle.wgr_dump.specs.Dump.{IsPeerLine}
+use Rattle.wgr_text.specs.Lines.{lines_of}
 use Rattle.wgr_dump.specs.Fault.{IsBadPeer}
-use Rattle.wgr_dump.proofs.LineLemmas.{first_and_others, no_lines, some_bytes, peer_is_good}
+use Rattle.wgr_dump.proofs.LineLemmas.{peer_is_good}
+use Rattle.wgr_text.proofs.LineLemmas.{first_and_others, no_lines, some_bytes}
 use Rattle.wgr_dump.proofs.ToldLemmas.{each_more}
 use Rattle.wgr_dump.proofs.dump.first_bad_peer.Goals as goal
 

@@ -1,6 +1,7 @@
 use Rattle.std.proofs.Common.{◌≤◌, ◌+◌, ℕ, List, length}
 use Rattle.wgr_dump.specs.Fields.{Each}
-use Rattle.wgr_dump.specs.Dump.{LineValue, IsPeerLine, lines_of}
+use Rattle.wgr_dump.specs.Dump.{LineValue, IsPeerLine}
+use Rattle.wgr_text.specs.Lines.{lines_of}
 use Rattle.wgr_dump.specs.Fault.{IsBadPeer}
 use Rattle.wgr_dump.proofs.dump.first_bad_peer.Given as goal
 

@@ -1,6 +1,6 @@
 use Rattle.std.proofs.Common.{◌≡◌, Some, sym, ◌∙◌, ap, subst}
 use Rattle.wgr_core.specs.Network.{NetworkValue}
-use Rattle.wgr_prog.specs.Lines.{lines_of}
+use Rattle.wgr_text.specs.Lines.{lines_of}
 use Rattle.wgr_prog.specs.Plan.{Plans, plan_network}
 use Rattle.wgr_prog.proofs.PlanLemmas.{PlannedTo, planned_join, planned_end, planned_refused}
 use Rattle.wgr_prog.proofs.plan.plan_text.Goals as goal

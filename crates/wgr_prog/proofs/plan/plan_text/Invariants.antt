@@ -1,4 +1,4 @@
-use Rattle.wgr_prog.specs.Lines.{lines_of}
+use Rattle.wgr_text.specs.Lines.{lines_of}
 use Rattle.wgr_prog.specs.Plan.{plan_network}
 use Rattle.wgr_prog.proofs.PlanLemmas.{PlannedTo}
 use Rattle.wgr_prog.proofs.plan.plan_text.Given as goal

@@ -1,5 +1,6 @@
 use Rattle.std.proofs.Common.{ap, ◌∙◌}
-use Rattle.wgr_dump.specs.Dump.{DumpValue, IsPeerLine, lines_of}
+use Rattle.wgr_dump.specs.Dump.{DumpValue, IsPeerLine}
+use Rattle.wgr_text.specs.Lines.{lines_of}
 use Rattle.wgr_dump.specs.LinesTold.{coded_line}
 use Rattle.wgr_dump.specs.Told.{told_again}
 use Rattle.wgr_dump.specs.Unique.{one_peer_line}

@@ -1,5 +1,6 @@
 use Rattle.std.proofs.Common.{suc, sym, subst, arith}
-use Rattle.wgr_dump.specs.Dump.{IsPeerLine, lines_of}
+use Rattle.wgr_dump.specs.Dump.{IsPeerLine}
+use Rattle.wgr_text.specs.Lines.{lines_of}
 use Rattle.wgr_dump.specs.Fault.{IsBadLine}
 use Rattle.wgr_dump.specs.LinesTold.{coded_line}
 use Rattle.wgr_dump.specs.Told.{told_said}

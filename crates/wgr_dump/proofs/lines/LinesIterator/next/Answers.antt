@@ -1,8 +1,9 @@
 use Rattle.std.proofs.Common.{sym, ◌∙◌}
-use Rattle.wgr_dump.specs.Dump.{IsPeerLine, lines_of}
+use Rattle.wgr_dump.specs.Dump.{IsPeerLine}
+use Rattle.wgr_text.specs.Lines.{lines_of}
 use Rattle.wgr_dump.specs.LinesTold.{coded_line}
 use Rattle.wgr_dump.specs.Unique.{one_peer_line}
-use Rattle.wgr_dump.proofs.LineLemmas.{no_lines, first_and_others}
+use Rattle.wgr_text.proofs.LineLemmas.{no_lines, first_and_others}
 use Rattle.wgr_dump.proofs.ToldLemmas.{told_after, told_none, told_step, steps_on}
 use Rattle.wgr_dump.proofs.lines.LinesIterator.next.Goals as goal
 

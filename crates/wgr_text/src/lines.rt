@@ -1,24 +1,25 @@
-//! The lines of a text.
-ghost use Rattle.std.specs.Prelude.{◌≡◌, ◌==◌, ◌<◌, ◌∷◌, length, position};
+//! The lines of a text: a newline ends a line and is no part of it.
+ghost use Rattle.std.specs.Prelude.{◌≡◌, ◌==◌, ◌<◌, ◌∷◌, [], length, position, ◌⊎◌};
 ghost use Rattle.std.specs.Iterator.{YieldsFirstRef, item_count};
-ghost use Rattle.wgr_prog.specs.Lines.{lines_of};
+ghost use Rattle.wgr_text.specs.Lines.{lines_of, lines_or_one};
 
-/// The lines of a text that are still to come. It takes no memory.
+/// The lines of a text that are still to come. What stands after the last newline is a line, unless
+/// it is empty. It takes no memory.
 #[derive(Drop)]
-pub struct Lines<'a> {
+pub struct TextLines<'a> {
     pub rest: &'a [u8],
 }
 
-impl<'a> Lines<'a> {
+impl<'a> TextLines<'a> {
     /// All lines of `text`.
-    pub fn new(text: &'a [u8]) -> Lines<'a>
+    pub fn new(text: &'a [u8]) -> TextLines<'a>
         ensures { result.rest ≡ text.entry }
     {
-        Lines { rest: text }
+        TextLines { rest: text }
     }
 }
 
-impl<'a> Iterator for Lines<'a> {
+impl<'a> Iterator for TextLines<'a> {
     type Item = &'a [u8];
 
     ghost next_gives = { YieldsFirstRef (λ s. lines_of s.rest.now) };
@@ -35,10 +36,10 @@ impl<'a> Iterator for Lines<'a> {
     }
 }
 
-/// What stands before the first newline and what stands after it, or all and nothing.
-fn first_line(text: &[u8]) -> (&[u8], &[u8])
-    requires { 0 < length text.now }
-    ensures { lines_of text.now ≡ result.0.now ∷ lines_of result.1.now }
+/// The first line of a text and what stands after its newline. The empty text has one empty line.
+pub fn first_line(text: &[u8]) -> (&[u8], &[u8])
+    ensures line { lines_or_one text.now ≡ result.0.now ∷ lines_of result.1.now }
+    ensures shorter { (length result.1.now < length text.now) ⊎ (result.1.now ≡ []) }
 {
     match newline(text) {
         Some(end) => (&text[..end], &text[end + 1..]),
@@ -52,3 +53,6 @@ fn newline(text: &[u8]) -> Option<usize>
 {
     text.iter().position(|byte| *byte == b'\n')
 }
+
+#[cfg(test)]
+mod tests;

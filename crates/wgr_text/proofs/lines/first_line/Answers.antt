@@ -4,8 +4,8 @@ use Rattle.std.specs.List.{position_or_len}
 use Rattle.std.proofs.lemmas.List.{take_all}
 use Rattle.std.proofs.lemmas.Bool.{ltb-false}
 use Rattle.std.proofs.lemmas.List.Quantifiers.{position-Some}
-use Rattle.wgr_dump.proofs.LineLemmas.{line_ended, line_whole, some_lines}
-use Rattle.wgr_dump.proofs.lines.first_line.Goals as goal
+use Rattle.wgr_text.proofs.LineLemmas.{line_ended, line_whole, some_lines}
+use Rattle.wgr_text.proofs.lines.first_line.Goals as goal
 
 -- what is left where no place is found
 no_place : (v : Bool) (place : ℕ) → None ≡ cond v (Some place) None → v ≡ false

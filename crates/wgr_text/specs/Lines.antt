@@ -10,3 +10,8 @@ before_lines b (line ∷ lines) = (b ∷ line) ∷ lines
 abbrev pub lines_of : List ℕ → List (List ℕ)
 lines_of [] = []
 lines_of (b ∷ text) = cond (b == 10) ([] ∷ lines_of text) (before_lines b (lines_of text))
+
+-- and those of a text that has one at least: the empty text has one empty line
+abbrev pub lines_or_one : List ℕ → List (List ℕ)
+lines_or_one [] = [] ∷ []
+lines_or_one (b ∷ text) = lines_of (b ∷ text)
