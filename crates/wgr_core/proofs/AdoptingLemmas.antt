@@ -41,6 +41,14 @@ given_err d e line_fault.NoMemory r m next h = tt
 given_err d e (line_fault.Refused why) None m next h = absurd h
 given_err d e (line_fault.Refused why) (Some is) m next h = h
 
+others_dropped : (a : AddrValue) (p : PrefixValue) (more : List PrefixValue) → same_prefix p (full a) ≡ true → other_prefixes a (p ∷ more) ≡ other_prefixes a more
+others_dropped a p more h = ap (λ b. cond (not b) (p ∷ other_prefixes a more) (other_prefixes a more)) h
+
+-- the peer's own address is passed over
+pub give_goes_past : (n : NetworkValue) (number : ℕ) (a : AddrValue) (xs : List PrefixValue) (i : ℕ) (p : PrefixValue) → i < length xs → p ≡ get_or xs i p → same_prefix p (full a) ≡ true
+    → give_all n number (other_prefixes a (drop (i + 1) xs)) ≡ give_all n number (other_prefixes a (drop i xs))
+give_goes_past n number a xs i p within at own = sym (ap (λ ps. give_all n number (other_prefixes a ps)) (drop_next xs i p within at) ∙ ap (give_all n number) (others_dropped a p (drop (i + 1) xs) own))
+
 -- the prefix that comes, and those after it
 give_left : (n : NetworkValue) (number : ℕ) (a : AddrValue) (xs : List PrefixValue) (i : ℕ) (p : PrefixValue) → i < length xs → p ≡ get_or xs i p → same_prefix p (full a) ≡ false
     → give_all n number (other_prefixes a (drop i xs)) ≡ and_then (unless_refused (give_refusal n p) (record n { routes = assign_route n.routes p number })) (λ next. give_all next number (other_prefixes a (drop (i + 1) xs)))

@@ -1,10 +1,18 @@
-use Rattle.std.proofs.Common.{◌≡◌, [], ◌∷◌, ◌++◌, sym, ap, subst, ◌∙◌}
+use Rattle.std.proofs.Common.{◌≡◌, [], ◌∷◌, ◌++◌, refl, sym, ap, subst, ◌∙◌}
 use Rattle.wgr_peers.specs.Routes.{Routes, assign_route}
 use Rattle.wgr_core.specs.declared.change.Change.{Change}
-use Rattle.wgr_core.specs.Draft.{DraftValue, drafted}
+use Rattle.wgr_core.specs.Draft.{DraftValue, LeadsTo, drafted}
 use Rattle.wgr_core.specs.Network.{NetworkValue, IsNetwork}
-use Rattle.wgr_core.proofs.DraftLemmas.{changed_route}
+use Rattle.wgr_core.proofs.DraftLemmas.{changed_route, leads_alike, put_change}
 use Rattle.wgr_core.proofs.draft.Draft.assign_route.Goals as goal
+
+pub invariant_of-self : goal.invariant_of-self
+invariant_of-self c = leads_alike c.self.inside.peers_put.items c.self.inside.peers_put.items c.self.inside.routes_put.items c.reserve.new.self.items c.self.inside.next c.self.inside.start.now (drafted c.self.inside.start.now c.self.inside.peers c.self.inside.routes c.self.inside.next) refl c.reserve.ensures.items c.self.invariant
+
+pub invariant_of-self-in_err-put : goal.invariant_of-self-in_err-put
+invariant_of-self-in_err-put c =
+    subst (λ (rs : Routes). LeadsTo (put_change c.self.inside.peers_put.items c.reserve.new.self.items c.self.inside.next) c.self.inside.start.now (drafted c.self.inside.start.now c.self.inside.peers rs c.self.inside.next)) (sym c.in_err-put.ensures.err)
+    (leads_alike c.self.inside.peers_put.items c.self.inside.peers_put.items c.self.inside.routes_put.items c.reserve.new.self.items c.self.inside.next c.self.inside.start.now (drafted c.self.inside.start.now c.self.inside.peers c.self.inside.routes c.self.inside.next) refl c.reserve.ensures.items c.self.invariant)
 
 pub invariant_of-self-2 : goal.invariant_of-self-2
 invariant_of-self-2 c =

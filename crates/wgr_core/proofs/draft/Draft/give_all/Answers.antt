@@ -1,8 +1,8 @@
-use Rattle.std.proofs.Common.{rules, ◌≡◌, false, Err, sym, ap, ◌∙◌}
+use Rattle.std.proofs.Common.{rules, ◌≡◌, true, false, Err, sym, ap, ◌∙◌}
 use Rattle.wgr_pool.specs.PrefixTests.{full, same_prefix}
 use Rattle.wgr_core.specs.Adoption.{give_all, other_prefixes}
 use Rattle.wgr_core.specs.Draft.{MeetsGiven}
-use Rattle.wgr_core.proofs.AdoptingLemmas.{give_goes_on, give_stops}
+use Rattle.wgr_core.proofs.AdoptingLemmas.{give_goes_on, give_goes_past, give_stops}
 use Rattle.wgr_core.proofs.draft.Draft.give_all.Goals as goal
 
 pub returns-in_err-give : goal.returns-in_err-give
@@ -14,6 +14,17 @@ returns-in_err-give c =
     give_stops c.args.self.now c.loop-prefix.self c.in_err-give.field-0.0 c.args.number c.args.address c.args.allowed.now c.loop-prefix.prefix-index p whole
     c.loop-prefix-test.true c.prefix-item.is other c.loop-prefix.invariant.left c.in_err-give.ensures in
     search rules
+
+pub loop-prefix-preserved-then-is_same : goal.loop-prefix-preserved-then-is_same
+loop-prefix-preserved-then-is_same c =
+    let p = c.prefix-item.result in
+    let so = c.loop-prefix.invariant in
+    let own : same_prefix p (full c.args.address) ≡ true = ap (same_prefix p) (sym c.full-own.ensures) ∙ sym c.is_same.ensures ∙ c.if-is_same.true in
+    record {
+      left = give_goes_past c.loop-prefix.self.network c.args.number c.args.address c.args.allowed.now c.loop-prefix.prefix-index p c.loop-prefix-test.true c.prefix-item.is own ∙ so.left;
+      kept = so.kept;
+      stands = so.stands;
+    }
 
 pub loop-prefix-preserved : goal.loop-prefix-preserved
 loop-prefix-preserved c =

@@ -1,14 +1,14 @@
-use Rattle.std.proofs.Common.{◌≡◌, ℕ, ◌<◌, ◌+◌, ◌++◌, [], ◌∷◌, List, sym, ap, subst, ◌∙◌}
+use Rattle.std.proofs.Common.{◌≡◌, ℕ, ◌<◌, ◌+◌, ◌++◌, [], ◌∷◌, List, refl, sym, ap, subst, ◌∙◌}
 use Rattle.std.specs.List.{All}
 use Rattle.wgr_peers.specs.declared.peer.Peer.{Peer}
 use Rattle.wgr_peers.specs.Peers.{key_holder, IsNumberedBelow}
 use Rattle.wgr_pool.proofs.Lists.{AllPairs-before}
 use Rattle.wgr_peers.proofs.TableLemmas.{new_key}
 use Rattle.wgr_core.specs.declared.change.Change.{Change}
-use Rattle.wgr_core.specs.Draft.{DraftValue, drafted}
+use Rattle.wgr_core.specs.Draft.{DraftValue, LeadsTo, drafted}
 use Rattle.wgr_core.specs.Network.{NetworkValue, IsNetwork}
 use Rattle.wgr_core.proofs.CommandLemmas.{put_peer_above}
-use Rattle.wgr_core.proofs.DraftLemmas.{changed_peer}
+use Rattle.wgr_core.proofs.DraftLemmas.{changed_peer, leads_alike, put_change}
 use Rattle.wgr_core.proofs.draft.Draft.join.Goals as goal
 
 pub push-requires-clause-new_key : goal.push-requires-clause-new_key
@@ -16,6 +16,17 @@ push-requires-clause-new_key c =
     ap (λ (q : Peer). key_holder c.self.inside.peers q.key) c.in_ok-copy.ensures
     ∙ ap (λ (d : DraftValue). key_holder d.network.peers c.args.peer.key) c.self.view_is
     ∙ new_key c.args.self.now.network.peers c.args.peer [] c.requires.fits.apart
+
+pub invariant_of-self : goal.invariant_of-self
+invariant_of-self c = leads_alike c.self.inside.peers_put.items c.reserve.new.self.items c.self.inside.routes_put.items c.self.inside.routes_put.items c.self.inside.next c.self.inside.start.now (drafted c.self.inside.start.now c.self.inside.peers c.self.inside.routes c.self.inside.next) c.reserve.ensures.items refl c.self.invariant
+
+pub invariant_of-self-in_err-copy : goal.invariant_of-self-in_err-copy
+invariant_of-self-in_err-copy c = leads_alike c.self.inside.peers_put.items c.reserve.new.self.items c.self.inside.routes_put.items c.self.inside.routes_put.items c.self.inside.next c.self.inside.start.now (drafted c.self.inside.start.now c.self.inside.peers c.self.inside.routes c.self.inside.next) c.reserve.ensures.items refl c.self.invariant
+
+pub invariant_of-self-in_err-push : goal.invariant_of-self-in_err-push
+invariant_of-self-in_err-push c =
+    subst (λ (ps : List Peer). LeadsTo (put_change c.reserve.new.self.items c.self.inside.routes_put.items c.self.inside.next) c.self.inside.start.now (drafted c.self.inside.start.now ps c.self.inside.routes c.self.inside.next)) (sym c.in_err-push.ensures.err)
+    (leads_alike c.self.inside.peers_put.items c.reserve.new.self.items c.self.inside.routes_put.items c.self.inside.routes_put.items c.self.inside.next c.self.inside.start.now (drafted c.self.inside.start.now c.self.inside.peers c.self.inside.routes c.self.inside.next) c.reserve.ensures.items refl c.self.invariant)
 
 pub invariant_of-self-2 : goal.invariant_of-self-2
 invariant_of-self-2 c =

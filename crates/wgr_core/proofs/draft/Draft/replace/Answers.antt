@@ -1,11 +1,17 @@
-use Rattle.std.proofs.Common.{◌≡◌, [], ◌∷◌, ◌++◌, List, sym, ap, subst, ◌∙◌}
+use Rattle.std.proofs.Common.{◌≡◌, [], ◌∷◌, ◌++◌, List, refl, sym, ap, subst, ◌∙◌}
 use Rattle.wgr_peers.specs.declared.peer.Peer.{Peer}
 use Rattle.wgr_peers.specs.Peers.{put_peer}
 use Rattle.wgr_core.specs.declared.change.Change.{Change}
 use Rattle.wgr_core.specs.Draft.{DraftValue, drafted}
 use Rattle.wgr_core.specs.Network.{NetworkValue, IsNetwork}
-use Rattle.wgr_core.proofs.DraftLemmas.{changed_peer}
+use Rattle.wgr_core.proofs.DraftLemmas.{changed_peer, leads_alike}
 use Rattle.wgr_core.proofs.draft.Draft.replace.Goals as goal
+
+pub invariant_of-self : goal.invariant_of-self
+invariant_of-self c = leads_alike c.self.inside.peers_put.items c.reserve.new.self.items c.self.inside.routes_put.items c.self.inside.routes_put.items c.self.inside.next c.self.inside.start.now (drafted c.self.inside.start.now c.self.inside.peers c.self.inside.routes c.self.inside.next) c.reserve.ensures.items refl c.self.invariant
+
+pub invariant_of-self-in_err-copy : goal.invariant_of-self-in_err-copy
+invariant_of-self-in_err-copy c = leads_alike c.self.inside.peers_put.items c.reserve.new.self.items c.self.inside.routes_put.items c.self.inside.routes_put.items c.self.inside.next c.self.inside.start.now (drafted c.self.inside.start.now c.self.inside.peers c.self.inside.routes c.self.inside.next) c.reserve.ensures.items refl c.self.invariant
 
 pub invariant_of-self-2 : goal.invariant_of-self-2
 invariant_of-self-2 c =
