@@ -20,7 +20,7 @@ use Rattle.wgr_core.specs.declared.seen_peer.SeenPeer.{SeenPeer}
 use Rattle.wgr_core.specs.Network.{NetworkValue}
 use Rattle.wgr_core.specs.Adoption.{Adoption, and_then, unless_refused, line_refusal, line_place, named_address, names_address, other_prefixes, with_line, give_refusal, give_all, add_line, adopt_line, adopt_lines, in_line, adoption_of}
 use Rattle.wgr_core.specs.Change.{GivesChange, MeetsLive}
-use Rattle.wgr_core.specs.Draft.{DraftValue, AdoptingValue, line_address, is_asked_for, lines_of, MeetsAddress, MeetsGiven, MeetsLine, MeetsLines, fault_in_line}
+use Rattle.wgr_core.specs.Draft.{DraftValue, AdoptingValue, line_address, is_asked_for, lines_of, MeetsAddress, MeetsGiven, MeetsLine, MeetsLines, begun, fault_in_line}
 use Rattle.wgr_pool.proofs.Lists.{drop_next}
 use Rattle.wgr_pool.proofs.PrefixLemmas.{nat_eq_self}
 use Rattle.wgr_core.specs.Outcome.{adopt, adopted, server_refusal, unless}
@@ -40,6 +40,14 @@ pub given_err : (d e : DraftValue) (w : LineFault) (r : Option LineRefusal) (m :
 given_err d e line_fault.NoMemory r m next h = tt
 given_err d e (line_fault.Refused why) None m next h = absurd h
 given_err d e (line_fault.Refused why) (Some is) m next h = h
+
+others_dropped : (a : AddrValue) (p : PrefixValue) (more : List PrefixValue) → same_prefix p (full a) ≡ true → other_prefixes a (p ∷ more) ≡ other_prefixes a more
+others_dropped a p more h = ap (λ b. cond (not b) (p ∷ other_prefixes a more) (other_prefixes a more)) h
+
+-- the peer's own address is passed over
+pub give_goes_past : (n : NetworkValue) (number : ℕ) (a : AddrValue) (xs : List PrefixValue) (i : ℕ) (p : PrefixValue) → i < length xs → p ≡ get_or xs i p → same_prefix p (full a) ≡ true
+    → give_all n number (other_prefixes a (drop (i + 1) xs)) ≡ give_all n number (other_prefixes a (drop i xs))
+give_goes_past n number a xs i p within at own = sym (ap (λ ps. give_all n number (other_prefixes a ps)) (drop_next xs i p within at) ∙ ap (give_all n number) (others_dropped a p (drop (i + 1) xs) own))
 
 -- the prefix that comes, and those after it
 give_left : (n : NetworkValue) (number : ℕ) (a : AddrValue) (xs : List PrefixValue) (i : ℕ) (p : PrefixValue) → i < length xs → p ≡ get_or xs i p → same_prefix p (full a) ≡ false
@@ -96,13 +104,13 @@ pub added_at : (s : Adoption) (line : SeenPeer) (a : AddrValue) → line_address
     → add_line s line ≡ and_then (give_all (with_line s.network line a) s.network.next (other_prefixes a line.allowed)) (λ after. Ok (record { network = after; added = s.added ++ s.network.next ∷ []; known = s.known }))
 added_at s line a h = on_place (line_refusal s.network line.key) s.network (λ n. line_place n (named_address n.pool line.allowed)) (after_line s line) a h
 
-pub given_line : (a : AdoptingValue) (d after : DraftValue) (o : Result NetworkValue LineRefusal) (added : List ℕ) (known : ℕ) → d.start ≡ a.start → d.removed ≡ a.removed → MeetsGiven d (Ok after) o
-    → MeetsLine a (Ok (record { start = after.start; removed = after.removed; so_far = record { network = after.network; added = added; known = known } })) (and_then o (λ n. Ok (record { network = n; added = added; known = known })))
-given_line a d after (Err e) added known start removed h = absurd h
-given_line a d after (Ok n) added known start removed h =
-    let value : DraftValue → AdoptingValue = λ d. record { start = d.start; removed = d.removed; so_far = record { network = d.network; added = added; known = known } } in
+pub given_line : (a : AdoptingValue) (d after : DraftValue) (o : Result NetworkValue LineRefusal) (added : List ℕ) (known : ℕ) → d.start ≡ a.start → MeetsGiven d (Ok after) o
+    → MeetsLine a (Ok (record { start = after.start; so_far = record { network = after.network; added = added; known = known } })) (and_then o (λ n. Ok (record { network = n; added = added; known = known })))
+given_line a d after (Err e) added known start h = absurd h
+given_line a d after (Ok n) added known start h =
+    let value : DraftValue → AdoptingValue = λ d. record { start = d.start; so_far = record { network = d.network; added = added; known = known } } in
     let so_far : Adoption = record { network = n; added = added; known = known } in
-    ap value h ∙ ap (λ (m : NetworkValue). record { start = m; removed = d.removed; so_far = so_far }) start ∙ ap (λ (rs : List ℕ). record { start = a.start; removed = rs; so_far = so_far }) removed
+    ap value h ∙ ap (λ (m : NetworkValue). record { start = m; so_far = so_far }) start
 
 pub given_line_err : (a : AdoptingValue) (d : DraftValue) (w : LineFault) (o : Result NetworkValue LineRefusal) (next : NetworkValue → Result Adoption LineRefusal) → MeetsGiven d (Err w) o → MeetsLine a (Err w) (and_then o next)
 given_line_err a d line_fault.NoMemory o next h = tt
@@ -205,28 +213,25 @@ first_pass_err a w xs ys first = subst (MeetsLines a (Err w)) (sym (lines_append
 
 -- ---- the command
 
-abbrev pub begun : NetworkValue → List ℕ → AdoptingValue
-begun n removed = record { start = n; removed = removed; so_far = record { network = n; added = []; known = 0 } }
-
-pub adopt_err : (n : NetworkValue) (removed : List ℕ) (server : Option Key) (lines : List SeenPeer) (w : ActFault) → server_refusal n server ≡ None → MeetsLines (begun n removed) (Err w) (adoption_of n lines)
+pub adopt_err : (n : NetworkValue) (removed : List ℕ) (server : Option Key) (lines : List SeenPeer) (w : ActFault) → server_refusal n server ≡ None → MeetsLines (begun n) (Err w) (adoption_of n lines)
     → MeetsLive false None n removed (Err w) (adopt n server lines)
 adopt_err n removed server lines w allowed h =
     subst (λ r. MeetsLive false None n removed (Err w) (unless r (adopted (adoption_of n lines)))) (sym allowed) (step w (adoption_of n lines) h)
   where
-    step : (w : ActFault) (o : Result Adoption (ℕ × LineRefusal)) → MeetsLines (begun n removed) (Err w) o → MeetsLive false None n removed (Err w) (adopted o)
+    step : (w : ActFault) (o : Result Adoption (ℕ × LineRefusal)) → MeetsLines (begun n) (Err w) o → MeetsLive false None n removed (Err w) (adopted o)
     step fault.NoMemory o h = tt
     step (fault.Refused why) (Err e) h = h
     step (fault.Refused why) (Ok s) h = absurd h
 
 pub adopt_ok : (n : NetworkValue) (removed : List ℕ) (server : Option Key) (lines : List SeenPeer) (done : AdoptingValue) (answer : Reply × Option Change) → server_refusal n server ≡ None
-    → MeetsLines (begun n removed) (Ok done) (adoption_of n lines) → answer.0 ≡ reply.Adopted done.so_far.added done.so_far.known → GivesChange false None done.start done.removed answer.1 done.so_far.network
+    → MeetsLines (begun n) (Ok done) (adoption_of n lines) → answer.0 ≡ reply.Adopted done.so_far.added done.so_far.known → GivesChange false None done.start removed answer.1 done.so_far.network
     → MeetsLive false None n removed (Ok answer) (adopt n server lines)
 adopt_ok n removed server lines done answer allowed h said gives =
     subst (λ r. MeetsLive false None n removed (Ok answer) (unless r (adopted (adoption_of n lines)))) (sym allowed) (step (adoption_of n lines) h)
   where
-    step : (o : Result Adoption (ℕ × LineRefusal)) → MeetsLines (begun n removed) (Ok done) o → MeetsLive false None n removed (Ok answer) (adopted o)
+    step : (o : Result Adoption (ℕ × LineRefusal)) → MeetsLines (begun n) (Ok done) o → MeetsLive false None n removed (Ok answer) (adopted o)
     step (Err e) h = absurd h
     step (Ok s) h = (
       said ∙ ap (λ (a : AdoptingValue). reply.Adopted a.so_far.added a.so_far.known) h,
-      subst (λ (a : AdoptingValue). GivesChange false None a.start a.removed answer.1 a.so_far.network) h gives,
+      subst (λ (a : AdoptingValue). GivesChange false None a.start removed answer.1 a.so_far.network) h gives,
     )

@@ -1,6 +1,6 @@
 -- Items in the order of their keys: no other arrangement of them rises.
 use Rattle.std.proofs.Common.{◌≡◌, ℕ, zero, suc, ◌+◌, ◌<◌, ◌≤◌, ◌⊎◌, ◌↔◌, inl, inr, Bool, true, false, ◌&&◌, ◌||◌, nat_eq, nat_lt, List, [], ◌∷◌, Option, length, get_or, refl, sym, ap, subst, ◌∙◌, arith}
-use Rattle.std.specs.Prelude.{Result, IfOk, IsSome}
+use Rattle.std.specs.Prelude.{Result, Some, None, Ok, Err, IfOk, IfSome, IsSome}
 use Rattle.std.specs.List.{All, AllPairs, Contains}
 use Rattle.std.specs.Cmp.{IsStrictWeakOrder}
 use Rattle.std.specs.List.Sorted.{IsNonDecreasingBy, IsPermutation, IsSortedBy}
@@ -175,6 +175,15 @@ one_network parts n m of of' =
     let peers = one_arrangement IsNumberedBelow (λ p q l l'. omega (arith, l, l')) n.peers m.peers of.peers.1 of'.peers.1 (IsPermutation-trans n.peers parts.peers.items m.peers (IsPermutation-sym parts.peers.items n.peers of.peers.0) of'.peers.0) in
     let routes = one_arrangement ComesBefore (λ r s. before_once r.0 s.0) n.routes m.routes of.routes.1 of'.routes.1 (IsPermutation-trans n.routes parts.routes.items m.routes (IsPermutation-sym parts.routes.items n.routes of.routes.0) of'.routes.0) in
     sym (settings_are parts n of) ∙ ap (λ (ps : List Peer). arranged parts ps n.routes) peers ∙ ap (λ (rs : Routes). arranged parts m.peers rs) routes ∙ settings_are parts m of'
+
+-- what is made of the parts, with their peers and routes put in order, is a network of them
+pub made_of : {E : Type 0} (parts : Parts) (peers : List Peer) (routes : Routes) (r : Result (Option NetworkValue) E) → IsPermutation parts.peers.items peers → IsPermutation parts.routes.items routes
+    → IfOk r (λ made. IfSome made (λ n. n ≡ arranged parts peers routes)) → IfOk r (λ made. IsSome made ↔ IsNetwork (arranged parts peers routes)) → IfOk r (λ made. IfSome made (λ n. IsNetworkOf parts n))
+made_of parts peers routes (Err e) moved moved' made exact = tt
+made_of parts peers routes (Ok None) moved moved' made exact = tt
+made_of parts peers routes (Ok (Some n)) moved moved' made exact =
+    let is = exact.0 refl in
+    subst (IsNetworkOf parts) (sym made) (record { pool = refl; host = refl; port = refl; server = refl; capacity = refl; next = refl; peers = (moved, is.numbered); routes = (moved', is.ordered) })
 
 -- so the parts keep the rules just where these do
 pub made_exactly : {E : Type 0} (parts : Parts) (peers : List Peer) (routes : Routes) (r : Result (Option NetworkValue) E) → IsPermutation parts.peers.items peers → IsNonDecreasingBy (λ p. p.number) peers

@@ -1,5 +1,5 @@
 -- The steps of an adoption: what each leaves of the network, and of the change that leads to it.
-use Rattle.std.proofs.Common.{◌≡◌, ℕ, List, [], ◌∷◌, ◌++◌, refl, ap, ◌∙◌}
+use Rattle.std.proofs.Common.{◌≡◌, ℕ, List, [], ◌∷◌, ◌++◌, refl, sym, ap, subst, ◌∙◌}
 use Rattle.wgr_text.specs.Prefix.{PrefixValue}
 use Rattle.wgr_peers.specs.declared.peer.Peer.{Peer}
 use Rattle.wgr_core.specs.declared.change.Change.{Change}
@@ -7,6 +7,7 @@ use Rattle.wgr_peers.specs.Peers.{put_peer}
 use Rattle.wgr_peers.specs.Routes.{Routes, assign_route}
 use Rattle.wgr_core.specs.Network.{NetworkValue}
 use Rattle.wgr_core.specs.Change.{changed, put_peers, assign_routes, without_routes}
+use Rattle.wgr_core.specs.Draft.{LeadsTo}
 
 -- ---- the change grows at its end
 
@@ -31,3 +32,12 @@ changed_route c start n p number routes is more =
     ap (λ (rs : Routes). changed (record c { routes_put = rs }) start) more
     ∙ ap (λ (rs : Routes). record start { peers = put_peers start.peers c.peers; routes = rs; next = c.next }) (assign_routes_push (without_routes start.routes c.routes_gone) c.routes_put (p, number))
     ∙ ap (λ (n : NetworkValue). record n { routes = assign_route n.routes p number }) is
+
+-- ---- room is made
+
+abbrev pub put_change : List Peer → Routes → ℕ → Change
+put_change peers routes next = record { removed = []; peers = peers; routes_put = routes; routes_gone = []; next = next }
+
+pub leads_alike : (peers ps : List Peer) (routes rs : Routes) (next : ℕ) (start n : NetworkValue) → ps ≡ peers → rs ≡ routes → LeadsTo (put_change peers routes next) start n → LeadsTo (put_change ps rs next) start n
+leads_alike peers ps routes rs next start n same_peers same_routes h =
+    subst (λ (ps : List Peer). LeadsTo (put_change ps rs next) start n) (sym same_peers) (subst (λ (rs : Routes). LeadsTo (put_change peers rs next) start n) (sym same_routes) h)

@@ -22,5 +22,6 @@ pub mod LiveLooks
 pub mod FreedLemmas
 pub mod DraftLemmas
 pub mod LineAsks
+pub mod WalkLemmas
 pub mod AdoptingLemmas
 pub mod AllowedLemmas

@@ -30,6 +30,9 @@ own_masked n number is = All-filter (λ r. nat_eq r.1 number) HasAddr n.routes (
 
 -- ---- the answer is the outcome
 
+abbrev pub change_of : List ℕ → List Peer → Routes → List PrefixValue → ℕ → Change
+change_of removed peers routes_put routes_gone next = record { removed = removed; peers = peers; routes_put = routes_put; routes_gone = routes_gone; next = next }
+
 -- the peer's view and the change, where these are the routes to it after the change
 answered : (n : NetworkValue) (removed : List ℕ) (p shown : Peer) (prefixes : List PrefixValue) (c : Change) (routes : Routes)
     → shown ≡ p → prefixes ≡ routes_to routes p.number → c.removed ≡ removed → changed c n ≡ record n { routes = routes }

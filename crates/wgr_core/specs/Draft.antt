@@ -1,5 +1,5 @@
 -- A network that is changed step by step, and what the steps of an adoption answer.
-use Rattle.std.specs.Prelude.{ℕ, ◌≡◌, Bool, true, false, not, List, Result, Ok, Err}
+use Rattle.std.specs.Prelude.{ℕ, ◌≡◌, Bool, true, false, not, List, [], Result, Ok, Err}
 use Rattle.std.specs.List.{filter}
 use Rattle.wgr_text.specs.Prefix.{AddrValue, PrefixValue}
 use Rattle.wgr_peers.specs.declared.peer.Peer.{Peer}
@@ -16,10 +16,9 @@ use Rattle.wgr_core.specs.Network.{NetworkValue, IsNetwork}
 use Rattle.wgr_core.specs.Change.{changed}
 use Rattle.wgr_core.specs.Adoption.{Adoption, and_then, unless_refused, line_refusal, line_place, named_address, names_address, numbered_from}
 
--- the network as it was, the peers that had gone from it before, and the network as it is now
+-- the network as it was, and as it is now
 pub record DraftValue : Type 0 where
   pub start : NetworkValue
-  pub removed : List ℕ
   pub network : NetworkValue
 
 -- a network with these peers, these routes and this next number
@@ -34,8 +33,16 @@ pub record LeadsTo (c : Change) (start n : NetworkValue) : Type 0 where
 -- an adoption of lines that began at a network
 pub record AdoptingValue : Type 0 where
   pub start : NetworkValue
-  pub removed : List ℕ
   pub so_far : Adoption
+
+-- no line is adopted yet
+abbrev pub begun : NetworkValue → AdoptingValue
+begun n = record { start = n; so_far = record { network = n; added = []; known = 0 } }
+
+-- what a step leaves, or why it was not done
+abbrev pub left_by : {T E : Type 0} → Result (Unit {0}) E → T → Result T E
+left_by (Ok done) after = Ok after
+left_by (Err why) after = Err why
 
 -- the address that a new peer of the line takes
 abbrev pub line_address : NetworkValue → SeenPeer → Result AddrValue LineRefusal

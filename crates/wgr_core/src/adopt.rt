@@ -1,9 +1,9 @@
 //! The command Adopt: the peers of a running interface are taken over.
-ghost use Rattle.std.specs.Prelude.{◌≡◌, ◌<◌, [], false, length, slice_index_or, None, IfOk};
+ghost use Rattle.std.specs.Prelude.{◌≡◌, ◌<◌, false, length, slice_index_or, None, IfOk};
 ghost use Rattle.wgr_core.specs.declared.reply.Reply.TheVariants as reply;
-ghost use Rattle.wgr_core.specs.Adoption.{add_line, adopt_line, adopt_lines, adoption_order, keyed_peer, note_status};
+ghost use Rattle.wgr_core.specs.Adoption.{add_line, adopt_line, adopt_lines, adoption_of, adoption_order, keyed_peer, note_status};
 ghost use Rattle.wgr_core.specs.Change.{GivesChange, MeetsLive};
-ghost use Rattle.wgr_core.specs.Draft.{AdoptingValue, MeetsLine, MeetsLines, fault_in_line, lines_of};
+ghost use Rattle.wgr_core.specs.Draft.{AdoptingValue, MeetsLine, MeetsLines, begun, fault_in_line, left_by, lines_of};
 ghost use Rattle.wgr_core.specs.Outcome.{adopt, server_refusal};
 ghost use Rattle.wgr_peers.specs.declared.peer.Peer.{Peer};
 
@@ -35,13 +35,19 @@ impl Network {
         if let Some(why) = self.server_refusal(server) {
             return Err(ActFault::Refused(why));
         }
+        let done = self.adopt(alloc, lines)?;
+        Ok(done.answer(alloc, removed))
+    }
+
+    // The network with all these lines.
+    fn adopt(&self, alloc: Global, lines: &[SeenPeer]) -> Result<Adopting<'_>, ActFault>
+        ensures { MeetsLines (begun self.now) result (adoption_of self.now lines.now) }
+    {
         let pool = self.pool();
         let expected = expected_routes(alloc, &pool, lines)?;
-        let begun = Adopting::begin(alloc, self, removed, expected)?;
-        match begun.adopt_all(alloc, &pool, lines) {
-            Ok(done) => Ok(done.answer()),
-            Err(why) => Err(why),
-        }
+        let mut adopting = Adopting::begin(alloc, self, expected)?;
+        adopting.adopt_all(alloc, &pool, lines)?;
+        Ok(adopting)
     }
 
     // Why the interface of this key is not the network's.
@@ -67,22 +73,20 @@ struct Adopting<'a> {
 impl<'a> Model for Adopting<'a> {
     ghost Value = { AdoptingValue };
 
-    ghost view = { λ a. record { start = a.draft.start; removed = a.draft.removed; so_far = record { network = a.draft.network; added = a.added; known = a.known } } };
+    ghost view = { λ a. record { start = a.draft.start; so_far = record { network = a.draft.network; added = a.added; known = a.known } } };
 }
 
 impl<'a> Adopting<'a> {
-    // No line yet, on a network from which `removed` have gone, with room for routes of these
-    // prefixes.
+    // No line yet, with room for routes of these prefixes.
     fn begin(
         alloc: Global,
         start: &'a Network,
-        removed: Items<u32>,
         expected: Vec<Prefix>,
     ) -> Result<Adopting<'a>, AllocError>
-        ensures { IfOk result (λ adopting. adopting ≡ record { start = start.now; removed = removed; so_far = record { network = start.now; added = []; known = 0 } }) }
+        ensures { IfOk result (λ adopting. adopting ≡ begun start.now) }
     {
         Ok(Adopting {
-            draft: Draft::begin(alloc, start, removed, expected)?,
+            draft: Draft::begin(alloc, start, expected)?,
             added: Items::new(alloc),
             known: 0,
         })
@@ -90,48 +94,39 @@ impl<'a> Adopting<'a> {
 
     // The lines that name an address, and then the others, so that none of these gets an address
     // that a later line names.
-    fn adopt_all(
-        self,
-        alloc: Global,
-        pool: &Pool,
-        lines: &[SeenPeer],
-    ) -> Result<Adopting<'a>, ActFault>
-        ensures { MeetsLines self.entry result (adopt_lines self.entry.so_far (adoption_order pool.now lines.now)) }
+    fn adopt_all(&mut self, alloc: Global, pool: &Pool, lines: &[SeenPeer]) -> Result<(), ActFault>
+        ensures { MeetsLines self.old (left_by result self.new) (adopt_lines self.old.so_far (adoption_order pool.now lines.now)) }
     {
-        let first = self.adopt_lines(alloc, pool, lines, true);
-        match first {
-            Ok(named) => named.adopt_lines(alloc, pool, lines, false),
-            Err(why) => Err(why),
-        }
+        self.adopt_lines(alloc, pool, lines, true)?;
+        self.adopt_lines(alloc, pool, lines, false)
     }
 
     // The lines that name an address, or those that name none, one after the other. Their numbers
     // are those of the text, whose first line is the interface's.
     fn adopt_lines(
-        self,
+        &mut self,
         alloc: Global,
         pool: &Pool,
         lines: &[SeenPeer],
         naming: bool,
-    ) -> Result<Adopting<'a>, ActFault>
-        ensures { MeetsLines self.entry result (adopt_lines self.entry.so_far (lines_of pool.now naming 2 lines.now)) }
+    ) -> Result<(), ActFault>
+        ensures { MeetsLines self.old (left_by result self.new) (adopt_lines self.old.so_far (lines_of pool.now naming 2 lines.now)) }
     {
-        let mut adopting = self;
         for (index, line) in lines.iter().enumerate() {
             if !is_asked_for(pool, line, naming) {
                 continue;
             }
-            adopting = match adopting.adopt_line(alloc, line) {
-                Ok(after) => after,
+            match self.adopt_line(alloc, line) {
+                Ok(()) => {}
                 Err(why) => return Err(in_line(index + 2, why)),
-            };
+            }
         }
-        Ok(adopting)
+        Ok(())
     }
 
     // The peer that has the line's key gets its status, or a new peer joins.
-    fn adopt_line(self, alloc: Global, line: &SeenPeer) -> Result<Adopting<'a>, LineFault>
-        ensures { MeetsLine self.entry result (adopt_line self.entry.so_far line.now) }
+    fn adopt_line(&mut self, alloc: Global, line: &SeenPeer) -> Result<(), LineFault>
+        ensures { MeetsLine self.old (left_by result self.new) (adopt_line self.old.so_far line.now) }
     {
         match keyed_place(self.draft.peers(), &line.key) {
             Some(place) => self.note_status(place, line),
@@ -140,42 +135,30 @@ impl<'a> Adopting<'a> {
     }
 
     // The peer at the place gets the line's status, and nothing else.
-    fn note_status(self, place: usize, line: &SeenPeer) -> Result<Adopting<'a>, LineFault>
-        requires { place < length self.so_far.network.peers }
-        ensures { (d : Peer) → MeetsLine self.entry result (Ok (note_status self.entry.so_far line.now (slice_index_or self.entry.so_far.network.peers place d))) }
+    fn note_status(&mut self, place: usize, line: &SeenPeer) -> Result<(), LineFault>
+        requires { place < length self.old.so_far.network.peers }
+        ensures { (d : Peer) → MeetsLine self.old (left_by result self.new) (Ok (note_status self.old.so_far line.now (slice_index_or self.old.so_far.network.peers place d))) }
     {
-        let Adopting {
-            draft,
-            added,
-            known,
-        } = self;
-        let _next = draft.next();
-        let mut peer = draft.peers().as_slice()[place].copy()?;
-        peer.status = Some(line.status);
         // More lines than 32 bits count are more than can be noted.
-        let Some(known) = known.checked_add(1) else {
+        let Some(known) = self.known.checked_add(1) else {
             return Err(LineFault::NoMemory);
         };
-        Ok(Adopting {
-            draft: draft.replace(place, peer)?,
-            added,
-            known,
-        })
+        let _next = self.draft.next();
+        let mut peer = self.draft.peers().as_slice()[place].copy()?;
+        peer.status = Some(line.status);
+        self.draft.replace(place, peer)?;
+        self.known = known;
+        Ok(())
     }
 
     // A peer with the line's key joins with its prefixes.
-    fn add_line(self, alloc: Global, line: &SeenPeer) -> Result<Adopting<'a>, LineFault>
-        requires { keyed_peer self.so_far.network.peers line.now.key ≡ None }
-        ensures { MeetsLine self.entry result (add_line self.entry.so_far line.now) }
+    fn add_line(&mut self, alloc: Global, line: &SeenPeer) -> Result<(), LineFault>
+        requires { keyed_peer self.old.so_far.network.peers line.now.key ≡ None }
+        ensures { MeetsLine self.old (left_by result self.new) (add_line self.old.so_far line.now) }
     {
-        let Adopting {
-            mut draft,
-            mut added,
-            known,
-        } = self;
-        let number = draft.next();
-        let address = draft.line_address(alloc, line)?;
-        let draft = draft.join(Peer {
+        let number = self.draft.next();
+        let address = self.draft.line_address(alloc, line)?;
+        self.draft.join(Peer {
             number,
             key: line.key,
             label: Label::empty(alloc),
@@ -184,26 +167,27 @@ impl<'a> Adopting<'a> {
             keepalive: line.keepalive,
             status: Some(line.status),
         })?;
-        let draft = draft.give_all(number, address, line.allowed.as_slice())?;
-        added.push(number)?;
-        Ok(Adopting {
-            draft,
-            added,
-            known,
-        })
+        self.draft
+            .give_all(number, address, line.allowed.as_slice())?;
+        self.added.push(number)?;
+        Ok(())
     }
 
-    // What the adoption answers, and the change by which the network comes to it.
-    fn answer(self) -> (Reply, Option<Change>)
+    // What the adoption answers, and the change by which the network, from which `removed` had gone,
+    // comes to it.
+    fn answer(self, alloc: Global, removed: Items<u32>) -> (Reply, Option<Change>)
         ensures reply { result.0 ≡ reply.Adopted self.entry.so_far.added self.entry.so_far.known }
-        ensures change { GivesChange false None self.entry.start self.entry.removed result.1 self.entry.so_far.network }
+        ensures change { GivesChange false None self.entry.start removed result.1 self.entry.so_far.network }
     {
         let Adopting {
             draft,
             added,
             known,
         } = self;
-        (Reply::Adopted { added, known }, Some(draft.into_change()))
+        (
+            Reply::Adopted { added, known },
+            Some(draft.into_change(alloc, removed)),
+        )
     }
 }
 

@@ -15,7 +15,7 @@ use wgr_peers::{Items, NumberSet, Peer, PeerTable, RouteSlots};
 use wgr_text::Prefix;
 
 /// What an accepted command changes of a network, in the order in which it is made.
-#[derive(Debug, Drop)]
+#[derive(Drop)]
 pub struct Change {
     /// Peers that go, by number, and the routes to them with them.
     pub removed: Items<u32>,

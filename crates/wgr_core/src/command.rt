@@ -5,7 +5,7 @@ use wgr_peers::{Items, Label, LeaseEnd};
 use wgr_text::{Addr, Key, Prefix};
 
 /// What is asked of a network.
-#[derive(Debug, Drop)]
+#[derive(Drop)]
 pub enum Command {
     /// A new peer, at the named address or the lowest free one.
     Add {

@@ -23,7 +23,7 @@ impl From<AllocError> for ActFault {
 }
 
 /// Why a line of a dump was not adopted.
-#[derive(Debug, Drop)]
+#[derive(Drop)]
 pub(crate) enum LineFault {
     /// The network refuses it.
     Refused(LineRefusal),

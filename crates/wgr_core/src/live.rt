@@ -1,5 +1,5 @@
 //! What is live of a network at a moment, with no copy of it.
-ghost use Rattle.std.specs.Prelude.{◌≡◌, [], nat_eq, nat_lt, not, length, map, is_some, IfOk};
+ghost use Rattle.std.specs.Prelude.{◌≡◌, [], ◌∷◌, nat_eq, nat_lt, not, length, map, is_some, IfOk};
 ghost use Rattle.std.specs.List.{filter, list_any};
 ghost use Rattle.std.specs.HashSet.{contains};
 ghost use Rattle.std.specs.Option.{option_copied};
@@ -204,4 +204,13 @@ fn is_same(one: &Addr, other: &Addr) -> bool
     ensures { result ≡ same_address one.now other.now }
 {
     one == other
+}
+
+// One item alone.
+pub(crate) fn one_item<T: Drop>(alloc: Global, item: T) -> Result<Items<T>, AllocError>
+    ensures { IfOk result (λ items. items ≡ item ∷ []) }
+{
+    let mut items = Items::new(alloc);
+    items.push(item)?;
+    Ok(items)
 }

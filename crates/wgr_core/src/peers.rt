@@ -1,5 +1,5 @@
 //! The commands on peers.
-ghost use Rattle.std.specs.Prelude.{◌≡◌, ◌≤◌, ◌||◌, true, false, cond, nat_eq, Some, None, IfSome, IsTrue, option_map};
+ghost use Rattle.std.specs.Prelude.{◌≡◌, ◌≤◌, ◌||◌, true, false, cond, nat_eq, [], ◌∷◌, Some, None, IfOk, IfSome, IsTrue, option_map};
 ghost use Rattle.std.specs.HashSet.{contains};
 ghost use Rattle.wgr_pool.specs.Allot.{lower, lowest_where};
 ghost use Rattle.wgr_pool.specs.HeldSpans.{is_routed, standing};
@@ -11,11 +11,11 @@ ghost use Rattle.wgr_core.specs.Outcome.{address_refusal, join_refusal, joined, 
 
 use crate::change::Change;
 use crate::fault::ActFault;
-use crate::live::Live;
+use crate::live::{Live, one_item};
 use crate::network::Network;
 use crate::refusal::Refusal;
 use crate::reply::{PeerView, Reply};
-use std::alloc::Global;
+use std::alloc::{AllocError, Global};
 use std::collections::HashSet;
 use wgr_peers::{Items, LeaseEnd, Peer};
 use wgr_pool::lowest_address;
@@ -134,14 +134,10 @@ impl Live<'_> {
         requires left { self.now.next ≤ 1000000 }
         ensures { MeetsLive false None self.now removed result (joined self.now peer) }
     {
-        let view = PeerView {
-            peer: peer.copy()?,
-            routes: Items::new(alloc),
-        };
-        let mut change = self.removal(alloc, removed);
-        change.peers.push(peer)?;
+        let mut change = self.putting(alloc, &peer, removed)?;
         change.next = self.next() + 1;
-        Ok((Reply::Peer(view), Some(change)))
+        let routes = Items::new(alloc);
+        Ok((Reply::Peer(PeerView { peer, routes }), Some(change)))
     }
 
     // The peer's view, and the change by which it takes the place of the one of its number.
@@ -153,13 +149,23 @@ impl Live<'_> {
     ) -> Result<(Reply, Option<Change>), ActFault>
         ensures { MeetsLive false None self.now removed result (replaced self.now peer) }
     {
-        let view = PeerView {
-            peer: peer.copy()?,
-            routes: self.routes_to(alloc, peer.number)?,
-        };
-        let mut change = self.removal(alloc, removed);
-        change.peers.push(peer)?;
-        Ok((Reply::Peer(view), Some(change)))
+        let routes = self.routes_to(alloc, peer.number)?;
+        let change = self.putting(alloc, &peer, removed)?;
+        Ok((Reply::Peer(PeerView { peer, routes }), Some(change)))
+    }
+
+    // The change that removes these peers and puts this one.
+    fn putting(&self, alloc: Global, peer: &Peer, removed: Items<u32>) -> Result<Change, AllocError>
+        ensures { IfOk result (λ change. change ≡ record { removed = removed; peers = peer.now ∷ []; routes_put = []; routes_gone = []; next = self.now.next }) }
+    {
+        let peers = one_item(alloc, peer.copy()?)?;
+        Ok(Change {
+            removed,
+            peers,
+            routes_put: Items::new(alloc),
+            routes_gone: Items::new(alloc),
+            next: self.next(),
+        })
     }
 
     // The peer gets another address.
@@ -189,15 +195,15 @@ impl Live<'_> {
         &self,
         alloc: Global,
         number: u32,
-        removed: Items<u32>,
+        mut removed: Items<u32>,
     ) -> Result<(Reply, Option<Change>), ActFault>
         ensures { MeetsLive false (Some number) self.now removed result (revoke self.now number) }
     {
         if self.peer(number).is_none() {
             return Err(ActFault::Refused(Refusal::NoSuchPeer));
         }
-        let mut change = self.removal(alloc, removed);
-        change.removed.push(number)?;
+        removed.push(number)?;
+        let change = self.removal(alloc, removed);
         Ok((Reply::Revoked(number), Some(change)))
     }
 

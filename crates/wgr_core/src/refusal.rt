@@ -72,9 +72,10 @@ pub enum LineRefusal {
     RoutesFull,
 }
 
-impl fmt::Display for LineRefusal {
-    fn fmt<W: fmt::Write>(&self, f: &mut fmt::Formatter<W>) -> fmt::Result {
-        f.write_str(match self {
+impl LineRefusal {
+    // The refusal's name.
+    fn name(&self) -> &'static str {
+        match self {
             LineRefusal::ServerKey => "server_key",
             LineRefusal::CapacityReached => "capacity_reached",
             LineRefusal::NumbersSpent => "numbers_spent",
@@ -82,30 +83,48 @@ impl fmt::Display for LineRefusal {
             LineRefusal::PoolFull => "pool_full",
             LineRefusal::IsAddress => "is_address",
             LineRefusal::RoutesFull => "routes_full",
-        })
+        }
+    }
+}
+
+impl Refusal {
+    // The refusal's name, without its fact. That of a line is the line's.
+    fn name(&self) -> &'static str {
+        match self {
+            Refusal::NoSuchPeer => "no_such_peer",
+            Refusal::KeyHeld { .. } => "key_held",
+            Refusal::AddressHeld => "address_held",
+            Refusal::OutsidePool => "outside_pool",
+            Refusal::PoolFull => "pool_full",
+            Refusal::CapacityReached => "capacity_reached",
+            Refusal::NumbersSpent => "numbers_spent",
+            Refusal::IsAddress => "is_address",
+            Refusal::NoSuchRoute => "no_such_route",
+            Refusal::BadField { .. } => "bad_field",
+            Refusal::RoutesFull => "routes_full",
+            Refusal::NobodysAddress => "nobodys_address",
+            Refusal::LeaseOver => "lease_over",
+            Refusal::ServerKey => "server_key",
+            Refusal::WrongServer => "wrong_server",
+            Refusal::InLine { why, .. } => why.name(),
+        }
+    }
+}
+
+impl fmt::Display for LineRefusal {
+    fn fmt<W: fmt::Write>(&self, f: &mut fmt::Formatter<W>) -> fmt::Result {
+        f.write_str(self.name())
     }
 }
 
 impl fmt::Display for Refusal {
     /// The refusal's name, followed by a blank and its fact where it carries one.
     fn fmt<W: fmt::Write>(&self, f: &mut fmt::Formatter<W>) -> fmt::Result {
+        f.write_str(self.name())?;
         match self {
-            Refusal::NoSuchPeer => f.write_str("no_such_peer"),
-            Refusal::KeyHeld { number } => write!(f, "key_held {number}"),
-            Refusal::AddressHeld => f.write_str("address_held"),
-            Refusal::OutsidePool => f.write_str("outside_pool"),
-            Refusal::PoolFull => f.write_str("pool_full"),
-            Refusal::CapacityReached => f.write_str("capacity_reached"),
-            Refusal::NumbersSpent => f.write_str("numbers_spent"),
-            Refusal::IsAddress => f.write_str("is_address"),
-            Refusal::NoSuchRoute => f.write_str("no_such_route"),
-            Refusal::BadField { field } => write!(f, "bad_field {field}"),
-            Refusal::RoutesFull => f.write_str("routes_full"),
-            Refusal::NobodysAddress => f.write_str("nobodys_address"),
-            Refusal::LeaseOver => f.write_str("lease_over"),
-            Refusal::ServerKey => f.write_str("server_key"),
-            Refusal::WrongServer => f.write_str("wrong_server"),
-            Refusal::InLine { why, .. } => write!(f, "{why}"),
+            Refusal::KeyHeld { number } => write!(f, " {number}"),
+            Refusal::BadField { field } => write!(f, " {field}"),
+            _ => Ok(()),
         }
     }
 }

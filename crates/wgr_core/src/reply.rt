@@ -4,14 +4,14 @@ use wgr_peers::{Items, Peer};
 use wgr_text::Prefix;
 
 /// A peer with the routes that lead to it, in their order.
-#[derive(Debug, Drop)]
+#[derive(Drop)]
 pub struct PeerView {
     pub peer: Peer,
     pub routes: Items<Prefix>,
 }
 
 /// What an accepted command answers.
-#[derive(Debug, Drop)]
+#[derive(Drop)]
 pub enum Reply {
     /// The peer after the change.
     Peer(PeerView),

@@ -1,5 +1,5 @@
 //! The commands on routes, and what routes say of addresses.
-ghost use Rattle.std.specs.Prelude.{◌≡◌, ◌≤◌, true, false, List, [], ◌∷◌, ◌++◌, map, nat_eq, nat_lt, Some, None, IfOk, OnOk, is_some, option_map};
+ghost use Rattle.std.specs.Prelude.{◌≡◌, ◌≤◌, ℕ, true, false, List, [], ◌∷◌, ◌++◌, map, nat_eq, nat_lt, Some, None, Err, IfOk, IfErr, OnOk, is_some, option_map};
 ghost use Rattle.std.specs.List.{filter};
 ghost use Rattle.wgr_text.specs.Prefix.{width, mask};
 ghost use Rattle.wgr_core.specs.Change.{MeetsLive};
@@ -8,14 +8,14 @@ ghost use Rattle.wgr_core.specs.Network.{NetworkValue, is_address};
 ghost use Rattle.wgr_core.specs.Owner.{longest_match, longer, owner_of, own_prefixes};
 ghost use Rattle.wgr_core.specs.Outcome.{route, route_refusal, unroute, view_of};
 ghost use Rattle.wgr_peers.specs.Ordered.{EndsAt};
-ghost use Rattle.wgr_peers.specs.Peers.{AreNumbered, is_own};
+ghost use Rattle.wgr_peers.specs.Peers.{AreNumbered, is_own, peer_of};
 ghost use Rattle.wgr_peers.specs.declared.peer.Peer.{Peer};
 ghost use Rattle.wgr_pool.specs.PrefixTests.{full, has};
-ghost use Rattle.wgr_peers.specs.Routes.{Routes, route_of, routes_to};
+ghost use Rattle.wgr_peers.specs.Routes.{Routes, assign_route, route_of, routes_to, without_route};
 
 use crate::change::Change;
 use crate::fault::ActFault;
-use crate::live::Live;
+use crate::live::{Live, one_item};
 use crate::network::Network;
 use crate::refusal::Refusal;
 use crate::reply::{PeerView, Reply};
@@ -39,6 +39,23 @@ impl Live<'_> {
     ) -> Result<(Reply, Option<Change>), ActFault>
         ensures { MeetsLive false None self.now removed result (route self.now number prefix) }
     {
+        let view = self.routed_view(alloc, number, prefix)?;
+        let routes_put = one_item(alloc, (prefix, number))?;
+        let change = Change {
+            removed,
+            peers: Items::new(alloc),
+            routes_put,
+            routes_gone: Items::new(alloc),
+            next: self.next(),
+        };
+        Ok((Reply::Peer(view), Some(change)))
+    }
+
+    // The view of the peer once the prefix leads to it.
+    fn routed_view(&self, alloc: Global, number: u32, prefix: Prefix) -> Result<PeerView, ActFault>
+        ensures ok { IfOk result (λ view. (peer_of self.now.peers number ≡ Some view.peer) × (route_refusal self.now prefix ≡ None) × (view.routes ≡ map (λ r. r.0) (assign_route (filter (λ r. nat_eq r.1 number) self.now.routes) prefix number))) }
+        ensures err { IfErr result (λ why. (gone : List ℕ) → MeetsLive false None self.now gone (Err why) (route self.now number prefix)) }
+    {
         let Some(peer) = self.peer(number) else {
             return Err(ActFault::Refused(Refusal::NoSuchPeer));
         };
@@ -48,13 +65,7 @@ impl Live<'_> {
         let _rules = self.pool();
         let mut own = self.own_routes(alloc, number)?;
         put_route(&mut own, prefix, number)?;
-        let view = PeerView {
-            peer: peer.copy()?,
-            routes: prefixes_of(alloc, &own)?,
-        };
-        let mut change = self.removal(alloc, removed);
-        change.routes_put.push((prefix, number))?;
-        Ok((Reply::Peer(view), Some(change)))
+        Ok(view_with(alloc, peer, &own)?)
     }
 
     // The route of this very prefix goes.
@@ -66,6 +77,23 @@ impl Live<'_> {
     ) -> Result<(Reply, Option<Change>), ActFault>
         ensures { MeetsLive false None self.now removed result (unroute self.now prefix.now) }
     {
+        let view = self.unrouted_view(alloc, prefix)?;
+        let routes_gone = one_item(alloc, *prefix)?;
+        let change = Change {
+            removed,
+            peers: Items::new(alloc),
+            routes_put: Items::new(alloc),
+            routes_gone,
+            next: self.next(),
+        };
+        Ok((Reply::Peer(view), Some(change)))
+    }
+
+    // The view of the peer to which the prefix leads, once it no longer does.
+    fn unrouted_view(&self, alloc: Global, prefix: &Prefix) -> Result<PeerView, ActFault>
+        ensures ok { IfOk result (λ view. (number : ℕ) × (route_of self.now.routes prefix.now ≡ Some number) × (peer_of self.now.peers number ≡ Some view.peer) × (view.routes ≡ map (λ r. r.0) (without_route (filter (λ r. nat_eq r.1 number) self.now.routes) prefix.now))) }
+        ensures err { IfErr result (λ why. (gone : List ℕ) → MeetsLive false None self.now gone (Err why) (unroute self.now prefix.now)) }
+    {
         let Some(number) = self.route(prefix) else {
             return Err(ActFault::Refused(Refusal::NoSuchRoute));
         };
@@ -75,13 +103,7 @@ impl Live<'_> {
         let _rules = self.pool();
         let mut own = self.own_routes(alloc, number)?;
         drop_route(&mut own, prefix);
-        let view = PeerView {
-            peer: peer.copy()?,
-            routes: prefixes_of(alloc, &own)?,
-        };
-        let mut change = self.removal(alloc, removed);
-        change.routes_gone.push(*prefix)?;
-        Ok((Reply::Peer(view), Some(change)))
+        Ok(view_with(alloc, peer, &own)?)
     }
 
     // Why the prefix can't be a route.
@@ -277,6 +299,15 @@ fn show_route(views: &mut Vec<PeerView>, route: &(Prefix, u32)) -> Result<(), Al
         views[place].routes.push(route.0)?;
     }
     Ok(())
+}
+
+// The view of a peer to which these routes lead.
+fn view_with(alloc: Global, peer: &Peer, own: &[(Prefix, u32)]) -> Result<PeerView, AllocError>
+    ensures { IfOk result (λ view. view ≡ record { peer = peer.now; routes = map (λ r. r.0) own.now }) }
+{
+    let routes = prefixes_of(alloc, own)?;
+    let peer = peer.copy()?;
+    Ok(PeerView { peer, routes })
 }
 
 // The prefixes of these routes.

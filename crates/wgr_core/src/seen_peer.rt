@@ -3,7 +3,7 @@ use wgr_peers::{Items, Status};
 use wgr_text::{Key, Prefix};
 
 /// A peer as a running interface shows it, in a line of `wg show <interface> dump` (wg(8)).
-#[derive(Debug, Drop)]
+#[derive(Drop)]
 pub struct SeenPeer {
     /// Its public key.
     pub key: Key,

@@ -13,7 +13,7 @@ use std::alloc::{AllocError, Global};
 use wgr_core::{Command, Name};
 
 /// What a register is asked. A digest is the SHA-256 of a token.
-#[derive(Debug, Drop)]
+#[derive(Drop)]
 pub enum Event {
     /// A command, at a moment, to the network of a name that the tenant of the token has.
     Ask {

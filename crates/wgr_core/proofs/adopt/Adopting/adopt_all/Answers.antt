@@ -1,21 +1,20 @@
-use Rattle.std.proofs.Common.{true, false, subst}
-use Rattle.std.specs.Prelude.{Result}
-use Rattle.wgr_core.specs.declared.fault.ActFault.{ActFault}
-use Rattle.wgr_core.specs.Adoption.{adopt_lines}
-use Rattle.wgr_core.specs.Draft.{AdoptingValue, MeetsLines, lines_of}
+use Rattle.std.proofs.Common.{rules, true, false, Err}
+use Rattle.wgr_core.specs.Adoption.{adopt_lines, adoption_order}
+use Rattle.wgr_core.specs.Draft.{MeetsLines, left_by, lines_of}
 use Rattle.wgr_core.proofs.AdoptingLemmas.{both_passes, first_pass_err}
 use Rattle.wgr_core.proofs.adopt.Adopting.adopt_all.Goals as goal
 
-pub returns-in-Ok : goal.returns-in-Ok
-returns-in-Ok c =
+pub returns : goal.returns
+returns c =
     let pool = c.args.pool.now in
     let lines = c.args.lines.now in
-    let first = subst (λ (r : Result AdoptingValue ActFault). MeetsLines c.args.self r (adopt_lines c.args.self.so_far (lines_of pool true 2 lines))) c.in-Ok.is c.adopt_lines-first.ensures in
-    both_passes c.args.self c.in-Ok.named c.adopt_lines.result (lines_of pool true 2 lines) (lines_of pool false 2 lines) first c.adopt_lines.ensures
+    both_passes c.args.self.now c.adopt_lines.new.self (left_by c.adopt_lines-2.result c.adopt_lines-2.new.self) (lines_of pool true 2 lines) (lines_of pool false 2 lines) c.in_ok-adopt_lines.ensures c.adopt_lines-2.ensures
 
-pub returns-in-Err : goal.returns-in-Err
-returns-in-Err c =
+pub returns-in_err-adopt_lines : goal.returns-in_err-adopt_lines
+returns-in_err-adopt_lines c =
     let pool = c.args.pool.now in
     let lines = c.args.lines.now in
-    let first = subst (λ (r : Result AdoptingValue ActFault). MeetsLines c.args.self r (adopt_lines c.args.self.so_far (lines_of pool true 2 lines))) c.in-Err.is c.adopt_lines-first.ensures in
-    first_pass_err c.args.self c.in-Err.why (lines_of pool true 2 lines) (lines_of pool false 2 lines) first
+    let w = c.in_err-adopt_lines.field-0.0 in
+    let met : MeetsLines c.args.self.now (Err w) (adopt_lines c.args.self.now.so_far (adoption_order pool lines)) =
+    first_pass_err c.args.self.now w (lines_of pool true 2 lines) (lines_of pool false 2 lines) c.in_err-adopt_lines.ensures in
+    search rules

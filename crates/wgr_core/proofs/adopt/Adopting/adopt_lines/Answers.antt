@@ -10,7 +10,7 @@ loop-index-preserved c =
     let line = c.index-lines-index.result in
     let so = c.loop-index.invariant in
     let asked : is_asked_for c.args.naming (names_address c.args.pool.now line) ≡ true = sym c.is_asked_for.ensures ∙ c.if-not-is_asked_for.false in
-    let on = lines_go_on c.args.self c.loop-index.adopting c.in-Ok.after c.args.pool.now c.args.naming c.args.lines.now c.loop-index.index line (adopt_lines c.args.self.so_far (lines_of c.args.pool.now c.args.naming 2 c.args.lines.now))
+    let on = lines_go_on c.args.self.now c.loop-index.self c.adopt_line.new.self c.args.pool.now c.args.naming c.args.lines.now c.loop-index.index line (adopt_lines c.args.self.now.so_far (lines_of c.args.pool.now c.args.naming 2 c.args.lines.now))
     c.loop-index-test.true c.index-lines-index.is asked (record { left = so.left; kept = so.kept }) c.in-Ok.ensures in
     record { left = on.left; kept = on.kept }
 
@@ -20,14 +20,14 @@ loop-index-preserved-then-not-is_asked_for c =
     let so = c.loop-index.invariant in
     let skipped : is_asked_for c.args.naming (names_address c.args.pool.now line) ≡ false = sym c.is_asked_for.ensures ∙ c.if-not-is_asked_for.true in
     record {
-      left = lines_go_past c.loop-index.adopting.so_far c.args.pool.now c.args.naming c.args.lines.now c.loop-index.index line c.loop-index-test.true c.index-lines-index.is skipped ∙ so.left;
+      left = lines_go_past c.loop-index.self.so_far c.args.pool.now c.args.naming c.args.lines.now c.loop-index.index line c.loop-index-test.true c.index-lines-index.is skipped ∙ so.left;
       kept = so.kept;
     }
 
 pub returns-in-Err : goal.returns-in-Err
 returns-in-Err c =
     let line = c.index-lines-index.result in
-    let whole = adopt_lines c.args.self.so_far (lines_of c.args.pool.now c.args.naming 2 c.args.lines.now) in
+    let whole = adopt_lines c.args.self.now.so_far (lines_of c.args.pool.now c.args.naming 2 c.args.lines.now) in
     let asked : is_asked_for c.args.naming (names_address c.args.pool.now line) ≡ true = sym c.is_asked_for.ensures ∙ c.if-not-is_asked_for.false in
-    subst (λ (w : ActFault). MeetsLines c.args.self (Err w) whole) (sym c.in_line.ensures)
-    (lines_stop c.args.self c.loop-index.adopting c.in-Err.why c.args.pool.now c.args.naming c.args.lines.now c.loop-index.index line whole c.loop-index-test.true c.index-lines-index.is asked c.loop-index.invariant.left c.in-Err.ensures)
+    subst (λ (w : ActFault). MeetsLines c.args.self.now (Err w) whole) (sym c.in_line.ensures)
+    (lines_stop c.args.self.now c.loop-index.self c.in-Err.why c.args.pool.now c.args.naming c.args.lines.now c.loop-index.index line whole c.loop-index-test.true c.index-lines-index.is asked c.loop-index.invariant.left c.in-Err.ensures)

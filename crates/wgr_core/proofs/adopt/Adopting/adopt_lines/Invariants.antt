@@ -5,6 +5,6 @@ use Rattle.wgr_core.proofs.adopt.Adopting.adopt_lines.Given as goal
 
 abbrev pub invariant-loop-index : goal.invariant-loop-index
 invariant-loop-index l = record {
-  left : adopt_lines l.adopting.so_far (lines_of l.pool l.naming (l.index + 2) (drop l.index l.lines)) ≡ adopt_lines l.initial.adopting.so_far (lines_of l.pool l.naming 2 l.lines);
-  kept : l.adopting ≡ record l.initial.adopting { so_far = l.adopting.so_far };
+  left : adopt_lines l.self.so_far (lines_of l.pool l.naming (l.index + 2) (drop l.index l.lines)) ≡ adopt_lines l.initial.self.so_far (lines_of l.pool l.naming 2 l.lines);
+  kept : l.self ≡ record l.initial.self { so_far = l.self.so_far };
 }

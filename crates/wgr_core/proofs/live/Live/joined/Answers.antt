@@ -1,4 +1,4 @@
-use Rattle.std.proofs.Common.{◌≡◌, ℕ, ◌<◌, ◌+◌, List, [], ◌∷◌, ◌++◌, sym, ◌∙◌, ap, arith}
+use Rattle.std.proofs.Common.{◌≡◌, ℕ, ◌<◌, ◌+◌, List, [], ◌∷◌, sym, ◌∙◌, ap, arith}
 use Rattle.std.specs.List.{All}
 use Rattle.wgr_text.specs.Prefix.{PrefixValue}
 use Rattle.wgr_peers.specs.declared.peer.Peer.{Peer}
@@ -14,16 +14,14 @@ returns c =
     let n = c.args.self.now in
     let p = c.args.peer in
     let is = c.next.ensures.rules in
-    let begun = c.removal-change.ensures in
+    let put = c.in_ok-change.ensures in
     let none : routes_to n.routes p.number ≡ [] = ap (routes_to n.routes) c.requires.next ∙ none_to_next n is in
-    let above : All (λ q. q.number < p.number) n.peers = λ k d h. omega (arith, (is.members k d h).numbered.1, c.requires.next) in
-    let one : c.push.new.self ≡ p ∷ [] = c.in_ok-push.ensures.ok ∙ ap (λ (change : Change). change.peers ++ p ∷ []) begun in (
-      ap (λ (q : Peer). reply.Peer (record { peer = q; routes = c.new.result })) c.in_ok-copy.ensures ∙ ap (λ (rs : List PrefixValue). reply.Peer (record { peer = p; routes = rs })) (c.new.ensures ∙ sym none),
+    let above : All (λ q. q.number < p.number) n.peers = λ k d h. omega (arith, (is.members k d h).numbered.1, c.requires.next) in (
+      ap (λ (rs : List PrefixValue). reply.Peer (record { peer = p; routes = rs })) (c.new-routes.ensures ∙ sym none),
       (
-        ap (λ (change : Change). change.removed) begun,
-        ap (λ (change : Change). record n { next = c.next.result + 1; peers = put_peers n.peers c.push.new.self; routes = assign_routes (without_routes n.routes change.routes_gone) change.routes_put }) begun
-            ∙ ap (λ (m : ℕ). record n { next = m + 1; peers = put_peers n.peers c.push.new.self }) c.next.ensures.value
-            ∙ ap (λ (ps : List Peer). record n { next = n.next + 1; peers = put_peers n.peers ps }) one
+        ap (λ (change : Change). change.removed) put,
+        ap (λ (change : Change). record n { next = c.next.result + 1; peers = put_peers n.peers change.peers; routes = assign_routes (without_routes n.routes change.routes_gone) change.routes_put }) put
+            ∙ ap (λ (m : ℕ). record n { next = m + 1; peers = put_peers n.peers (p ∷ []) }) c.next.ensures.value
             ∙ ap (λ (ps : List Peer). record n { next = n.next + 1; peers = ps }) (put_peer_above n.peers p above),
       ),
     )

@@ -1,4 +1,4 @@
-use Rattle.std.proofs.Common.{◌≡◌, ℕ, List, ap, sym, subst, ◌∙◌}
+use Rattle.std.proofs.Common.{ℕ, List, ap, sym, subst, ◌∙◌}
 use Rattle.wgr_core.specs.Network.{IsNetwork, is_among}
 use Rattle.wgr_core.proofs.ApplyLemmas.{applied_in_place, one_at_most, pop_renews, routes_shrunk}
 use Rattle.wgr_core.proofs.network.Network.shrink.Goals as goal
