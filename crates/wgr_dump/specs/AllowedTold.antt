@@ -20,8 +20,18 @@ pub same_family : (f : Family) → family_of (is_v4 f) ≡ f
 same_family V4 = refl
 same_family V6 = refl
 
+-- a prefix as numbers, and back
+abbrev pub code_of : PrefixValue → Bool × (ℕ × ℕ)
+code_of p = (is_v4 p.address.family, (p.address.number, p.length))
+
+abbrev pub prefix_of : Bool × (ℕ × ℕ) → PrefixValue
+prefix_of t = record { address = record { family = family_of t.0; number = t.1.0 }; length = t.1.1 }
+
+pub kept : (p : PrefixValue) → prefix_of (code_of p) ≡ p
+kept p = λ i. record { address = record { family = same_family p.address.family i; number = p.address.number }; length = p.length }
+
 abbrev pub coded_prefix : Coded PrefixValue
-coded_prefix = code_by (Bool × (ℕ × ℕ)) (coded× coded_bool (coded× coded_ℕ coded_ℕ)) (λ p. (is_v4 p.address.family, (p.address.number, p.length))) (λ t. record { address = record { family = family_of t.0; number = t.1.0 }; length = t.1.1 }) (λ p. λ i. record { address = record { family = same_family p.address.family i; number = p.address.number }; length = p.length })
+coded_prefix = code_by (Bool × (ℕ × ℕ)) (coded× coded_bool (coded× coded_ℕ coded_ℕ)) code_of prefix_of kept
 
 abbrev pub AllowedTold : List (List ℕ) → Type 0
 AllowedTold items = Told SpellsMasked items

@@ -5,3 +5,4 @@ pub mod Runs
 pub mod Allot
 pub mod HeldSpans
 pub mod Rising
+pub mod Waiting

@@ -9,7 +9,8 @@ ghost use Rattle.wgr_pool.specs.Allot.{lowest_where};
 ghost use Rattle.wgr_pool.specs.Pool.{IsPool};
 ghost use Rattle.wgr_pool.specs.Spans.{IsHeld, RisesFrom, Takes, reached};
 ghost use Rattle.wgr_pool.specs.Rising.{RisesFrom-prop};
-ghost use Rattle.wgr_pool.specs.HeldSpans.{span_of, is_routed, standing, standing_spans, merged, from_first};
+ghost use Rattle.wgr_pool.specs.HeldSpans.{span_of, is_routed, standing, standing_spans, merged};
+ghost use Rattle.wgr_pool.specs.Waiting.{BeginLater, to_come, waiting};
 
 use crate::address_set::AddressSet;
 use crate::allot::{Holds, Stop, lowest_free};
@@ -28,7 +29,7 @@ struct RouteSpans<'a> {
 impl RouteSpans<'_> {
     /// The span of the next route in the pool.
     fn next(&mut self) -> Option<Span>
-        ensures next { Takes (standing_spans self.old.pool (contains nat_eq self.old.over.now) self.old.routes.now) result (standing_spans self.new.pool (contains nat_eq self.new.over.now) self.new.routes.now) }
+        ensures next { Takes (to_come self.old) result (to_come self.new) }
         ensures pool { self.new.pool ≡ self.old.pool }
     {
         while let Some((route, later)) = self.routes.split_first() {
@@ -51,8 +52,8 @@ pub struct HeldSpans<'a> {
     // Where the span that was given last begins: what is to come begins no lower.
     last: Option<Addr>,
     ghost runs_rise: { RisesFrom (reached last) runs.now } by { RisesFrom-prop (reached last) runs.now },
-    ghost routes_rise: { RisesFrom (reached last) (from_first route (standing_spans routes.pool (contains nat_eq routes.over.now) routes.routes.now)) } by { RisesFrom-prop (reached last) (from_first route (standing_spans routes.pool (contains nat_eq routes.over.now) routes.routes.now)) },
-    ghost all_rise: { RisesFrom (reached last) (merged runs.now (from_first route (standing_spans routes.pool (contains nat_eq routes.over.now) routes.routes.now))) } by { RisesFrom-prop (reached last) (merged runs.now (from_first route (standing_spans routes.pool (contains nat_eq routes.over.now) routes.routes.now))) },
+    ghost routes_rise: { RisesFrom (reached last) (waiting route routes) } by { RisesFrom-prop (reached last) (waiting route routes) },
+    ghost all_rise: { RisesFrom (reached last) (merged runs.now (waiting route routes)) } by { RisesFrom-prop (reached last) (merged runs.now (waiting route routes)) },
 }
 
 impl<'a> HeldSpans<'a> {
@@ -67,7 +68,7 @@ impl<'a> HeldSpans<'a> {
         requires runs_rise { RisesFrom 0 runs.now }
         requires routes_rise { AllPairs (λ r s. is_before r.0 s.0 ≡ true) routes.now }
         ensures runs { result.runs.now ≡ runs.now }
-        ensures routes { from_first result.route (standing_spans result.routes.pool (contains nat_eq result.routes.over.now) result.routes.routes.now) ≡ standing_spans pool.now (contains nat_eq over.now) routes.now }
+        ensures routes { waiting result.route result.routes ≡ standing_spans pool.now (contains nat_eq over.now) routes.now }
         ensures is_pool { IsPool pool.now }
     {
         let mut routes = RouteSpans {
@@ -86,7 +87,7 @@ impl<'a> HeldSpans<'a> {
 
     // The next run and those after it, unless the next route begins before it.
     fn next_run(&self) -> Option<(Span, &'a [Span])>
-        ensures { MatchOption result (MatchOption self.now.route (self.now.runs.now ≡ []) (λ r. RisesFrom (rank r.lo + 1) self.now.runs.now)) (λ p. (self.now.runs.now ≡ p.0 ∷ p.1.now) × RisesFrom (rank p.0.lo) (from_first self.now.route (standing_spans self.now.routes.pool (contains nat_eq self.now.routes.over.now) self.now.routes.routes.now))) }
+        ensures { MatchOption result (BeginLater self.now.route self.now.runs.now) (λ p. (self.now.runs.now ≡ p.0 ∷ p.1.now) × RisesFrom (rank p.0.lo) (waiting self.now.route self.now.routes)) }
     {
         let (run, later) = self.runs.split_first()?;
         match self.route {
@@ -97,13 +98,13 @@ impl<'a> HeldSpans<'a> {
 }
 
 impl Holds for HeldSpans<'_> {
-    ghost rest = { λ s. merged s.runs.now (from_first s.route (standing_spans s.routes.pool (contains nat_eq s.routes.over.now) s.routes.routes.now)) };
+    ghost rest = { λ s. merged s.runs.now (waiting s.route s.routes) };
 
     ghost honest = { λ s. Unit {0} };
 
     ghost floor = { λ s. reached s.last };
 
-    ghost left = { λ s. length (merged s.runs.now (from_first s.route (standing_spans s.routes.pool (contains nat_eq s.routes.over.now) s.routes.routes.now))) };
+    ghost left = { λ s. length (merged s.runs.now (waiting s.route s.routes)) };
 
     ghost stopped = { λ s why. ⊥ };
 
