@@ -18,3 +18,4 @@ pub mod PeerRests
 pub mod CommitRows
 pub mod LoadLemmas
 pub mod ListedLemmas
+pub mod ReadLemmas

@@ -69,5 +69,5 @@ pub fn commit_change<S: Alter>(
     let _settled = conn.is_autocommit();
     let mut tx = conn.transaction();
     write_change(&mut tx, network, change)?;
-    tx.commit().map_err(fault_of)
+    tx.commit().map_err(|error| fault_of(error))
 }

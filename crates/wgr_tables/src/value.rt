@@ -14,11 +14,18 @@ pub(crate) fn number_value(number: u32) -> ValueRef<'static>
     ValueRef::Int(i64::from(number))
 }
 
+/// The id before those of a network's peers: that of each is its number more.
+pub(crate) fn first_id(network: u32) -> u64
+    ensures { result ≡ peer_id network 0 }
+{
+    u64::from(network) * 1_048_576
+}
+
 /// The id of a peer's row.
 pub(crate) fn peer_id_value(network: u32, number: u32) -> ValueRef<'static>
     ensures { result ≡ Int (pos (peer_id network number)) }
 {
-    ValueRef::Int(i64::from(network) * 1_048_576 + i64::from(number))
+    ValueRef::Int((first_id(network) + u64::from(number)) as i64)
 }
 
 /// A family: 4 or 6.
