@@ -5,7 +5,6 @@ use Rattle.sqlite.specs.Command.{Command}
 use Rattle.sqlite.specs.Command.TheVariants.{Update, Delete, Insert, Select}
 use Rattle.sqlite.specs.Source.TheVariants.{Values}
 use Rattle.sqlite.specs.Term.{Term, lit, col, op2}
-use Rattle.sqlite.specs.Schema.{Schema}
 use Rattle.sqlite.specs.Collation.TheVariants.{Binary}
 use Rattle.sqlite_sql.specs.declared.ops.BinaryOp.TheVariants.{Compare}
 use Rattle.sqlite_sql.specs.declared.ops.CompareOp.TheVariants.{Eq, Ne}
@@ -108,6 +107,32 @@ network_text = codes "SELECT id, NULL, tenant, name, family, lo, length, host, p
 abbrev pub network_places : List Term
 network_places = col 1 0 ∷ lit Null ∷ col 1 2 ∷ col 1 3 ∷ col 1 4 ∷ col 1 5 ∷ col 1 6 ∷ col 1 7 ∷ col 1 8 ∷ col 1 9 ∷ col 1 10 ∷ col 1 11 ∷ []
 
+-- ---- SELECT by a key
+
+abbrev pub token_text : List ℕ
+token_text = codes "SELECT NULL, digest, tenant FROM token WHERE digest = ?1"
+
+abbrev pub of_digest : List Term
+of_digest = equal_to 1 0 ∷ []
+
+abbrev pub token_places : List Term
+token_places = lit Null ∷ col 1 1 ∷ col 1 2 ∷ []
+
+abbrev pub tenant_text : List ℕ
+tenant_text = codes "SELECT id, NULL, name FROM tenant WHERE name = ?1"
+
+abbrev pub of_name : List Term
+of_name = equal_to 2 0 ∷ []
+
+abbrev pub tenant_places : List Term
+tenant_places = col 1 0 ∷ lit Null ∷ col 1 2 ∷ []
+
+abbrev pub slot_text : List ℕ
+slot_text = codes "SELECT id, NULL, tenant, name, family, lo, length, host, port, server, capacity, next FROM network WHERE tenant = ?1 AND name = ?2"
+
+abbrev pub of_slot : List Term
+of_slot = equal_to 2 0 ∷ equal_to 3 1 ∷ []
+
 -- what a text does where the register's tables stand first; it begins no transaction, and ends none
 pub record Means (others : Others) (text : List ℕ) (command : Command) : Type 0 where
   pub command_is : command_of (understood (schema_with others) text) ≡ command
@@ -166,3 +191,15 @@ module _ (others : Others) where
   pub network_asks : Asks others network_text (Select (record { lets = []; body = plain_query 5 by_id network_places [] }) (codes "id" ∷ codes "NULL" ∷ codes "tenant" ∷ codes "name" ∷ codes "family" ∷ codes "lo" ∷ codes "length" ∷ codes "host" ∷ codes "port" ∷ codes "server" ∷ codes "capacity" ∷ codes "next" ∷ []))
   unfolding understood everything
   network_asks = record { means = record { command_is = refl; plain = (refl, refl) }; unlisted = refl }
+
+  pub token_asks : Asks others token_text (Select (record { lets = []; body = plain_query 3 of_digest token_places [] }) (codes "NULL" ∷ codes "digest" ∷ codes "tenant" ∷ []))
+  unfolding understood everything
+  token_asks = record { means = record { command_is = refl; plain = (refl, refl) }; unlisted = refl }
+
+  pub tenant_asks : Asks others tenant_text (Select (record { lets = []; body = plain_query 1 of_name tenant_places [] }) (codes "id" ∷ codes "NULL" ∷ codes "name" ∷ []))
+  unfolding understood everything
+  tenant_asks = record { means = record { command_is = refl; plain = (refl, refl) }; unlisted = refl }
+
+  pub slot_asks : Asks others slot_text (Select (record { lets = []; body = plain_query 5 of_slot network_places [] }) (codes "id" ∷ codes "NULL" ∷ codes "tenant" ∷ codes "name" ∷ codes "family" ∷ codes "lo" ∷ codes "length" ∷ codes "host" ∷ codes "port" ∷ codes "server" ∷ codes "capacity" ∷ codes "next" ∷ []))
+  unfolding understood everything
+  slot_asks = record { means = record { command_is = refl; plain = (refl, refl) }; unlisted = refl }

@@ -195,7 +195,7 @@ fn load_row<S: Alter>(
 }
 
 /// The one row, if there is one. A key can't have two.
-fn only(mut rows: Vec<Row>) -> Result<Option<Row>, Fault>
+pub(crate) fn only(mut rows: Vec<Row>) -> Result<Option<Row>, Fault>
     ensures some { IfOk result (λ found. IfSome found (λ row. rows.items ≡ row ∷ [])) }
     ensures none { IfOk result (λ found. IfNone found (rows.items ≡ [])) }
 {
