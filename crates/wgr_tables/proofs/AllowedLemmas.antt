@@ -71,7 +71,7 @@ equal_spelled m n p q = go (nat_eq m n) refl
 spelled_back : (v : Value) → v ≡ Blob (bytes_of (number_of (bytes v))) → number_of (bytes_of (number_of (bytes v))) ≡ number_of (bytes v)
 spelled_back v is = sym (ap (λ x. number_of (bytes x)) is)
 
-family_back : (f : Family) → family_of (family_number f) ≡ f
+pub family_back : (f : Family) → family_of (family_number f) ≡ f
 family_back V4 = refl
 family_back V6 = refl
 

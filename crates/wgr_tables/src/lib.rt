@@ -17,4 +17,5 @@ mod value;
 pub use commit::commit_change;
 pub use load::load_network;
 pub use lookup::{network_id, tenant_id, tenant_of_token};
+pub use value::{bytes_of, family_value, number_value};
 pub use wgr_sql::Fault;

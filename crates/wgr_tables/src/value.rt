@@ -8,7 +8,7 @@ use sqlite::types::ValueRef;
 use wgr_text::Family;
 
 /// A number.
-pub(crate) fn number_value(number: u32) -> ValueRef<'static>
+pub fn number_value(number: u32) -> ValueRef<'static>
     ensures { result ≡ Int (pos number) }
 {
     ValueRef::Int(i64::from(number))
@@ -29,7 +29,7 @@ pub(crate) fn peer_id_value(network: u32, number: u32) -> ValueRef<'static>
 }
 
 /// A family: 4 or 6.
-pub(crate) fn family_value(family: Family) -> ValueRef<'static>
+pub fn family_value(family: Family) -> ValueRef<'static>
     ensures { result ≡ Int (pos (family_number family)) }
 {
     match family {
@@ -39,7 +39,7 @@ pub(crate) fn family_value(family: Family) -> ValueRef<'static>
 }
 
 /// The 16 bytes of an address's number, highest first.
-pub(crate) fn bytes_of(number: u128) -> [u8; 16]
+pub fn bytes_of(number: u128) -> [u8; 16]
     ensures { result ≡ bytes_of number }
 {
     number.to_be_bytes()
