@@ -1,3 +1,9 @@
+//! Why a statement failed.
+ghost use Rattle.std.specs.Prelude.{◌≡◌, ◌↔◌};
+ghost use Rattle.sqlite.specs.declared.error.Error.TheVariants.{SqliteFailure};
+ghost use Rattle.sqlite.specs.declared.error.ErrorCode.TheVariants.{OutOfMemory};
+ghost use Rattle.wgr_sql.specs.declared.fault.Fault.TheVariants.{NoMemory};
+
 use sqlite::{Error, ErrorCode};
 
 /// Why a statement failed.
@@ -10,7 +16,9 @@ pub enum Fault {
 }
 
 /// The fault that an error of the database is.
-pub fn fault_of(error: Error) -> Fault {
+pub fn fault_of(error: Error) -> Fault
+    ensures { (result ≡ NoMemory) ↔ (error ≡ SqliteFailure OutOfMemory) }
+{
     match error {
         Error::SqliteFailure(ErrorCode::OutOfMemory) => Fault::NoMemory,
         _ => Fault::Store,

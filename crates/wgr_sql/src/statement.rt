@@ -1,3 +1,4 @@
+//! A reading in a transaction of its own, and a statement in its caller's.
 ghost use Rattle.std.specs.Prelude.{◌≡◌, false, true, IsTrue, Ok, IfOk};
 ghost use Rattle.sqlite.specs.Values.{bound};
 ghost use Rattle.sqlite.specs.State.{HasCleanDisk, Survives, Executes, KeepsCommit, Shows};

@@ -30,8 +30,6 @@ use Rattle.sqlite_value.specs.Order.{value_cmp}
 use Rattle.sqlite_value.specs.Keys.{plain}
 use Rattle.sqlite_schema.specs.Rules.{agree, differ}
 use Rattle.wgr_tables.proofs.UniqueLemmas.{from_model, differ_ints, allowed_apart, agree_four, four}
-use Rattle.sqlite.specs.Listing.{understood}
-use Rattle.sqlite.proofs.Callers.{IsPlain, command_of}
 use Rattle.sqlite.specs.Command.TheVariants.{Insert}
 use Rattle.sqlite.specs.Source.TheVariants.{Values}
 use Rattle.wgr_tables.specs.Layout.{Others, schema_with, allowed_at}
@@ -44,7 +42,7 @@ use Rattle.wgr_tables.proofs.EditLemmas.{allowed_after, register_allowed}
 use Rattle.wgr_tables.proofs.Made.{Made}
 use Rattle.wgr_tables.proofs.WriteLemmas.{rows_deleted, row_inserted}
 use Rattle.wgr_tables.proofs.WrittenLemmas.{IsWritten, written_filter, written_put}
-use Rattle.wgr_tables.proofs.Meanings.{drop_route_text, drop_route_is, drop_route_plain, of_route, allowed_values}
+use Rattle.wgr_tables.proofs.Meanings.{Means, drop_route_text, drop_route_means, of_route, allowed_values}
 use Rattle.wgr_sql.proofs.TableLemmas.{cast_null, cast_int, put_one}
 use Rattle.wgr_sql.proofs.TextLemmas.{text_at, equal_texts}
 use Rattle.wgr_sql.proofs.Values.{and_true, equal_blob, equal_itself}
@@ -73,7 +71,7 @@ equal_spelled m n p q = go (nat_eq m n) refl
 spelled_back : (v : Value) → v ≡ Blob (bytes_of (number_of (bytes v))) → number_of (bytes_of (number_of (bytes v))) ≡ number_of (bytes v)
 spelled_back v is = sym (ap (λ x. number_of (bytes x)) is)
 
-family_back : (f : Family) → family_of (family_number f) ≡ f
+pub family_back : (f : Family) → family_of (family_number f) ≡ f
 family_back V4 = refl
 family_back V6 = refl
 
@@ -123,7 +121,7 @@ pub route_gone : (old new : State) (register : IsRegister old.now) (network : �
 route_gone old new register network p count low ran =
     let rows = old.now.trees 10 in
     let q = λ (r : Row). list_all (holds (params ∷ r ∷ [])) of_route in
-    let done = rows_deleted old new register drop_route_text params count ran (drop_route_plain register.others) 5 (allowed_at 10) refl refl of_route (drop_route_is register.others) register.written.allowed.keyed in
+    let done = rows_deleted old new register drop_route_text params count ran 5 (allowed_at 10) refl refl of_route (drop_route_means register.others) register.written.allowed.keyed in
     record {
       sound = register_allowed old.now new.now _ register done.sound done.edits (written_filter allowed_numbers allowed_addresses (2 ∷ []) (λ r. not (q r)) rows register.written.allowed);
       made = allowed_after old.now new.now _ register done.sound done.edits
@@ -156,17 +154,17 @@ abbrev allowed_params : ℕ → PrefixValue → ℕ → ℕ → Row
 allowed_params network p hi peer = Int (pos network) ∷ Int (pos (family_number p.address.family)) ∷ Blob (bytes_of p.address.number) ∷ Int (pos p.length) ∷ Blob (bytes_of hi) ∷ Int (pos peer) ∷ []
 
 -- a row of either kind
-pub allowed_came : (kind text : List ℕ) → ((others : Others) → IsPlain (understood (schema_with others) text)) → ((others : Others) → command_of (understood (schema_with others) text) ≡ Insert 5 (Values (allowed_values kind) 8))
+pub allowed_came : (kind text : List ℕ) → ((others : Others) → Means others text (Insert 5 (Values (allowed_values kind) 8)))
     → (old new : State) (register : IsRegister old.now) (network : ℕ) (p : PrefixValue) (hi number count : ℕ) → p.address.number < 2 ^ 128 → hi < 2 ^ 128 → hi ≡ (last_of p).number
     → Executes text (allowed_params network p hi (peer_id network number)) old new (Ok count)
     → Made (AllowedComes (allowed_row network (bytes_eq kind route_kind) p number)) old.now new.now
-allowed_came kind text is_plain is old new register network p hi number count low high last ran =
+allowed_came kind text means old new register network p hi number count low high last ran =
     let peer = peer_id network number in
     let rows = old.now.trees 10 in
     let row = stored_allowed rows kind network p hi peer in
     let news : (edit_of old.now.trees (allowed_at 10) [] Chosen 0 (value_rows (stamped (allowed_at 10) (allowed_params network p hi peer)) 8 1 (allowed_values kind))).news ≡ row ∷ [] =
     rw (cast_null, cast_int (pos network), cast_int (pos (family_number p.address.family)), cast_int (pos p.length), cast_int (pos peer)) in
-    let done = row_inserted old new register text (allowed_params network p hi peer) count ran (is_plain register.others) 5 (allowed_at 10) refl refl (allowed_values kind) 8 (is register.others) refl row news in
+    let done = row_inserted old new register text (allowed_params network p hi peer) count ran 5 (allowed_at 10) refl refl (allowed_values kind) 8 (means register.others) refl row news in
     let same = stored_is rows kind network p hi number low high last in
     record {
       sound = register_allowed old.now new.now _ register done.0.sound done.0.edits (written_put allowed_numbers allowed_addresses (2 ∷ []) row rows refl done.1 (stored_written rows kind network p hi peer low high) register.written.allowed);

@@ -20,7 +20,7 @@ use Rattle.wgr_sql.proofs.RowLemmas.{equal_nats, map_filter}
 use Rattle.wgr_tables.proofs.EditLemmas.{peers_after, register_peers, allowed_after, register_allowed}
 use Rattle.wgr_tables.proofs.WriteLemmas.{rows_deleted}
 use Rattle.wgr_tables.proofs.WrittenLemmas.{written_filter}
-use Rattle.wgr_tables.proofs.Meanings.{drop_peer_text, drop_peer_is, drop_peer_plain, of_peer_row, drop_allowed_text, drop_allowed_is, drop_allowed_plain, of_peer, drop_address_text, drop_address_is, drop_address_plain, of_address}
+use Rattle.wgr_tables.proofs.Meanings.{drop_peer_text, drop_peer_means, of_peer_row, drop_allowed_text, drop_allowed_means, of_peer, drop_address_text, drop_address_means, of_address}
 use Rattle.wgr_sql.proofs.TextLemmas.{text_at, differ_texts}
 use Rattle.wgr_sql.proofs.Values.{and_true}
 
@@ -29,7 +29,7 @@ peer_gone old new register network id count ran =
     let params = Int (pos network) ∷ Int (pos id) ∷ [] in
     let rows = old.now.trees 8 in
     let p = λ (r : Row). list_all (holds (params ∷ r ∷ [])) of_peer_row in
-    let done = rows_deleted old new register drop_peer_text params count ran (drop_peer_plain register.others) 4 (peer_at 8) refl refl of_peer_row (drop_peer_is register.others) register.written.peers.keyed in
+    let done = rows_deleted old new register drop_peer_text params count ran 4 (peer_at 8) refl refl of_peer_row (drop_peer_means register.others) register.written.peers.keyed in
     record {
       sound = register_peers old.now new.now _ register done.sound done.edits (written_filter peer_numbers [] [] (λ r. not (p r)) rows register.written.peers);
       made = peers_after old.now new.now _ register done.sound done.edits
@@ -46,7 +46,7 @@ allowed_gone old new register network id count ran =
     let params = Int (pos network) ∷ Int (pos id) ∷ [] in
     let rows = old.now.trees 10 in
     let p = λ (r : Row). list_all (holds (params ∷ r ∷ [])) of_peer in
-    let done = rows_deleted old new register drop_allowed_text params count ran (drop_allowed_plain register.others) 5 (allowed_at 10) refl refl of_peer (drop_allowed_is register.others) register.written.allowed.keyed in
+    let done = rows_deleted old new register drop_allowed_text params count ran 5 (allowed_at 10) refl refl of_peer (drop_allowed_means register.others) register.written.allowed.keyed in
     record {
       sound = register_allowed old.now new.now _ register done.sound done.edits (written_filter allowed_numbers allowed_addresses (2 ∷ []) (λ r. not (p r)) rows register.written.allowed);
       made = allowed_after old.now new.now _ register done.sound done.edits
@@ -63,7 +63,7 @@ address_gone old new register network id count ran =
     let params = Int (pos network) ∷ Int (pos id) ∷ [] in
     let rows = old.now.trees 10 in
     let p = λ (r : Row). list_all (holds (params ∷ r ∷ [])) of_address in
-    let done = rows_deleted old new register drop_address_text params count ran (drop_address_plain register.others) 5 (allowed_at 10) refl refl of_address (drop_address_is register.others) register.written.allowed.keyed in
+    let done = rows_deleted old new register drop_address_text params count ran 5 (allowed_at 10) refl refl of_address (drop_address_means register.others) register.written.allowed.keyed in
     record {
       sound = register_allowed old.now new.now _ register done.sound done.edits (written_filter allowed_numbers allowed_addresses (2 ∷ []) (λ r. not (p r)) rows register.written.allowed);
       made = allowed_after old.now new.now _ register done.sound done.edits

@@ -7,7 +7,7 @@ use Rattle.sqlite_trees.specs.Tree.{with_tree}
 use Rattle.sqlite.specs.Effect.{Database, IsDatabase}
 use Rattle.wgr_sql.specs.Effects.{Edits}
 use Rattle.wgr_tables.specs.Layout.{register_indexes, schema_with}
-use Rattle.wgr_tables.specs.Decode.{AreTrees, AreWritten, AreNetworks, ArePeers, AreAllowed, IsRegister, tables_in, tables_of, meta_in, tenant_in, token_in, network_in, peer_in, allowed_in}
+use Rattle.wgr_tables.specs.Decode.{AreTrees, AreWritten, AreTenants, AreTokens, AreNetworks, ArePeers, AreAllowed, IsRegister, tables_in, tables_of, meta_in, tenant_in, token_in, network_in, peer_in, allowed_in}
 use Rattle.wgr_tables.proofs.LayoutLemmas.{is_no_index}
 
 module _ (old new : Database) (register : IsRegister old) (tree : ℕ) (after : List Row) (e : Edits (schema_with register.others) tree after old new) where
@@ -50,6 +50,20 @@ module _ (old new : Database) (register : IsRegister old) (tree : ℕ) (after : 
 module _ (old new : Database) (after : List Row) (register : IsRegister old) (sound : IsDatabase new) where
   abbrev good : AreTrees old.trees
   good = register.written
+
+  module _ (e : Edits (schema_with register.others) 1 after old new) where
+    pub tenants_after : tables_of new ≡ record (tables_of old) { tenants = map tenant_in after }
+    tenants_after = tables_after old new register 1 after e
+
+    pub register_tenants : AreTenants after → IsRegister new
+    register_tenants tenants = register_after old new register 1 after e sound (record { meta = good.meta; tenants = tenants; tokens = good.tokens; networks = good.networks; peers = good.peers; allowed = good.allowed })
+
+  module _ (e : Edits (schema_with register.others) 3 after old new) where
+    pub tokens_after : tables_of new ≡ record (tables_of old) { tokens = map token_in after }
+    tokens_after = tables_after old new register 3 after e
+
+    pub register_tokens : AreTokens after → IsRegister new
+    register_tokens tokens = register_after old new register 3 after e sound (record { meta = good.meta; tenants = good.tenants; tokens = tokens; networks = good.networks; peers = good.peers; allowed = good.allowed })
 
   module _ (e : Edits (schema_with register.others) 5 after old new) where
     pub networks_after : tables_of new ≡ record (tables_of old) { networks = map network_in after }

@@ -13,9 +13,8 @@ use Rattle.sqlite_sql.specs.declared.ops.BinaryOp.TheVariants.{Compare}
 use Rattle.sqlite_sql.specs.declared.ops.CompareOp.TheVariants.{Eq, Ne}
 use Rattle.sqlite.specs.Term.{Term, eval_all, holds}
 use Rattle.sqlite.specs.Effect.{IsDatabase}
-use Rattle.sqlite.specs.Listing.{understood, reads_listing}
 use Rattle.sqlite.specs.State.{State, Shown}
-use Rattle.sqlite.proofs.Callers.{IsPlain, command_of, reads_as}
+use Rattle.sqlite.proofs.Callers.{reads_as}
 use Rattle.sqlite_rules.specs.Lists.{Has}
 use Rattle.wgr_sql.specs.Effects.{passing, plain_query}
 use Rattle.wgr_sql.proofs.Answers.{answers, map-both}
@@ -23,43 +22,36 @@ use Rattle.wgr_sql.proofs.RowLemmas.{equal_nats, map_filter}
 use Rattle.wgr_sql.proofs.TextLemmas.{text_at, equal_texts, differ_texts}
 use Rattle.wgr_sql.proofs.Values.{and_true}
 use Rattle.wgr_tables.specs.Layout.{schema_with, allowed_at}
+use Rattle.wgr_tables.specs.Loads.{ShowAddresses, ShowNetwork, ShowPeers, ShowRoutes}
 use Rattle.wgr_tables.specs.Decode.{IsRegister, tables_of, network_in, peer_in, allowed_in, number_at, bytes_at, route_kind}
 use Rattle.wgr_tables.proofs.Meanings.{
+  Asks,
   peers_text,
-  peers_is,
-  peers_plain,
-  peers_unlisted,
+  peers_asks,
   peer_places,
   of_network,
   rising,
   addresses_text,
-  addresses_is,
-  addresses_plain,
-  addresses_unlisted,
+  addresses_asks,
   allowed_places,
   of_addresses,
   routes_text,
-  routes_is,
-  routes_plain,
-  routes_unlisted,
+  routes_asks,
   of_routes,
   network_text,
-  network_is,
-  network_plain,
-  network_unlisted,
+  network_asks,
   network_places,
   by_id,
 }
 
 -- a query that shows all places of the rows that pass
 module _ (old new : State) (register : IsRegister old.now) (text : List ℕ) (params : Row) (tree : ℕ) (terms places : List Term) (order : List (Term × Key)) (names : List (List ℕ))
-    (is : command_of (understood (schema_with register.others) text) ≡ Select (record { lets = []; body = plain_query tree terms places order }) names) (plain : IsPlain (understood (schema_with register.others) text))
-    (unlisted : reads_listing (schema_with register.others) text ≡ false) (rows : List Row) (shown : Shown text params old new rows) where
+    (asks : Asks register.others text (Select (record { lets = []; body = plain_query tree terms places order }) names)) (rows : List Row) (shown : Shown text params old new rows) where
   pub listed : {T : Type 0} (in_ : Row → T) (q : T → Bool) → ((r : Row) → in_ (eval_all places (params ∷ r ∷ [])) ≡ in_ r) → ((r : Row) → Has (old.now.trees tree) r → list_all (holds (params ∷ r ∷ [])) terms ≡ q (in_ r))
       → IsPermutation (filter q (map in_ (old.now.trees tree))) (map in_ rows)
   listed in_ q same passes =
       let table = old.now.trees tree in
-      let read = reads_as text params old new (schema_with register.others) register.schema_is _ is plain unlisted rows shown in
+      let read = reads_as text params old new (schema_with register.others) register.schema_is _ asks.means.command_is asks.means.plain asks.unlisted rows shown in
       let l = answers tree terms places order old.now.trees params rows read.answer in
       let all : map in_ rows ≡ map in_ l.chosen = ap (map in_) l.shown ∙ map-both (λ r. eval_all places (params ∷ r ∷ [])) in_ l.chosen ∙ (λ k. map (λ r. same r k) l.chosen) in
       let typed : map in_ (passing terms params table) ≡ filter q (map in_ table) = map_filter in_ (λ r. list_all (holds (params ∷ r ∷ [])) terms) q table passes in
@@ -69,14 +61,14 @@ module _ (old new : State) (register : IsRegister old.now) (n : ℕ) (rows : Lis
   abbrev params : Row
   params = Int (pos n) ∷ []
 
-  pub peers_listed : Shown peers_text params old new rows → IsPermutation (filter (λ p. nat_eq p.network n) (tables_of old.now).peers) (map peer_in rows)
+  pub peers_listed : Shown peers_text params old new rows → ShowPeers n (tables_of old.now) rows
   peers_listed shown =
-      listed old new register peers_text params 8 (of_network 2) peer_places (rising 0 ∷ []) _ (peers_is register.others) (peers_plain register.others) (peers_unlisted register.others) rows shown peer_in (λ p. nat_eq p.network n) (λ r. refl)
+      listed old new register peers_text params 8 (of_network 2) peer_places (rising 0 ∷ []) _ (peers_asks register.others) rows shown peer_in (λ p. nat_eq p.network n) (λ r. refl)
       (λ r here. ap (λ v. is_true (binary (Compare Eq Binary) v (Int (pos n))) && true) (register.written.peers.numbers_are r here 2 (inr (inl refl))) ∙ and_true _ ∙ equal_nats (number_at r 2) n)
 
-  pub network_listed : Shown network_text params old new rows → IsPermutation (filter (λ w. nat_eq w.id n) (tables_of old.now).networks) (map network_in rows)
+  pub network_listed : Shown network_text params old new rows → ShowNetwork n (tables_of old.now) rows
   network_listed shown =
-      listed old new register network_text params 5 by_id network_places [] _ (network_is register.others) (network_plain register.others) (network_unlisted register.others) rows shown network_in (λ w. nat_eq w.id n) (λ r. refl)
+      listed old new register network_text params 5 by_id network_places [] _ (network_asks register.others) rows shown network_in (λ w. nat_eq w.id n) (λ r. refl)
       (λ r here. ap (λ v. is_true (binary (Compare Eq Binary) v (Int (pos n))) && true) (register.written.networks.numbers_are r here 0 (inl refl)) ∙ and_true _ ∙ equal_nats (number_at r 0) n)
 
   sound : IsDatabase (record { schema = schema_with register.others; trees = old.now.trees })
@@ -88,9 +80,9 @@ module _ (old new : State) (register : IsRegister old.now) (n : ℕ) (rows : Lis
   kind_at : (r : Row) → Has (old.now.trees 10) r → column r 7 ≡ Text (bytes_at r 7)
   kind_at r here = text_at (schema_with register.others) old.now.trees sound (allowed_at 10) (inr (inr (inr (inr (inr (inl refl)))))) r here 6 _ refl refl refl refl refl
 
-  pub addresses_listed : Shown addresses_text params old new rows → IsPermutation (filter (λ a. nat_eq a.network n && not a.is_route) (tables_of old.now).allowed) (map allowed_in rows)
+  pub addresses_listed : Shown addresses_text params old new rows → ShowAddresses n (tables_of old.now) rows
   addresses_listed shown =
-      listed old new register addresses_text params 10 of_addresses allowed_places (rising 6 ∷ []) _ (addresses_is register.others) (addresses_plain register.others) (addresses_unlisted register.others) rows shown allowed_in (λ a. nat_eq a.network n && not a.is_route) (λ r. refl)
+      listed old new register addresses_text params 10 of_addresses allowed_places (rising 6 ∷ []) _ (addresses_asks register.others) rows shown allowed_in (λ a. nat_eq a.network n && not a.is_route) (λ r. refl)
       (λ r here. ap₂ (λ x y. x && y) (owner_is r here) (and_true _ ∙ ap (λ v. is_true (binary (Compare Ne Binary) v (Text route_kind))) (kind_at r here) ∙ differ_texts (bytes_at r 7) route_kind))
 
   and_turns : (a b : Bool) → (a && b) ≡ (b && a)
@@ -99,7 +91,7 @@ module _ (old new : State) (register : IsRegister old.now) (n : ℕ) (rows : Lis
   and_turns false true = refl
   and_turns false false = refl
 
-  pub routes_listed : Shown routes_text params old new rows → IsPermutation (filter (λ a. a.is_route && nat_eq a.network n) (tables_of old.now).allowed) (map allowed_in rows)
+  pub routes_listed : Shown routes_text params old new rows → ShowRoutes n (tables_of old.now) rows
   routes_listed shown =
-      listed old new register routes_text params 10 of_routes allowed_places (rising 2 ∷ rising 3 ∷ rising 4 ∷ []) _ (routes_is register.others) (routes_plain register.others) (routes_unlisted register.others) rows shown allowed_in (λ a. a.is_route && nat_eq a.network n) (λ r. refl)
+      listed old new register routes_text params 10 of_routes allowed_places (rising 2 ∷ rising 3 ∷ rising 4 ∷ []) _ (routes_asks register.others) rows shown allowed_in (λ a. a.is_route && nat_eq a.network n) (λ r. refl)
       (λ r here. ap₂ (λ x y. x && y) (owner_is r here) (and_true _ ∙ ap (λ v. is_true (binary (Compare Eq Binary) v (Text route_kind))) (kind_at r here) ∙ equal_texts (bytes_at r 7) route_kind) ∙ and_turns (nat_eq (number_at r 1) n) (bytes_eq (bytes_at r 7) route_kind))

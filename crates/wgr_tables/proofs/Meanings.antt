@@ -1,10 +1,10 @@
 -- What the statements mean, whatever stands after the register's tables.
 use Rattle.std.proofs.Common.{◌≡◌, List, ℕ, codes, [], ◌∷◌, refl, false}
 use Rattle.sqlite.specs.declared.types.Value.TheVariants.{Null, Text}
+use Rattle.sqlite.specs.Command.{Command}
 use Rattle.sqlite.specs.Command.TheVariants.{Update, Delete, Insert, Select}
 use Rattle.sqlite.specs.Source.TheVariants.{Values}
 use Rattle.sqlite.specs.Term.{Term, lit, col, op2}
-use Rattle.sqlite.specs.Schema.{Schema}
 use Rattle.sqlite.specs.Collation.TheVariants.{Binary}
 use Rattle.sqlite_sql.specs.declared.ops.BinaryOp.TheVariants.{Compare}
 use Rattle.sqlite_sql.specs.declared.ops.CompareOp.TheVariants.{Eq, Ne}
@@ -107,118 +107,99 @@ network_text = codes "SELECT id, NULL, tenant, name, family, lo, length, host, p
 abbrev pub network_places : List Term
 network_places = col 1 0 ∷ lit Null ∷ col 1 2 ∷ col 1 3 ∷ col 1 4 ∷ col 1 5 ∷ col 1 6 ∷ col 1 7 ∷ col 1 8 ∷ col 1 9 ∷ col 1 10 ∷ col 1 11 ∷ []
 
+-- ---- SELECT by a key
+
+abbrev pub token_text : List ℕ
+token_text = codes "SELECT NULL, digest, tenant FROM token WHERE digest = ?1"
+
+abbrev pub of_digest : List Term
+of_digest = equal_to 1 0 ∷ []
+
+abbrev pub token_places : List Term
+token_places = lit Null ∷ col 1 1 ∷ col 1 2 ∷ []
+
+abbrev pub tenant_text : List ℕ
+tenant_text = codes "SELECT id, NULL, name FROM tenant WHERE name = ?1"
+
+abbrev pub of_name : List Term
+of_name = equal_to 2 0 ∷ []
+
+abbrev pub tenant_places : List Term
+tenant_places = col 1 0 ∷ lit Null ∷ col 1 2 ∷ []
+
+abbrev pub slot_text : List ℕ
+slot_text = codes "SELECT id, NULL, tenant, name, family, lo, length, host, port, server, capacity, next FROM network WHERE tenant = ?1 AND name = ?2"
+
+abbrev pub of_slot : List Term
+of_slot = equal_to 2 0 ∷ equal_to 3 1 ∷ []
+
+-- what a text does where the register's tables stand first; it begins no transaction, and ends none
+pub record Means (others : Others) (text : List ℕ) (command : Command) : Type 0 where
+  pub command_is : command_of (understood (schema_with others) text) ≡ command
+  pub plain : IsPlain (understood (schema_with others) text)
+
+-- a query that lists no tables
+pub record Asks (others : Others) (text : List ℕ) (command : Command) : Type 0 where
+  pub means : Means others text command
+  pub unlisted : reads_listing (schema_with others) text ≡ false
+
 module _ (others : Others) where
-  abbrev schema : Schema
-  schema = schema_with others
-
-  pub drop_peer_is : command_of (understood schema drop_peer_text) ≡ Delete 4 (record { lets = []; body = plain_query 8 of_peer_row (col 1 0 ∷ []) [] })
+  pub drop_peer_means : Means others drop_peer_text (Delete 4 (record { lets = []; body = plain_query 8 of_peer_row (col 1 0 ∷ []) [] }))
   unfolding understood everything
-  drop_peer_is = refl
+  drop_peer_means = record { command_is = refl; plain = (refl, refl) }
 
-  pub drop_peer_plain : IsPlain (understood schema drop_peer_text)
+  pub drop_allowed_means : Means others drop_allowed_text (Delete 5 (record { lets = []; body = plain_query 10 of_peer (col 1 0 ∷ []) [] }))
   unfolding understood everything
-  drop_peer_plain = (refl, refl)
+  drop_allowed_means = record { command_is = refl; plain = (refl, refl) }
 
-  pub drop_allowed_is : command_of (understood schema drop_allowed_text) ≡ Delete 5 (record { lets = []; body = plain_query 10 of_peer (col 1 0 ∷ []) [] })
+  pub drop_address_means : Means others drop_address_text (Delete 5 (record { lets = []; body = plain_query 10 of_address (col 1 0 ∷ []) [] }))
   unfolding understood everything
-  drop_allowed_is = refl
+  drop_address_means = record { command_is = refl; plain = (refl, refl) }
 
-  pub drop_allowed_plain : IsPlain (understood schema drop_allowed_text)
+  pub drop_route_means : Means others drop_route_text (Delete 5 (record { lets = []; body = plain_query 10 of_route (col 1 0 ∷ []) [] }))
   unfolding understood everything
-  drop_allowed_plain = (refl, refl)
+  drop_route_means = record { command_is = refl; plain = (refl, refl) }
 
-  pub drop_address_is : command_of (understood schema drop_address_text) ≡ Delete 5 (record { lets = []; body = plain_query 10 of_address (col 1 0 ∷ []) [] })
+  pub insert_peer_means : Means others insert_peer_text (Insert 4 (Values peer_values 10))
   unfolding understood everything
-  drop_address_is = refl
+  insert_peer_means = record { command_is = refl; plain = (refl, refl) }
 
-  pub drop_route_is : command_of (understood schema drop_route_text) ≡ Delete 5 (record { lets = []; body = plain_query 10 of_route (col 1 0 ∷ []) [] })
+  pub insert_address_means : Means others insert_address_text (Insert 5 (Values (allowed_values (codes "address")) 8))
   unfolding understood everything
-  drop_route_is = refl
+  insert_address_means = record { command_is = refl; plain = (refl, refl) }
 
-  pub insert_peer_plain : IsPlain (understood schema insert_peer_text)
+  pub insert_route_means : Means others insert_route_text (Insert 5 (Values (allowed_values (codes "route")) 8))
   unfolding understood everything
-  insert_peer_plain = (refl, refl)
+  insert_route_means = record { command_is = refl; plain = (refl, refl) }
 
-  pub insert_peer_is : command_of (understood schema insert_peer_text) ≡ Insert 4 (Values peer_values 10)
+  pub set_next_means : Means others set_next_text (Update 3 (record { lets = []; body = plain_query 5 by_id (col 1 0 ∷ col 1 0 ∷ next_terms) [] }))
   unfolding understood everything
-  insert_peer_is = refl
+  set_next_means = record { command_is = refl; plain = (refl, refl) }
 
-  pub insert_address_is : command_of (understood schema insert_address_text) ≡ Insert 5 (Values (allowed_values (codes "address")) 8)
+  pub peers_asks : Asks others peers_text (Select (record { lets = []; body = plain_query 8 (of_network 2) peer_places (rising 0 ∷ []) }) (codes "id" ∷ codes "NULL" ∷ codes "network" ∷ codes "key" ∷ codes "label" ∷ codes "until" ∷ codes "keepalive" ∷ codes "handshake" ∷ codes "received" ∷ codes "sent" ∷ []))
   unfolding understood everything
-  insert_address_is = refl
+  peers_asks = record { means = record { command_is = refl; plain = (refl, refl) }; unlisted = refl }
 
-  pub drop_route_plain : IsPlain (understood schema drop_route_text)
+  pub addresses_asks : Asks others addresses_text (Select (record { lets = []; body = plain_query 10 of_addresses allowed_places (rising 6 ∷ []) }) (codes "NULL" ∷ codes "network" ∷ codes "family" ∷ codes "lo" ∷ codes "length" ∷ codes "hi" ∷ codes "peer" ∷ codes "kind" ∷ []))
   unfolding understood everything
-  drop_route_plain = (refl, refl)
+  addresses_asks = record { means = record { command_is = refl; plain = (refl, refl) }; unlisted = refl }
 
-  pub insert_route_is : command_of (understood schema insert_route_text) ≡ Insert 5 (Values (allowed_values (codes "route")) 8)
+  pub routes_asks : Asks others routes_text (Select (record { lets = []; body = plain_query 10 of_routes allowed_places (rising 2 ∷ rising 3 ∷ rising 4 ∷ []) }) (codes "NULL" ∷ codes "network" ∷ codes "family" ∷ codes "lo" ∷ codes "length" ∷ codes "hi" ∷ codes "peer" ∷ codes "kind" ∷ []))
   unfolding understood everything
-  insert_route_is = refl
+  routes_asks = record { means = record { command_is = refl; plain = (refl, refl) }; unlisted = refl }
 
-  pub insert_route_plain : IsPlain (understood schema insert_route_text)
+  pub network_asks : Asks others network_text (Select (record { lets = []; body = plain_query 5 by_id network_places [] }) (codes "id" ∷ codes "NULL" ∷ codes "tenant" ∷ codes "name" ∷ codes "family" ∷ codes "lo" ∷ codes "length" ∷ codes "host" ∷ codes "port" ∷ codes "server" ∷ codes "capacity" ∷ codes "next" ∷ []))
   unfolding understood everything
-  insert_route_plain = (refl, refl)
+  network_asks = record { means = record { command_is = refl; plain = (refl, refl) }; unlisted = refl }
 
-  pub set_next_is : command_of (understood schema set_next_text) ≡ Update 3 (record { lets = []; body = plain_query 5 by_id (col 1 0 ∷ col 1 0 ∷ next_terms) [] })
+  pub token_asks : Asks others token_text (Select (record { lets = []; body = plain_query 3 of_digest token_places [] }) (codes "NULL" ∷ codes "digest" ∷ codes "tenant" ∷ []))
   unfolding understood everything
-  set_next_is = refl
+  token_asks = record { means = record { command_is = refl; plain = (refl, refl) }; unlisted = refl }
 
-  pub set_next_plain : IsPlain (understood schema set_next_text)
+  pub tenant_asks : Asks others tenant_text (Select (record { lets = []; body = plain_query 1 of_name tenant_places [] }) (codes "id" ∷ codes "NULL" ∷ codes "name" ∷ []))
   unfolding understood everything
-  set_next_plain = (refl, refl)
+  tenant_asks = record { means = record { command_is = refl; plain = (refl, refl) }; unlisted = refl }
 
-  pub peers_is : command_of (understood schema peers_text) ≡ Select (record { lets = []; body = plain_query 8 (of_network 2) peer_places (rising 0 ∷ []) }) (codes "id" ∷ codes "NULL" ∷ codes "network" ∷ codes "key" ∷ codes "label" ∷ codes "until" ∷ codes "keepalive" ∷ codes "handshake" ∷ codes "received" ∷ codes "sent" ∷ [])
+  pub slot_asks : Asks others slot_text (Select (record { lets = []; body = plain_query 5 of_slot network_places [] }) (codes "id" ∷ codes "NULL" ∷ codes "tenant" ∷ codes "name" ∷ codes "family" ∷ codes "lo" ∷ codes "length" ∷ codes "host" ∷ codes "port" ∷ codes "server" ∷ codes "capacity" ∷ codes "next" ∷ []))
   unfolding understood everything
-  peers_is = refl
-
-  pub peers_plain : IsPlain (understood schema peers_text)
-  unfolding understood everything
-  peers_plain = (refl, refl)
-
-  pub peers_unlisted : reads_listing schema peers_text ≡ false
-  unfolding understood everything
-  peers_unlisted = refl
-
-  pub addresses_is : command_of (understood schema addresses_text) ≡ Select (record { lets = []; body = plain_query 10 of_addresses allowed_places (rising 6 ∷ []) }) (codes "NULL" ∷ codes "network" ∷ codes "family" ∷ codes "lo" ∷ codes "length" ∷ codes "hi" ∷ codes "peer" ∷ codes "kind" ∷ [])
-  unfolding understood everything
-  addresses_is = refl
-
-  pub addresses_plain : IsPlain (understood schema addresses_text)
-  unfolding understood everything
-  addresses_plain = (refl, refl)
-
-  pub addresses_unlisted : reads_listing schema addresses_text ≡ false
-  unfolding understood everything
-  addresses_unlisted = refl
-
-  pub routes_is : command_of (understood schema routes_text) ≡ Select (record { lets = []; body = plain_query 10 of_routes allowed_places (rising 2 ∷ rising 3 ∷ rising 4 ∷ []) }) (codes "NULL" ∷ codes "network" ∷ codes "family" ∷ codes "lo" ∷ codes "length" ∷ codes "hi" ∷ codes "peer" ∷ codes "kind" ∷ [])
-  unfolding understood everything
-  routes_is = refl
-
-  pub routes_plain : IsPlain (understood schema routes_text)
-  unfolding understood everything
-  routes_plain = (refl, refl)
-
-  pub routes_unlisted : reads_listing schema routes_text ≡ false
-  unfolding understood everything
-  routes_unlisted = refl
-
-  pub network_is : command_of (understood schema network_text) ≡ Select (record { lets = []; body = plain_query 5 by_id network_places [] }) (codes "id" ∷ codes "NULL" ∷ codes "tenant" ∷ codes "name" ∷ codes "family" ∷ codes "lo" ∷ codes "length" ∷ codes "host" ∷ codes "port" ∷ codes "server" ∷ codes "capacity" ∷ codes "next" ∷ [])
-  unfolding understood everything
-  network_is = refl
-
-  pub network_plain : IsPlain (understood schema network_text)
-  unfolding understood everything
-  network_plain = (refl, refl)
-
-  pub network_unlisted : reads_listing schema network_text ≡ false
-  unfolding understood everything
-  network_unlisted = refl
-
-  pub drop_address_plain : IsPlain (understood schema drop_address_text)
-  unfolding understood everything
-  drop_address_plain = (refl, refl)
-
-  pub insert_address_plain : IsPlain (understood schema insert_address_text)
-  unfolding understood everything
-  insert_address_plain = (refl, refl)
+  slot_asks = record { means = record { command_is = refl; plain = (refl, refl) }; unlisted = refl }

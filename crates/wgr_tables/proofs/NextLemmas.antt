@@ -25,7 +25,7 @@ use Rattle.wgr_tables.specs.Layout.{network_at, schema_with}
 use Rattle.wgr_tables.specs.Decode.{IsRegister, network_in, network_numbers, number_at, bytes_at, number_of, bytes_of, family_of}
 use Rattle.wgr_tables.specs.TableSteps.{NextSets}
 use Rattle.wgr_tables.proofs.Made.{Made}
-use Rattle.wgr_tables.proofs.Meanings.{by_id, next_terms, set_next_text, set_next_is, set_next_plain}
+use Rattle.wgr_tables.proofs.Meanings.{by_id, next_terms, set_next_text, set_next_means}
 use Rattle.wgr_sql.proofs.KeyedLemmas.{revised}
 use Rattle.wgr_sql.proofs.TableLemmas.{cast_int}
 use Rattle.wgr_sql.proofs.Answers.{map-both}
@@ -142,7 +142,7 @@ next_set old new register i n count ran =
     let table = old.now.trees 5 in
     let p = passes old.now register i n in
     let to = change old.now register i n in
-    let done = rows_updated old new register set_next_text params count ran (set_next_plain register.others) 3 (network_at 5) refl refl by_id project (set_next_is register.others) to (λ r. refl) (λ found. map-both _ _ found) register.written.networks.keyed in
+    let done = rows_updated old new register set_next_text params count ran 3 (network_at 5) refl refl by_id project (set_next_means register.others) to (λ r. refl) (λ found. map-both _ _ found) register.written.networks.keyed in
     let after = written_revised network_numbers (5 ∷ []) (4 ∷ []) p to table done.0 done.2 (stays old.now register i n) (written_row old.now register i n) register.written.networks in
     record {
       sound = register_networks old.now new.now done.0 register done.1.sound done.1.edits after;

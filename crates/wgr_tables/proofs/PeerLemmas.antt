@@ -26,7 +26,7 @@ use Rattle.wgr_tables.specs.Parameters.{status_value}
 use Rattle.wgr_tables.specs.TableSteps.{PeerRowComes}
 use Rattle.wgr_tables.proofs.EditLemmas.{peers_after, register_peers}
 use Rattle.wgr_tables.proofs.Made.{Made}
-use Rattle.wgr_tables.proofs.Meanings.{insert_peer_text, insert_peer_is, insert_peer_plain, peer_values}
+use Rattle.wgr_tables.proofs.Meanings.{insert_peer_text, insert_peer_means, peer_values}
 use Rattle.wgr_tables.proofs.UniqueLemmas.{from_model}
 use Rattle.wgr_tables.proofs.WriteLemmas.{row_inserted}
 use Rattle.wgr_tables.proofs.WrittenLemmas.{IsWritten, written_put}
@@ -75,7 +75,7 @@ pub peer_came : (old new : State) (register : IsRegister old.now) (p : PeerRow) 
 peer_came old new register p count ran =
     let rows = old.now.trees 8 in
     let row = stored_peer p in
-    let done = row_inserted old new register insert_peer_text (peer_params p) count ran (insert_peer_plain register.others) 4 (peer_at 8) refl refl peer_values 10 (insert_peer_is register.others) refl row (news_are old.now.trees p p.status) in
+    let done = row_inserted old new register insert_peer_text (peer_params p) count ran 4 (peer_at 8) refl refl peer_values 10 (insert_peer_means register.others) refl row (news_are old.now.trees p p.status) in
     record {
       sound = register_peers old.now new.now _ register done.0.sound done.0.edits (written_put peer_numbers [] [] row rows refl done.1 (stored_written p) register.written.peers);
       made = (

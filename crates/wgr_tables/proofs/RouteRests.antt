@@ -28,7 +28,8 @@ use Rattle.wgr_model.proofs.SameLemmas.{at_has, eqb_sym, has_permutation}
 use Rattle.wgr_tables.proofs.Rests.{Rests}
 use Rattle.wgr_sql.specs.Steps.{Each}
 use Rattle.wgr_tables.specs.TableSteps.{RoutePuts, RouteGoes, is_route_at}
-use Rattle.wgr_tables.proofs.RestLemmas.{filters_turn, not_true, not_false, and_left, and_false}
+use Rattle.wgr_tables.proofs.LeftRows.{left_by, left_all, two_stay, rows_stay, addresses_left, allowed_keyed, not_true, not_false}
+use Rattle.wgr_tables.proofs.RestLemmas.{and_left, and_false}
 
 -- ---- membership where an item is put in its order
 
@@ -96,6 +97,11 @@ nested true true false = refl
 nested true false l = refl
 nested false n l = refl
 
+route_test : (id : ℕ) (p : PrefixValue) (s : PrefixValue × ℕ) → is_route_at id p (route_row id s) ≡ same_prefix s.0 p
+route_test id p s = and_left (nat_eq id id) (nat_eq (family_number s.0.address.family) (family_number p.address.family) && (nat_eq s.0.address.number p.address.number && (nat_eq s.0.length p.length && true))) (eqb_self id)
+    ∙ nested (nat_eq (family_number s.0.address.family) (family_number p.address.family)) (nat_eq s.0.address.number p.address.number) (nat_eq s.0.length p.length)
+    ∙ ap (λ f. (f && nat_eq s.0.address.number p.address.number) && nat_eq s.0.length p.length) (same_families s.0.address.family p.address.family)
+
 never : (a b c d : Bool) → (a && (b && (c && (d && false)))) ≡ false
 never true true true true = refl
 never true true true false = refl
@@ -160,17 +166,12 @@ route_comes id r t u v n ordered rests (m, gone, (real, (rows, perm, is, apart))
     address_keys : IsDistinct same_pair (map (λ (a : AllowedRow). (a.network, a.peer)) (filter (λ a. not a.is_route) rows))
     address_keys =
         let moved = filter_permutation allowed_key same_allowed allowed_self allowed_sym (λ (a : AllowedRow). not a.is_route) (row ∷ kept) rows first_keys keys put_rows in
-        let before = subst (λ l. IsDistinct same_pair (map (λ (a : AllowedRow). (a.network, a.peer)) l)) (filters_turn (λ a. not (q a)) (λ (a : AllowedRow). not a.is_route) u.allowed)
-        (distinct_filter same_pair (λ (a : AllowedRow). (a.network, a.peer)) (λ a. not (q a)) (filter (λ a. not a.is_route) u.allowed) rests.keyed.address_keys) in
+        let before = addresses_left q u.allowed rests.keyed.address_keys in
         IsDistinct-IsPermutation same_pair pair_sym (map (λ (a : AllowedRow). (a.network, a.peer)) (filter (λ a. not a.is_route) kept)) (map (λ (a : AllowedRow). (a.network, a.peer)) (filter (λ a. not a.is_route) rows))
         (IsPermutation-map (λ (a : AllowedRow). (a.network, a.peer)) (filter (λ a. not a.is_route) kept) (filter (λ a. not a.is_route) rows) moved) before
 
     routes : Routes
     routes = assign_route n.routes r.0 r.1
-
-    test : (s : PrefixValue × ℕ) → q (route_row id s) ≡ same_prefix s.0 r.0
-    test s = and_left (nat_eq id id) (nat_eq (family_number s.0.address.family) (family_number r.0.address.family) && (nat_eq s.0.address.number r.0.address.number && (nat_eq s.0.length r.0.length && true))) (eqb_self id)
-        ∙ nested (nat_eq (family_number s.0.address.family) (family_number r.0.address.family)) (nat_eq s.0.address.number r.0.address.number) (nat_eq s.0.length r.0.length) ∙ ap (λ f. (f && nat_eq s.0.address.number r.0.address.number) && nat_eq s.0.length r.0.length) (same_families s.0.address.family r.0.address.family)
 
     there : (a : AllowedRow) → Has rows a → Has (map (address_row id) n.peers ++ map (route_row id) routes) a ⊎ (Has t.allowed a × (nat_eq a.network id ≡ false))
     there a h = elim (has_permutation rows (row ∷ kept) a (IsPermutation-sym (row ∷ kept) rows put_rows) h) [
@@ -182,7 +183,7 @@ route_comes id r t u v n ordered rests (m, gone, (real, (rows, perm, is, apart))
               | inl address ↦ inl (has_left (map (address_row id) n.peers) (map (route_row id) routes) a address)
               | inr route ↦
                   let s = from_map (route_row id) n.routes a route in
-                  let other : same_prefix s.0.0 r.0 ≡ false = sym (test s.0) ∙ ap q s.2 ∙ not_false (q a) f.1 in
+                  let other : same_prefix s.0.0 r.0 ≡ false = sym (route_test id r.0 s.0) ∙ ap q s.2 ∙ not_false (q a) f.1 in
                   inl (has_right (map (address_row id) n.peers) (map (route_row id) routes) a (subst (Has (map (route_row id) routes)) s.2 (has_map (route_row id) routes s.0 (put_to (λ x. is_before x.0 r.0) (λ x. same_prefix x.0 r.0) r n.routes s.0 (inr (s.1, other))))))
             ]
             | inr other ↦ inr other
@@ -201,7 +202,7 @@ route_comes id r t u v n ordered rests (m, gone, (real, (rows, perm, is, apart))
           let s = from_map (route_row id) routes a route in
           elim (put_from (λ x. is_before x.0 r.0) (λ x. same_prefix x.0 r.0) r n.routes (λ y e. not_same r.0 y e) (routes_apart r.0 r.1 n.routes ordered) s.0 s.1) [
             | inl mine ↦ has_permutation (row ∷ kept) rows a put_rows (inl (ap (route_row id) mine ∙ s.2))
-            | inr old ↦ stays a ((rests.allowed a).1 (inl (has_right (map (address_row id) n.peers) (map (route_row id) n.routes) a (subst (Has (map (route_row id) n.routes)) s.2 (has_map (route_row id) n.routes s.0 old.0))))) (ap q (sym s.2) ∙ test s.0 ∙ old.1)
+            | inr old ↦ stays a ((rests.allowed a).1 (inl (has_right (map (address_row id) n.peers) (map (route_row id) n.routes) a (subst (Has (map (route_row id) n.routes)) s.2 (has_map (route_row id) n.routes s.0 old.0))))) (ap q (sym s.2) ∙ route_test id r.0 s.0 ∙ old.1)
           ]
     ]
     back a (inr other) = stays a ((rests.allowed a).1 (inr other)) (and_false (nat_eq a.network id) (nat_eq (family_number a.prefix.address.family) (family_number r.0.address.family) && (nat_eq a.prefix.address.number r.0.address.number && (nat_eq a.prefix.length r.0.length && a.is_route))) other.1)
@@ -220,11 +221,6 @@ routes_come (r ∷ rs) id t u v n ordered real rests (m, step, later) =
 
 -- ---- a route that goes
 
-route_test : (id : ℕ) (p : PrefixValue) (s : PrefixValue × ℕ) → is_route_at id p (route_row id s) ≡ same_prefix s.0 p
-route_test id p s = and_left (nat_eq id id) (nat_eq (family_number s.0.address.family) (family_number p.address.family) && (nat_eq s.0.address.number p.address.number && (nat_eq s.0.length p.length && true))) (eqb_self id)
-    ∙ nested (nat_eq (family_number s.0.address.family) (family_number p.address.family)) (nat_eq s.0.address.number p.address.number) (nat_eq s.0.length p.length)
-    ∙ ap (λ f. (f && nat_eq s.0.address.number p.address.number) && nat_eq s.0.length p.length) (same_families s.0.address.family p.address.family)
-
 pub route_goes : (id : ℕ) (p : PrefixValue) (t u v : Tables) (n : NetworkValue) → Rests id t n u → RouteGoes id p u v → Rests id t (record n { routes = without_route n.routes p }) v
 route_goes id p t u v n rests gone = subst (Rests id t (record n { routes = without_route n.routes p })) (sym gone) (record {
   meta = rests.meta;
@@ -232,49 +228,14 @@ route_goes id p t u v n rests gone = subst (Rests id t (record n { routes = with
   tokens = rests.tokens;
   networks = rests.networks;
   peers = rests.peers;
-  allowed = λ a. (there a, back a);
-  keyed = record {
-    peer_keys = rests.keyed.peer_keys;
-    allowed_keys = distinct_filter same_allowed allowed_key (λ a. not (q a)) u.allowed rests.keyed.allowed_keys;
-    address_keys = subst (λ l. IsDistinct same_pair (map (λ (a : AllowedRow). (a.network, a.peer)) l)) (filters_turn (λ a. not (q a)) (λ (a : AllowedRow). not a.is_route) u.allowed)
-        (distinct_filter same_pair (λ (a : AllowedRow). (a.network, a.peer)) (λ a. not (q a)) (filter (λ a. not a.is_route) u.allowed) rests.keyed.address_keys);
-  };
+  allowed = rows_stay q (λ a. Has t.allowed a × (nat_eq a.network id ≡ false)) (λ a h. and_false _ _ h.1) (map (address_row id) n.peers ++ map (route_row id) n.routes) (map (address_row id) n.peers ++ map (route_row id) (without_route n.routes p)) u.allowed
+      (two_stay q (address_row id) (route_row id) n.peers n.peers n.routes (without_route n.routes p) (left_all q (address_row id) n.peers (λ o. never (nat_eq id id) (nat_eq (family_number o.address.family) (family_number p.address.family)) (nat_eq o.address.number p.address.number) (nat_eq (width o.address.family) p.length)))
+      (left_by q (route_row id) n.routes (λ r. same_prefix r.0 p) (route_test id p))) rests.allowed;
+  keyed = allowed_keyed q u rests.keyed;
 })
   where
     q : AllowedRow → Bool
     q = is_route_at id p
-
-    routes : Routes
-    routes = without_route n.routes p
-
-    there : (a : AllowedRow) → Has (filter (λ x. not (q x)) u.allowed) a → Has (map (address_row id) n.peers ++ map (route_row id) routes) a ⊎ (Has t.allowed a × (nat_eq a.network id ≡ false))
-    there a h =
-        let f = from_filter (λ x. not (q x)) u.allowed a h in
-        elim ((rests.allowed a).0 f.0) [
-          | inl own ↦ elim (from_append (map (address_row id) n.peers) (map (route_row id) n.routes) a own) [
-            | inl address ↦ inl (has_left (map (address_row id) n.peers) (map (route_row id) routes) a address)
-            | inr route ↦
-                let s = from_map (route_row id) n.routes a route in
-                let other : same_prefix s.0.0 p ≡ false = sym (route_test id p s.0) ∙ ap q s.2 ∙ not_false (q a) f.1 in
-                inl (has_right (map (address_row id) n.peers) (map (route_row id) routes) a (subst (Has (map (route_row id) routes)) s.2 (has_map (route_row id) routes s.0 (in_filter (λ r. not (same_prefix r.0 p)) n.routes s.0 s.1 (not_true (same_prefix s.0.0 p) other)))))
-          ]
-          | inr other ↦ inr other
-        ]
-
-    stays : (a : AllowedRow) → Has u.allowed a → q a ≡ false → Has (filter (λ x. not (q x)) u.allowed) a
-    stays a h apart = in_filter (λ x. not (q x)) u.allowed a h (not_true (q a) apart)
-
-    back : (a : AllowedRow) → Has (map (address_row id) n.peers ++ map (route_row id) routes) a ⊎ (Has t.allowed a × (nat_eq a.network id ≡ false)) → Has (filter (λ x. not (q x)) u.allowed) a
-    back a (inl own) = elim (from_append (map (address_row id) n.peers) (map (route_row id) routes) a own) [
-      | inl address ↦
-          let o = from_map (address_row id) n.peers a address in
-          stays a ((rests.allowed a).1 (inl (has_left (map (address_row id) n.peers) (map (route_row id) n.routes) a address))) (ap q (sym o.2) ∙ never (nat_eq id id) (nat_eq (family_number o.0.address.family) (family_number p.address.family)) (nat_eq o.0.address.number p.address.number) (nat_eq (width o.0.address.family) p.length))
-      | inr route ↦
-          let s = from_map (route_row id) routes a route in
-          let f = from_filter (λ r. not (same_prefix r.0 p)) n.routes s.0 s.1 in
-          stays a ((rests.allowed a).1 (inl (has_right (map (address_row id) n.peers) (map (route_row id) n.routes) a (subst (Has (map (route_row id) n.routes)) s.2 (has_map (route_row id) n.routes s.0 f.0))))) (ap q (sym s.2) ∙ route_test id p s.0 ∙ not_false (same_prefix s.0.0 p) f.1)
-    ]
-    back a (inr other) = stays a ((rests.allowed a).1 (inr other)) (and_false (nat_eq a.network id) (nat_eq (family_number a.prefix.address.family) (family_number p.address.family) && (nat_eq a.prefix.address.number p.address.number && (nat_eq a.prefix.length p.length && a.is_route))) other.1)
 
 pub routes_go : (ps : List PrefixValue) (id : ℕ) (t u v : Tables) (n : NetworkValue) → Rests id t n u → Each (RouteGoes id) ps u v → Rests id t (record n { routes = without_routes n.routes ps }) v
 routes_go [] id t u v n rests done = subst (λ (x : Tables). Rests id t n x) done (record { meta = rests.meta; tenants = rests.tenants; tokens = rests.tokens; networks = rests.networks; peers = rests.peers; allowed = rests.allowed; keyed = rests.keyed })

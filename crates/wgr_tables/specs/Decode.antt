@@ -138,6 +138,12 @@ allowed_numbers = 1 ∷ 2 ∷ 4 ∷ 6 ∷ []
 abbrev pub allowed_addresses : List ℕ
 allowed_addresses = 3 ∷ 5 ∷ []
 
+abbrev pub AreTenants : List Row → Type 0
+AreTenants = AreWritten (0 ∷ []) [] []
+
+abbrev pub AreTokens : List Row → Type 0
+AreTokens = AreWritten (2 ∷ []) [] []
+
 abbrev pub AreNetworks : List Row → Type 0
 AreNetworks = AreWritten network_numbers (5 ∷ []) (4 ∷ [])
 
@@ -150,8 +156,8 @@ AreAllowed = AreWritten allowed_numbers allowed_addresses (2 ∷ [])
 -- the rows of the six tables
 pub record AreTrees (trees : Trees) : Type 0 where
   pub meta : AreWritten (0 ∷ []) [] [] (trees 0)
-  pub tenants : AreWritten (0 ∷ []) [] [] (trees 1)
-  pub tokens : AreWritten (2 ∷ []) [] [] (trees 3)
+  pub tenants : AreTenants (trees 1)
+  pub tokens : AreTokens (trees 3)
   pub networks : AreNetworks (trees 5)
   pub peers : ArePeers (trees 8)
   pub allowed : AreAllowed (trees 10)

@@ -4,5 +4,6 @@ pub mod Decode
 pub mod Parameters
 pub mod TableSteps
 pub mod Loads
+pub mod Lookups
 pub mod Writes
 pub mod Standing

@@ -1,5 +1,5 @@
 -- Steps on the rows of the register, and the rows at which it stands.
-use Rattle.std.specs.Prelude.{Result, List}
+use Rattle.std.specs.Prelude.{Result, List, []}
 use Rattle.sqlite.specs.Effect.{Database}
 use Rattle.sqlite.specs.State.{State}
 use Rattle.sqlite.specs.Store.{Ghosts}
@@ -15,6 +15,10 @@ use Rattle.wgr_tables.specs.Writes.{Written, Writes}
 -- last that was acknowledged.
 abbrev pub Stands : {S : Type 0} → Ghosts S → Held S → Database → List Written → Type 0
 Stands g conn db pending = standing.Stands IsRegister Writes g conn db pending
+
+-- a write was done and acknowledged: the register is held by the database after it, and nothing is pending
+abbrev pub IsDone : {S : Type 0} → Ghosts S → Held S → Database → Written → Type 0
+IsDone g conn db one = (next : Database) × Writes one db next × Stands g conn next []
 
 -- a step of a transaction makes this of the rows
 abbrev pub StepsOn : {X E : Type 0} → (Tables → Tables → Type 0) → State → State → Result X E → Type 0

@@ -1,15 +1,45 @@
--- What a call writes.
-use Rattle.std.specs.Prelude.{ℕ}
+-- What a call writes in one commit.
+use Rattle.std.specs.Prelude.{◌≡◌, ℕ, not, List, ◌∷◌}
+use Rattle.std.specs.List.{filter}
+use Rattle.std.specs.List.Sorted.{IsPermutation}
 use Rattle.sqlite.specs.Effect.{Database}
 use Rattle.wgr_core.specs.Network.{NetworkValue}
-use Rattle.wgr_model.specs.Rows.{Replaces}
+use Rattle.wgr_model.specs.Register.{Bytes, Tenant, Token, is_same}
+use Rattle.wgr_model.specs.Rows.{NetworkRow, Tables, Replaces}
+use Rattle.wgr_model.specs.RowRules.{Removes}
 use Rattle.wgr_sql.specs.Steps as steps
 use Rattle.wgr_tables.specs.Decode.{IsRegister, tables_of}
 
--- a network's value takes the place of the one whose rows have this id
-pub record Written : Type 0 where
-  pub network : ℕ
-  pub value : NetworkValue
+-- A network's value takes the place of the one whose rows have this id; a tenant, a token and a
+-- network come; the token of this digest goes; and so do all rows of the network of this id.
+pub data Written : Type 0 where
+  Replaced : (network : ℕ) (value : NetworkValue) → Written
+  TenantGained : (tenant : Tenant) → Written
+  TokenGained : (token : Token) → Written
+  TokenLost : (digest : Bytes) → Written
+  NetworkGained : (network : NetworkRow) → Written
+  NetworkLost : (network : ℕ) → Written
+
+abbrev pub TenantComes : Tenant → Tables → Tables → Type 0
+TenantComes tenant t u = (tenants : List Tenant) × IsPermutation (tenant ∷ t.tenants) tenants × (u ≡ record t { tenants = tenants })
+
+abbrev pub TokenComes : Token → Tables → Tables → Type 0
+TokenComes token t u = (tokens : List Token) × IsPermutation (token ∷ t.tokens) tokens × (u ≡ record t { tokens = tokens })
+
+abbrev pub TokenGoes : Bytes → Tables → Tables → Type 0
+TokenGoes digest t u = u ≡ record t { tokens = filter (λ x. not (is_same digest x.digest)) t.tokens }
+
+abbrev pub NetworkComes : NetworkRow → Tables → Tables → Type 0
+NetworkComes network t u = (networks : List NetworkRow) × IsPermutation (network ∷ t.networks) networks × (u ≡ record t { networks = networks })
+
+-- what it makes of the rows
+abbrev pub Changes : Written → Tables → Tables → Type 0
+Changes (Replaced network value) = Replaces network value
+Changes (TenantGained tenant) = TenantComes tenant
+Changes (TokenGained token) = TokenComes token
+Changes (TokenLost digest) = TokenGoes digest
+Changes (NetworkGained network) = NetworkComes network
+Changes (NetworkLost network) = Removes network
 
 abbrev pub Writes : Written → Database → Database → Type 0
-Writes w = steps.Makes IsRegister tables_of (Replaces w.network w.value)
+Writes one = steps.Makes IsRegister tables_of (Changes one)

@@ -1,5 +1,5 @@
 //! A change of a network, in one commit.
-ghost use Rattle.std.specs.Prelude.{◌≡◌, [], ◌∷◌, List, false, OnErr, OnOk};
+ghost use Rattle.std.specs.Prelude.{◌≡◌, ◌∷◌, List, false, OnErr, OnOk};
 ghost use Rattle.sqlite.specs.Effect.{Database};
 ghost use Rattle.sqlite.specs.State.{HasCleanDisk, Survives};
 ghost use Rattle.sqlite.specs.Held.{state};
@@ -9,8 +9,8 @@ ghost use Rattle.wgr_model.specs.RowLaws.{AreConsistent};
 ghost use Rattle.wgr_model.specs.Rows.{NetworkRow, holding_of};
 ghost use Rattle.wgr_tables.specs.Decode.{tables_of};
 ghost use Rattle.wgr_tables.specs.TableSteps.{NextSets, ChangeMakes};
-ghost use Rattle.wgr_tables.specs.Writes.{Written, Writes};
-ghost use Rattle.wgr_tables.specs.Standing.{Stands, StepsOn};
+ghost use Rattle.wgr_tables.specs.Writes.{Written, Replaced};
+ghost use Rattle.wgr_tables.specs.Standing.{IsDone, Stands, StepsOn};
 
 use crate::enter::put_peers;
 use crate::leave::remove_peers;
@@ -62,12 +62,12 @@ pub fn commit_change<S: Alter>(
     requires idle { conn.old.in_transaction ≡ false }
     ensures idle { conn.new.in_transaction ≡ false }
     ensures done { (db : Database) (pending : List Written) (w : NetworkRow) → Stands S.Store conn.old db pending → AreConsistent (tables_of db) → Has (tables_of db).networks w → w.id ≡ network → HasCleanDisk (state S.Store conn.new)
-        → OnOk result ((next : Database) × Writes (record { network = network; value = applied change.now (holding_of (tables_of db) w).network }) db next × Stands S.Store conn.new next []) }
+        → OnOk result (IsDone S.Store conn.new db (Replaced network (applied change.now (holding_of (tables_of db) w).network))) }
     ensures fault { (db : Database) (pending : List Written) (w : NetworkRow) → Stands S.Store conn.old db pending → AreConsistent (tables_of db) → Has (tables_of db).networks w → w.id ≡ network
-        → OnErr result (Stands S.Store conn.new db (record { network = network; value = applied change.now (holding_of (tables_of db) w).network } ∷ pending)) }
+        → OnErr result (Stands S.Store conn.new db (Replaced network (applied change.now (holding_of (tables_of db) w).network) ∷ pending)) }
 {
     let _settled = conn.is_autocommit();
     let mut tx = conn.transaction();
     write_change(&mut tx, network, change)?;
-    tx.commit().map_err(fault_of)
+    tx.commit().map_err(|error| fault_of(error))
 }

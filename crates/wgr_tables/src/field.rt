@@ -6,6 +6,7 @@ ghost use Rattle.sqlite_sql.specs.Ops.{is_null};
 ghost use Rattle.wgr_model.specs.Rows.{peer_id};
 ghost use Rattle.wgr_tables.specs.Decode.{number_at, bytes_at, family_of, number_of, key_at, prefix_at, address_at, route_kind};
 
+use crate::value::first_id;
 use sqlite::Row;
 use sqlite::types::ValueRef;
 use std::alloc::Global;
@@ -16,7 +17,8 @@ use wgr_text::{Addr, Family, Key, Prefix};
 
 /// The number at this place.
 pub(crate) fn number_at(row: &Row, at: usize) -> Result<u64, Fault>
-    ensures { IfOk result (λ number. number ≡ number_at row.now at) }
+    ensures value { IfOk result (λ number. number ≡ number_at row.now at) }
+    ensures there { IfOk result (λ _. is_null (column row.now at) ≡ false) }
 {
     let number: u64 = match row.get(at) {
         Ok(number) => number,
@@ -165,7 +167,7 @@ pub(crate) fn peer_number_at(row: &Row, at: usize, network: u32) -> Result<u32, 
     ensures { IfOk result (λ number. peer_id network number ≡ number_at row.now at) }
 {
     let id = number_at(row, at)?;
-    let first = u64::from(network) * 1_048_576;
+    let first = first_id(network);
     if id < first {
         return Err(Fault::Store);
     }
@@ -180,10 +182,7 @@ pub(crate) fn count_at(row: &Row, at: usize) -> Result<Count, Fault>
     ensures value { IfOk result (λ count. count ≡ number_at row.now at) }
     ensures there { IfOk result (λ _. is_null (column row.now at) ≡ false) }
 {
-    let number: u64 = match row.get(at) {
-        Ok(number) => number,
-        Err(error) => return Err(fault_of(error)),
-    };
+    let number = number_at(row, at)?;
     let count = Count::new(number);
     if count.value() != number {
         return Err(Fault::Store);

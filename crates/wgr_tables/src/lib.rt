@@ -9,10 +9,13 @@ mod enter;
 mod field;
 mod leave;
 mod load;
+mod lookup;
 mod read;
 mod route;
 mod value;
 
 pub use commit::commit_change;
 pub use load::load_network;
+pub use lookup::{network_id, tenant_id, tenant_of_token};
+pub use value::{bytes_of, family_value, number_value};
 pub use wgr_sql::Fault;

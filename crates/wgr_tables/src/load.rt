@@ -8,8 +8,8 @@ ghost use Rattle.wgr_core.specs.Network.{IsNetwork};
 ghost use Rattle.wgr_core.specs.Parts.{network_of};
 ghost use Rattle.wgr_model.specs.Laws.{Has};
 ghost use Rattle.wgr_model.specs.Rows.{AreKeyed, NetworkRow, address_row, holding_of, peer_row, route_row};
-ghost use Rattle.wgr_tables.specs.Decode.{tables_of, network_in, peer_in, allowed_in, number_at};
-ghost use Rattle.wgr_tables.specs.Loads.{IsMade, network_with};
+ghost use Rattle.wgr_tables.specs.Decode.{tables_of, network_in, number_at};
+ghost use Rattle.wgr_tables.specs.Loads.{IsMade, ShowAddresses, ShowNetwork, ShowPeers, ShowRoutes, network_with};
 ghost use Rattle.wgr_tables.specs.Writes.{Written};
 ghost use Rattle.wgr_tables.specs.Standing.{Stands};
 
@@ -30,7 +30,7 @@ fn peer_rows<S: Alter>(conn: &mut Connection<S>, network: u32) -> Result<Vec<Row
     ensures stands { (db : Database) (pending : List Written) → Stands S.Store conn.old db pending → Stands S.Store conn.new db pending }
     ensures clean { HasCleanDisk (state S.Store conn.new) → HasCleanDisk (state S.Store conn.old) }
     ensures listed { (db : Database) (pending : List Written) → Stands S.Store conn.old db pending → HasCleanDisk (state S.Store conn.new)
-        → IfOk result (λ rows. IsPermutation (filter (λ p. nat_eq p.network network) (tables_of db).peers) (map peer_in rows.items)) }
+        → IfOk result (λ rows. ShowPeers network (tables_of db) rows.items) }
 {
     query(
         conn,
@@ -46,7 +46,7 @@ fn address_rows<S: Alter>(conn: &mut Connection<S>, network: u32) -> Result<Vec<
     ensures stands { (db : Database) (pending : List Written) → Stands S.Store conn.old db pending → Stands S.Store conn.new db pending }
     ensures clean { HasCleanDisk (state S.Store conn.new) → HasCleanDisk (state S.Store conn.old) }
     ensures listed { (db : Database) (pending : List Written) → Stands S.Store conn.old db pending → HasCleanDisk (state S.Store conn.new)
-        → IfOk result (λ rows. IsPermutation (filter (λ a. nat_eq a.network network && not a.is_route) (tables_of db).allowed) (map allowed_in rows.items)) }
+        → IfOk result (λ rows. ShowAddresses network (tables_of db) rows.items) }
 {
     query(
         conn,
@@ -62,7 +62,7 @@ fn route_rows<S: Alter>(conn: &mut Connection<S>, network: u32) -> Result<Vec<Ro
     ensures stands { (db : Database) (pending : List Written) → Stands S.Store conn.old db pending → Stands S.Store conn.new db pending }
     ensures clean { HasCleanDisk (state S.Store conn.new) → HasCleanDisk (state S.Store conn.old) }
     ensures listed { (db : Database) (pending : List Written) → Stands S.Store conn.old db pending → HasCleanDisk (state S.Store conn.new)
-        → IfOk result (λ rows. IsPermutation (filter (λ a. a.is_route && nat_eq a.network network) (tables_of db).allowed) (map allowed_in rows.items)) }
+        → IfOk result (λ rows. ShowRoutes network (tables_of db) rows.items) }
 {
     query(
         conn,
@@ -78,7 +78,7 @@ fn network_rows<S: Alter>(conn: &mut Connection<S>, network: u32) -> Result<Vec<
     ensures stands { (db : Database) (pending : List Written) → Stands S.Store conn.old db pending → Stands S.Store conn.new db pending }
     ensures clean { HasCleanDisk (state S.Store conn.new) → HasCleanDisk (state S.Store conn.old) }
     ensures listed { (db : Database) (pending : List Written) → Stands S.Store conn.old db pending → HasCleanDisk (state S.Store conn.new)
-        → IfOk result (λ rows. IsPermutation (filter (λ w. nat_eq w.id network) (tables_of db).networks) (map network_in rows.items)) }
+        → IfOk result (λ rows. ShowNetwork network (tables_of db) rows.items) }
 {
     query(
         conn,
@@ -195,7 +195,7 @@ fn load_row<S: Alter>(
 }
 
 /// The one row, if there is one. A key can't have two.
-fn only(mut rows: Vec<Row>) -> Result<Option<Row>, Fault>
+pub(crate) fn only(mut rows: Vec<Row>) -> Result<Option<Row>, Fault>
     ensures some { IfOk result (λ found. IfSome found (λ row. rows.items ≡ row ∷ [])) }
     ensures none { IfOk result (λ found. IfNone found (rows.items ≡ [])) }
 {

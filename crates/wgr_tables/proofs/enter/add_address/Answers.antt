@@ -7,7 +7,7 @@ use Rattle.sqlite.specs.Held.{state}
 use Rattle.wgr_sql.proofs.ResultLemmas.{if_ok}
 use Rattle.wgr_tables.specs.Decode.{address_kind}
 use Rattle.wgr_tables.proofs.AllowedLemmas.{allowed_came, fits_128}
-use Rattle.wgr_tables.proofs.Meanings.{insert_address_text, insert_address_plain, insert_address_is}
+use Rattle.wgr_tables.proofs.Meanings.{insert_address_text, insert_address_means}
 use Rattle.wgr_tables.proofs.enter.add_address.Goals as goal
 
 -- an address at full length is the last of its prefix
@@ -23,7 +23,7 @@ returns-clause-step g c clean inside register =
     let low = fits_128 address.family address.number c.family-family.ensures.fits in (
       c.execute.ensures.kept clean inside,
       if_ok c.execute.result _ _ (λ count h. (
-        allowed_came address_kind insert_address_text insert_address_plain insert_address_is old new (register h.1.was_open) c.args.network (full address) address.number c.args.peer.now.number count low low (last_itself address.family address.number)
+        allowed_came address_kind insert_address_text insert_address_means old new (register h.1.was_open) c.args.network (full address) address.number c.args.peer.now.number count low low (last_itself address.family address.number)
             (rw (c.bytes_of-bytes.ensures, c.number.ensures.value, c.number_value.ensures, c.family_value.ensures, c.peer_id_value.ensures, c.number_value-2.ensures, c.from.ensures, c.width.ensures, c.family-family.ensures.value) at h.0),
         h.1,
       )) (c.execute.ensures.ran clean inside),

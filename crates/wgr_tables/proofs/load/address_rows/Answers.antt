@@ -1,28 +1,16 @@
-use Rattle.std.proofs.Common.{map, filter, nat_eq, not, ◌&&◌, true, sym, subst, IsPermutation, arith}
-use Rattle.sqlite.specs.Effect.{Database}
-use Rattle.sqlite.specs.State.{HasCleanDisk}
-use Rattle.sqlite.specs.Held.{state}
+use Rattle.std.proofs.Common.{pos, [], ◌∷◌}
+use Rattle.sqlite.specs.declared.types.Value.TheVariants.{Int}
 use Rattle.wgr_sql.proofs.ResultLemmas.{if_ok}
-use Rattle.wgr_sql.proofs.StandingLemmas.{stands_kept, plain_at}
-use Rattle.wgr_tables.specs.Layout.{schema_with}
-use Rattle.wgr_tables.specs.Decode.{IsRegister, tables_of, allowed_in}
-use Rattle.wgr_tables.specs.Writes.{Writes}
+use Rattle.wgr_tables.specs.Loads.{ShowAddresses}
 use Rattle.wgr_tables.proofs.ListedLemmas.{addresses_listed}
-use Rattle.wgr_tables.proofs.Meanings.{addresses_text, addresses_plain}
+use Rattle.wgr_tables.proofs.Meanings.{addresses_text, addresses_asks}
+use Rattle.wgr_tables.proofs.ReadLemmas.{stands_read, rows_read}
 use Rattle.wgr_tables.proofs.load.address_rows.Goals as goal
 
 pub returns-clause-stands : goal.returns-clause-stands
-returns-clause-stands g c db pending stood =
-    let others = stood.sound.others in
-    stands_kept IsRegister Writes g.S.Store c.args.conn.now c.query.new.conn db pending stood
-    (c.query.ensures.kept (λ live clean. plain_at IsRegister Writes g.S.Store c.args.conn.now db pending (schema_with others) addresses_text stood.sound.schema_is stood (omega (arith, c.query.ensures.survives.clean, clean)) live (addresses_plain others))) c.query.ensures.idle c.query.ensures.survives
+returns-clause-stands g c db pending stood = stands_read g.S.Store c.args.conn.now c.query.new.conn db pending stood addresses_text c.query.ensures.survives (λ others. (addresses_asks others).means.plain) c.query.ensures.kept c.query.ensures.idle
 
 pub returns-clause-listed : goal.returns-clause-listed
 returns-clause-listed g c db pending stood clean =
-    let was : HasCleanDisk (state g.S.Store c.args.conn.now) = omega (arith, c.query.ensures.survives.clean, clean) in
-    if_ok c.query.result _ _ (λ rows given.
-    let answer = rw c.number_value.ensures at given in
-    let here = stood.shows was answer.was_open in
-    let found = addresses_listed (state g.S.Store (record c.args.conn.now { in_transaction = true })) (state g.S.Store answer.after) (subst IsRegister (sym here) stood.sound) c.args.network rows.items answer.shown in
-    subst (λ (x : Database). IsPermutation (filter (λ a. nat_eq a.network c.args.network && not a.is_route) (tables_of x).allowed) (map allowed_in rows.items)) here found)
-    (c.query.ensures.shown clean)
+    if_ok c.query.result _ _ (λ rows given. rows_read g.S.Store c.args.conn.now c.query.new.conn db pending stood addresses_text c.query.ensures.survives (ShowAddresses c.args.network) (Int (pos c.args.network) ∷ []) (λ a b register found. addresses_listed a b register c.args.network found) clean rows.items
+    (rw c.number_value.ensures at given)) (c.query.ensures.shown clean)

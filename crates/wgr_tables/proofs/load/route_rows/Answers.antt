@@ -1,28 +1,16 @@
-use Rattle.std.proofs.Common.{map, filter, nat_eq, ◌&&◌, true, sym, subst, IsPermutation, arith}
-use Rattle.sqlite.specs.Effect.{Database}
-use Rattle.sqlite.specs.State.{HasCleanDisk}
-use Rattle.sqlite.specs.Held.{state}
+use Rattle.std.proofs.Common.{pos, [], ◌∷◌}
+use Rattle.sqlite.specs.declared.types.Value.TheVariants.{Int}
 use Rattle.wgr_sql.proofs.ResultLemmas.{if_ok}
-use Rattle.wgr_sql.proofs.StandingLemmas.{stands_kept, plain_at}
-use Rattle.wgr_tables.specs.Layout.{schema_with}
-use Rattle.wgr_tables.specs.Decode.{IsRegister, tables_of, allowed_in}
-use Rattle.wgr_tables.specs.Writes.{Writes}
+use Rattle.wgr_tables.specs.Loads.{ShowRoutes}
 use Rattle.wgr_tables.proofs.ListedLemmas.{routes_listed}
-use Rattle.wgr_tables.proofs.Meanings.{routes_text, routes_plain}
+use Rattle.wgr_tables.proofs.Meanings.{routes_text, routes_asks}
+use Rattle.wgr_tables.proofs.ReadLemmas.{stands_read, rows_read}
 use Rattle.wgr_tables.proofs.load.route_rows.Goals as goal
 
 pub returns-clause-stands : goal.returns-clause-stands
-returns-clause-stands g c db pending stood =
-    let others = stood.sound.others in
-    stands_kept IsRegister Writes g.S.Store c.args.conn.now c.query.new.conn db pending stood
-    (c.query.ensures.kept (λ live clean. plain_at IsRegister Writes g.S.Store c.args.conn.now db pending (schema_with others) routes_text stood.sound.schema_is stood (omega (arith, c.query.ensures.survives.clean, clean)) live (routes_plain others))) c.query.ensures.idle c.query.ensures.survives
+returns-clause-stands g c db pending stood = stands_read g.S.Store c.args.conn.now c.query.new.conn db pending stood routes_text c.query.ensures.survives (λ others. (routes_asks others).means.plain) c.query.ensures.kept c.query.ensures.idle
 
 pub returns-clause-listed : goal.returns-clause-listed
 returns-clause-listed g c db pending stood clean =
-    let was : HasCleanDisk (state g.S.Store c.args.conn.now) = omega (arith, c.query.ensures.survives.clean, clean) in
-    if_ok c.query.result _ _ (λ rows given.
-    let answer = rw c.number_value.ensures at given in
-    let here = stood.shows was answer.was_open in
-    let found = routes_listed (state g.S.Store (record c.args.conn.now { in_transaction = true })) (state g.S.Store answer.after) (subst IsRegister (sym here) stood.sound) c.args.network rows.items answer.shown in
-    subst (λ (x : Database). IsPermutation (filter (λ a. a.is_route && nat_eq a.network c.args.network) (tables_of x).allowed) (map allowed_in rows.items)) here found)
-    (c.query.ensures.shown clean)
+    if_ok c.query.result _ _ (λ rows given. rows_read g.S.Store c.args.conn.now c.query.new.conn db pending stood routes_text c.query.ensures.survives (ShowRoutes c.args.network) (Int (pos c.args.network) ∷ []) (λ a b register found. routes_listed a b register c.args.network found) clean rows.items
+    (rw c.number_value.ensures at given)) (c.query.ensures.shown clean)

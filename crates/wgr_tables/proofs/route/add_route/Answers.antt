@@ -5,7 +5,7 @@ use Rattle.sqlite.specs.Held.{state}
 use Rattle.wgr_sql.proofs.ResultLemmas.{if_ok}
 use Rattle.wgr_tables.specs.Decode.{route_kind}
 use Rattle.wgr_tables.proofs.AllowedLemmas.{allowed_came, fits_128}
-use Rattle.wgr_tables.proofs.Meanings.{insert_route_text, insert_route_plain, insert_route_is}
+use Rattle.wgr_tables.proofs.Meanings.{insert_route_text, insert_route_means}
 use Rattle.wgr_tables.proofs.route.add_route.Goals as goal
 
 pub returns-clause-step : goal.returns-clause-step
@@ -18,7 +18,7 @@ returns-clause-step g c clean inside register =
     let last : c.span.result.hi.number ≡ (last_of c.args.prefix.now).number = omega (arith, c.span.ensures.ends.last) in (
       c.execute.ensures.kept clean inside,
       if_ok c.execute.result _ _ (λ count h.
-          let came = allowed_came route_kind insert_route_text insert_route_plain insert_route_is old new (register h.1.was_open) c.args.network c.args.prefix.now c.span.result.hi.number c.args.number count low high last
+          let came = allowed_came route_kind insert_route_text insert_route_means old new (register h.1.was_open) c.args.network c.args.prefix.now c.span.result.hi.number c.args.number count low high last
           (rw (c.bytes_of-lo.ensures, c.number.ensures.value, c.number_value.ensures, c.family_value.ensures, c.family.ensures.value, c.bytes_of-hi.ensures, c.number-2.ensures.value, c.peer_id_value.ensures, c.number_value-2.ensures, c.from.ensures, c.length.ensures.value, c.address-address.ensures.value) at h.0) in
           (record { sound = came.sound; made = (real, came.made) }, h.1)) (c.execute.ensures.ran clean inside),
     )

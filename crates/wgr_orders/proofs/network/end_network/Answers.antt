@@ -1,0 +1,44 @@
+use Rattle.std.proofs.Common.{rules, ◌≡◌, ◌∷◌, sym, subst}
+use Rattle.sqlite.specs.State.{HasCleanDisk}
+use Rattle.sqlite.specs.Held.{state}
+use Rattle.wgr_sql.proofs.ResultLemmas.{on_err, on_ok, if_err, push_if}
+use Rattle.wgr_orders.specs.OrderSteps.{NetworkGoes}
+use Rattle.wgr_orders.proofs.GoLemmas.{network_removed}
+use Rattle.wgr_tables.specs.Decode.{tables_of}
+use Rattle.wgr_tables.specs.Writes.{NetworkLost, Written}
+use Rattle.wgr_tables.specs.Standing.{IsDone, Stands}
+use Rattle.wgr_tables.proofs.Commits.{undone, done, left}
+use Rattle.wgr_orders.proofs.network.end_network.Goals as goal
+
+pub returns-in_err-drop_network-clause-fault : goal.returns-in_err-drop_network-clause-fault
+returns-in_err-drop_network-clause-fault g c db pending stood keyed =
+    let end = c.drop-tx.new.self.0 in
+    let one : Written = NetworkLost c.args.network in
+    let begun = c.transaction-tx.ensures.begun in
+    let settled = c.is_autocommit-settled.ensures.settled (rw (c.is_autocommit-settled.ensures.value, c.requires.idle)) in
+    let same : end ≡ c.conn-1.given.0 = search rules in
+    on_err c.from_residual.result _ (subst (λ h. Stands g.S.Store h db (one ∷ pending)) same
+    (undone g.S.Store c.args.conn.now c.drop_network.new.tx.conn.now end db pending stood settled (rw begun at c.drop_network.ensures.survives) c.drop-tx.ensures.ended (NetworkGoes c.args.network) one c.drop_network.result (rw begun at c.drop_network.ensures.step) c.drop-tx.ensures.undone c.drop-tx.ensures.survives))
+
+pub returns-clause-done : goal.returns-clause-done
+returns-clause-done g c db pending stood keyed clean =
+    let end = c.commit.new.self.0 in
+    let one : Written = NetworkLost c.args.network in
+    let begun = c.transaction-tx.ensures.begun in
+    let settled = c.is_autocommit-settled.ensures.settled (rw (c.is_autocommit-settled.ensures.value, c.requires.idle)) in
+    let same : end ≡ c.conn-2-1.given.0 = search rules in
+    let late : HasCleanDisk (state g.S.Store end) = subst (λ h. HasCleanDisk (state g.S.Store h)) (sym same) clean in
+    on_ok c.commit.result c.map_err.result _ _ (λ h. subst (λ x. IsDone g.S.Store x db one) same
+    (done g.S.Store c.args.conn.now c.drop_network.new.tx.conn.now end db pending stood settled (rw begun at c.drop_network.ensures.survives) c.commit.ensures.ended (NetworkGoes c.args.network) one c.in_ok-drop_network.field-0 (rw begun at c.in_ok-drop_network.ensures.step) (λ next made. network_removed c.args.network (tables_of db) (tables_of next) keyed made) c.commit.ensures.survives late h.1
+    (λ trees live may. g.met.S.Store.settled end.store trees live may))) (c.commit.ensures.ok late) c.map_err.ensures.variant
+
+pub returns-clause-fault : goal.returns-clause-fault
+returns-clause-fault g c db pending stood keyed =
+    let end = c.commit.new.self.0 in
+    let one : Written = NetworkLost c.args.network in
+    let begun = c.transaction-tx.ensures.begun in
+    let settled = c.is_autocommit-settled.ensures.settled (rw (c.is_autocommit-settled.ensures.value, c.requires.idle)) in
+    let same : end ≡ c.conn-2-1.given.0 = search rules in
+    if_err c.commit.result c.map_err.result _ _ (λ e fails. subst (λ h. Stands g.S.Store h db (one ∷ pending)) same
+    (left g.S.Store c.args.conn.now c.drop_network.new.tx.conn.now end db pending stood settled (rw begun at c.drop_network.ensures.survives) c.commit.ensures.ended (NetworkGoes c.args.network) one c.in_ok-drop_network.field-0 (rw begun at c.in_ok-drop_network.ensures.step) (λ next made. network_removed c.args.network (tables_of db) (tables_of next) keyed made) c.commit.ensures.survives e fails))
+    (push_if c.commit.result _ _ c.commit.ensures.err) c.map_err.ensures.variant

@@ -1,0 +1,41 @@
+use Rattle.std.proofs.Common.{rules, ◌≡◌, ◌∷◌, sym, subst}
+use Rattle.sqlite.specs.State.{HasCleanDisk}
+use Rattle.sqlite.specs.Held.{state}
+use Rattle.wgr_sql.proofs.ResultLemmas.{on_err, on_ok, if_err, push_if}
+use Rattle.wgr_tables.specs.Writes.{TokenComes, TokenGained, Written}
+use Rattle.wgr_tables.specs.Standing.{IsDone, Stands}
+use Rattle.wgr_tables.proofs.Commits.{undone, done, left}
+use Rattle.wgr_orders.proofs.token.add_token.Goals as goal
+
+pub returns-in_err-insert_token-clause-fault : goal.returns-in_err-insert_token-clause-fault
+returns-in_err-insert_token-clause-fault g c db pending stood =
+    let end = c.drop-tx.new.self.0 in
+    let one : Written = TokenGained (record { digest = c.args.digest.now; tenant = c.args.tenant }) in
+    let begun = c.transaction-tx.ensures.begun in
+    let settled = c.is_autocommit-settled.ensures.settled (rw (c.is_autocommit-settled.ensures.value, c.requires.idle)) in
+    let same : end ≡ c.conn-1.given.0 = search rules in
+    on_err c.from_residual.result _ (subst (λ h. Stands g.S.Store h db (one ∷ pending)) same
+    (undone g.S.Store c.args.conn.now c.insert_token.new.tx.conn.now end db pending stood settled (rw begun at c.insert_token.ensures.survives) c.drop-tx.ensures.ended (TokenComes (record { digest = c.args.digest.now; tenant = c.args.tenant })) one c.insert_token.result (rw begun at c.insert_token.ensures.step) c.drop-tx.ensures.undone c.drop-tx.ensures.survives))
+
+pub returns-clause-done : goal.returns-clause-done
+returns-clause-done g c db pending stood clean =
+    let end = c.commit.new.self.0 in
+    let one : Written = TokenGained (record { digest = c.args.digest.now; tenant = c.args.tenant }) in
+    let begun = c.transaction-tx.ensures.begun in
+    let settled = c.is_autocommit-settled.ensures.settled (rw (c.is_autocommit-settled.ensures.value, c.requires.idle)) in
+    let same : end ≡ c.conn-2-1.given.0 = search rules in
+    let late : HasCleanDisk (state g.S.Store end) = subst (λ h. HasCleanDisk (state g.S.Store h)) (sym same) clean in
+    on_ok c.commit.result c.map_err.result _ _ (λ h. subst (λ x. IsDone g.S.Store x db one) same
+    (done g.S.Store c.args.conn.now c.insert_token.new.tx.conn.now end db pending stood settled (rw begun at c.insert_token.ensures.survives) c.commit.ensures.ended (TokenComes (record { digest = c.args.digest.now; tenant = c.args.tenant })) one c.in_ok-insert_token.field-0 (rw begun at c.in_ok-insert_token.ensures.step) (λ next made. made) c.commit.ensures.survives late h.1
+    (λ trees live may. g.met.S.Store.settled end.store trees live may))) (c.commit.ensures.ok late) c.map_err.ensures.variant
+
+pub returns-clause-fault : goal.returns-clause-fault
+returns-clause-fault g c db pending stood =
+    let end = c.commit.new.self.0 in
+    let one : Written = TokenGained (record { digest = c.args.digest.now; tenant = c.args.tenant }) in
+    let begun = c.transaction-tx.ensures.begun in
+    let settled = c.is_autocommit-settled.ensures.settled (rw (c.is_autocommit-settled.ensures.value, c.requires.idle)) in
+    let same : end ≡ c.conn-2-1.given.0 = search rules in
+    if_err c.commit.result c.map_err.result _ _ (λ e fails. subst (λ h. Stands g.S.Store h db (one ∷ pending)) same
+    (left g.S.Store c.args.conn.now c.insert_token.new.tx.conn.now end db pending stood settled (rw begun at c.insert_token.ensures.survives) c.commit.ensures.ended (TokenComes (record { digest = c.args.digest.now; tenant = c.args.tenant })) one c.in_ok-insert_token.field-0 (rw begun at c.in_ok-insert_token.ensures.step) (λ next made. made) c.commit.ensures.survives e fails))
+    (push_if c.commit.result _ _ c.commit.ensures.err) c.map_err.ensures.variant

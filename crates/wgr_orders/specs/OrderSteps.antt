@@ -1,0 +1,24 @@
+-- What the statements of an order on a network make of the rows.
+use Rattle.std.specs.Prelude.{◌≡◌, ℕ, not, nat_eq}
+use Rattle.std.specs.List.{filter}
+use Rattle.wgr_model.specs.Register.{Bytes}
+use Rattle.wgr_model.specs.Rows.{NetworkRow, Tables, network_row}
+use Rattle.wgr_model.specs.Steps.{Settings, new_network}
+use Rattle.wgr_sql.specs.Steps.{Then}
+
+-- the row of a new network
+abbrev pub new_row : ℕ → ℕ → Bytes → Settings → NetworkRow
+new_row id tenant name settings = network_row (record { id = id; tenant = tenant; name = name; network = new_network settings })
+
+-- what is allowed in a network goes; its peers go; its own row goes
+abbrev pub AllowedGoes : ℕ → Tables → Tables → Type 0
+AllowedGoes id t u = u ≡ record t { allowed = filter (λ a. not (nat_eq a.network id)) t.allowed }
+
+abbrev pub PeersGo : ℕ → Tables → Tables → Type 0
+PeersGo id t u = u ≡ record t { peers = filter (λ p. not (nat_eq p.network id)) t.peers }
+
+abbrev pub NetworkRowGoes : ℕ → Tables → Tables → Type 0
+NetworkRowGoes id t u = u ≡ record t { networks = filter (λ w. not (nat_eq w.id id)) t.networks }
+
+abbrev pub NetworkGoes : ℕ → Tables → Tables → Type 0
+NetworkGoes id = Then (AllowedGoes id) (Then (PeersGo id) (NetworkRowGoes id))

@@ -1,0 +1,14 @@
+//! What an operator's orders write in the register's tables: tenants, their tokens and their
+//! networks come and go, each in one commit.
+//!
+//! Whether an order is refused is not asked here. A key that a row has already is a fault of the
+//! store.
+#![tactic(auto)]
+
+mod network;
+mod tenant;
+mod token;
+
+pub use network::{add_network, end_network};
+pub use tenant::add_tenant;
+pub use token::{add_token, end_token};

@@ -1,0 +1,43 @@
+-- What a call that writes in one commit leaves, where the register stood.
+use Rattle.std.proofs.Common.{◌≡◌, ◌∷◌, List, true, false, IsTrue, Result, Ok}
+use Rattle.sqlite.specs.Tree.{Trees}
+use Rattle.sqlite.specs.Effect.{Database}
+use Rattle.sqlite.specs.declared.error.Error.{Error}
+use Rattle.sqlite.specs.State.{HasCleanDisk, Survives, Shows, IsRolledBack}
+use Rattle.sqlite.specs.Steps.{FailsToCommit}
+use Rattle.sqlite.specs.Store.{Ghosts}
+use Rattle.sqlite.specs.Held.{Held, state}
+use Rattle.wgr_model.specs.Rows.{Tables}
+use Rattle.wgr_sql.specs.declared.fault.Fault.{Fault}
+use Rattle.wgr_sql.proofs.CommitLemmas.{stands_undone, stands_done, stands_left, step_keeps}
+use Rattle.wgr_sql.proofs.StandingLemmas.{stands_more}
+use Rattle.wgr_tables.specs.Decode.{IsRegister, tables_of}
+use Rattle.wgr_tables.specs.Writes.{Written, Writes, Changes}
+use Rattle.wgr_tables.specs.Standing.{IsDone, Stands, StepsOn}
+use Rattle.wgr_tables.proofs.Made.{Made}
+
+-- The connection is `old` at the call, `mid` after the steps of the transaction, and `end` at the exit.
+module _ {S : Type 0} (g : Ghosts S) (old mid end : Held S) (db : Database) (pending : List Written) (stood : Stands g old db pending) (settled : IsTrue (state g old).is_open → (state g old).now ≡ (state g old).committed)
+    (begun : Survives (state g (record old { in_transaction = true })) (state g mid) (λ _. ⊥)) (idle : end.in_transaction ≡ false) (P : Tables → Tables → Type 0) (one : Written) where
+  -- a step failed
+  pub undone : {X : Type 0} (r : Result X Fault) → (HasCleanDisk (state g mid) → StepsOn P (state g (record old { in_transaction = true })) (state g mid) r)
+      → (HasCleanDisk (state g end) → IsRolledBack (state g mid) (state g end)) → Survives (state g mid) (state g end) (λ _. ⊥) → Stands g end db (one ∷ pending)
+  undone r step back ended =
+      let keeps = step_keeps IsRegister Writes g old mid end db pending stood settled begun idle (Made P) r step in
+      stands_more IsRegister Writes g end db pending one (stands_undone IsRegister Writes g old mid end db pending stood settled begun idle keeps back ended)
+
+  module _ {X : Type 0} (x : X) (step : HasCleanDisk (state g mid) → StepsOn {E = Fault} P (state g (record old { in_transaction = true })) (state g mid) (Ok x)) (writes : (next : Database) → P (tables_of db) (tables_of next) → Changes one (tables_of db) (tables_of next))
+      (ended : Survives (state g mid) (state g end) (λ trees. trees ≡ (state g mid).now.trees)) where
+    written : (next : Database) → Made P db next → Writes one db next
+    written next made = record { sound = made.sound; made = writes next made.made }
+
+    -- it was committed; the law of the store says what a stop leaves
+    pub done : HasCleanDisk (state g end) → Shows (state g mid) (state g end) (state g mid).now (state g mid).now false
+        → ((trees : Trees) → IsTrue (state g end).is_open → (state g end).may_leave trees → trees ≡ (state g end).committed.trees) → IsDone g end db one
+    done clean shows law =
+        let it = stands_done IsRegister Writes g old mid end db pending stood settled begun idle Fault (Made P) (λ d e h. h.sound) x step ended clean shows law in
+        (it.0, written it.0 it.1, it.2)
+
+    -- the commit failed
+    pub left : (e : Error) → (HasCleanDisk (state g end) → FailsToCommit (state g mid) (state g end) e) → Stands g end db (one ∷ pending)
+    left e fails = stands_left IsRegister Writes g old mid end db pending stood settled begun idle Fault (Made P) (λ d e h. h.sound) x step ended one written e fails

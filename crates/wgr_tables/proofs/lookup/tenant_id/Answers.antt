@@ -1,0 +1,9 @@
+use Rattle.wgr_sql.proofs.ResultLemmas.{if_ok}
+use Rattle.wgr_tables.specs.Decode.{tables_of}
+use Rattle.wgr_tables.proofs.LookupLemmas.{tenant_is}
+use Rattle.wgr_tables.proofs.lookup.tenant_id.Goals as goal
+
+pub returns-clause-found : goal.returns-clause-found
+returns-clause-found g c db pending stood clean =
+    let shows = c.in_ok-rows.ensures.listed db pending stood clean in
+    if_ok c.number_in.result _ _ (λ found is. tenant_is (tables_of db) c.args.name.now c.in_ok-rows.rows.items found shows is) c.number_in.ensures

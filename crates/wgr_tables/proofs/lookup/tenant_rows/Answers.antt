@@ -1,0 +1,16 @@
+use Rattle.std.proofs.Common.{[], ◌∷◌}
+use Rattle.sqlite.specs.declared.types.Value.TheVariants.{Text}
+use Rattle.wgr_sql.proofs.ResultLemmas.{if_ok}
+use Rattle.wgr_tables.specs.Lookups.{ShowTenant}
+use Rattle.wgr_tables.proofs.LookupLemmas.{tenant_listed}
+use Rattle.wgr_tables.proofs.Meanings.{tenant_text, tenant_asks}
+use Rattle.wgr_tables.proofs.ReadLemmas.{stands_read, rows_read}
+use Rattle.wgr_tables.proofs.lookup.tenant_rows.Goals as goal
+
+pub returns-clause-stands : goal.returns-clause-stands
+returns-clause-stands g c db pending stood = stands_read g.S.Store c.args.conn.now c.query.new.conn db pending stood tenant_text c.query.ensures.survives (λ others. (tenant_asks others).means.plain) c.query.ensures.kept c.query.ensures.idle
+
+pub returns-clause-listed : goal.returns-clause-listed
+returns-clause-listed g c db pending stood clean =
+    if_ok c.query.result _ _ (λ rows given. rows_read g.S.Store c.args.conn.now c.query.new.conn db pending stood tenant_text c.query.ensures.survives (ShowTenant c.args.name.now) (Text c.args.name.now ∷ []) (λ a b register found. tenant_listed a b register found c.args.name.now) clean rows.items
+    (rw (c.as_bytes.ensures.value, c.as_str.ensures.value) at given)) (c.query.ensures.shown clean)

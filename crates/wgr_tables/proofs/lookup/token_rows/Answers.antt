@@ -1,0 +1,16 @@
+use Rattle.std.proofs.Common.{[], ◌∷◌}
+use Rattle.sqlite.specs.declared.types.Value.TheVariants.{Blob}
+use Rattle.wgr_sql.proofs.ResultLemmas.{if_ok}
+use Rattle.wgr_tables.specs.Lookups.{ShowToken}
+use Rattle.wgr_tables.proofs.LookupLemmas.{token_listed}
+use Rattle.wgr_tables.proofs.Meanings.{token_text, token_asks}
+use Rattle.wgr_tables.proofs.ReadLemmas.{stands_read, rows_read}
+use Rattle.wgr_tables.proofs.lookup.token_rows.Goals as goal
+
+pub returns-clause-stands : goal.returns-clause-stands
+returns-clause-stands g c db pending stood = stands_read g.S.Store c.args.conn.now c.query.new.conn db pending stood token_text c.query.ensures.survives (λ others. (token_asks others).means.plain) c.query.ensures.kept c.query.ensures.idle
+
+pub returns-clause-listed : goal.returns-clause-listed
+returns-clause-listed g c db pending stood clean =
+    if_ok c.query.result _ _ (λ rows given. rows_read g.S.Store c.args.conn.now c.query.new.conn db pending stood token_text c.query.ensures.survives (ShowToken c.args.digest.now) (Blob c.args.digest.now ∷ []) (λ a b register found. token_listed a b register found c.args.digest.now) clean rows.items
+    given) (c.query.ensures.shown clean)

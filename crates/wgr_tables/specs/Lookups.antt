@@ -1,0 +1,27 @@
+-- What queries by a key show.
+use Rattle.std.specs.Prelude.{◌≡◌, ℕ, List, [], ◌∷◌, filter, map, Option, Some, None}
+use Rattle.std.specs.List.Sorted.{IsPermutation}
+use Rattle.sqlite_value.specs.Order.{Row}
+use Rattle.wgr_model.specs.Consistent.{same_slot}
+use Rattle.wgr_model.specs.Register.{Bytes, is_same}
+use Rattle.wgr_model.specs.Rows.{NetworkRow, Tables}
+use Rattle.wgr_tables.specs.Decode.{number_at, tenant_in, token_in, network_in}
+
+-- these are the rows of the tokens of the digest; of the tenants of the name; of a tenant's networks of the name
+abbrev pub ShowToken : Bytes → Tables → List Row → Type 0
+ShowToken digest t rows = IsPermutation (filter (λ x. is_same digest x.digest) t.tokens) (map token_in rows)
+
+abbrev pub ShowTenant : Bytes → Tables → List Row → Type 0
+ShowTenant name t rows = IsPermutation (filter (λ x. is_same name x.name) t.tenants) (map tenant_in rows)
+
+abbrev pub ShowSlot : ℕ × Bytes → Tables → List Row → Type 0
+ShowSlot slot t rows = IsPermutation (filter (λ w. same_slot slot (w.tenant, w.name)) t.networks) (map network_in rows)
+
+-- the number at this place of the one row, or none where there is no row
+abbrev pub IsIn : List Row → ℕ → Option ℕ → Type 0
+IsIn rows at (Some number) = (row : Row) × (rows ≡ row ∷ []) × (number_at row at ≡ number)
+IsIn rows at None = rows ≡ []
+
+-- the network has the name, and is of the tenant of this id
+abbrev pub IsSlotOf : NetworkRow → ℕ → Bytes → Type 0
+IsSlotOf w tenant name = (w.tenant ≡ tenant) × (w.name ≡ name)
