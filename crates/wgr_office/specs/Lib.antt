@@ -1,0 +1,5 @@
+pub mod Digest
+pub mod Fault
+pub mod Paths
+pub mod Refused
+pub mod Response

@@ -1,0 +1,16 @@
+//! Requests and replies of the register as bytes.
+//!
+//! [`Paths`] says what is served where, [`write_response`] makes the bytes of a reply, and
+//! [`token_digest`] is what a token is known by.
+#![tactic(auto)]
+
+mod digest;
+mod fault;
+mod paths;
+mod refused;
+mod response;
+
+pub use digest::token_digest;
+pub use fault::{Fault, Field};
+pub use paths::{Methods, Paths};
+pub use response::{Response, unavailable, write_response};
