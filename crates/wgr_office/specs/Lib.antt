@@ -3,3 +3,4 @@ pub mod Fault
 pub mod Paths
 pub mod Refused
 pub mod Response
+pub mod Target

@@ -98,7 +98,7 @@ fn router(alloc: Global) -> Result<Router<Place>, InsertError>
 /// The paths that are served.
 #[derive(Drop)]
 pub struct Paths {
-    router: Router<Place>,
+    pub(crate) router: Router<Place>,
     ghost rows: { router ≡ route_rows },
 }
 
