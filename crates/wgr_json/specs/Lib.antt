@@ -1,0 +1,4 @@
+pub mod Bodies
+pub mod Sending
+pub mod Shown
+pub mod Whole

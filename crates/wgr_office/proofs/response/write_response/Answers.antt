@@ -1,0 +1,5 @@
+use Rattle.std.proofs.Common.{◌≡◌}
+use Rattle.wgr_office.proofs.response.write_response.Goals as goal
+
+pub returns-in-NoSuchNetwork : goal.returns-in-NoSuchNetwork
+returns-in-NoSuchNetwork c = rw c.in-NoSuchNetwork.is c.write_plain.ensures

@@ -1,0 +1,18 @@
+//! Requests and replies of the register as bytes.
+//!
+//! [`Paths::resolve`] says what is served at a path and by which methods, [`write_response`] makes
+//! the bytes of a reply, and [`token_digest`] is what a token is known by.
+#![tactic(auto)]
+
+mod digest;
+mod fault;
+mod paths;
+mod refused;
+mod response;
+mod target;
+
+pub use digest::token_digest;
+pub use fault::{Fault, Field};
+pub use paths::{Methods, Paths};
+pub use response::{Response, unavailable, write_response};
+pub use target::Target;
