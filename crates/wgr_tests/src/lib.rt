@@ -25,3 +25,5 @@ mod register;
 mod shown;
 #[cfg(test)]
 mod size;
+#[cfg(test)]
+mod tables;

@@ -159,15 +159,26 @@ fn adoption(rt: &(impl Abort + AllocGlobal), text: &str) -> Command {
 fn is_same_peer(one: &Peer, other: &Peer) -> bool {
     one.number == other.number
         && one.key == other.key
+        && one.label.as_str() == other.label.as_str()
+        && one.keepalive == other.keepalive
         && one.address == other.address
         && one.until == other.until
         && one.status == other.status
 }
 
-// Whether both networks have the same peers and routes.
-fn is_same(one: &Network, other: &Network) -> bool {
+fn has_settings_of(one: &Network, other: &Network) -> bool {
+    one.pool().prefix() == other.pool().prefix()
+        && one.host().as_str() == other.host().as_str()
+        && one.port() == other.port()
+        && one.server() == other.server()
+        && one.capacity() == other.capacity()
+}
+
+/// Whether both networks have the same settings, peers and routes.
+pub(crate) fn is_same(one: &Network, other: &Network) -> bool {
     let (peers, others) = (one.peers(), other.peers());
-    one.next() == other.next()
+    has_settings_of(one, other)
+        && one.next() == other.next()
         && one.routes() == other.routes()
         && peers.len() == others.len()
         && peers
@@ -176,8 +187,8 @@ fn is_same(one: &Network, other: &Network) -> bool {
             .all(|(peer, other)| is_same_peer(peer, other))
 }
 
-// Makes the change both ways.
-fn make(rt: &(impl Abort + AllocGlobal), network: &mut Network, change: Change)
+/// Makes the change both ways.
+pub(crate) fn make(rt: &(impl Abort + AllocGlobal), network: &mut Network, change: Change)
     requires { Fits change network.old }
 {
     let copy = change.apply(rt.alloc(), network).expect(rt, "memory");
