@@ -1,3 +1,4 @@
 pub mod Examples
+pub mod ListedLemmas
 pub mod Numbers
 pub mod PartLemmas

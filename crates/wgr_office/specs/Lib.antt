@@ -1,5 +1,7 @@
+pub mod Bodies
 pub mod Digest
 pub mod Fault
+pub mod Fields
 pub mod Paths
 pub mod Refused
 pub mod Response
