@@ -2,7 +2,7 @@
 use crate::fixtures::{address, end, peer, pool, prefix};
 use std::alloc::AllocGlobal;
 use std::process::Abort;
-use wgr_peers::order::{comes_before, drop_route, put_peer, put_route};
+use wgr_peers::order::{comes_before, drop_route, is_same, put_peer, put_route};
 use wgr_peers::{Peer, RouteSlots};
 use wgr_pool::AddressSet;
 use wgr_text::{Addr, Prefix};
@@ -20,11 +20,9 @@ fn orders_routes(rt: HostRuntime) {
     ];
     for (place, one) in rising.iter().enumerate() {
         for (other_place, other) in rising.iter().enumerate() {
-            assert_eq!(rt;
-                comes_before(&prefix(&rt, one), &prefix(&rt, other)),
-                place < other_place,
-                "{one} {other}"
-            );
+            let (p, q) = (prefix(&rt, one), prefix(&rt, other));
+            assert_eq!(rt; comes_before(&p, &q), place < other_place, "{one} {other}");
+            assert_eq!(rt; is_same(&p, &q), place == other_place, "{one} {other}");
         }
     }
 }
