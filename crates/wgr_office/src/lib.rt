@@ -12,6 +12,8 @@ mod paths;
 mod refused;
 mod response;
 mod target;
+#[cfg(test)]
+mod tests;
 
 pub use bodies::{Stop, read_add, read_move, read_renew, read_route, read_unroute};
 pub use digest::token_digest;
