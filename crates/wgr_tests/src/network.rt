@@ -13,6 +13,7 @@ ghost use Rattle.wgr_core.specs.Change.{Fits};
 
 mod adopt;
 mod commands;
+mod fields;
 mod files;
 mod over;
 mod parts;
