@@ -103,7 +103,7 @@ pub struct Paths {
 }
 
 impl Paths {
-    /// All paths.
+    /// All paths, as the type's invariant has them: it says all that there is to say of the value.
     pub fn new(alloc: Global) -> Result<Paths, AllocError> {
         match router(alloc) {
             Ok(router) => Ok(Paths { router }),
