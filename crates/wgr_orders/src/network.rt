@@ -108,6 +108,7 @@ pub fn add_network<S: Alter>(
 ) -> Result<(), Fault>
     requires idle { conn.old.in_transaction ≡ false }
     ensures idle { conn.new.in_transaction ≡ false }
+    ensures clean { HasCleanDisk (state S.Store conn.new) → HasCleanDisk (state S.Store conn.old) }
     ensures done { (db : Database) (pending : List Written) → Stands S.Store conn.old db pending → HasCleanDisk (state S.Store conn.new)
         → OnOk result (IsDone S.Store conn.new db (NetworkGained (new_row id tenant name.now settings.now))) }
     ensures fault { (db : Database) (pending : List Written) → Stands S.Store conn.old db pending → OnErr result (Stands S.Store conn.new db (NetworkGained (new_row id tenant name.now settings.now) ∷ pending)) }
@@ -123,6 +124,7 @@ pub fn add_network<S: Alter>(
 pub fn end_network<S: Alter>(conn: &mut Connection<S>, network: u32) -> Result<(), Fault>
     requires idle { conn.old.in_transaction ≡ false }
     ensures idle { conn.new.in_transaction ≡ false }
+    ensures clean { HasCleanDisk (state S.Store conn.new) → HasCleanDisk (state S.Store conn.old) }
     ensures done { (db : Database) (pending : List Written) → Stands S.Store conn.old db pending → AreKeyed (tables_of db) → HasCleanDisk (state S.Store conn.new)
         → OnOk result (IsDone S.Store conn.new db (NetworkLost network)) }
     ensures fault { (db : Database) (pending : List Written) → Stands S.Store conn.old db pending → AreKeyed (tables_of db) → OnErr result (Stands S.Store conn.new db (NetworkLost network ∷ pending)) }

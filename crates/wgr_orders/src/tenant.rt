@@ -33,6 +33,7 @@ fn insert_tenant<S: Alter>(
 pub fn add_tenant<S: Alter>(conn: &mut Connection<S>, id: u32, name: &Name) -> Result<(), Fault>
     requires idle { conn.old.in_transaction ≡ false }
     ensures idle { conn.new.in_transaction ≡ false }
+    ensures clean { HasCleanDisk (state S.Store conn.new) → HasCleanDisk (state S.Store conn.old) }
     ensures done { (db : Database) (pending : List Written) → Stands S.Store conn.old db pending → HasCleanDisk (state S.Store conn.new)
         → OnOk result (IsDone S.Store conn.new db (TenantGained (record { id = id; name = name.now }))) }
     ensures fault { (db : Database) (pending : List Written) → Stands S.Store conn.old db pending → OnErr result (Stands S.Store conn.new db (TenantGained (record { id = id; name = name.now }) ∷ pending)) }

@@ -49,6 +49,7 @@ pub fn add_token<S: Alter>(
 ) -> Result<(), Fault>
     requires idle { conn.old.in_transaction ≡ false }
     ensures idle { conn.new.in_transaction ≡ false }
+    ensures clean { HasCleanDisk (state S.Store conn.new) → HasCleanDisk (state S.Store conn.old) }
     ensures done { (db : Database) (pending : List Written) → Stands S.Store conn.old db pending → HasCleanDisk (state S.Store conn.new)
         → OnOk result (IsDone S.Store conn.new db (TokenGained (record { digest = digest.now; tenant = tenant }))) }
     ensures fault { (db : Database) (pending : List Written) → Stands S.Store conn.old db pending → OnErr result (Stands S.Store conn.new db (TokenGained (record { digest = digest.now; tenant = tenant }) ∷ pending)) }
@@ -63,6 +64,7 @@ pub fn add_token<S: Alter>(
 pub fn end_token<S: Alter>(conn: &mut Connection<S>, digest: &[u8; 32]) -> Result<(), Fault>
     requires idle { conn.old.in_transaction ≡ false }
     ensures idle { conn.new.in_transaction ≡ false }
+    ensures clean { HasCleanDisk (state S.Store conn.new) → HasCleanDisk (state S.Store conn.old) }
     ensures done { (db : Database) (pending : List Written) → Stands S.Store conn.old db pending → HasCleanDisk (state S.Store conn.new)
         → OnOk result (IsDone S.Store conn.new db (TokenLost digest.now)) }
     ensures fault { (db : Database) (pending : List Written) → Stands S.Store conn.old db pending → OnErr result (Stands S.Store conn.new db (TokenLost digest.now ∷ pending)) }

@@ -61,6 +61,7 @@ pub fn commit_change<S: Alter>(
 ) -> Result<(), Fault>
     requires idle { conn.old.in_transaction ≡ false }
     ensures idle { conn.new.in_transaction ≡ false }
+    ensures clean { HasCleanDisk (state S.Store conn.new) → HasCleanDisk (state S.Store conn.old) }
     ensures done { (db : Database) (pending : List Written) (w : NetworkRow) → Stands S.Store conn.old db pending → AreConsistent (tables_of db) → Has (tables_of db).networks w → w.id ≡ network → HasCleanDisk (state S.Store conn.new)
         → OnOk result (IsDone S.Store conn.new db (Replaced network (applied change.now (holding_of (tables_of db) w).network))) }
     ensures fault { (db : Database) (pending : List Written) (w : NetworkRow) → Stands S.Store conn.old db pending → AreConsistent (tables_of db) → Has (tables_of db).networks w → w.id ≡ network

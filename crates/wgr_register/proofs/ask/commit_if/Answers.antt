@@ -1,0 +1,7 @@
+use Rattle.wgr_register.proofs.ask.commit_if.Goals as goal
+
+pub returns-in-Some-clause-done : goal.returns-in-Some-clause-done
+returns-in-Some-clause-done g c db pending w stood good here is clean = rw c.in-Some.is (c.commit_change.ensures.done db pending w stood good here is clean)
+
+pub returns-in-Some-clause-fault : goal.returns-in-Some-clause-fault
+returns-in-Some-clause-fault g c db pending w stood good here is = rw c.in-Some.is (c.commit_change.ensures.fault db pending w stood good here is)

@@ -1,0 +1,69 @@
+-- How a call leaves a register.
+use Rattle.std.specs.Prelude.{◌≡◌, ◌⊎◌, ℕ, List, [], ◌∷◌, Option, Some, None, Result, Ok, Err}
+use Rattle.std.specs.declared.vec.Vec.{Vec}
+use Rattle.std.specs.declared.alloc.Global.{Global}
+use Rattle.sqlite.specs.Effect.{Database}
+use Rattle.sqlite.specs.State.{HasCleanDisk}
+use Rattle.sqlite.specs.Store.{Ghosts}
+use Rattle.sqlite.specs.Held.{Held, state}
+use Rattle.wgr_core.specs.Change.{applied}
+use Rattle.wgr_core.specs.Network.{NetworkValue}
+use Rattle.wgr_core.specs.declared.change.Change.{Change}
+use Rattle.wgr_core.specs.declared.fault.ActFault.{ActFault}
+use Rattle.wgr_core.specs.declared.fault.ActFault.TheVariants as act_fault
+use Rattle.wgr_model.specs.Laws.{Has}
+use Rattle.wgr_model.specs.Register.{Bytes}
+use Rattle.wgr_model.specs.RowLaws.{IsRowStep}
+use Rattle.wgr_model.specs.Rows.{NetworkRow, Tables, holding_of}
+use Rattle.wgr_model.specs.Steps.{Answer, Declined, Event, NoSuchNetwork, UnknownToken, tenant_of_token}
+use Rattle.wgr_sql.specs.declared.fault.Fault.TheVariants.{NoMemory}
+use Rattle.wgr_tables.specs.Decode.{tables_of}
+use Rattle.wgr_tables.specs.Standing.{IsDone, Stands}
+use Rattle.wgr_tables.specs.Writes.{Replaced, Written}
+use Rattle.wgr_register.specs.Given.{GivenValue, IsShown}
+use Rattle.wgr_register.specs.Standing.{StandsAt}
+use Rattle.wgr_register.specs.declared.fault.AskFault.{AskFault}
+use Rattle.wgr_register.specs.declared.fault.AskFault.TheVariants as fault
+
+-- The event is a step with an answer like this. Where it changed a row, it is acknowledged, and no
+-- event is late any more; else all is as it was.
+abbrev pub EndsWith : {S : Type 0} → Ghosts S → Held S → Database → List Event → Event → (Answer → Type 0) → Type 0
+EndsWith g conn db late event P =
+    HasCleanDisk (state g conn) → (answer : Answer) × P answer × (next : Database) × IsRowStep (tables_of db) event answer (tables_of next)
+    × (StandsAt g conn next [] ⊎ ((next ≡ db) × StandsAt g conn db late))
+
+-- the event was answered by a fault: the rows are as they were, and a stop may leave it done
+abbrev pub EndsLate : {S : Type 0} → Ghosts S → Held S → Database → List Event → Event → Type 0
+EndsLate g conn db late event = StandsAt g conn db (event ∷ late)
+
+-- how an ask ends: with a text that shows its answer, with a refusal, or by a fault
+abbrev pub AskEnds : {S : Type 0} → Ghosts S → (GivenValue → Bytes) → Held S → Database → List Event → Event → ℕ → Result (Vec ℕ Global) AskFault → Type 0
+AskEnds g shown conn db late event now (Ok text) = EndsWith g conn db late event (IsShown shown now text.items)
+AskEnds g shown conn db late event now (Err (fault.Refused why)) = EndsWith g conn db late event (λ answer. answer ≡ Declined why)
+AskEnds g shown conn db late event now (Err fault.UnknownToken) = EndsWith g conn db late event (λ answer. answer ≡ UnknownToken)
+AskEnds g shown conn db late event now (Err fault.NoSuchNetwork) = EndsWith g conn db late event (λ answer. answer ≡ NoSuchNetwork)
+AskEnds g shown conn db late event now (Err (fault.Fault why)) = EndsLate g conn db late event
+
+-- the same of a command that isn't done
+abbrev pub ask_fault : ActFault → AskFault
+ask_fault (act_fault.Refused why) = fault.Refused why
+ask_fault act_fault.NoMemory = fault.Fault NoMemory
+
+-- the change, if there is one, is committed
+abbrev pub CommitsIf : {S : Type 0} → Ghosts S → Held S → Database → List Written → ℕ → NetworkValue → Option Change → Type 0
+CommitsIf g conn db pending id network None = Stands g conn db pending
+CommitsIf g conn db pending id network (Some change) = IsDone g conn db (Replaced id (applied change network))
+
+-- or a stop may leave it
+abbrev pub FailsIf : {S : Type 0} → Ghosts S → Held S → Database → List Written → ℕ → NetworkValue → Option Change → Type 0
+FailsIf g conn db pending id network None = ⊥
+FailsIf g conn db pending id network (Some change) = Stands g conn db (Replaced id (applied change network) ∷ pending)
+
+-- the network of this name that the tenant of the token has, and the id of its row
+pub record IsFound (t : Tables) (digest name : Bytes) (id : ℕ) (network : NetworkValue) : Type 0 where
+  pub row : NetworkRow
+  pub there : Has t.networks row
+  pub tenant : tenant_of_token t.tokens digest ≡ Some row.tenant
+  pub named : row.name ≡ name
+  pub at : row.id ≡ id
+  pub value : network ≡ (holding_of t row).network
