@@ -1,2 +1,6 @@
 pub mod FormLemmas
 pub mod LaidOutLemmas
+pub mod Meanings
+pub mod FreshLemmas
+pub mod LayLemmas
+pub mod StandsLemmas

@@ -1,2 +1,3 @@
 pub mod Forms
 pub mod LaidOut
+pub mod Fresh

@@ -2,9 +2,13 @@
 //! them.
 #![tactic(auto)]
 
+mod fault;
 mod form;
 mod indexes;
 mod layout;
+mod making;
 mod tables;
 
+pub use fault::RegisterFault;
 pub use layout::holds_register;
+pub use making::make;
