@@ -4,3 +4,4 @@ pub mod Meanings
 pub mod FreshLemmas
 pub mod LayLemmas
 pub mod StandsLemmas
+pub mod VersionLemmas

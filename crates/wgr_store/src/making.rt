@@ -7,7 +7,7 @@ ghost use Rattle.sqlite.specs.Held.{state};
 ghost use Rattle.wgr_sql.specs.Calls.{IsKept};
 ghost use Rattle.wgr_tables.specs.Standing.{Stands};
 ghost use Rattle.wgr_store.specs.Fresh.{no_schema, entries_schema, tables_schema, HasBlank, IsFresh, Lays, LeavesFresh, is_taken, is_any_taken};
-ghost use Rattle.wgr_store.specs.declared.fault.RegisterFault.TheVariants.{NotARegister, NotEmpty};
+ghost use Rattle.wgr_store.specs.declared.fault.RegisterFault.TheVariants.{NotARegister, NotGood, NotEmpty};
 
 use crate::fault::{RegisterFault, register_fault};
 use sqlite::{Alter, Connection, Transaction};
@@ -133,6 +133,8 @@ pub fn make<S: Alter>(conn: &mut Connection<S>) -> Result<(), RegisterFault>
     requires idle { conn.old.in_transaction ≡ false }
     ensures idle { conn.new.in_transaction ≡ false }
     ensures taken { result ≡ Err NotEmpty ↔ is_any_taken (state S.Store conn.old).now.schema ≡ true }
+    ensures foreign { result ≡ Err NotARegister ↔ ((is_any_taken (state S.Store conn.old).now.schema ≡ false) × ((state S.Store conn.old).now.schema ≡ no_schema → ⊥)) }
+    ensures good { result ≡ Err NotGood → ⊥ }
     ensures free { OnOk result ((state S.Store conn.old).now.schema ≡ no_schema) }
     ensures done { HasCleanDisk (state S.Store conn.new) → OnOk result ((db : Database) × IsFresh db × Stands S.Store conn.new db []) }
     ensures kept { OnErr result (IsKept (state S.Store conn.old) (state S.Store conn.new)) }
