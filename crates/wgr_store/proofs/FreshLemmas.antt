@@ -14,7 +14,7 @@ use Rattle.wgr_model.specs.RowLaws.{no_rows}
 use Rattle.wgr_sql.proofs.RowLemmas.{inserted}
 use Rattle.wgr_sql.proofs.TableLemmas.{cast_null, cast_int, apart}
 use Rattle.wgr_tables.specs.Layout.{meta_at, schema_with}
-use Rattle.wgr_tables.specs.Decode.{AreWritten, AreTrees, IsRegister, tables_of, number_at, network_numbers, peer_numbers, allowed_numbers, allowed_addresses, meta_in, tenant_in, token_in, network_in, peer_in, allowed_in}
+use Rattle.wgr_tables.specs.Decode.{AreWritten, AreTrees, tables_of, number_at, network_numbers, peer_numbers, allowed_numbers, allowed_addresses, meta_in, tenant_in, token_in, network_in, peer_in, allowed_in}
 use Rattle.wgr_tables.proofs.WrittenLemmas.{written_put}
 use Rattle.wgr_store.specs.Fresh.{HasBlank, IsFresh, no_others, whole_schema}
 use Rattle.wgr_store.proofs.Meanings.{version_text, version_values, version_means, whole_is}

@@ -3,7 +3,7 @@ use Rattle.std.proofs.Common.{◌≡◌, ◌↔◌, true, ◌++◌, take, drop, 
 use Rattle.std.specs.List.{list_all}
 use Rattle.std.proofs.lemmas.List.{take-append-drop}
 use Rattle.sqlite.specs.Schema.{Schema}
-use Rattle.wgr_tables.specs.Layout.{Others, schema_with, register_tables, register_indexes, is_apart, is_past}
+use Rattle.wgr_tables.specs.Layout.{register_tables, register_indexes, is_apart, is_past}
 use Rattle.wgr_store.specs.LaidOut.{BeginsWithRegister, IsLaidOut}
 
 pub laid_out_is : (s : Schema) → BeginsWithRegister s ↔ IsLaidOut s
