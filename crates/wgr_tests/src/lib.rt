@@ -26,4 +26,6 @@ mod shown;
 #[cfg(test)]
 mod size;
 #[cfg(test)]
+mod store;
+#[cfg(test)]
 mod tables;

@@ -1,0 +1,24 @@
+use Rattle.std.proofs.Common.{Ok, refl, arith}
+use Rattle.sqlite.specs.State.{HasCleanDisk}
+use Rattle.sqlite.specs.Held.{state}
+use Rattle.wgr_tables.specs.Layout.{network_at, peer_at, allowed_at}
+use Rattle.wgr_tables.specs.Texts.{network_text, peer_text, allowed_text}
+use Rattle.wgr_tables.proofs.DefinedLemmas.{defined}
+use Rattle.wgr_store.specs.Fresh.{HasBlank, entries_schema, network_schema, peer_schema, tables_schema}
+use Rattle.wgr_store.proofs.Meanings.{network_means, peer_means, allowed_means}
+use Rattle.wgr_store.proofs.LayLemmas.{lays_table, lays_then}
+use Rattle.wgr_store.proofs.making.make_networks.Goals as goal
+
+pub returns-clause-step : goal.returns-clause-step
+returns-clause-step g c clean =
+    let a = state g.S.Store c.args.tx.now.conn.now in
+    let b = state g.S.Store c.execute.new.tx.conn.now in
+    let d = state g.S.Store c.execute-2.new.tx.conn.now in
+    let e = state g.S.Store c.execute-3.new.tx.conn.now in
+    let clean_d : HasCleanDisk d = omega (arith, c.execute-3.ensures.survives.clean, clean) in
+    let clean_b : HasCleanDisk b = omega (arith, c.execute-2.ensures.survives.clean, clean_d) in
+    let one = lays_table a b (Ok c.in_ok-execute.field-0) (c.execute.ensures.kept clean_b) entries_schema network_text (c.in_ok-execute.ensures.ran clean_b) (network_at 0) network_means defined.3 refl in
+    let two = lays_table b d (Ok c.in_ok-execute-2.field-0) (c.execute-2.ensures.kept clean_d) network_schema peer_text (c.in_ok-execute-2.ensures.ran clean_d) (peer_at 0) peer_means defined.4 refl in
+    let three = lays_table d e c.execute-3.result (c.execute-3.ensures.kept clean) peer_schema allowed_text (c.execute-3.ensures.ran clean) (allowed_at 0) allowed_means defined.5 refl in
+    lays_then (HasBlank entries_schema) (HasBlank network_schema) (HasBlank tables_schema) a b e c.in_ok-execute.field-0 c.execute-3.result one
+    (lays_then (HasBlank network_schema) (HasBlank peer_schema) (HasBlank tables_schema) b d e c.in_ok-execute-2.field-0 c.execute-3.result two three)

@@ -1,0 +1,18 @@
+-- A schema that has the register's tables.
+use Rattle.std.specs.Prelude.{◌≡◌, true, take, drop}
+use Rattle.std.specs.List.{list_all}
+use Rattle.sqlite.specs.Schema.{Schema}
+use Rattle.wgr_tables.specs.Layout.{Others, AreApart, schema_with, register_tables, register_indexes, is_apart, is_past}
+
+-- the register's tables and indexes stand first, and the others apart
+pub record IsLaidOut (schema : Schema) : Type 0 where
+  pub others : Others
+  pub schema_is : schema ≡ schema_with others
+  pub apart : AreApart others
+
+-- the same, told of the schema's own lists
+pub record BeginsWithRegister (schema : Schema) : Type 0 where
+  pub tables : take 6 schema.tables ≡ register_tables
+  pub indexes : take 7 schema.indexes ≡ register_indexes
+  pub apart : list_all (is_apart register_tables) (drop 6 schema.tables) ≡ true
+  pub past : list_all is_past (drop 7 schema.indexes) ≡ true

@@ -1,0 +1,32 @@
+//! Why no register was made or opened.
+ghost use Rattle.std.specs.Prelude.{◌≡◌};
+ghost use Rattle.wgr_store.specs.declared.fault.RegisterFault.TheVariants.{NotARegister, NotEmpty, NotGood};
+
+use wgr_sql::Fault;
+
+/// Why no register was made or opened.
+#[derive(Clone, Copy, Debug, PartialEq, Eq)]
+pub enum RegisterFault {
+    /// Memory was refused.
+    NoMemory,
+    /// The store refused, or holds what it shouldn't.
+    Store,
+    /// The database has no tables of a register, or those of another version.
+    NotARegister,
+    /// The rows break the register's rules.
+    NotGood,
+    /// One of the register's tables is there already.
+    NotEmpty,
+}
+
+/// A fault of a statement tells nothing of what the database holds.
+pub(crate) fn register_fault(fault: Fault) -> RegisterFault
+    ensures foreign { result ≡ NotARegister → ⊥ }
+    ensures bad { result ≡ NotGood → ⊥ }
+    ensures taken { result ≡ NotEmpty → ⊥ }
+{
+    match fault {
+        Fault::NoMemory => RegisterFault::NoMemory,
+        Fault::Store => RegisterFault::Store,
+    }
+}

@@ -1,0 +1,18 @@
+//! The making of the register's tables in an empty database, and the test whether a database has
+//! them.
+#![tactic(auto)]
+
+mod fault;
+mod form;
+mod indexes;
+mod laws;
+mod layout;
+mod making;
+mod tables;
+mod version;
+
+pub use fault::RegisterFault;
+pub use laws::{fresh_is_consistent, version_is_read};
+pub use layout::holds_register;
+pub use making::make;
+pub use version::check_layout;

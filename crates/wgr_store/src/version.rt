@@ -1,0 +1,62 @@
+//! Whether a database is a register of the first version.
+ghost use Rattle.std.specs.Prelude.{◌≡◌, ◌↔◌, false, IsTrue, IfOk, OnOk, Err};
+ghost use Rattle.sqlite.specs.State.{HasCleanDisk, Survives};
+ghost use Rattle.sqlite.specs.Held.{state};
+ghost use Rattle.wgr_sql.specs.Calls.{IsKept};
+ghost use Rattle.wgr_store.specs.FirstVersion.{SaysFirst, IsFirstVersion};
+ghost use Rattle.wgr_store.specs.declared.fault.RegisterFault.TheVariants.{NotARegister, NotGood, NotEmpty};
+
+use crate::fault::{RegisterFault, register_fault};
+use crate::layout::holds_register;
+use sqlite::{Alter, Connection, Row};
+use wgr_sql::{Fault, fault_of, query};
+
+/// Whether there is one row, and its first value is 1.
+fn says_first(rows: &[Row]) -> Result<bool, Fault>
+    ensures { IfOk result (λ is. IsTrue is ↔ SaysFirst rows.now) }
+{
+    match rows {
+        [row] => {
+            let version: i64 = match row.get(0) {
+                Ok(version) => version,
+                Err(error) => return Err(fault_of(error)),
+            };
+            Ok(version == 1)
+        }
+        _ => Ok(false),
+    }
+}
+
+/// Whether the database has the register's tables, and says that they are of the first version.
+fn is_first_version<S: Alter>(conn: &mut Connection<S>) -> Result<bool, Fault>
+    requires idle { conn.old.in_transaction ≡ false }
+    ensures idle { conn.new.in_transaction ≡ false }
+    ensures told { HasCleanDisk (state S.Store conn.new) → IfOk result (λ is. IsTrue is ↔ IsFirstVersion (state S.Store conn.old).now) }
+    ensures kept { IsKept (state S.Store conn.old) (state S.Store conn.new) }
+    ensures survives { Survives (state S.Store conn.old) (state S.Store conn.new) (λ _. ⊥) }
+{
+    if !holds_register(conn.schema()) {
+        return Ok(false);
+    }
+    let rows = query(conn, "SELECT version FROM meta", &[])?;
+    says_first(rows.as_slice())
+}
+
+/// Tells by `NotARegister` that the database lacks the register's tables, or has those of another
+/// version. It looks at no row but that of the version, and changes nothing.
+pub fn check_layout<S: Alter>(conn: &mut Connection<S>) -> Result<(), RegisterFault>
+    requires idle { conn.old.in_transaction ≡ false }
+    ensures idle { conn.new.in_transaction ≡ false }
+    ensures right { HasCleanDisk (state S.Store conn.new) → OnOk result (IsFirstVersion (state S.Store conn.old).now) }
+    ensures wrong { HasCleanDisk (state S.Store conn.new) → result ≡ Err NotARegister → IsFirstVersion (state S.Store conn.old).now → ⊥ }
+    ensures good { result ≡ Err NotGood → ⊥ }
+    ensures full { result ≡ Err NotEmpty → ⊥ }
+    ensures kept { IsKept (state S.Store conn.old) (state S.Store conn.new) }
+    ensures survives { Survives (state S.Store conn.old) (state S.Store conn.new) (λ _. ⊥) }
+{
+    match is_first_version(conn) {
+        Ok(true) => Ok(()),
+        Ok(false) => Err(RegisterFault::NotARegister),
+        Err(fault) => Err(register_fault(fault)),
+    }
+}

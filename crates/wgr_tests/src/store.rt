@@ -1,0 +1,127 @@
+//! The register's tables in a database: made, told from others, and found again.
+use sqlite::{Alter, Connection, FileStore, MemStore, Options};
+use sqlite_disk::{Files, Fuse, Memory};
+use std::alloc::AllocGlobal;
+use std::process::Abort;
+use wgr_store::{RegisterFault, check_layout, make};
+
+fn run<S: Alter>(rt: &(impl Abort + AllocGlobal), conn: &mut Connection<S>, statements: &str) {
+    conn.execute_batch(statements).expect(rt, "a statement");
+}
+
+fn made<S: Alter>(rt: &impl Abort, conn: &mut Connection<S>) -> Result<(), RegisterFault> {
+    assert!(rt; conn.is_autocommit());
+    make(conn)
+}
+
+fn checked<S: Alter>(rt: &impl Abort, conn: &mut Connection<S>) -> Result<(), RegisterFault> {
+    assert!(rt; conn.is_autocommit());
+    check_layout(conn)
+}
+
+// A database in which these statements were run.
+fn database(rt: &(impl Abort + AllocGlobal), statements: &str) -> Connection<MemStore> {
+    let mut conn = Connection::open_in_memory(rt.alloc()).expect(rt, "memory");
+    run(rt, &mut conn, statements);
+    conn
+}
+
+#[test]
+fn a_register_is_made_once(rt: HostRuntime) {
+    let mut conn = database(&rt, "");
+    assert!(rt; checked(&rt, &mut conn) == Err(RegisterFault::NotARegister));
+    assert!(rt; made(&rt, &mut conn) == Ok(()));
+    assert!(rt; checked(&rt, &mut conn) == Ok(()));
+    assert!(rt; made(&rt, &mut conn) == Err(RegisterFault::NotEmpty));
+    assert!(rt; checked(&rt, &mut conn) == Ok(()));
+}
+
+// What `make` answers where these statements were run before.
+fn made_after(rt: &(impl Abort + AllocGlobal), statements: &str) -> Result<(), RegisterFault> {
+    made(rt, &mut database(rt, statements))
+}
+
+#[test]
+fn only_an_empty_database_serves(rt: HostRuntime) {
+    for (statements, want) in [
+        (
+            "CREATE TABLE note (id INTEGER)",
+            RegisterFault::NotARegister,
+        ),
+        ("CREATE VIEW one AS SELECT 1", RegisterFault::NotARegister),
+        ("CREATE TABLE Peer (id INTEGER)", RegisterFault::NotEmpty),
+        ("CREATE VIEW token AS SELECT 1", RegisterFault::NotEmpty),
+        (
+            "CREATE TABLE note (id INTEGER); CREATE TABLE meta (id INTEGER)",
+            RegisterFault::NotEmpty,
+        ),
+    ] {
+        assert!(rt; made_after(&rt, statements) == Err(want), "{statements}");
+    }
+    assert!(rt; made_after(&rt, "CREATE TABLE note (id INTEGER); DROP TABLE note") == Ok(()));
+}
+
+// Whether a register is still one once the statements are run.
+fn is_register(rt: &(impl Abort + AllocGlobal), statements: &str) -> bool {
+    let mut conn = database(rt, "");
+    made(rt, &mut conn).expect(rt, "a register");
+    run(rt, &mut conn, statements);
+    match checked(rt, &mut conn) {
+        Ok(()) => true,
+        Err(fault) => {
+            assert!(rt; fault == RegisterFault::NotARegister);
+            false
+        }
+    }
+}
+
+#[test]
+fn others_stand_apart(rt: HostRuntime) {
+    for statements in [
+        "CREATE TABLE note (id INTEGER PRIMARY KEY, text TEXT UNIQUE)",
+        "CREATE INDEX peer_label ON peer (label)",
+        "CREATE VIEW names AS SELECT name FROM tenant",
+        "CREATE TABLE a (id INTEGER PRIMARY KEY); CREATE TABLE b (a INTEGER REFERENCES a (id))",
+        "INSERT INTO tenant (id, name) VALUES (1, 'acme')",
+    ] {
+        assert!(rt; is_register(&rt, statements), "{statements}");
+    }
+}
+
+#[test]
+fn changed_tables_are_no_register(rt: HostRuntime) {
+    for statements in [
+        "CREATE TABLE mark (peer INTEGER REFERENCES peer (id))",
+        "DROP INDEX allowed_peer",
+        "DROP TABLE token",
+        "UPDATE meta SET version = 9",
+        "DELETE FROM meta",
+        "INSERT INTO meta (version) VALUES (2)",
+        "DROP INDEX allowed_peer; CREATE INDEX allowed_peer ON allowed (peer, network)",
+    ] {
+        assert!(rt; !is_register(&rt, statements), "{statements}");
+    }
+}
+
+fn opened(
+    rt: &(impl Abort + AllocGlobal),
+    files: Files<Fuse<Memory>>,
+) -> Connection<FileStore<Fuse<Memory>>> {
+    match Connection::open_files(rt.alloc(), files, Options::new(7)) {
+        Ok(conn) => conn,
+        Err(_) => panic!(rt; "files"),
+    }
+}
+
+#[test]
+fn a_register_is_found_again(rt: HostRuntime) {
+    let files = Files {
+        log: Fuse::new(Memory::new(rt.alloc()), u64::MAX),
+        db: Fuse::new(Memory::new(rt.alloc()), u64::MAX),
+    };
+    let mut conn = opened(&rt, files);
+    made(&rt, &mut conn).expect(&rt, "a register");
+    run(&rt, &mut conn, "CREATE TABLE note (id INTEGER PRIMARY KEY)");
+    let mut again = opened(&rt, conn.into_store().close());
+    assert!(rt; checked(&rt, &mut again) == Ok(()));
+}
