@@ -25,7 +25,8 @@ impl Event {
 }
 
 impl Order {
-    fn tell_forms(&self)
+    /// Does nothing. Each field is of the form that its type keeps.
+    pub fn tell_forms(&self)
         ensures { IsProper (order_event self.now) }
     {
         match self {

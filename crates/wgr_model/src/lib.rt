@@ -15,6 +15,7 @@ mod register;
 mod run;
 
 pub use answer::{Answer, OrderRefusal};
+pub use look::unused_id;
 pub use order::{Order, Settings};
 pub use register::Register;
 pub use run::Event;

@@ -90,8 +90,8 @@ pub(crate) fn network_ids(alloc: Global, networks: &[Holding]) -> Result<Vec<u32
     Ok(ids)
 }
 
-// The lowest id that isn't among these.
-pub(crate) fn unused_id(ids: &[u32]) -> u32
+/// The lowest id that isn't among these.
+pub fn unused_id(ids: &[u32]) -> u32
     requires { length ids.now < 65536 }
     ensures id { IsId result }
     ensures unused { list_any (nat_eq result) ids.now ≡ false }

@@ -1,3 +1,4 @@
 pub mod Meanings
+pub mod AllLemmas
 pub mod ComeLemmas
 pub mod GoLemmas

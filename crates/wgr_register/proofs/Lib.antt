@@ -1,3 +1,4 @@
 pub mod StandLemmas
 pub mod GivenLemmas
 pub mod AskLemmas
+pub mod OrderLemmas

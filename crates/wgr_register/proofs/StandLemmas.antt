@@ -14,17 +14,23 @@ use Rattle.wgr_core.specs.declared.refusal.Refusal.{Refusal}
 use Rattle.wgr_model.specs.Register.{Bytes}
 use Rattle.wgr_model.specs.RowLaws.{AreConsistent, IsRowStep}
 use Rattle.wgr_model.specs.Rows.{Tables}
-use Rattle.wgr_model.specs.Steps.{Answer, Declined, Event}
+use Rattle.wgr_model.specs.Steps.{Answer, Declined, Event, IsProper}
+use Rattle.wgr_model.specs.Steps as answered
+use Rattle.wgr_model.proofs.RowRunLemmas.{no_rows_consistent, row_step}
+use Rattle.wgr_store.specs.Fresh.{IsFresh}
 use Rattle.wgr_sql.specs.declared.fault.Fault.{Fault}
 use Rattle.wgr_sql.specs.declared.fault.Fault.TheVariants.{NoMemory}
 use Rattle.wgr_tables.specs.Decode.{IsRegister, tables_of}
-use Rattle.wgr_tables.specs.Standing.{Stands}
+use Rattle.wgr_tables.specs.Standing.{IsDone, Stands}
 use Rattle.wgr_tables.specs.Writes.{Changes, Written}
-use Rattle.wgr_register.specs.Ends.{AskEnds, EndsWith, ask_fault}
+use Rattle.wgr_register.specs.Ends.{AskEnds, EndsWith, OrderEnds, ask_fault}
 use Rattle.wgr_register.specs.Given.{GivenValue}
-use Rattle.wgr_register.specs.Standing.{AreSteps, StandsAt, StandsSomewhere}
+use Rattle.wgr_register.specs.Standing.{AreSteps, StandsAt}
 use Rattle.wgr_register.specs.declared.fault.AskFault.{AskFault}
 use Rattle.wgr_register.specs.declared.fault.AskFault.TheVariants as fault
+use Rattle.wgr_register.specs.declared.fault.Done.{Done}
+use Rattle.wgr_register.specs.declared.fault.OrderFault.{OrderFault}
+use Rattle.wgr_register.specs.declared.fault.OrderFault.TheVariants as order_fault
 
 steps_more : (t : Tables) (pending : List Written) (late : List Event) (event : Event) → AreSteps t pending late → AreSteps t pending (event ∷ late)
 steps_more t pending late event steps one here u made = let is = steps one here u made in (is.0, inr is.1, is.2, is.3)
@@ -53,12 +59,9 @@ module _ {S : Type 0} (g : Ghosts S) where
       steps = λ one here. absurd here;
     }
 
-  pub somewhere_if : (conn : Held S) (db : Database) → conn.in_transaction ≡ false → IsRegister db → AreConsistent (tables_of db) → (HasCleanDisk (state g conn) → StandsSomewhere g conn) → StandsSomewhere g conn
-  unfolding doubt
-  somewhere_if conn db idle good consistent stands = by_clean (state g conn).is_clean refl where
-    by_clean : (b : Bool) → (state g conn).is_clean ≡ b → StandsSomewhere g conn
-    by_clean true is = stands (ap doubt is)
-    by_clean false is = (db, [], at_if conn db [] idle good consistent (λ clean. let bad : ◌≡◌ {A = ℕ} 1 0 = sym (ap doubt is) ∙ clean in cc))
+  -- a register that was just made
+  pub at_fresh : (conn : Held S) (db : Database) → IsFresh db → Stands g conn db [] → StandsAt g conn db []
+  at_fresh conn db is stands = record { pending = []; stands = stands; consistent = subst AreConsistent (sym is.rows) no_rows_consistent; steps = λ one here. absurd here }
 
   -- a call that reads leaves it where it is
   pub at_read : (old new : Held S) (db : Database) (late : List Event) → ((pending : List Written) → Stands g old db pending → Stands g new db pending) → StandsAt g old db late → StandsAt g new db late
@@ -100,15 +103,47 @@ module _ {S : Type 0} (g : Ghosts S) where
   undone_ends shown conn db late event now (Err fault.NoSuchNetwork) (act_fault.Refused why) is at refuses = cc
   undone_ends shown conn db late event now (Err (fault.Fault other)) (act_fault.Refused why) is at refuses = cc
 
-  -- however a call ends, the register stands somewhere
-  with_somewhere : (conn : Held S) (db : Database) (late : List Event) (event : Event) (P : Answer → Type 0) → conn.in_transaction ≡ false → IsRegister db → AreConsistent (tables_of db) → EndsWith g conn db late event P → StandsSomewhere g conn
-  with_somewhere conn db late event P idle good consistent ends =
-      somewhere_if conn db idle good consistent (λ clean. let end = ends clean in elim end.4 [ inl at ↦ (end.2, [], at) | inr at ↦ (db, late, at.1) ])
+  -- however a call ends, the register is at rest
+  with_somewhere : (conn : Held S) (db : Database) (late : List Event) (event : Event) (P : Answer → Type 0) → EndsWith g conn db late event P → HasCleanDisk (state g conn) → (next : Database) × (others : List Event) × StandsAt g conn next others
+  with_somewhere conn db late event P ends clean = let end = ends clean in elim end.4 [ inl at ↦ (end.2, [], at) | inr at ↦ (db, late, at.1) ]
 
-  pub ask_somewhere : (shown : GivenValue → Bytes) (conn : Held S) (db : Database) (late : List Event) (event : Event) (now : ℕ) (r : Result (Vec ℕ Global) AskFault) → conn.in_transaction ≡ false → IsRegister db → AreConsistent (tables_of db)
-      → AskEnds g shown conn db late event now r → StandsSomewhere g conn
-  ask_somewhere shown conn db late event now (Ok text) idle good consistent ends = with_somewhere conn db late event _ idle good consistent ends
-  ask_somewhere shown conn db late event now (Err (fault.Refused why)) idle good consistent ends = with_somewhere conn db late event _ idle good consistent ends
-  ask_somewhere shown conn db late event now (Err fault.UnknownToken) idle good consistent ends = with_somewhere conn db late event _ idle good consistent ends
-  ask_somewhere shown conn db late event now (Err fault.NoSuchNetwork) idle good consistent ends = with_somewhere conn db late event _ idle good consistent ends
-  ask_somewhere shown conn db late event now (Err (fault.Fault why)) idle good consistent ends = (db, event ∷ late, ends)
+  pub ask_somewhere : (shown : GivenValue → Bytes) (conn : Held S) (db : Database) (late : List Event) (event : Event) (now : ℕ) (r : Result (Vec ℕ Global) AskFault)
+      → AskEnds g shown conn db late event now r → HasCleanDisk (state g conn) → (next : Database) × (others : List Event) × StandsAt g conn next others
+  ask_somewhere shown conn db late event now (Ok text) ends = with_somewhere conn db late event _ ends
+  ask_somewhere shown conn db late event now (Err (fault.Refused why)) ends = with_somewhere conn db late event _ ends
+  ask_somewhere shown conn db late event now (Err fault.UnknownToken) ends = with_somewhere conn db late event _ ends
+  ask_somewhere shown conn db late event now (Err fault.NoSuchNetwork) ends = with_somewhere conn db late event _ ends
+  ask_somewhere shown conn db late event now (Err (fault.Fault why)) ends = λ clean. (db, event ∷ late, ends)
+
+  -- ---- orders
+
+  order_late : (conn : Held S) (db : Database) (late : List Event) (event : Event) (r : Result Done OrderFault) (why : Fault) → IsErrAnd r (λ e. e ≡ order_fault.Fault why) → StandsAt g conn db (event ∷ late) → OrderEnds g conn db late event r
+  order_late conn db late event (Ok done) why is at = absurd is
+  order_late conn db late event (Err (order_fault.Refused other)) why is at = cc
+  order_late conn db late event (Err (order_fault.Fault other)) why is at = at
+
+  -- a read of an order fails
+  pub order_unread : (old new : Held S) (db : Database) (late : List Event) (event : Event) (r : Result Done OrderFault) (why : Fault) → IsErrAnd r (λ e. e ≡ order_fault.Fault why)
+      → ((pending : List Written) → Stands g old db pending → Stands g new db pending) → StandsAt g old db late → OrderEnds g new db late event r
+  order_unread old new db late event r why is reads at = order_late new db late event r why is (at_more new db late event (at_read old new db late reads at))
+
+  -- its commit fails
+  pub order_unwritten : (old mid new : Held S) (db : Database) (late : List Event) (event : Event) (r : Result Done OrderFault) (why : Fault) (one : Written) → IsErrAnd r (λ e. e ≡ order_fault.Fault why) → new.in_transaction ≡ false
+      → (HasCleanDisk (state g new) → (u : Tables) → Changes one (tables_of db) u → IsRowStep (tables_of db) event answered.Done u)
+      → (at : StandsAt g old db late) → Stands g new db (one ∷ at.pending) → OrderEnds g new db late event r
+  order_unwritten old mid new db late event r why one is idle makes at stands = order_late new db late event r why is
+      (at_if new db (event ∷ late) idle stands.sound at.consistent
+      (λ clean. record { pending = one ∷ at.pending; stands = stands; consistent = at.consistent; steps = steps_late (tables_of db) at.pending late event one (λ u made. (answered.Done, makes clean u made)) at.steps }))
+
+  -- it is done
+  pub order_done : (new : Held S) (db : Database) (late : List Event) (event : Event) (one : Written) → IsProper event → AreConsistent (tables_of db)
+      → ((u : Tables) → Changes one (tables_of db) u → IsRowStep (tables_of db) event answered.Done u) → IsDone g new db one → EndsWith g new db late event (λ answer. answer ≡ answered.Done)
+  order_done new db late event one proper consistent makes done clean =
+      let step = makes (tables_of done.0) done.1.made in
+      (answered.Done, refl, done.0, step, inl (record { pending = []; stands = done.2; consistent = (row_step (tables_of db) (tables_of done.0) event answered.Done consistent proper step).0; steps = λ one here. absurd here }))
+
+  -- or the register is at rest in any case
+  pub order_somewhere : (conn : Held S) (db : Database) (late : List Event) (event : Event) (r : Result Done OrderFault) → OrderEnds g conn db late event r → HasCleanDisk (state g conn) → (next : Database) × (others : List Event) × StandsAt g conn next others
+  order_somewhere conn db late event (Ok done) ends = with_somewhere conn db late event _ ends
+  order_somewhere conn db late event (Err (order_fault.Refused why)) ends = with_somewhere conn db late event _ ends
+  order_somewhere conn db late event (Err (order_fault.Fault why)) ends = λ clean. (db, event ∷ late, ends)

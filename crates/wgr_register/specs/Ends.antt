@@ -11,11 +11,13 @@ use Rattle.wgr_core.specs.Network.{NetworkValue}
 use Rattle.wgr_core.specs.declared.change.Change.{Change}
 use Rattle.wgr_core.specs.declared.fault.ActFault.{ActFault}
 use Rattle.wgr_core.specs.declared.fault.ActFault.TheVariants as act_fault
+use Rattle.wgr_model.specs.Calls.{refusal_of}
 use Rattle.wgr_model.specs.Laws.{Has}
 use Rattle.wgr_model.specs.Register.{Bytes}
 use Rattle.wgr_model.specs.RowLaws.{IsRowStep}
 use Rattle.wgr_model.specs.Rows.{NetworkRow, Tables, holding_of}
 use Rattle.wgr_model.specs.Steps.{Answer, Declined, Event, NoSuchNetwork, UnknownToken, tenant_of_token}
+use Rattle.wgr_model.specs.Steps as answered
 use Rattle.wgr_sql.specs.declared.fault.Fault.TheVariants.{NoMemory}
 use Rattle.wgr_tables.specs.Decode.{tables_of}
 use Rattle.wgr_tables.specs.Standing.{IsDone, Stands}
@@ -24,6 +26,9 @@ use Rattle.wgr_register.specs.Given.{GivenValue, IsShown}
 use Rattle.wgr_register.specs.Standing.{StandsAt}
 use Rattle.wgr_register.specs.declared.fault.AskFault.{AskFault}
 use Rattle.wgr_register.specs.declared.fault.AskFault.TheVariants as fault
+use Rattle.wgr_register.specs.declared.fault.Done.{Done}
+use Rattle.wgr_register.specs.declared.fault.OrderFault.{OrderFault}
+use Rattle.wgr_register.specs.declared.fault.OrderFault.TheVariants as order_fault
 
 -- The event is a step with an answer like this. Where it changed a row, it is acknowledged, and no
 -- event is late any more; else all is as it was.
@@ -44,7 +49,13 @@ AskEnds g shown conn db late event now (Err fault.UnknownToken) = EndsWith g con
 AskEnds g shown conn db late event now (Err fault.NoSuchNetwork) = EndsWith g conn db late event (λ answer. answer ≡ NoSuchNetwork)
 AskEnds g shown conn db late event now (Err (fault.Fault why)) = EndsLate g conn db late event
 
--- the same of a command that isn't done
+-- how an order ends: done, refused, or by a fault
+abbrev pub OrderEnds : {S : Type 0} → Ghosts S → Held S → Database → List Event → Event → Result Done OrderFault → Type 0
+OrderEnds g conn db late event (Ok done) = EndsWith g conn db late event (λ answer. answer ≡ answered.Done)
+OrderEnds g conn db late event (Err (order_fault.Refused why)) = EndsWith g conn db late event (λ answer. answer ≡ answered.Refused (refusal_of why))
+OrderEnds g conn db late event (Err (order_fault.Fault why)) = EndsLate g conn db late event
+
+-- why a command isn't done, as a fault of an ask
 abbrev pub ask_fault : ActFault → AskFault
 ask_fault (act_fault.Refused why) = fault.Refused why
 ask_fault act_fault.NoMemory = fault.Fault NoMemory

@@ -1,8 +1,9 @@
 -- At which database a register stands, and what a stop at this moment may leave.
-use Rattle.std.specs.Prelude.{List}
+use Rattle.std.specs.Prelude.{◌≡◌, false, List}
 use Rattle.sqlite.specs.Effect.{Database}
+use Rattle.sqlite.specs.State.{HasCleanDisk}
 use Rattle.sqlite.specs.Store.{Ghosts}
-use Rattle.sqlite.specs.Held.{Held}
+use Rattle.sqlite.specs.Held.{Held, state}
 use Rattle.sqlite_rules.specs.Lists.{Has}
 use Rattle.wgr_model.specs.RowLaws.{AreConsistent, IsRowStep}
 use Rattle.wgr_model.specs.Rows.{Tables}
@@ -24,6 +25,7 @@ pub record StandsAt {S : Type 0} (g : Ghosts S) (conn : Held S) (db : Database) 
   pub consistent : AreConsistent (tables_of db)
   pub steps : AreSteps (tables_of db) pending late
 
--- it stands at some consistent rows
-abbrev pub StandsSomewhere : {S : Type 0} → Ghosts S → Held S → Type 0
-StandsSomewhere g conn = (db : Database) × (late : List Event) × StandsAt g conn db late
+-- in no transaction, and at some consistent rows while the disk returns what was written
+pub record IsAtRest {S : Type 0} (g : Ghosts S) (conn : Held S) : Type 0 where
+  pub idle : conn.in_transaction ≡ false
+  pub somewhere : HasCleanDisk (state g conn) → (db : Database) × (late : List Event) × StandsAt g conn db late

@@ -109,6 +109,7 @@ pub(crate) fn ask<S: Alter, R: Render>(
 ) -> Result<Vec<u8>, AskFault>
     requires idle { conn.old.in_transaction ≡ false }
     ensures idle { conn.new.in_transaction ≡ false }
+    ensures clean { HasCleanDisk (state S.Store conn.new) → HasCleanDisk (state S.Store conn.old) }
     ensures ends { (db : Database) (late : List Event) → StandsAt S.Store conn.old db late → AskEnds S.Store R.shown conn.new db late (Ask digest.now name.now now command.now) now result }
 {
     let Some(tenant) = tenant_of_token(conn, digest)? else {

@@ -1,7 +1,40 @@
-//! Why a request is not answered by a text.
+//! Why a call on a register fails.
+use sqlite::{Alter, Connection};
 use std::alloc::AllocError;
 use wgr_core::{ActFault, Refusal};
+use wgr_model::OrderRefusal;
+use wgr_store::RegisterFault;
 use wgr_tables::Fault;
+
+/// Why no register was made or opened, and the connection, whose rows are as before.
+pub struct OpenFault<S: Alter> {
+    pub fault: RegisterFault,
+    pub connection: Connection<S>,
+}
+
+/// An order is done.
+#[derive(Clone, Copy, Debug, PartialEq, Eq)]
+pub struct Done;
+
+/// Why an order isn't done.
+#[derive(Debug, Drop)]
+pub enum OrderFault {
+    /// The register refuses it.
+    Refused(OrderRefusal),
+    /// Memory was refused, or the store failed; the rows are as before.
+    Fault(Fault),
+}
+
+impl From<Fault> for OrderFault {
+    ghost use Rattle.std.specs.Prelude.{◌≡◌};
+    ghost use Rattle.wgr_register.specs.declared.fault.OrderFault.TheVariants as fault;
+
+    ghost from_gives = { λ why r. r ≡ fault.Fault why };
+
+    fn from(why: Fault) -> OrderFault {
+        OrderFault::Fault(why)
+    }
+}
 
 /// Why an ask gives no text.
 #[derive(Clone, Copy, Debug, Drop, PartialEq, Eq)]

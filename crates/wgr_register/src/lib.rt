@@ -4,9 +4,12 @@
 mod ask;
 mod fault;
 mod given;
+mod order;
 mod register;
 
-pub use fault::AskFault;
+pub use fault::{AskFault, Done, OpenFault, OrderFault};
 pub use given::{Given, Render};
 pub use register::Register;
+pub use wgr_model::OrderRefusal;
+pub use wgr_store::RegisterFault;
 pub use wgr_tables::Fault;

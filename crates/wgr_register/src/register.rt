@@ -1,17 +1,23 @@
 //! The register.
-ghost use Rattle.std.specs.Prelude.{◌≡◌, List};
+ghost use Rattle.std.specs.Prelude.{◌≡◌, ◌↔◌, List, [], true, false, IfErr, IfOk, OnOk};
 ghost use Rattle.sqlite.specs.Effect.{Database};
+ghost use Rattle.sqlite.specs.State.{HasCleanDisk};
+ghost use Rattle.sqlite.specs.Held.{state};
 ghost use Rattle.wgr_model.specs.Steps.{Ask, Event};
 ghost use Rattle.wgr_register.specs.Ends.{AskEnds};
 ghost use Rattle.wgr_register.specs.Standing.{StandsAt};
+ghost use Rattle.wgr_sql.specs.Calls.{IsKept};
+ghost use Rattle.wgr_store.specs.Fresh.{IsFresh, is_any_taken, no_schema};
+ghost use Rattle.wgr_store.specs.declared.fault.RegisterFault.TheVariants.{NotARegister, NotEmpty, NotGood};
 
 use crate::ask;
-use crate::fault::AskFault;
+use crate::fault::{AskFault, OpenFault};
 use crate::given::Render;
 use sqlite::{Alter, Connection};
 use std::alloc::Global;
 use std::marker::Model;
 use wgr_core::Command;
+use wgr_store::make;
 
 /// The networks of many tenants, in a database whose rows are consistent at all times.
 ///
@@ -23,7 +29,7 @@ pub struct Register<S: Alter> {
 
 impl<S: Alter> Model for Register<S> {
     ghost use Rattle.sqlite.specs.Held.{Held, held_code};
-    ghost use Rattle.wgr_register.specs.Standing.{StandsSomewhere};
+    ghost use Rattle.wgr_register.specs.Standing.{IsAtRest};
 
     ghost Value = { Held S };
 
@@ -31,10 +37,33 @@ impl<S: Alter> Model for Register<S> {
 
     ghost view = { λ r. r.conn };
 
-    ghost invariant = { λ r. StandsSomewhere S.Store r.conn };
+    ghost invariant = { λ r. IsAtRest S.Store r.conn };
 }
 
 impl<S: Alter> Register<S> {
+    /// Makes the tables of a register without entries, in one commit.
+    ///
+    /// `NotEmpty` where one of them is there already, and `NotARegister` where the database has any
+    /// other table, index or view; the database is as before.
+    pub fn create(mut conn: Connection<S>) -> Result<Register<S>, OpenFault<S>>
+        requires idle { conn.in_transaction ≡ false }
+        ensures free { OnOk result ((state S.Store conn).now.schema ≡ no_schema) }
+        ensures done { IfOk result (λ register. HasCleanDisk (state S.Store register) → (db : Database) × IsFresh db × StandsAt S.Store register db []) }
+        ensures taken { IfErr result (λ e. e.fault ≡ NotEmpty ↔ is_any_taken (state S.Store conn).now.schema ≡ true) }
+        ensures foreign { IfErr result (λ e. e.fault ≡ NotARegister ↔ ((is_any_taken (state S.Store conn).now.schema ≡ false) × ((state S.Store conn).now.schema ≡ no_schema → ⊥))) }
+        ensures good { IfErr result (λ e. e.fault ≡ NotGood → ⊥) }
+        ensures kept { IfErr result (λ e. IsKept (state S.Store conn) (state S.Store e.connection)) }
+        ensures idle { IfErr result (λ e. e.connection.in_transaction ≡ false) }
+    {
+        match make(&mut conn) {
+            Ok(()) => Ok(Register { conn }),
+            Err(fault) => Err(OpenFault {
+                fault,
+                connection: conn,
+            }),
+        }
+    }
+
     /// The connection, as it stands.
     pub fn into_connection(self) -> Connection<S>
         ensures { result ≡ self }
@@ -57,6 +86,7 @@ impl<S: Alter> Register<S> {
         command: &Command,
         render: &R,
     ) -> Result<Vec<u8>, AskFault>
+        ensures clean { HasCleanDisk (state S.Store self.new) → HasCleanDisk (state S.Store self.old) }
         ensures ends { (db : Database) (late : List Event) → StandsAt S.Store self.old db late → AskEnds S.Store R.shown self.new db late (Ask digest.now name.now now command.now) now result }
     {
         ask::ask(alloc, &mut self.conn, digest, name, now, command, render)

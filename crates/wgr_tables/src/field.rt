@@ -38,7 +38,7 @@ pub(crate) fn short_at(row: &Row, at: usize) -> Result<u16, Fault>
 }
 
 /// The number at this place, below 2^32.
-pub(crate) fn word_at(row: &Row, at: usize) -> Result<u32, Fault>
+pub fn word_at(row: &Row, at: usize) -> Result<u32, Fault>
     ensures { IfOk result (λ number. number ≡ number_at row.now at) }
 {
     match u32::try_from(number_at(row, at)?) {

@@ -15,6 +15,7 @@ mod route;
 mod value;
 
 pub use commit::commit_change;
+pub use field::word_at;
 pub use load::load_network;
 pub use lookup::{network_id, tenant_id, tenant_of_token};
 pub use value::{bytes_of, family_value, number_value};

@@ -5,10 +5,12 @@ use Rattle.wgr_register.proofs.StandLemmas.{ask_somewhere}
 use Rattle.wgr_register.proofs.register.Register.ask.Goals as goal
 
 pub invariant_of-self : goal.invariant_of-self
-invariant_of-self g c =
-    let held = c.self.invariant in
-    ask_somewhere g.S.Store g.R.Render.shown c.ask.new.conn held.0 held.1 (Ask c.args.digest.now c.args.name.now c.args.now c.args.command.now) c.args.now c.ask.result c.ask.ensures.idle held.2.stands.sound held.2.consistent
-    (c.ask.ensures.ends held.0 held.1 held.2)
+invariant_of-self g c = record {
+  idle = c.ask.ensures.idle;
+  somewhere = λ clean.
+      let held = c.self.invariant.somewhere (c.ask.ensures.clean clean) in
+      ask_somewhere g.S.Store g.R.Render.shown c.ask.new.conn held.0 held.1 (Ask c.args.digest.now c.args.name.now c.args.now c.args.command.now) c.args.now c.ask.result (c.ask.ensures.ends held.0 held.1 held.2) clean;
+}
 
-pub returns : goal.returns
-returns g c = record { ends = λ db late at. c.ask.ensures.ends db late (subst (λ h. StandsAt g.S.Store h db late) (sym c.self.view_is) at) }
+pub returns-clause-ends : goal.returns-clause-ends
+returns-clause-ends g c db late at = c.ask.ensures.ends db late (subst (λ h. StandsAt g.S.Store h db late) (sym c.self.view_is) at)

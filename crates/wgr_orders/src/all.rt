@@ -1,0 +1,78 @@
+//! What an order asks of every entry: all rows of a table, in whatever order.
+ghost use Rattle.std.specs.Prelude.{◌≡◌, List, length, map, false, IfOk, IsPermutation};
+ghost use Rattle.sqlite.specs.Effect.{Database};
+ghost use Rattle.sqlite.specs.State.{HasCleanDisk};
+ghost use Rattle.sqlite.specs.Held.{state};
+ghost use Rattle.wgr_model.specs.Rows.{Tables};
+ghost use Rattle.wgr_tables.specs.Decode.{number_at, tables_of, tenant_in, token_in};
+ghost use Rattle.wgr_tables.specs.Standing.{Stands};
+ghost use Rattle.wgr_tables.specs.Writes.{Written};
+
+use sqlite::{Alter, Connection, Row};
+use std::alloc::Global;
+use wgr_sql::{Fault, query};
+use wgr_tables::word_at;
+
+/// The rows of all tokens.
+fn token_rows<S: Alter>(conn: &mut Connection<S>) -> Result<Vec<Row>, Fault>
+    requires idle { conn.old.in_transaction ≡ false }
+    ensures idle { conn.new.in_transaction ≡ false }
+    ensures stands { (db : Database) (pending : List Written) → Stands S.Store conn.old db pending → Stands S.Store conn.new db pending }
+    ensures clean { HasCleanDisk (state S.Store conn.new) → HasCleanDisk (state S.Store conn.old) }
+    ensures listed { (db : Database) (pending : List Written) → Stands S.Store conn.old db pending → HasCleanDisk (state S.Store conn.new)
+        → IfOk result (λ rows. IsPermutation (tables_of db).tokens (map token_in rows.items)) }
+{
+    query(conn, "SELECT NULL, digest, tenant FROM token", &[])
+}
+
+/// The rows of all tenants.
+fn tenant_rows<S: Alter>(conn: &mut Connection<S>) -> Result<Vec<Row>, Fault>
+    requires idle { conn.old.in_transaction ≡ false }
+    ensures idle { conn.new.in_transaction ≡ false }
+    ensures stands { (db : Database) (pending : List Written) → Stands S.Store conn.old db pending → Stands S.Store conn.new db pending }
+    ensures clean { HasCleanDisk (state S.Store conn.new) → HasCleanDisk (state S.Store conn.old) }
+    ensures listed { (db : Database) (pending : List Written) → Stands S.Store conn.old db pending → HasCleanDisk (state S.Store conn.new)
+        → IfOk result (λ rows. IsPermutation (tables_of db).tenants (map tenant_in rows.items)) }
+{
+    query(conn, "SELECT id, NULL, name FROM tenant", &[])
+}
+
+/// The ids of these rows.
+fn ids_in(alloc: Global, rows: &[Row]) -> Result<Vec<u32>, Fault>
+    ensures { IfOk result (λ ids. ids.items ≡ map (λ r. number_at r 0) rows.now) }
+{
+    let mut ids = Vec::new(alloc);
+    for row in rows {
+        let id = word_at(row, 0)?;
+        if ids.push(id).is_err() {
+            return Err(Fault::NoMemory);
+        }
+    }
+    Ok(ids)
+}
+
+/// How many tokens there are.
+pub fn count_tokens<S: Alter>(conn: &mut Connection<S>) -> Result<usize, Fault>
+    requires idle { conn.old.in_transaction ≡ false }
+    ensures idle { conn.new.in_transaction ≡ false }
+    ensures stands { (db : Database) (pending : List Written) → Stands S.Store conn.old db pending → Stands S.Store conn.new db pending }
+    ensures clean { HasCleanDisk (state S.Store conn.new) → HasCleanDisk (state S.Store conn.old) }
+    ensures counted { (db : Database) (pending : List Written) → Stands S.Store conn.old db pending → HasCleanDisk (state S.Store conn.new)
+        → IfOk result (λ count. count ≡ length (tables_of db).tokens) }
+{
+    let rows = token_rows(conn)?;
+    Ok(rows.as_slice().len())
+}
+
+/// The ids of all tenants.
+pub fn tenant_ids<S: Alter>(alloc: Global, conn: &mut Connection<S>) -> Result<Vec<u32>, Fault>
+    requires idle { conn.old.in_transaction ≡ false }
+    ensures idle { conn.new.in_transaction ≡ false }
+    ensures stands { (db : Database) (pending : List Written) → Stands S.Store conn.old db pending → Stands S.Store conn.new db pending }
+    ensures clean { HasCleanDisk (state S.Store conn.new) → HasCleanDisk (state S.Store conn.old) }
+    ensures listed { (db : Database) (pending : List Written) → Stands S.Store conn.old db pending → HasCleanDisk (state S.Store conn.new)
+        → IfOk result (λ ids. IsPermutation (map (λ t. t.id) (tables_of db).tenants) ids.items) }
+{
+    let rows = tenant_rows(conn)?;
+    ids_in(alloc, rows.as_slice())
+}

@@ -1,0 +1,59 @@
+use Rattle.std.proofs.Common.{◌≡◌, ◌∷◌, None, Some, false, true, length, nat_lt, not, refl, sym, ap, ◌∙◌}
+use Rattle.wgr_model.specs.Register.{id_of}
+use Rattle.wgr_model.specs.Steps.{AddTenant, Event, NameHeld, Refused, RegisterFull}
+use Rattle.wgr_tables.specs.Decode.{tables_of}
+use Rattle.wgr_tables.specs.Writes.{TenantGained, Written}
+use Rattle.wgr_register.proofs.OrderLemmas.{name_held, room_by, tenant_comes, tenants_full, unused_by}
+use Rattle.wgr_register.proofs.StandLemmas.{at_read, ends_still, order_done, order_unread, order_unwritten}
+use Rattle.wgr_register.proofs.order.add_tenant.Goals as goal
+
+pub returns-in_err-tenant_id-clause-ends : goal.returns-in_err-tenant_id-clause-ends
+returns-in_err-tenant_id-clause-ends g c db late at proper =
+    order_unread g.S.Store c.args.conn.now c.tenant_id.new.conn db late (AddTenant c.args.name.now) c.from_residual.result c.in_err-tenant_id.field-0.0 c.from_residual.ensures.1 (c.tenant_id.ensures.stands db) at
+
+pub returns-in_default-clause-ends : goal.returns-in_default-clause-ends
+returns-in_default-clause-ends g c db late at proper clean =
+    let held : id_of (tables_of db).tenants c.args.name.now ≡ Some c.in_default.field-0 = sym (c.in_ok-tenant_id.ensures.found db at.pending at.stands clean) ∙ c.in_default.is in
+    ends_still g.S.Store c.tenant_id.new.conn db late (AddTenant c.args.name.now) (λ answer. answer ≡ Refused NameHeld) (Refused NameHeld)
+    (at_read g.S.Store c.args.conn.now c.tenant_id.new.conn db late (c.tenant_id.ensures.stands db) at) refl (name_held (tables_of db) at.consistent c.args.name.now c.in_default.field-0 held) clean
+
+pub returns-in_err-ids-clause-ends : goal.returns-in_err-ids-clause-ends
+returns-in_err-ids-clause-ends g c db late at proper =
+    order_unread g.S.Store c.args.conn.now c.tenant_ids.new.conn db late (AddTenant c.args.name.now) c.from_residual-in_err-ids.result c.in_err-ids.field-0.0 c.from_residual-in_err-ids.ensures.1
+    (λ pending stood. c.tenant_ids.ensures.stands db pending (c.tenant_id.ensures.stands db pending stood)) at
+
+pub returns-then-is_full-clause-ends : goal.returns-then-is_full-clause-ends
+returns-then-is_full-clause-ends g c db late at proper clean =
+    let mid = c.tenant_id.ensures.stands db at.pending at.stands in
+    let free : id_of (tables_of db).tenants c.args.name.now ≡ None = sym (c.in_ok-tenant_id.ensures.found db at.pending at.stands (c.tenant_ids.ensures.clean clean)) ∙ c.in-None.is in
+    let listed = c.in_ok-ids.ensures.listed db at.pending mid clean in
+    let full = room_by (tables_of db) c.in_ok-ids.ids.items listed true (rw c.as_slice.ensures.value at (sym c.is_full.ensures ∙ c.if-is_full.true)) in
+    ends_still g.S.Store c.tenant_ids.new.conn db late (AddTenant c.args.name.now) (λ answer. answer ≡ Refused RegisterFull) (Refused RegisterFull)
+    (at_read g.S.Store c.args.conn.now c.tenant_ids.new.conn db late (λ pending stood. c.tenant_ids.ensures.stands db pending (c.tenant_id.ensures.stands db pending stood)) at) refl
+    (tenants_full (tables_of db) at.consistent c.args.name.now free full) clean
+
+pub returns-in_err-add_tenant-clause-ends : goal.returns-in_err-add_tenant-clause-ends
+returns-in_err-add_tenant-clause-ends g c db late at proper =
+    let mid = c.tenant_id.ensures.stands db at.pending at.stands in
+    let near = c.tenant_ids.ensures.stands db at.pending mid in
+    order_unwritten g.S.Store c.args.conn.now c.tenant_ids.new.conn c.add_tenant.new.conn db late (AddTenant c.args.name.now) c.from_residual-in_err-add_tenant.result c.in_err-add_tenant.field-0.0
+    (TenantGained (record { id = c.unused_id.result; name = c.args.name.now })) c.from_residual-in_err-add_tenant.ensures.1 c.add_tenant.ensures.idle
+    (λ clean u made.
+    let clean2 = c.add_tenant.ensures.clean clean in
+    let free : id_of (tables_of db).tenants c.args.name.now ≡ None = sym (c.in_ok-tenant_id.ensures.found db at.pending at.stands (c.tenant_ids.ensures.clean clean2)) ∙ c.in-None.is in
+    let listed = c.in_ok-ids.ensures.listed db at.pending mid clean2 in
+    let room = room_by (tables_of db) c.in_ok-ids.ids.items listed false (rw c.as_slice.ensures.value at (sym c.is_full.ensures ∙ c.if-is_full.false)) in
+    let unused = unused_by (tables_of db) c.in_ok-ids.ids.items listed c.unused_id.result (rw c.as_slice-2.ensures.value at c.unused_id.ensures.unused) in
+    tenant_comes (tables_of db) at.consistent c.args.name.now free room c.unused_id.result c.unused_id.ensures.id unused u made) at (c.in_err-add_tenant.ensures.fault db at.pending near)
+
+pub returns-clause-ends : goal.returns-clause-ends
+returns-clause-ends g c db late at proper clean =
+    let mid = c.tenant_id.ensures.stands db at.pending at.stands in
+    let near = c.tenant_ids.ensures.stands db at.pending mid in
+    let clean2 = c.add_tenant.ensures.clean clean in
+    let free : id_of (tables_of db).tenants c.args.name.now ≡ None = sym (c.in_ok-tenant_id.ensures.found db at.pending at.stands (c.tenant_ids.ensures.clean clean2)) ∙ c.in-None.is in
+    let listed = c.in_ok-ids.ensures.listed db at.pending mid clean2 in
+    let room = room_by (tables_of db) c.in_ok-ids.ids.items listed false (rw c.as_slice.ensures.value at (sym c.is_full.ensures ∙ c.if-is_full.false)) in
+    let unused = unused_by (tables_of db) c.in_ok-ids.ids.items listed c.unused_id.result (rw c.as_slice-2.ensures.value at c.unused_id.ensures.unused) in
+    order_done g.S.Store c.add_tenant.new.conn db late (AddTenant c.args.name.now) (TenantGained (record { id = c.unused_id.result; name = c.args.name.now })) proper at.consistent
+    (tenant_comes (tables_of db) at.consistent c.args.name.now free room c.unused_id.result c.unused_id.ensures.id unused) (c.in_ok-add_tenant.ensures.done db at.pending near clean) clean

@@ -1,0 +1,55 @@
+use Rattle.std.proofs.Common.{◌≡◌, None, Some, refl, sym, ◌∙◌}
+use Rattle.wgr_model.specs.Register.{id_of}
+use Rattle.wgr_model.specs.Steps.{EndNetwork, NoNetwork, NoSuchTenant, Refused}
+use Rattle.wgr_tables.specs.Decode.{tables_of}
+use Rattle.wgr_tables.specs.Writes.{NetworkLost}
+use Rattle.wgr_register.proofs.AskLemmas.{no_network}
+use Rattle.wgr_register.proofs.OrderLemmas.{network_ends, nobody_has, none_ends}
+use Rattle.wgr_register.proofs.StandLemmas.{at_read, ends_still, order_done, order_unread, order_unwritten}
+use Rattle.wgr_register.proofs.order.end_network.Goals as goal
+
+pub returns-in_err-id-clause-ends : goal.returns-in_err-id-clause-ends
+returns-in_err-id-clause-ends g c db late at =
+    order_unread g.S.Store c.args.conn.now c.tenant_id.new.conn db late (EndNetwork c.args.tenant.now c.args.name.now) c.from_residual.result c.in_err-id.field-0.0 c.from_residual.ensures.1 (c.tenant_id.ensures.stands db) at
+
+pub returns-in_default-clause-ends : goal.returns-in_default-clause-ends
+returns-in_default-clause-ends g c db late at clean =
+    let none : id_of (tables_of db).tenants c.args.tenant.now ≡ None = sym (c.in_ok-id.ensures.found db at.pending at.stands clean) ∙ c.in_default.is in
+    ends_still g.S.Store c.tenant_id.new.conn db late (EndNetwork c.args.tenant.now c.args.name.now) (λ answer. answer ≡ Refused NoSuchTenant) (Refused NoSuchTenant)
+    (at_read g.S.Store c.args.conn.now c.tenant_id.new.conn db late (c.tenant_id.ensures.stands db) at) refl (nobody_has (tables_of db) at.consistent c.args.tenant.now c.args.name.now none) clean
+
+pub returns-in_err-network-clause-ends : goal.returns-in_err-network-clause-ends
+returns-in_err-network-clause-ends g c db late at =
+    order_unread g.S.Store c.args.conn.now c.network_id.new.conn db late (EndNetwork c.args.tenant.now c.args.name.now) c.from_residual-in_err-network.result c.in_err-network.field-0.0 c.from_residual-in_err-network.ensures.1
+    (λ pending stood. c.network_id.ensures.stands db pending (c.tenant_id.ensures.stands db pending stood)) at
+
+pub returns-in_default-2-clause-ends : goal.returns-in_default-2-clause-ends
+returns-in_default-2-clause-ends g c db late at clean =
+    let mid = c.tenant_id.ensures.stands db at.pending at.stands in
+    let known : id_of (tables_of db).tenants c.args.tenant.now ≡ Some c.in-Some.id = sym (c.in_ok-id.ensures.found db at.pending at.stands (c.network_id.ensures.clean clean)) ∙ c.in-Some.is in
+    ends_still g.S.Store c.network_id.new.conn db late (EndNetwork c.args.tenant.now c.args.name.now) (λ answer. answer ≡ Refused NoNetwork) (Refused NoNetwork)
+    (at_read g.S.Store c.args.conn.now c.network_id.new.conn db late (λ pending stood. c.network_id.ensures.stands db pending (c.tenant_id.ensures.stands db pending stood)) at) refl
+    (none_ends (tables_of db) at.consistent c.args.tenant.now c.args.name.now c.in-Some.id known (no_network (tables_of db) c.in-Some.id c.args.name.now (rw c.in_default-2.is at c.in_ok-network.ensures.none db at.pending mid clean))) clean
+
+pub returns-in_err-end_network-clause-ends : goal.returns-in_err-end_network-clause-ends
+returns-in_err-end_network-clause-ends g c db late at =
+    let mid = c.tenant_id.ensures.stands db at.pending at.stands in
+    let near = c.network_id.ensures.stands db at.pending mid in
+    order_unwritten g.S.Store c.args.conn.now c.network_id.new.conn c.end_network.new.conn db late (EndNetwork c.args.tenant.now c.args.name.now) c.from_residual-in_err-end_network.result c.in_err-end_network.field-0.0 (NetworkLost c.in-Some-2.network)
+    c.from_residual-in_err-end_network.ensures.1 c.end_network.ensures.idle
+    (λ clean u made.
+    let then_clean = c.end_network.ensures.clean clean in
+    let known : id_of (tables_of db).tenants c.args.tenant.now ≡ Some c.in-Some.id = sym (c.in_ok-id.ensures.found db at.pending at.stands (c.network_id.ensures.clean then_clean)) ∙ c.in-Some.is in
+    let found = rw c.in-Some-2.is at c.in_ok-network.ensures.some db at.pending mid then_clean in
+    network_ends (tables_of db) at.consistent c.args.tenant.now c.args.name.now c.in-Some.id c.in-Some-2.network known found.0 found.1 found.2.0 found.2.1 found.3 u made) at (c.in_err-end_network.ensures.fault db at.pending near at.consistent.rows.keyed)
+
+pub returns-clause-ends : goal.returns-clause-ends
+returns-clause-ends g c db late at clean =
+    let mid = c.tenant_id.ensures.stands db at.pending at.stands in
+    let near = c.network_id.ensures.stands db at.pending mid in
+    let then_clean = c.end_network.ensures.clean clean in
+    let known : id_of (tables_of db).tenants c.args.tenant.now ≡ Some c.in-Some.id = sym (c.in_ok-id.ensures.found db at.pending at.stands (c.network_id.ensures.clean then_clean)) ∙ c.in-Some.is in
+    let found = rw c.in-Some-2.is at c.in_ok-network.ensures.some db at.pending mid then_clean in
+    order_done g.S.Store c.end_network.new.conn db late (EndNetwork c.args.tenant.now c.args.name.now) (NetworkLost c.in-Some-2.network) tt at.consistent
+    (network_ends (tables_of db) at.consistent c.args.tenant.now c.args.name.now c.in-Some.id c.in-Some-2.network known found.0 found.1 found.2.0 found.2.1 found.3)
+    (c.in_ok-end_network.ensures.done db at.pending near at.consistent.rows.keyed clean) clean

@@ -1,0 +1,33 @@
+use Rattle.std.proofs.Common.{◌≡◌, None, Some, refl, sym, ◌∙◌}
+use Rattle.wgr_model.specs.Steps.{EndToken, NoSuchToken, Refused, tenant_of_token}
+use Rattle.wgr_tables.specs.Decode.{tables_of}
+use Rattle.wgr_tables.specs.Writes.{TokenLost}
+use Rattle.wgr_register.proofs.OrderLemmas.{no_such_token, token_ends}
+use Rattle.wgr_register.proofs.StandLemmas.{at_read, ends_still, order_done, order_unread, order_unwritten}
+use Rattle.wgr_register.proofs.order.end_token.Goals as goal
+
+pub returns-in_err-_holder-clause-ends : goal.returns-in_err-_holder-clause-ends
+returns-in_err-_holder-clause-ends g c db late at =
+    order_unread g.S.Store c.args.conn.now c.tenant_of_token.new.conn db late (EndToken c.args.digest.now) c.from_residual.result c.in_err-_holder.field-0.0 c.from_residual.ensures.1 (c.tenant_of_token.ensures.stands db) at
+
+pub returns-in_default-clause-ends : goal.returns-in_default-clause-ends
+returns-in_default-clause-ends g c db late at clean =
+    let none : tenant_of_token (tables_of db).tokens c.args.digest.now ≡ None = sym (c.in_ok-_holder.ensures.found db at.pending at.stands clean) ∙ c.in_default.is in
+    ends_still g.S.Store c.tenant_of_token.new.conn db late (EndToken c.args.digest.now) (λ answer. answer ≡ Refused NoSuchToken) (Refused NoSuchToken)
+    (at_read g.S.Store c.args.conn.now c.tenant_of_token.new.conn db late (c.tenant_of_token.ensures.stands db) at) refl (no_such_token (tables_of db) at.consistent c.args.digest.now none) clean
+
+pub returns-in_err-end_token-clause-ends : goal.returns-in_err-end_token-clause-ends
+returns-in_err-end_token-clause-ends g c db late at =
+    let mid = c.tenant_of_token.ensures.stands db at.pending at.stands in
+    order_unwritten g.S.Store c.args.conn.now c.tenant_of_token.new.conn c.end_token.new.conn db late (EndToken c.args.digest.now) c.from_residual-in_err-end_token.result c.in_err-end_token.field-0.0 (TokenLost c.args.digest.now)
+    c.from_residual-in_err-end_token.ensures.1 c.end_token.ensures.idle
+    (λ clean u made.
+    let known : tenant_of_token (tables_of db).tokens c.args.digest.now ≡ Some c.in-Some._holder = sym (c.in_ok-_holder.ensures.found db at.pending at.stands (c.end_token.ensures.clean clean)) ∙ c.in-Some.is in
+    token_ends (tables_of db) at.consistent c.args.digest.now c.in-Some._holder known u made) at (c.in_err-end_token.ensures.fault db at.pending mid)
+
+pub returns-clause-ends : goal.returns-clause-ends
+returns-clause-ends g c db late at clean =
+    let mid = c.tenant_of_token.ensures.stands db at.pending at.stands in
+    let known : tenant_of_token (tables_of db).tokens c.args.digest.now ≡ Some c.in-Some._holder = sym (c.in_ok-_holder.ensures.found db at.pending at.stands (c.end_token.ensures.clean clean)) ∙ c.in-Some.is in
+    order_done g.S.Store c.end_token.new.conn db late (EndToken c.args.digest.now) (TokenLost c.args.digest.now) tt at.consistent (token_ends (tables_of db) at.consistent c.args.digest.now c.in-Some._holder known)
+    (c.in_ok-end_token.ensures.done db at.pending mid clean) clean
