@@ -23,7 +23,7 @@ flat_same rows_in hs ks rows same was a = (
   (λ h. let f = from_flat rows_in hs a ((was a).1 h) in has_flat rows_in ks f.0 a (has_permutation hs ks f.0 same f.1) f.2),
 )
 
-same_rows : (r s : Register) (t : Tables) → IsSame r s → AreRowsOf r t → AreRowsOf s t
+pub same_rows : (r s : Register) (t : Tables) → IsSame r s → AreRowsOf r t → AreRowsOf s t
 same_rows r s t same rows = record {
   meta = rows.meta;
   tenants = IsPermutation-trans s.tenants r.tenants t.tenants (IsPermutation-sym r.tenants s.tenants same.tenants) rows.tenants;

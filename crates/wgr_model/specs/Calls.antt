@@ -80,3 +80,8 @@ IsChecked r id name settings (Err faulted.NoMemory) = Unit {0}
 -- a network of these settings, without peers, under an id that no other has
 abbrev pub IsNewHolding : List Holding → ℕ → Bytes → Settings → Holding → Type 0
 IsNewHolding hs tenant name settings h = IsId h.id × (has_network hs h.id ≡ false) × (h ≡ record { id = h.id; tenant = tenant; name = name; network = new_network settings })
+
+-- a new network passes the checks and has an id that no other has, or one check is not passed
+abbrev pub IsAdmitted : Register → ℕ → Bytes → Settings → Result ℕ refusal.OrderRefusal → Type 0
+IsAdmitted r tenant name settings (Ok new) = (first_refusal (network_checks r tenant name settings) ≡ None) × IsId new × (has_network r.networks new ≡ false)
+IsAdmitted r tenant name settings (Err why) = first_refusal (network_checks r tenant name settings) ≡ Some (refusal_of why)

@@ -16,6 +16,7 @@ mod run;
 
 pub use answer::{Answer, OrderRefusal};
 pub use look::unused_id;
+pub use operate::admit_network;
 pub use order::{Order, Settings};
-pub use register::Register;
+pub use register::{Holding, Register, Tenant};
 pub use run::Event;

@@ -1,7 +1,7 @@
 //! Orders of the operator.
 ghost use Rattle.std.specs.Prelude.{◌≡◌, ◌++◌, ◌∷◌, [], not, false, IfOk, OnErr, OnOk};
 ghost use Rattle.std.specs.List.{filter};
-ghost use Rattle.wgr_model.specs.Calls.{IsChecked, IsNewHolding, IsOrdered, answer_of, order_event};
+ghost use Rattle.wgr_model.specs.Calls.{IsAdmitted, IsChecked, IsNewHolding, IsOrdered, answer_of, order_event};
 ghost use Rattle.wgr_model.specs.Consistent.{same_slot, slot};
 ghost use Rattle.wgr_model.specs.Register.{is_same};
 ghost use Rattle.wgr_model.specs.Steps.{AddNetwork, AddTenant, EndNetwork, EndToken, Grant, IsStep, is_full};
@@ -108,40 +108,12 @@ impl Register {
         let Some(id) = id_of(&self.tenants, tenant.as_bytes()) else {
             return Err(OrderFault::Refused(OrderRefusal::NoSuchTenant));
         };
-        let pool = self.checked_pool(alloc, id, name, settings)?;
+        let pool = checked_pool(alloc, &self.tenants, &self.networks, id, name, settings)?;
         let holding = new_holding(alloc, &self.networks, id, name, settings, pool)?;
         tell_name(name);
         tell_settings(settings);
         push(&mut self.networks, holding)?;
         Ok(())
-    }
-
-    // The pool of a network that may be added.
-    fn checked_pool(
-        &self,
-        alloc: Global,
-        id: u32,
-        name: &Name,
-        settings: &Settings,
-    ) -> Result<Pool, OrderFault>
-        ensures { IsChecked self.now id name.now settings.now result }
-    {
-        if place_of(&self.networks, id, name.as_bytes()).is_some() {
-            return Err(OrderFault::Refused(OrderRefusal::NameHeld));
-        }
-        let Some(pool) = settings.pool() else {
-            return Err(OrderFault::Refused(OrderRefusal::BadPool));
-        };
-        if let Some(why) = overlap_refusal(alloc, &self.tenants, &self.networks, &pool)? {
-            return Err(OrderFault::Refused(why));
-        }
-        if has_endpoint(&self.networks, &settings.host, settings.port) {
-            return Err(OrderFault::Refused(OrderRefusal::PortHeld));
-        }
-        if is_full(&self.networks) {
-            return Err(OrderFault::Refused(OrderRefusal::RegisterFull));
-        }
-        Ok(pool)
     }
 
     fn end_network(&mut self, tenant: &Name, name: &Name) -> Result<(), OrderFault>
@@ -156,6 +128,57 @@ impl Register {
         drop_network(&mut self.networks, id, name);
         Ok(())
     }
+}
+
+/// The id that a network of these settings takes beside these networks, or why it isn't added. Of
+/// the networks, their settings alone are looked at.
+pub fn admit_network(
+    alloc: Global,
+    tenants: &[Tenant],
+    networks: &[Holding],
+    tenant: u32,
+    name: &Name,
+    settings: &Settings,
+) -> Result<Result<u32, OrderRefusal>, AllocError>
+    ensures { IfOk result (λ admitted. IsAdmitted (record { tenants = tenants.now; tokens = []; networks = networks.now }) tenant name.now settings.now admitted) }
+{
+    match checked_pool(alloc, tenants, networks, tenant, name, settings) {
+        Ok(pool) => {
+            let holding = new_holding(alloc, networks, tenant, name, settings, pool)?;
+            Ok(Ok(holding.id))
+        }
+        Err(OrderFault::Refused(why)) => Ok(Err(why)),
+        Err(OrderFault::NoMemory) => Err(AllocError),
+    }
+}
+
+// The pool of a network that may be added.
+fn checked_pool(
+    alloc: Global,
+    tenants: &[Tenant],
+    networks: &[Holding],
+    id: u32,
+    name: &Name,
+    settings: &Settings,
+) -> Result<Pool, OrderFault>
+    ensures { IsChecked (record { tenants = tenants.now; tokens = []; networks = networks.now }) id name.now settings.now result }
+{
+    if place_of(networks, id, name.as_bytes()).is_some() {
+        return Err(OrderFault::Refused(OrderRefusal::NameHeld));
+    }
+    let Some(pool) = settings.pool() else {
+        return Err(OrderFault::Refused(OrderRefusal::BadPool));
+    };
+    if let Some(why) = overlap_refusal(alloc, tenants, networks, &pool)? {
+        return Err(OrderFault::Refused(why));
+    }
+    if has_endpoint(networks, &settings.host, settings.port) {
+        return Err(OrderFault::Refused(OrderRefusal::PortHeld));
+    }
+    if is_full(networks) {
+        return Err(OrderFault::Refused(OrderRefusal::RegisterFull));
+    }
+    Ok(pool)
 }
 
 // A network with these settings, under an id that none of the others has.

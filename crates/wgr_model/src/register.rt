@@ -7,11 +7,11 @@ use std::alloc::Global;
 use std::marker::Model;
 use wgr_core::{Name, Network};
 
-// A tenant, with its id.
+/// A tenant, with its id.
 #[derive(Drop)]
-pub(crate) struct Tenant {
-    pub(crate) id: u32,
-    pub(crate) name: Name,
+pub struct Tenant {
+    pub id: u32,
+    pub name: Name,
 }
 
 impl Model for Tenant {
@@ -37,13 +37,13 @@ impl Model for Token {
     ghost view = { λ t. record { digest = t.digest; tenant = t.tenant } };
 }
 
-// A network, with its own id, its tenant's id and its name.
+/// A network, with its own id, its tenant's id and its name.
 #[derive(Drop)]
-pub(crate) struct Holding {
-    pub(crate) id: u32,
-    pub(crate) tenant: u32,
-    pub(crate) name: Name,
-    pub(crate) network: Network,
+pub struct Holding {
+    pub id: u32,
+    pub tenant: u32,
+    pub name: Name,
+    pub network: Network,
 }
 
 impl Model for Holding {

@@ -1,17 +1,19 @@
 //! What an order asks of every entry: all rows of a table, in whatever order.
-ghost use Rattle.std.specs.Prelude.{◌≡◌, List, length, map, false, IfOk, IsPermutation};
+ghost use Rattle.std.specs.Prelude.{◌≡◌, ◌++◌, ◌∷◌, [], List, length, map, false, IfOk, OnOk, IsPermutation};
 ghost use Rattle.sqlite.specs.Effect.{Database};
 ghost use Rattle.sqlite.specs.State.{HasCleanDisk};
 ghost use Rattle.sqlite.specs.Held.{state};
-ghost use Rattle.wgr_model.specs.Rows.{Tables};
-ghost use Rattle.wgr_tables.specs.Decode.{number_at, tables_of, tenant_in, token_in};
+ghost use Rattle.wgr_model.specs.Rows.{NetworkRow};
+ghost use Rattle.wgr_tables.specs.Decode.{network_in, number_at, tables_of, tenant_in, token_in};
+ghost use Rattle.wgr_tables.specs.Lookups.{settled};
 ghost use Rattle.wgr_tables.specs.Standing.{Stands};
 ghost use Rattle.wgr_tables.specs.Writes.{Written};
 
 use sqlite::{Alter, Connection, Row};
 use std::alloc::Global;
+use wgr_model::{Holding, Tenant};
 use wgr_sql::{Fault, query};
-use wgr_tables::word_at;
+use wgr_tables::{read_settled, read_tenant, word_at};
 
 /// The rows of all tokens.
 fn token_rows<S: Alter>(conn: &mut Connection<S>) -> Result<Vec<Row>, Fault>
@@ -75,4 +77,85 @@ pub fn tenant_ids<S: Alter>(alloc: Global, conn: &mut Connection<S>) -> Result<V
 {
     let rows = tenant_rows(conn)?;
     ids_in(alloc, rows.as_slice())
+}
+
+/// The rows of all networks.
+fn network_rows<S: Alter>(conn: &mut Connection<S>) -> Result<Vec<Row>, Fault>
+    requires idle { conn.old.in_transaction ≡ false }
+    ensures idle { conn.new.in_transaction ≡ false }
+    ensures stands { (db : Database) (pending : List Written) → Stands S.Store conn.old db pending → Stands S.Store conn.new db pending }
+    ensures clean { HasCleanDisk (state S.Store conn.new) → HasCleanDisk (state S.Store conn.old) }
+    ensures listed { (db : Database) (pending : List Written) → Stands S.Store conn.old db pending → HasCleanDisk (state S.Store conn.new)
+        → IfOk result (λ rows. IsPermutation (tables_of db).networks (map network_in rows.items)) }
+{
+    query(
+        conn,
+        "SELECT id, NULL, tenant, name, family, lo, length, host, port, server, capacity, next FROM network",
+        &[],
+    )
+}
+
+/// The tenants of these rows.
+fn tenants_in(alloc: Global, rows: &[Row]) -> Result<Vec<Tenant>, Fault>
+    ensures { IfOk result (λ tenants. tenants.items ≡ map tenant_in rows.now) }
+{
+    let mut tenants = Vec::new(alloc);
+    for row in rows {
+        let tenant = read_tenant(alloc, row)?;
+        if tenants.push(tenant).is_err() {
+            return Err(Fault::NoMemory);
+        }
+    }
+    Ok(tenants)
+}
+
+/// Puts a network at the end.
+fn keep(networks: &mut Vec<Holding>, network: Holding) -> Result<(), Fault>
+    ensures { OnOk result (networks.new.items ≡ networks.old.items ++ network ∷ []) }
+{
+    match networks.push(network) {
+        Ok(()) => Ok(()),
+        Err(_) => Err(Fault::NoMemory),
+    }
+}
+
+/// The networks of these rows, as they were added.
+fn settled_in(alloc: Global, rows: &[Row]) -> Result<Vec<Holding>, Fault>
+    ensures { IfOk result (λ networks. networks.items ≡ map (λ r. settled (network_in r)) rows.now) }
+{
+    let mut networks = Vec::new(alloc);
+    for row in rows {
+        let network = read_settled(alloc, row)?;
+        keep(&mut networks, network)?;
+    }
+    Ok(networks)
+}
+
+/// All tenants.
+pub fn tenants<S: Alter>(alloc: Global, conn: &mut Connection<S>) -> Result<Vec<Tenant>, Fault>
+    requires idle { conn.old.in_transaction ≡ false }
+    ensures idle { conn.new.in_transaction ≡ false }
+    ensures stands { (db : Database) (pending : List Written) → Stands S.Store conn.old db pending → Stands S.Store conn.new db pending }
+    ensures clean { HasCleanDisk (state S.Store conn.new) → HasCleanDisk (state S.Store conn.old) }
+    ensures listed { (db : Database) (pending : List Written) → Stands S.Store conn.old db pending → HasCleanDisk (state S.Store conn.new)
+        → IfOk result (λ tenants. IsPermutation (tables_of db).tenants tenants.items) }
+{
+    let rows = tenant_rows(conn)?;
+    tenants_in(alloc, rows.as_slice())
+}
+
+/// All networks, as they were added: without peers, and with the first number next.
+pub fn settled_networks<S: Alter>(
+    alloc: Global,
+    conn: &mut Connection<S>,
+) -> Result<Vec<Holding>, Fault>
+    requires idle { conn.old.in_transaction ≡ false }
+    ensures idle { conn.new.in_transaction ≡ false }
+    ensures stands { (db : Database) (pending : List Written) → Stands S.Store conn.old db pending → Stands S.Store conn.new db pending }
+    ensures clean { HasCleanDisk (state S.Store conn.new) → HasCleanDisk (state S.Store conn.old) }
+    ensures listed { (db : Database) (pending : List Written) → Stands S.Store conn.old db pending → HasCleanDisk (state S.Store conn.new)
+        → IfOk result (λ networks. (rows : List NetworkRow) × IsPermutation (tables_of db).networks rows × (networks.items ≡ map settled rows)) }
+{
+    let rows = network_rows(conn)?;
+    settled_in(alloc, rows.as_slice())
 }

@@ -10,7 +10,7 @@ mod network;
 mod tenant;
 mod token;
 
-pub use all::{count_tokens, tenant_ids};
+pub use all::{count_tokens, settled_networks, tenant_ids, tenants};
 pub use network::{add_network, end_network};
 pub use tenant::add_tenant;
 pub use token::{add_token, end_token};

@@ -2,3 +2,4 @@ pub mod StandLemmas
 pub mod GivenLemmas
 pub mod AskLemmas
 pub mod OrderLemmas
+pub mod NetworkLemmas

@@ -15,7 +15,9 @@ use Rattle.wgr_model.specs.Register.{Bytes}
 use Rattle.wgr_model.specs.RowLaws.{AreConsistent, IsRowStep}
 use Rattle.wgr_model.specs.Rows.{Tables}
 use Rattle.wgr_model.specs.Steps.{Answer, Declined, Event, IsProper}
+use Rattle.wgr_model.specs.Calls.{refusal_of}
 use Rattle.wgr_model.specs.Steps as answered
+use Rattle.wgr_model.specs.declared.answer.OrderRefusal as refusal
 use Rattle.wgr_model.proofs.RowRunLemmas.{no_rows_consistent, row_step}
 use Rattle.wgr_store.specs.Fresh.{IsFresh}
 use Rattle.wgr_sql.specs.declared.fault.Fault.{Fault}
@@ -126,6 +128,16 @@ module _ {S : Type 0} (g : Ghosts S) where
   pub order_unread : (old new : Held S) (db : Database) (late : List Event) (event : Event) (r : Result Done OrderFault) (why : Fault) → IsErrAnd r (λ e. e ≡ order_fault.Fault why)
       → ((pending : List Written) → Stands g old db pending → Stands g new db pending) → StandsAt g old db late → OrderEnds g new db late event r
   order_unread old new db late event r why is reads at = order_late new db late event r why is (at_more new db late event (at_read old new db late reads at))
+
+  -- it is refused, or memory is
+  pub order_refused : (conn : Held S) (db : Database) (late : List Event) (event : Event) (r : Result Done OrderFault) (why : OrderFault) → IsErrAnd r (λ e. e ≡ why) → StandsAt g conn db late
+      → ((refusal : refusal.OrderRefusal) → why ≡ order_fault.Refused refusal → HasCleanDisk (state g conn) → IsRowStep (tables_of db) event (answered.Refused (refusal_of refusal)) (tables_of db)) → OrderEnds g conn db late event r
+  order_refused conn db late event r (order_fault.Fault why) is at refuses = order_late conn db late event r why is (at_more conn db late event at)
+  order_refused conn db late event (Ok done) (order_fault.Refused why) is at refuses = absurd is
+  order_refused conn db late event (Err (order_fault.Refused other)) (order_fault.Refused why) is at refuses =
+      let same : other ≡ why = cc in
+      λ clean. ends_still conn db late event (λ answer. answer ≡ answered.Refused (refusal_of other)) (answered.Refused (refusal_of why)) at (ap (λ x. answered.Refused (refusal_of x)) (sym same)) (refuses why refl clean) clean
+  order_refused conn db late event (Err (order_fault.Fault other)) (order_fault.Refused why) is at refuses = cc
 
   -- its commit fails
   pub order_unwritten : (old mid new : Held S) (db : Database) (late : List Event) (event : Event) (r : Result Done OrderFault) (why : Fault) (one : Written) → IsErrAnd r (λ e. e ≡ order_fault.Fault why) → new.in_transaction ≡ false

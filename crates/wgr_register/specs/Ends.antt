@@ -11,12 +11,12 @@ use Rattle.wgr_core.specs.Network.{NetworkValue}
 use Rattle.wgr_core.specs.declared.change.Change.{Change}
 use Rattle.wgr_core.specs.declared.fault.ActFault.{ActFault}
 use Rattle.wgr_core.specs.declared.fault.ActFault.TheVariants as act_fault
-use Rattle.wgr_model.specs.Calls.{refusal_of}
+use Rattle.wgr_model.specs.Calls.{IsAdmitted, refusal_of}
 use Rattle.wgr_model.specs.Laws.{Has}
-use Rattle.wgr_model.specs.Register.{Bytes}
+use Rattle.wgr_model.specs.Register.{Bytes, Register}
 use Rattle.wgr_model.specs.RowLaws.{IsRowStep}
 use Rattle.wgr_model.specs.Rows.{NetworkRow, Tables, holding_of}
-use Rattle.wgr_model.specs.Steps.{Answer, Declined, Event, NoSuchNetwork, UnknownToken, tenant_of_token}
+use Rattle.wgr_model.specs.Steps.{Answer, Declined, Event, NoSuchNetwork, Settings, UnknownToken, tenant_of_token}
 use Rattle.wgr_model.specs.Steps as answered
 use Rattle.wgr_sql.specs.declared.fault.Fault.TheVariants.{NoMemory}
 use Rattle.wgr_tables.specs.Decode.{tables_of}
@@ -54,6 +54,12 @@ abbrev pub OrderEnds : {S : Type 0} → Ghosts S → Held S → Database → Lis
 OrderEnds g conn db late event (Ok done) = EndsWith g conn db late event (λ answer. answer ≡ answered.Done)
 OrderEnds g conn db late event (Err (order_fault.Refused why)) = EndsWith g conn db late event (λ answer. answer ≡ answered.Refused (refusal_of why))
 OrderEnds g conn db late event (Err (order_fault.Fault why)) = EndsLate g conn db late event
+
+-- a new network passes the checks beside these and has an id that no other has, or it is refused
+abbrev pub Admits : Register → ℕ → Bytes → Settings → Result ℕ OrderFault → Type 0
+Admits r tenant name settings (Ok new) = IsAdmitted r tenant name settings (Ok new)
+Admits r tenant name settings (Err (order_fault.Refused why)) = IsAdmitted r tenant name settings (Err why)
+Admits r tenant name settings (Err (order_fault.Fault why)) = Unit {0}
 
 -- why a command isn't done, as a fault of an ask
 abbrev pub ask_fault : ActFault → AskFault

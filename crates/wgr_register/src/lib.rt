@@ -10,6 +10,6 @@ mod register;
 pub use fault::{AskFault, Done, OpenFault, OrderFault};
 pub use given::{Given, Render};
 pub use register::Register;
-pub use wgr_model::OrderRefusal;
+pub use wgr_model::{Order, OrderRefusal};
 pub use wgr_store::RegisterFault;
 pub use wgr_tables::Fault;

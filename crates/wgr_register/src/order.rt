@@ -1,25 +1,48 @@
 //! Orders of the operator.
-ghost use Rattle.std.specs.Prelude.{◌≡◌, List, false, nat_lt, not};
+ghost use Rattle.std.specs.Prelude.{◌≡◌, List, [], false, nat_lt, not};
 ghost use Rattle.sqlite.specs.Effect.{Database};
 ghost use Rattle.sqlite.specs.State.{HasCleanDisk};
 ghost use Rattle.sqlite.specs.Held.{state};
-ghost use Rattle.wgr_model.specs.Steps.{AddTenant, EndNetwork, EndToken, Event, Grant, IsProper};
-ghost use Rattle.wgr_register.specs.Ends.{OrderEnds};
+ghost use Rattle.wgr_model.specs.Calls.{order_event};
+ghost use Rattle.wgr_model.specs.Steps.{AddNetwork, AddTenant, EndNetwork, EndToken, Event, Grant, IsProper};
+ghost use Rattle.wgr_register.specs.Ends.{Admits, OrderEnds};
 ghost use Rattle.wgr_register.specs.Standing.{StandsAt};
 
 use crate::fault::{Done, OrderFault};
 use sqlite::{Alter, Connection};
 use std::alloc::Global;
 use wgr_core::Name;
-use wgr_model::{OrderRefusal, unused_id};
-use wgr_orders::{add_token, count_tokens, tenant_ids};
-use wgr_tables::{network_id, tenant_id, tenant_of_token};
+use wgr_model::{Holding, Order, OrderRefusal, Settings, Tenant, admit_network, unused_id};
+use wgr_orders::{add_token, count_tokens, settled_networks, tenant_ids, tenants};
+use wgr_tables::{Fault, network_id, tenant_id, tenant_of_token};
+
+// Does the order, or refuses it.
+pub(crate) fn operate<S: Alter>(
+    alloc: Global,
+    conn: &mut Connection<S>,
+    order: &Order,
+) -> Result<Done, OrderFault>
+    requires idle { conn.old.in_transaction ≡ false }
+    ensures idle { conn.new.in_transaction ≡ false }
+    ensures clean { HasCleanDisk (state S.Store conn.new) → HasCleanDisk (state S.Store conn.old) }
+    ensures ends { (db : Database) (late : List Event) → StandsAt S.Store conn.old db late → OrderEnds S.Store conn.new db late (order_event order.now) result }
+{
+    order.tell_forms();
+    match order {
+        Order::AddTenant { name } => add_tenant(alloc, conn, name),
+        Order::Grant { tenant, digest } => grant(conn, tenant, digest),
+        Order::EndToken { digest } => end_token(conn, digest),
+        Order::AddNetwork {
+            tenant,
+            name,
+            settings,
+        } => add_network(alloc, conn, tenant, name, settings),
+        Order::EndNetwork { tenant, name } => end_network(conn, tenant, name),
+    }
+}
 
 // The token of this digest goes.
-pub(crate) fn end_token<S: Alter>(
-    conn: &mut Connection<S>,
-    digest: &[u8; 32],
-) -> Result<Done, OrderFault>
+fn end_token<S: Alter>(conn: &mut Connection<S>, digest: &[u8; 32]) -> Result<Done, OrderFault>
     requires idle { conn.old.in_transaction ≡ false }
     ensures idle { conn.new.in_transaction ≡ false }
     ensures clean { HasCleanDisk (state S.Store conn.new) → HasCleanDisk (state S.Store conn.old) }
@@ -33,7 +56,7 @@ pub(crate) fn end_token<S: Alter>(
 }
 
 // The network of this name that the tenant has goes, with its peers and routes.
-pub(crate) fn end_network<S: Alter>(
+fn end_network<S: Alter>(
     conn: &mut Connection<S>,
     tenant: &Name,
     name: &Name,
@@ -54,7 +77,7 @@ pub(crate) fn end_network<S: Alter>(
 }
 
 // A token of this digest for the tenant of this name.
-pub(crate) fn grant<S: Alter>(
+fn grant<S: Alter>(
     conn: &mut Connection<S>,
     tenant: &Name,
     digest: &[u8; 32],
@@ -79,7 +102,7 @@ pub(crate) fn grant<S: Alter>(
 }
 
 // A tenant of this name, under an id that no other has.
-pub(crate) fn add_tenant<S: Alter>(
+fn add_tenant<S: Alter>(
     alloc: Global,
     conn: &mut Connection<S>,
     name: &Name,
@@ -98,6 +121,55 @@ pub(crate) fn add_tenant<S: Alter>(
     }
     wgr_orders::add_tenant(conn, unused_id(ids.as_slice()), name)?;
     Ok(Done)
+}
+
+// A network of these settings, without peers, of the tenant of this name, under an id that no other
+// has.
+fn add_network<S: Alter>(
+    alloc: Global,
+    conn: &mut Connection<S>,
+    tenant: &Name,
+    name: &Name,
+    settings: &Settings,
+) -> Result<Done, OrderFault>
+    requires idle { conn.old.in_transaction ≡ false }
+    ensures idle { conn.new.in_transaction ≡ false }
+    ensures clean { HasCleanDisk (state S.Store conn.new) → HasCleanDisk (state S.Store conn.old) }
+    ensures ends { (db : Database) (late : List Event) → StandsAt S.Store conn.old db late → IsProper (AddNetwork tenant.now name.now settings.now) → OrderEnds S.Store conn.new db late (AddNetwork tenant.now name.now settings.now) result }
+{
+    let Some(id) = tenant_id(conn, tenant)? else {
+        return Err(OrderFault::Refused(OrderRefusal::NoSuchTenant));
+    };
+    let tenants = tenants(alloc, conn)?;
+    let networks = settled_networks(alloc, conn)?;
+    let new = admit(
+        alloc,
+        tenants.as_slice(),
+        networks.as_slice(),
+        id,
+        name,
+        settings,
+    )?;
+    wgr_orders::add_network(conn, new, id, name, settings)?;
+    Ok(Done)
+}
+
+// The id that the network takes, or why it isn't added.
+fn admit(
+    alloc: Global,
+    tenants: &[Tenant],
+    networks: &[Holding],
+    id: u32,
+    name: &Name,
+    settings: &Settings,
+) -> Result<u32, OrderFault>
+    ensures { Admits (record { tenants = tenants.now; tokens = []; networks = networks.now }) id name.now settings.now result }
+{
+    match admit_network(alloc, tenants, networks, id, name, settings) {
+        Ok(Ok(new)) => Ok(new),
+        Ok(Err(why)) => Err(OrderFault::Refused(why)),
+        Err(_) => Err(OrderFault::Fault(Fault::NoMemory)),
+    }
 }
 
 // Whether no more than so many entries are taken.

@@ -3,20 +3,22 @@ ghost use Rattle.std.specs.Prelude.{◌≡◌, ◌↔◌, List, [], true, false,
 ghost use Rattle.sqlite.specs.Effect.{Database};
 ghost use Rattle.sqlite.specs.State.{HasCleanDisk};
 ghost use Rattle.sqlite.specs.Held.{state};
+ghost use Rattle.wgr_model.specs.Calls.{order_event};
 ghost use Rattle.wgr_model.specs.Steps.{Ask, Event};
-ghost use Rattle.wgr_register.specs.Ends.{AskEnds};
+ghost use Rattle.wgr_register.specs.Ends.{AskEnds, OrderEnds};
 ghost use Rattle.wgr_register.specs.Standing.{StandsAt};
 ghost use Rattle.wgr_sql.specs.Calls.{IsKept};
 ghost use Rattle.wgr_store.specs.Fresh.{IsFresh, is_any_taken, no_schema};
 ghost use Rattle.wgr_store.specs.declared.fault.RegisterFault.TheVariants.{NotARegister, NotEmpty, NotGood};
 
-use crate::ask;
-use crate::fault::{AskFault, OpenFault};
+use crate::fault::{AskFault, Done, OpenFault, OrderFault};
 use crate::given::Render;
+use crate::{ask, order};
 use sqlite::{Alter, Connection};
 use std::alloc::Global;
 use std::marker::Model;
 use wgr_core::Command;
+use wgr_model::Order;
 use wgr_store::make;
 
 /// The networks of many tenants, in a database whose rows are consistent at all times.
@@ -70,6 +72,15 @@ impl<S: Alter> Register<S> {
     {
         let Register { conn } = self;
         conn
+    }
+
+    /// Does an order of the operator, in one commit, or refuses it. A refusal and a fault leave the rows
+    /// as they are.
+    pub fn operate(&mut self, alloc: Global, order: &Order) -> Result<Done, OrderFault>
+        ensures clean { HasCleanDisk (state S.Store self.new) → HasCleanDisk (state S.Store self.old) }
+        ensures ends { (db : Database) (late : List Event) → StandsAt S.Store self.old db late → OrderEnds S.Store self.new db late (order_event order.now) result }
+    {
+        order::operate(alloc, &mut self.conn, order)
     }
 
     /// The text of what the command answers at this moment, on the network of this name that the

@@ -3,8 +3,9 @@ use Rattle.std.specs.Prelude.{◌≡◌, ℕ, List, [], ◌∷◌, filter, map, 
 use Rattle.std.specs.List.Sorted.{IsPermutation}
 use Rattle.sqlite_value.specs.Order.{Row}
 use Rattle.wgr_model.specs.Consistent.{same_slot}
-use Rattle.wgr_model.specs.Register.{Bytes, is_same}
+use Rattle.wgr_model.specs.Register.{Bytes, Holding, is_same}
 use Rattle.wgr_model.specs.Rows.{NetworkRow, Tables}
+use Rattle.wgr_model.specs.Steps.{Settings, new_network}
 use Rattle.wgr_tables.specs.Decode.{number_at, tenant_in, token_in, network_in}
 
 -- these are the rows of the tokens of the digest; of the tenants of the name; of a tenant's networks of the name
@@ -25,3 +26,11 @@ IsIn rows at None = rows ≡ []
 -- the network has the name, and is of the tenant of this id
 abbrev pub IsSlotOf : NetworkRow → ℕ → Bytes → Type 0
 IsSlotOf w tenant name = (w.tenant ≡ tenant) × (w.name ≡ name)
+
+-- what was settled of the network of a row
+abbrev pub settings_of : NetworkRow → Settings
+settings_of w = record { pool = w.pool; host = w.host; port = w.port; server = w.server; capacity = w.capacity }
+
+-- the network of a row as it was added
+abbrev pub settled : NetworkRow → Holding
+settled w = record { id = w.id; tenant = w.tenant; name = w.name; network = new_network (settings_of w) }

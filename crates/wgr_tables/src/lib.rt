@@ -12,11 +12,13 @@ mod load;
 mod lookup;
 mod read;
 mod route;
+mod settled;
 mod value;
 
 pub use commit::commit_change;
 pub use field::word_at;
 pub use load::load_network;
 pub use lookup::{network_id, tenant_id, tenant_of_token};
+pub use settled::{read_settled, read_tenant};
 pub use value::{bytes_of, family_value, number_value};
 pub use wgr_sql::Fault;

@@ -1,8 +1,8 @@
-use Rattle.std.proofs.Common.{◌≡◌, ◌∷◌, None, Some, false, true, length, nat_lt, not, refl, sym, ap, ◌∙◌}
+use Rattle.std.proofs.Common.{◌≡◌, None, Some, false, true, refl, sym, ◌∙◌}
 use Rattle.wgr_model.specs.Register.{id_of}
-use Rattle.wgr_model.specs.Steps.{AddTenant, Event, NameHeld, Refused, RegisterFull}
+use Rattle.wgr_model.specs.Steps.{AddTenant, NameHeld, Refused, RegisterFull}
 use Rattle.wgr_tables.specs.Decode.{tables_of}
-use Rattle.wgr_tables.specs.Writes.{TenantGained, Written}
+use Rattle.wgr_tables.specs.Writes.{TenantGained}
 use Rattle.wgr_register.proofs.OrderLemmas.{name_held, room_by, tenant_comes, tenants_full, unused_by}
 use Rattle.wgr_register.proofs.StandLemmas.{at_read, ends_still, order_done, order_unread, order_unwritten}
 use Rattle.wgr_register.proofs.order.add_tenant.Goals as goal

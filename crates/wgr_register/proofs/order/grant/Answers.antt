@@ -1,8 +1,8 @@
-use Rattle.std.proofs.Common.{◌≡◌, ◌∷◌, None, Some, false, true, refl, sym, ◌∙◌}
+use Rattle.std.proofs.Common.{◌≡◌, None, Some, false, true, refl, sym, ◌∙◌}
 use Rattle.wgr_model.specs.Register.{id_of}
-use Rattle.wgr_model.specs.Steps.{DigestHeld, Event, Grant, NoSuchTenant, Refused, RegisterFull, tenant_of_token}
+use Rattle.wgr_model.specs.Steps.{DigestHeld, Grant, NoSuchTenant, Refused, RegisterFull, tenant_of_token}
 use Rattle.wgr_tables.specs.Decode.{tables_of}
-use Rattle.wgr_tables.specs.Writes.{TokenGained, Written}
+use Rattle.wgr_tables.specs.Writes.{TokenGained}
 use Rattle.wgr_register.proofs.OrderLemmas.{held_already, nobody_gets, token_comes, tokens_by, tokens_full}
 use Rattle.wgr_register.proofs.StandLemmas.{at_read, ends_still, order_done, order_unread, order_unwritten}
 use Rattle.wgr_register.proofs.order.grant.Goals as goal

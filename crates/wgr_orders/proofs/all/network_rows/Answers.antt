@@ -1,0 +1,12 @@
+use Rattle.std.proofs.Common.{[]}
+use Rattle.wgr_sql.proofs.ResultLemmas.{if_ok}
+use Rattle.wgr_tables.proofs.ReadLemmas.{stands_read, rows_read}
+use Rattle.wgr_orders.proofs.AllLemmas.{ShowNetworks, networks_asks, networks_listed, networks_text}
+use Rattle.wgr_orders.proofs.all.network_rows.Goals as goal
+
+pub returns-clause-stands : goal.returns-clause-stands
+returns-clause-stands g c db pending stood = stands_read g.S.Store c.args.conn.now c.query.new.conn db pending stood networks_text c.query.ensures.survives (λ others. (networks_asks others).means.plain) c.query.ensures.kept c.query.ensures.idle
+
+pub returns-clause-listed : goal.returns-clause-listed
+returns-clause-listed g c db pending stood clean =
+    if_ok c.query.result _ _ (λ rows given. rows_read g.S.Store c.args.conn.now c.query.new.conn db pending stood networks_text c.query.ensures.survives ShowNetworks [] (λ a b register found. networks_listed a b register found) clean rows.items given) (c.query.ensures.shown clean)
