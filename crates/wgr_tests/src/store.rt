@@ -1,6 +1,6 @@
 //! The register's tables in a database: made, told from others, and found again.
 use sqlite::{Alter, Connection, FileStore, MemStore, Options};
-use sqlite_disk::{Files, Fuse, Memory};
+use sqlite_disk::{Disk, Files, Fuse, Memory};
 use std::alloc::AllocGlobal;
 use std::process::Abort;
 use wgr_store::{RegisterFault, check_layout, make};
@@ -107,6 +107,8 @@ fn opened(
     rt: &(impl Abort + AllocGlobal),
     files: Files<Fuse<Memory>>,
 ) -> Connection<FileStore<Fuse<Memory>>> {
+    assert!(rt; files.log.may_be_used());
+    assert!(rt; files.db.may_be_used());
     match Connection::open_files(rt.alloc(), files, Options::new(7)) {
         Ok(conn) => conn,
         Err(_) => panic!(rt; "files"),

@@ -1,0 +1,5 @@
+//! All rows of a register's tables, read and tested.
+#![tactic(auto)]
+
+mod field;
+mod tenants;

@@ -1,0 +1,91 @@
+//! The rows of tenants.
+ghost use Rattle.std.specs.Prelude.{◌≡◌, ℕ, false, IsTrue, IfOk, IfSome, IfNone, map};
+ghost use Rattle.std.specs.List.{AllByRecursion};
+ghost use Rattle.sqlite.specs.State.{HasCleanDisk, Survives};
+ghost use Rattle.sqlite.specs.Held.{state};
+ghost use Rattle.wgr_sql.specs.Calls.{IsKept};
+ghost use Rattle.wgr_store.specs.LaidOut.{IsLaidOut};
+ghost use Rattle.wgr_tables.specs.Decode.{number_at, bytes_at};
+ghost use Rattle.wgr_audit.specs.Fields.{IsNameAt};
+ghost use Rattle.wgr_audit.specs.TenantRows.{AreGoodTenants, HaveOwnIds, HaveOwnNames, IsTenantRow, Lists, tenant_values, name_values};
+
+use crate::field::{id_at, name_at};
+use sqlite::{Alter, Connection, Row};
+use std::alloc::Global;
+use wgr_ordered::{ids_differ, names_differ};
+use wgr_peers::Name;
+use wgr_sql::{Fault, query};
+
+/// The id of the tenant whose row this is.
+fn tenant_id(alloc: Global, row: &Row) -> Result<Option<u32>, Fault>
+    ensures some { IfOk result (λ found. IfSome found (λ id. IsTenantRow row.now × (id ≡ number_at row.now 0))) }
+    ensures none { IfOk result (λ found. IfNone found (IsTenantRow row.now → ⊥)) }
+{
+    let Some(id) = id_at(row, 0) else {
+        return Ok(None);
+    };
+    let Some(_) = name_at(alloc, row, 2)? else {
+        return Ok(None);
+    };
+    Ok(Some(id))
+}
+
+/// The ids of the tenants whose rows these are.
+fn ids_of(alloc: Global, rows: &[Row]) -> Result<Option<Vec<u32>>, Fault>
+    ensures some { IfOk result (λ found. IfSome found (λ ids. AllByRecursion IsTenantRow rows.now × (ids.items ≡ map (λ r. number_at r 0) rows.now))) }
+    ensures none { IfOk result (λ found. IfNone found (AllByRecursion IsTenantRow rows.now → ⊥)) }
+{
+    let mut ids = Vec::new(alloc);
+    for row in rows {
+        let Some(id) = tenant_id(alloc, row)? else {
+            return Ok(None);
+        };
+        if ids.push(id).is_err() {
+            return Err(Fault::NoMemory);
+        }
+    }
+    Ok(Some(ids))
+}
+
+/// The names in these rows.
+fn names_of(alloc: Global, rows: &[Row]) -> Result<Option<Vec<Name>>, Fault>
+    ensures some { IfOk result (λ found. IfSome found (λ names. AllByRecursion (λ r. IsNameAt r 2) rows.now × (names.items ≡ map (λ r. bytes_at r 2) rows.now))) }
+    ensures none { IfOk result (λ found. IfNone found (AllByRecursion (λ r. IsNameAt r 2) rows.now → ⊥)) }
+{
+    let mut names = Vec::new(alloc);
+    for row in rows {
+        let Some(name) = name_at(alloc, row, 2)? else {
+            return Ok(None);
+        };
+        if names.push(name).is_err() {
+            return Err(Fault::NoMemory);
+        }
+    }
+    Ok(Some(names))
+}
+
+/// The rows of the tenants, in the order of their ids.
+fn rows_by_id<S: Alter>(conn: &mut Connection<S>) -> Result<Vec<Row>, Fault>
+    requires idle { conn.old.in_transaction ≡ false }
+    ensures idle { conn.new.in_transaction ≡ false }
+    ensures listed { HasCleanDisk (state S.Store conn.new) → IsLaidOut (state S.Store conn.old).now.schema → IfOk result (λ rows. Lists tenant_values 0 ((state S.Store conn.old).now.trees 1) rows.items) }
+    ensures kept { (HasCleanDisk (state S.Store conn.new) → IsTrue (state S.Store conn.old).is_open → IsLaidOut (state S.Store conn.old).now.schema) → IsKept (state S.Store conn.old) (state S.Store conn.new) }
+    ensures survives { Survives (state S.Store conn.old) (state S.Store conn.new) (λ _. ⊥) }
+{
+    query(conn, "SELECT id, NULL, name FROM tenant ORDER BY id", &[])
+}
+
+/// Their names, in the order of the names.
+fn rows_by_name<S: Alter>(conn: &mut Connection<S>) -> Result<Vec<Row>, Fault>
+    requires idle { conn.old.in_transaction ≡ false }
+    ensures idle { conn.new.in_transaction ≡ false }
+    ensures listed { HasCleanDisk (state S.Store conn.new) → IsLaidOut (state S.Store conn.old).now.schema → IfOk result (λ rows. Lists name_values 2 ((state S.Store conn.old).now.trees 1) rows.items) }
+    ensures kept { (HasCleanDisk (state S.Store conn.new) → IsTrue (state S.Store conn.old).is_open → IsLaidOut (state S.Store conn.old).now.schema) → IsKept (state S.Store conn.old) (state S.Store conn.new) }
+    ensures survives { Survives (state S.Store conn.old) (state S.Store conn.new) (λ _. ⊥) }
+{
+    query(
+        conn,
+        "SELECT NULL, NULL, name FROM tenant ORDER BY name",
+        &[],
+    )
+}
