@@ -2,6 +2,7 @@
 use Rattle.std.specs.Prelude.{◌≡◌, ℕ, List, [], ◌∷◌, map, nat_eq}
 use Rattle.std.specs.List.{AllByRecursion, IsDistinct}
 use Rattle.std.specs.List.Sorted.{IsPermutation, IsSorted}
+use Rattle.std.specs.Ordering.{nat_cmp}
 use Rattle.sqlite_value.specs.Order.{Row, column, value_cmp}
 use Rattle.sqlite.specs.declared.types.Value.TheVariants.{Null}
 use Rattle.wgr_model.specs.Register.{is_same}
@@ -23,6 +24,11 @@ pub record HaveOwnNames (rows : List Row) : Type 0 where
 
 abbrev pub AreGoodTenants : List Row → Type 0
 AreGoodTenants rows = HaveOwnIds rows × HaveOwnNames rows
+
+-- the ids in the rows, rising
+pub record AreIdsOf (rows : List Row) (ids : List ℕ) : Type 0 where
+  pub same : IsPermutation (map (λ r. number_at r 0) rows) ids
+  pub sorted : IsSorted nat_cmp ids
 
 -- ---- what queries show
 

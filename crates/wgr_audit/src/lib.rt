@@ -3,3 +3,5 @@
 
 mod field;
 mod tenants;
+
+pub use tenants::read_tenants;
