@@ -3,3 +3,4 @@ pub mod Queries
 pub mod KeyLemmas
 pub mod TenantLemmas
 pub mod KeptLemmas
+pub mod ConsistentLemmas
