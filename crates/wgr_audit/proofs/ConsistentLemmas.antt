@@ -1,11 +1,10 @@
 -- Rows that pass the tests are those of consistent tenants.
-use Rattle.std.proofs.Common.{◌≡◌, ◌↔◌, ℕ, pos, List, [], ◌∷◌, map, nat_eq, Bool, true, false, refl, sym, ap, subst, ◌∙◌, inl, inr, true≢false, unsigned_abs}
-use Rattle.std.specs.List.{AllByRecursion, IsDistinct}
+use Rattle.std.proofs.Common.{◌≡◌, ◌↔◌, pos, List, [], ◌∷◌, map, nat_eq, refl, sym, ap, subst, ◌∙◌, inl, inr, true≢false, unsigned_abs}
+use Rattle.std.specs.List.{IsDistinct}
 use Rattle.sqlite.specs.declared.types.Value.TheVariants.{Int}
 use Rattle.sqlite.specs.Effect.{Database, IsDatabase}
 use Rattle.sqlite.specs.Order.{Row}
 use Rattle.sqlite_value.specs.Order.{column}
-use Rattle.sqlite_trees.specs.Tree.{rowid}
 use Rattle.sqlite_trees.proofs.ListLemmas.{all-map, all_from_map}
 use Rattle.sqlite_rules.specs.Edit.{id_in}
 use Rattle.sqlite_rules.specs.Lists.{Has}
@@ -20,10 +19,10 @@ use Rattle.wgr_sql.specs.Keyed.{IsKeyed}
 use Rattle.wgr_sql.proofs.Answers.{map-both}
 use Rattle.wgr_sql.proofs.TextLemmas.{text_at}
 use Rattle.wgr_tables.specs.Layout.{schema_with, tenant_at}
-use Rattle.wgr_tables.specs.Decode.{AreTenants, number_at, bytes_at, tenant_in}
+use Rattle.wgr_tables.specs.Decode.{number_at, tenant_in}
 use Rattle.wgr_store.specs.LaidOut.{IsLaidOut}
 use Rattle.wgr_audit.specs.Fields.{IsNameAt}
-use Rattle.wgr_audit.specs.TenantRows.{AreGoodTenants, HaveOwnIds, IsTenantRow}
+use Rattle.wgr_audit.specs.TenantRows.{AreGoodTenants, IsTenantRow}
 use Rattle.wgr_audit.specs.Laws.{AreConsistentTenants}
 
 here_too : {X : Type 0} (xs : List X) (x : X) → Has xs x → model.Has xs x

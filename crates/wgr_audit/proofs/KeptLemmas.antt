@@ -1,5 +1,5 @@
 -- What stays for a reading after a reading.
-use Rattle.std.proofs.Common.{◌≡◌, true, IsTrue, sym, subst, ◌∙◌, arith}
+use Rattle.std.proofs.Common.{sym, subst, ◌∙◌, arith}
 use Rattle.sqlite.specs.Effect.{Database}
 use Rattle.sqlite.specs.State.{State, HasCleanDisk, Survives}
 use Rattle.wgr_sql.specs.Calls.{IsKept}

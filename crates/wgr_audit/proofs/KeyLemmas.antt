@@ -1,5 +1,5 @@
 -- What rows that are listed in the order of a key tell of their table.
-use Rattle.std.proofs.Common.{◌≡◌, ◌+◌, ◌<◌, ℕ, suc, zero, List, [], ◌∷◌, map, length, get_or, Bool, Ordering, is_lt, IsPermutation, refl, sym, ap, ap₂, subst, ◌∙◌, arith}
+use Rattle.std.proofs.Common.{◌≡◌, ◌+◌, ◌<◌, ℕ, List, [], ◌∷◌, map, length, get_or, Bool, Ordering, is_lt, IsPermutation, sym, ap, ap₂, subst, ◌∙◌, arith}
 use Rattle.std.specs.List.{AllByRecursion, IsDistinct}
 use Rattle.std.specs.List.Sorted.{IsSorted}
 use Rattle.std.proofs.lemmas.List.{get_or-map}

@@ -1,14 +1,11 @@
 -- What the queries show.
-use Rattle.std.proofs.Common.{◌≡◌, ◌+◌, ◌<◌, ℕ, true, false, List, [], ◌∷◌, codes, filter, get_or, is_lt, refl, sym, ap, subst, ◌∙◌, IsPermutation, length}
-use Rattle.std.specs.Ordering.{ordering_then}
-use Rattle.std.specs.List.Sorted.{IsSorted}
+use Rattle.std.proofs.Common.{◌≡◌, ◌+◌, ℕ, true, List, [], ◌∷◌, codes, filter, get_or, is_lt, refl, sym, ap, subst, ◌∙◌, IsPermutation}
 use Rattle.sqlite.specs.Order.{Row}
 use Rattle.sqlite_value.specs.Order.{column, value_cmp}
 use Rattle.sqlite_value.proofs.OrderLemmas.{then-Equal}
 use Rattle.sqlite.specs.declared.types.Value.TheVariants.{Null}
 use Rattle.sqlite.specs.Command.TheVariants.{Select}
-use Rattle.sqlite.specs.Listing.{understood, reads_listing}
-use Rattle.sqlite.specs.Query.{sort_cmp}
+use Rattle.sqlite.specs.Listing.{understood}
 use Rattle.sqlite.specs.Schema.{Schema}
 use Rattle.sqlite.specs.State.{State, Shown}
 use Rattle.sqlite.specs.Term.{Term, col, lit, eval_all}

@@ -1,5 +1,5 @@
 -- What the listed rows of tenants tell of all.
-use Rattle.std.proofs.Common.{◌≡◌, ◌<◌, ℕ, pos, List, map, nat_eq, refl, ap₂, ◌∙◌, arith}
+use Rattle.std.proofs.Common.{◌≡◌, ℕ, pos, List, map, nat_eq, refl, ap₂, ◌∙◌, arith}
 use Rattle.std.specs.List.{AllByRecursion, IsDistinct}
 use Rattle.std.specs.List.Sorted.{IsSorted}
 use Rattle.std.specs.Ordering.{int_cmp, nat_cmp}

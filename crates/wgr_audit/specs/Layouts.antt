@@ -1,5 +1,5 @@
 -- Databases whose rows can be read.
-use Rattle.std.specs.Prelude.{true, IsTrue}
+use Rattle.std.specs.Prelude.{IsTrue}
 use Rattle.sqlite.specs.State.{State}
 use Rattle.wgr_store.specs.LaidOut.{IsLaidOut}
 

@@ -1,4 +1,3 @@
-use Rattle.std.proofs.Common.{true, sym, subst}
 use Rattle.sqlite.specs.Held.{state}
 use Rattle.wgr_sql.proofs.ResultLemmas.{if_both}
 use Rattle.wgr_audit.proofs.TenantLemmas.{own_names, names_back, names_sorted}

@@ -1,8 +1,7 @@
-use Rattle.std.proofs.Common.{rules, true, true≢false, ℕ, List, nat_eq, refl, sym, subst}
+use Rattle.std.proofs.Common.{rules, true≢false, nat_eq, refl, sym, subst}
 use Rattle.std.specs.List.{AllByRecursion, IsDistinct}
 use Rattle.std.specs.List.Sorted.{IsSorted}
 use Rattle.std.specs.Ordering.{nat_cmp}
-use Rattle.sqlite.specs.Order.{Row}
 use Rattle.sqlite.specs.Held.{state}
 use Rattle.wgr_audit.specs.TenantRows.{IsTenantRow}
 use Rattle.wgr_audit.proofs.TenantLemmas.{own_ids, ids_are, ids_each, ids_apart}
