@@ -2,5 +2,4 @@ pub mod ListLemmas
 pub mod Queries
 pub mod KeyLemmas
 pub mod TenantLemmas
-pub mod KeptLemmas
 pub mod ConsistentLemmas
