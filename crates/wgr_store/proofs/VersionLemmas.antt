@@ -1,6 +1,6 @@
 -- What the query for the version finds.
-use Rattle.std.proofs.Common.{◌≡◌, ◌↔◌, ◌<◌, ℕ, pos, true, List, [], ◌∷◌, map, filter, swap, length, codes, IsPermutation, unsigned_abs, refl, sym, ap, subst, ◌∙◌, inl, arith}
-use Rattle.std.proofs.lemmas.List.Sorted.{IsPermutation-keeps, IsPermutation-sym, IsPermutation-map}
+use Rattle.std.proofs.Common.{◌≡◌, ◌↔◌, ℕ, pos, true, List, [], ◌∷◌, map, filter, codes, IsPermutation, unsigned_abs, refl, sym, ap, subst, ◌∙◌, inl}
+use Rattle.std.proofs.lemmas.List.Sorted.{IsPermutation-sym, IsPermutation-map}
 use Rattle.sqlite.specs.declared.types.Value.{Value}
 use Rattle.sqlite.specs.declared.types.Value.TheVariants.{Int}
 use Rattle.sqlite.specs.Order.{Row}
@@ -12,7 +12,7 @@ use Rattle.sqlite.specs.Schema.{Schema}
 use Rattle.sqlite.specs.State.{State, Shown}
 use Rattle.sqlite.specs.Term.{col}
 use Rattle.sqlite_tied.specs.Compute.{everything}
-use Rattle.sqlite.proofs.Callers.{IsPlain, reads_as}
+use Rattle.sqlite.proofs.Callers.{IsPlain, reads_as, one_permutation}
 use Rattle.sqlite_rules.specs.Edit.{id_in}
 use Rattle.wgr_model.specs.Rows.{MetaRow, first_version}
 use Rattle.wgr_sql.specs.Effects.{plain_query}
@@ -33,14 +33,7 @@ version_asks others = record { means = record { command_is = refl; plain = (refl
 
 -- a list of one is its only order
 one_order : {X : Type 0} (v : X) (xs ys : List X) → IsPermutation xs ys → xs ≡ v ∷ [] → ys ≡ v ∷ []
-one_order {X = X} v xs ys p is = IsPermutation-keeps xs (λ l. l ≡ v ∷ []) is (λ l i j low high h. swapped l i j low high h) ys p
-  where
-    swapped : (l : List X) (i j : ℕ) → i < length l → j < length l → l ≡ v ∷ [] → swap l i j ≡ v ∷ []
-    swapped l i j low high h =
-        let long : length l ≡ 1 = ap length h in
-        let first : i ≡ 0 = omega (arith, low, long) in
-        let second : j ≡ 0 = omega (arith, high, long) in
-        ap (λ n. swap l n j) first ∙ ap (λ n. swap l 0 n) second ∙ ap (λ m. swap m 0 0) h
+one_order v xs ys p is = one_permutation v ys (subst (λ l. IsPermutation l ys) is p)
 
 all_kept : {X : Type 0} (xs : List X) → xs ≡ filter (λ x. true) xs
 all_kept [] = refl

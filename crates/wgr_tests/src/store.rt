@@ -1,8 +1,9 @@
 //! The register's tables in a database: made, told from others, and found again.
 use sqlite::{Alter, Connection, FileStore, MemStore, Options};
-use sqlite_disk::{Files, Fuse, Memory};
+use sqlite_disk::{Disk, Files, Fuse, Memory};
 use std::alloc::AllocGlobal;
 use std::process::Abort;
+use wgr_audit::read_tenants;
 use wgr_store::{RegisterFault, check_layout, make};
 
 fn run<S: Alter>(rt: &(impl Abort + AllocGlobal), conn: &mut Connection<S>, statements: &str) {
@@ -107,6 +108,8 @@ fn opened(
     rt: &(impl Abort + AllocGlobal),
     files: Files<Fuse<Memory>>,
 ) -> Connection<FileStore<Fuse<Memory>>> {
+    assert!(rt; files.log.may_be_used());
+    assert!(rt; files.db.may_be_used());
     match Connection::open_files(rt.alloc(), files, Options::new(7)) {
         Ok(conn) => conn,
         Err(_) => panic!(rt; "files"),
@@ -124,4 +127,32 @@ fn a_register_is_found_again(rt: HostRuntime) {
     run(&rt, &mut conn, "CREATE TABLE note (id INTEGER PRIMARY KEY)");
     let mut again = opened(&rt, conn.into_store().close());
     assert!(rt; checked(&rt, &mut again) == Ok(()));
+}
+
+// How many tenants are read of the rows that the statements leave, or none where these aren't good.
+fn tenants(rt: &(impl Abort + AllocGlobal), statements: &str) -> Option<usize> {
+    let mut conn = database(rt, "");
+    made(rt, &mut conn).expect(rt, "a register");
+    run(rt, &mut conn, statements);
+    assert!(rt; conn.is_autocommit());
+    let found = read_tenants(rt.alloc(), &mut conn).expect(rt, "rows");
+    found.map(|ids| ids.len())
+}
+
+#[test]
+fn rows_of_tenants_are_tested(rt: HostRuntime) {
+    for (statements, want) in [
+        ("", Some(0)),
+        (
+            "INSERT INTO tenant (id, name) VALUES (7, 'acme'), (3, 'zeta'), (65536, 'a-b')",
+            Some(3),
+        ),
+        ("INSERT INTO tenant (id, name) VALUES (0, 'acme')", None),
+        ("INSERT INTO tenant (id, name) VALUES (-1, 'acme')", None),
+        ("INSERT INTO tenant (id, name) VALUES (65537, 'acme')", None),
+        ("INSERT INTO tenant (id, name) VALUES (1, 'ac me')", None),
+        ("INSERT INTO tenant (id, name) VALUES (1, '')", None),
+    ] {
+        assert!(rt; tenants(&rt, statements) == want, "{statements}");
+    }
 }

@@ -1,0 +1,5 @@
+pub mod ListLemmas
+pub mod Queries
+pub mod KeyLemmas
+pub mod TenantLemmas
+pub mod ConsistentLemmas
