@@ -3,14 +3,35 @@ use super::{answer, said};
 use crate::fixtures::{address, end, key, new_network};
 use std::alloc::AllocGlobal;
 use std::process::Abort;
-use wgr_core::{Command, Label, Network};
+use wgr_core::{Command, Count, Label, Network, Status};
 
-// The one peer has the fields that it was added with, but for its address and its end.
-fn check_peer(rt: &(impl Abort + AllocGlobal), network: &Network, held: &str, until: u64) {
+// The status of a peer whose handshake was at this second, or none at 0.
+fn status(handshake: u64) -> Option<Status> {
+    if handshake == 0 {
+        return None;
+    }
+    Some(Status {
+        handshake: Count::new(handshake),
+        received: Count::new(0),
+        sent: Count::new(0),
+    })
+}
+
+// The one peer has the fields that it was added with, but for its address, its end and its status.
+fn check_peer(
+    rt: &(impl Abort + AllocGlobal),
+    network: &Network,
+    held: &str,
+    until: u64,
+    handshake: u64,
+) {
     let peer = network.peers().first().expect(rt, "a peer");
     assert_eq!(rt; peer.label.as_str(), "phone", "{held}");
     assert_eq!(rt; peer.keepalive, 25, "{held}");
-    assert!(rt; peer.key == key(7) && peer.status.is_none(), "{held}");
+    assert!(rt;
+        peer.key == key(7) && peer.status == status(handshake),
+        "{held}"
+    );
     assert!(rt; peer.address == address(rt, held), "{held}");
     assert!(rt; peer.until == end(rt, until), "{held}");
 }
@@ -31,13 +52,19 @@ fn fields_stay(rt: HostRuntime) {
     let mut network = new_network(&rt, "10.8.0.0/24");
     let added = answer(&rt, &mut network, 0, &add(&rt));
     assert_eq!(rt; added.as_slice(), b"1 10.8.0.2/32".as_slice());
-    check_peer(&rt, &network, "10.8.0.2", 100);
-    for (line, held, until) in [
-        ("move 1 10.8.0.9", "10.8.0.9", 100),
-        ("renew 1 200", "10.8.0.9", 200),
-        ("route 1 10.9.0.0/24", "10.8.0.9", 200),
+    check_peer(&rt, &network, "10.8.0.2", 100, 0);
+    for (line, held, until, handshake) in [
+        ("move 1 10.8.0.9", "10.8.0.9", 100, 0),
+        ("renew 1 200", "10.8.0.9", 200, 0),
+        ("route 1 10.9.0.0/24", "10.8.0.9", 200, 0),
+        // a line of a peer that is known tells its status alone
+        ("adopt 9|7 5 30 10.8.0.3/32", "10.8.0.9", 200, 5),
+        ("move 1", "10.8.0.2", 200, 5),
+        ("renew 1 0", "10.8.0.2", 0, 5),
+        ("unroute 10.9.0.0/24", "10.8.0.2", 0, 5),
+        ("adopt 9|7 6 30", "10.8.0.2", 0, 6),
     ] {
         said(&rt, &mut network, 0, line);
-        check_peer(&rt, &network, held, until);
+        check_peer(&rt, &network, held, until, handshake);
     }
 }

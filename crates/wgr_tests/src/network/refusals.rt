@@ -1,7 +1,7 @@
 //! The texts of refusals.
 use std::alloc::AllocGlobal;
 use std::process::Abort;
-use wgr_core::{Field, Refusal};
+use wgr_core::{Field, LineRefusal, Refusal};
 
 fn check(rt: &(impl Abort + AllocGlobal), refusal: Refusal, text: &str) {
     let printed = refusal.to_string(rt.alloc()).expect(rt, "memory");
@@ -26,7 +26,25 @@ fn prints_refusals(rt: HostRuntime) {
         (Refusal::NobodysAddress, "nobodys_address"),
         (Refusal::LeaseOver, "lease_over"),
         (Refusal::ServerKey, "server_key"),
+        (Refusal::WrongServer, "wrong_server"),
     ] {
         check(&rt, refusal, text);
+    }
+}
+
+#[test]
+fn prints_refusals_of_lines(rt: HostRuntime) {
+    for (why, text) in [
+        (LineRefusal::ServerKey, "server_key"),
+        (LineRefusal::CapacityReached, "capacity_reached"),
+        (LineRefusal::NumbersSpent, "numbers_spent"),
+        (LineRefusal::AddressHeld, "address_held"),
+        (LineRefusal::PoolFull, "pool_full"),
+        (LineRefusal::IsAddress, "is_address"),
+        (LineRefusal::RoutesFull, "routes_full"),
+    ] {
+        let printed = why.to_string(rt.alloc()).expect(&rt, "memory");
+        assert_eq!(rt; printed.as_str(), text);
+        check(&rt, Refusal::InLine { line: 2, why }, text);
     }
 }
