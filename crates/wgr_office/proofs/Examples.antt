@@ -1,10 +1,9 @@
 -- What targets name, and replies, by computation.
-use Rattle.std.proofs.Common.{◌≡◌, ℕ, ◌++◌, List, [], ◌∷◌, Option, Some, None, refl, codes}
+use Rattle.std.proofs.Common.{◌≡◌, ℕ, ◌++◌, List, [], ◌∷◌, Some, None, refl, codes}
 use Rattle.std.specs.Fmt.{digits}
 use Rattle.std.specs.Prelude.{Result, Ok, Err}
 use Rattle.matchit.proofs.OnLiterals.{matchit_on_literals}
 use Rattle.serde_json.proofs.OnLiterals.{serde_json_on_literals}
-use Rattle.serde_json.specs.Data.{no_members}
 use Rattle.wgr_core.specs.declared.form.Form.TheVariants.{Wg, Quick}
 use Rattle.wgr_core.specs.declared.refusal.LineRefusal.TheVariants as line
 use Rattle.wgr_core.specs.declared.refusal.Refusal.{Refusal}

@@ -1,5 +1,5 @@
 -- The names of an object's members, and those that are listed.
-use Rattle.std.proofs.Common.{◌≡◌, ℕ, List, [], ◌∷◌, Bool, ◌&&◌, ◌||◌, map, refl, ap, String, string_bytes, Global, sym, ◌∙◌}
+use Rattle.std.proofs.Common.{◌≡◌, ℕ, List, [], ◌∷◌, Bool, ◌||◌, map, refl, ap, String, string_bytes, Global}
 use Rattle.std.specs.Borrow.{Bor}
 use Rattle.std.specs.Prelude.{bytes_eq}
 use Rattle.std.specs.List.{list_all, list_any}

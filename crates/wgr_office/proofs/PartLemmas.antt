@@ -1,5 +1,5 @@
 -- The parts of an ASCII path are text, and so are the names of the routes.
-use Rattle.std.proofs.Common.{◌≡◌, ℕ, zero, suc, ◌+◌, ◌-◌, ◌<◌, List, [], ◌∷◌, Bool, true, false, cond, refl, sym, inl, inr, ◌⊎◌, arith, length, take, drop, subst}
+use Rattle.std.proofs.Common.{◌≡◌, ℕ, zero, suc, ◌-◌, List, [], ◌∷◌, Bool, true, false, cond, refl, inl, inr, ◌⊎◌, arith, length, take, drop, subst}
 use Rattle.std.specs.Prelude.{Option, Some, None, nat_lt, ltb, leb, ◌&&◌, ◌==◌}
 use Rattle.std.specs.List.{list_all}
 use Rattle.std.specs.Str.{IsAscii, IsUtf8}

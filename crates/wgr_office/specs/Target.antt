@@ -1,5 +1,5 @@
 -- What the target of a request names. The whole target is the path.
-use Rattle.std.specs.Prelude.{ℕ, Bool, ◌&&◌, nat_le, nat_lt, cond, List, [], codes, bytes_eq, decimal, Option, Some, None, option_map, option_and_then, Result, Ok, Err}
+use Rattle.std.specs.Prelude.{ℕ, Bool, ◌&&◌, nat_le, nat_lt, cond, List, codes, bytes_eq, decimal, Option, Some, None, option_map, option_and_then, Result, Ok, Err}
 use Rattle.std.specs.List.{list_all}
 use Rattle.std.specs.Str.Parse.{digits_value}
 use Rattle.matchit.specs.Params.{AllText, named, walk}

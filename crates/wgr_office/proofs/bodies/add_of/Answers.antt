@@ -1,4 +1,4 @@
-use Rattle.std.proofs.Common.{◌≡◌, Some, None, inl, inr, refl, sym, ◌∙◌, codes}
+use Rattle.std.proofs.Common.{◌≡◌, Some, None, inr, refl, sym, ◌∙◌, codes}
 use Rattle.serde_json.specs.Find.{get}
 use Rattle.serde_json.specs.View.{view}
 use Rattle.wgr_office.specs.Fields.{end_value, field_value, keepalive_value}

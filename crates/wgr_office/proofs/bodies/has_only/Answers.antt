@@ -1,4 +1,4 @@
-use Rattle.std.proofs.Common.{◌≡◌, map, ap, sym, ◌∙◌}
+use Rattle.std.proofs.Common.{map, ap, ◌∙◌}
 use Rattle.wgr_office.specs.Bodies.{only}
 use Rattle.wgr_office.proofs.ListedLemmas.{same_names}
 use Rattle.wgr_office.proofs.bodies.has_only.Goals as goal

@@ -1,4 +1,4 @@
-use Rattle.std.proofs.Common.{◌≡◌, None, refl}
+use Rattle.std.proofs.Common.{None, refl}
 use Rattle.wgr_office.proofs.bodies.read_add.Goals as goal
 
 pub returns-in_default : goal.returns-in_default

@@ -1,4 +1,4 @@
-use Rattle.std.proofs.Common.{◌≡◌, ap, sym, ◌∙◌}
+use Rattle.std.proofs.Common.{ap, sym, ◌∙◌}
 use Rattle.wgr_text.specs.Prefix.{width}
 use Rattle.wgr_text.proofs.RoundTrips.{Spells_unique}
 use Rattle.wgr_office.proofs.fields.read_full.Goals as goal

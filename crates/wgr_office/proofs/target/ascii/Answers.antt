@@ -1,4 +1,4 @@
-use Rattle.std.proofs.Common.{◌≡◌, sym, ◌∙◌}
+use Rattle.std.proofs.Common.{sym, ◌∙◌}
 use Rattle.std.proofs.lemmas.Str.{IsUtf8-from_ascii}
 use Rattle.wgr_office.proofs.PartLemmas.{ascii_from_test}
 use Rattle.wgr_office.proofs.target.ascii.Goals as goal

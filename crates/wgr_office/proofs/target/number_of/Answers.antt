@@ -1,4 +1,4 @@
-use Rattle.std.proofs.Common.{◌≡◌, ◌<◌, ◌≤◌, ℕ, get_or, slice_get, Some, ap, sym, ◌∙◌, arith}
+use Rattle.std.proofs.Common.{slice_get, ap, ◌∙◌, arith}
 use Rattle.wgr_office.proofs.Numbers.{first_byte, no_number, number_read, too_great, unread}
 use Rattle.wgr_office.proofs.target.number_of.Goals as goal
 
