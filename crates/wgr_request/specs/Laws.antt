@@ -1,0 +1,60 @@
+-- What follows of the definition of a request.
+use Rattle.std.specs.Prelude.{◌≡◌, ◌↔◌, ◌⊎◌, ℕ, List, codes, Option, Some, None, Ok}
+use Rattle.wgr_adopt.specs.Adopting.{adoption_asked}
+use Rattle.wgr_core.specs.declared.command.Command.{Command}
+use Rattle.wgr_core.specs.declared.command.Command.TheVariants as command
+use Rattle.wgr_dump.specs.Dump.{DumpValue, IsDump}
+use Rattle.wgr_dump.specs.Laws.{DifferInSecrets}
+use Rattle.wgr_http.specs.Message.{MessageView}
+use Rattle.wgr_text.specs.declared.key.Key.{Key}
+use Rattle.wgr_text.specs.Prefix.{AddrValue, PrefixValue}
+use Rattle.wgr_text.specs.PrefixText.{SpellsAddr}
+use Rattle.wgr_request.specs.Request.{MessageAsks, RequestView, Requests, ask, digest_given}
+use Rattle.wgr_request.specs.Target.{TargetValue, resolved}
+use Rattle.wgr_request.specs.Target as target
+
+-- bytes have one request at most
+abbrev pub OneRequest : Type 0
+OneRequest = (bytes : List ℕ) (r s : RequestView) → Requests bytes r → Requests bytes s → r ≡ s
+
+-- of two dumps that differ in private and preshared keys alone, the same is asked
+abbrev pub SecretsAreUnasked : Type 0
+SecretsAreUnasked = (m : MessageView) (other name : List ℕ) (r : RequestView) → resolved m.method m.target ≡ Ok (target.dump name)
+    → DifferInSecrets m.body other → MessageAsks m r ↔ MessageAsks (record m { body = other }) r
+
+-- the network that a target names
+abbrev pub network_of : TargetValue → Option (List ℕ)
+network_of target.networks = None
+network_of (target.peers name) = Some name
+network_of (target.peer name number) = Some name
+network_of (target.address name number) = Some name
+network_of (target.routes name number) = Some name
+network_of (target.lease name number) = Some name
+network_of (target.peer_file name number form) = Some name
+network_of (target.unroute name) = Some name
+network_of (target.dump name) = Some name
+network_of (target.owner name text) = Some name
+network_of (target.server_file name form) = Some name
+
+abbrev pub IsAddition : Command → Type 0
+IsAddition c =
+    (key : Key) × (label : List ℕ) × (address : Option AddrValue) × (until : ℕ) × (keepalive : ℕ) × (c ≡ command.Add key label address until keepalive)
+
+-- the method of a target's path, and the command that it makes
+abbrev pub Makes : TargetValue → MessageView → Command → Type 0
+Makes target.networks m c = ⊥
+Makes (target.peers name) m c = ((m.method ≡ codes "GET") × (c ≡ command.List)) ⊎ ((m.method ≡ codes "POST") × IsAddition c)
+Makes (target.peer name number) m c = (m.method ≡ codes "DELETE") × (c ≡ command.Revoke number)
+Makes (target.address name number) m c = (m.method ≡ codes "POST") × (address : Option AddrValue) × (c ≡ command.Move number address)
+Makes (target.routes name number) m c = (m.method ≡ codes "POST") × (prefix : PrefixValue) × (c ≡ command.Route number prefix)
+Makes (target.lease name number) m c = (m.method ≡ codes "POST") × (until : ℕ) × (c ≡ command.Renew number until)
+Makes (target.peer_file name number form) m c = (m.method ≡ codes "GET") × (c ≡ command.PeerFile number form)
+Makes (target.unroute name) m c = (m.method ≡ codes "POST") × (prefix : PrefixValue) × (c ≡ command.Unroute prefix)
+Makes (target.dump name) m c = (m.method ≡ codes "POST") × (dump : DumpValue) × IsDump m.body dump.interface dump.lines × (c ≡ adoption_asked dump)
+Makes (target.owner name text) m c = (m.method ≡ codes "GET") × (address : AddrValue) × SpellsAddr text address × (c ≡ command.Owner address)
+Makes (target.server_file name form) m c = (m.method ≡ codes "GET") × (c ≡ command.ServerFile form)
+
+-- what is asked of a network is a command of the target's path, with the token's digest and the path's name
+abbrev pub PathsMakeCommands : Type 0
+PathsMakeCommands = (m : MessageView) (t : TargetValue) (digest name : List ℕ) (c : Command) → resolved m.method m.target ≡ Ok t
+    → MessageAsks m (ask digest name c) → (digest_given m ≡ Some digest) × (network_of t ≡ Some name) × Makes t m c
