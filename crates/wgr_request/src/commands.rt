@@ -11,7 +11,7 @@ use wgr_core::Command;
 use wgr_dump::{BadDump, Dump};
 use wgr_text::Addr;
 
-/// The command on the peers of a network: POST adds the one of the body, GET lists all.
+// The command on the peers of a network: POST adds the one of the body, GET lists all.
 pub(crate) fn read_peers(alloc: Global, method: &[u8], body: &[u8]) -> Result<Command, Stop>
     ensures { ReadsAs (IsPeers (bytes_eq method.now (codes "POST")) body.now) result }
 {

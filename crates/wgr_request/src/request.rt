@@ -93,10 +93,7 @@ fn asked<'a>(
     let body = message.body;
     match target {
         Target::Networks => Ok(Request::Networks { digest }),
-        Target::Peers(name) => {
-            let command = read_peers(alloc, message.method, body);
-            on_network(digest, name, command)
-        }
+        Target::Peers(name) => on_network(digest, name, read_peers(alloc, message.method, body)),
         Target::Peer(name, number) => on_network(digest, name, Ok(Command::Revoke { number })),
         Target::Address(name, number) => on_network(digest, name, read_move(alloc, number, body)),
         Target::Routes(name, number) => on_network(digest, name, read_route(alloc, number, body)),
