@@ -1,5 +1,5 @@
 -- The commands that the paths make.
-use Rattle.std.proofs.Common.{◌≡◌, ℕ, List, [], ◌∷◌, ◌⊎◌, inl, inr, Bool, true, false, Option, Some, None, Ok, Err, codes, refl, sym, ap, subst}
+use Rattle.std.proofs.Common.{◌≡◌, ℕ, List, [], ◌∷◌, ◌⊎◌, inl, inr, Bool, true, false, Option, Some, None, Result, Ok, Err, codes, refl, sym, ap, subst}
 use Rattle.std.specs.Prelude.{bytes_eq}
 use Rattle.std.proofs.lemmas.Slice.Eq.{bytes_eq-Decides}
 use Rattle.serde_json.specs.Data.{Data}
@@ -17,8 +17,9 @@ use Rattle.wgr_request.specs.Fields.{end_value, field_value, keepalive_value}
 use Rattle.wgr_request.specs.Laws.{IsAddition, Makes, PathsMakeCommands, network_of}
 use Rattle.wgr_request.specs.Paths.{has_method, methods}
 use Rattle.wgr_request.specs.Request.{On, Asks, Follows, ask, digest_given}
-use Rattle.wgr_request.specs.Target.{TargetValue}
+use Rattle.wgr_request.specs.Target.{TargetValue, resolved}
 use Rattle.wgr_request.specs.Target as target
+use Rattle.wgr_request.specs.declared.fault.Fault.{Fault}
 use Rattle.wgr_request.specs.declared.fault.Field.{Field}
 use Rattle.wgr_request.specs.declared.fault.Field.TheVariants.{End, Keepalive}
 use Rattle.wgr_request.specs.declared.paths.Methods.TheVariants.{GetOrPost}
@@ -145,5 +146,11 @@ follows_made None t m digest name c by e = cc e
 follows_made (Some d) t m digest name c by asks =
     let is = asked_made t m digest name d c by asks in (ap (λ x. Some x) is.0, is.1, is.2)
 
+followed : (x : Result TargetValue Fault) (m : MessageView) (digest name : List ℕ) (c : Command) → resolved m.method m.target ≡ x → Follows x (digest_given m) m (ask digest name c)
+    → (t : TargetValue) × (resolved m.method m.target ≡ Ok t) × (digest_given m ≡ Some digest) × (network_of t ≡ Some name) × Makes t m c
+followed (Err why) m digest name c at e = cc e
+followed (Ok t) m digest name c at asks =
+    let is = follows_made (digest_given m) t m digest name c (by_its_method m.method m.target t at) asks in (t, at, is.0, is.1, is.2)
+
 pub paths_make : PathsMakeCommands
-paths_make m t digest name c at asks = follows_made (digest_given m) t m digest name c (by_its_method m.method m.target t at) (rw at at asks)
+paths_make m digest name c asks = followed (resolved m.method m.target) m digest name c refl asks

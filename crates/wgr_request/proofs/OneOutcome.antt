@@ -18,13 +18,10 @@ use Rattle.wgr_dump.specs.Fields.{SpellsKey, SpellsMasked}
 use Rattle.wgr_request.specs.Bodies.{Outcome, With, IsJson, IsObject, OrBody, IsBody, has_only, AddFields, MoveFields, RouteFields, UnrouteFields, RenewFields, IsAdd, IsMove, IsRoute, IsUnroute, IsRenew}
 use Rattle.wgr_request.specs.Commands.{IsCommand, IsPeers, IsAdoption, IsOwner}
 use Rattle.wgr_request.specs.Fields.{IsField, IsText, SpellsFull, SpellsLabel, SpellsNamed, KeyField, LabelField, NamedField, PrefixField}
+use Rattle.wgr_request.specs.Laws.{IsOne, OneOutcome}
 use Rattle.wgr_request.specs.declared.fault.Fault.TheVariants.{BadDump}
 use Rattle.wgr_request.specs.declared.fault.Field.{Field}
 use Rattle.wgr_request.specs.declared.fault.Field.TheVariants.{Key, Label, Address, Prefix}
-
--- at most one thing is so
-abbrev pub IsOne : {A : Type 0} → (A → Type 0) → Type 0
-IsOne {A} Is = (r s : A) → Is r → Is s → r ≡ s
 
 one_with : {A : Type 0} (IsValue : Option A → Type 0) (field : Field) (Next : A → Outcome → Type 0)
     → IsOne IsValue → ((a : A) → IsOne (Next a)) → IsOne (With IsValue field Next)
@@ -129,3 +126,6 @@ one_adoption body r s (inr a) (inr b) =
 pub one_owner : (text : List ℕ) → IsOne (IsOwner text)
 one_owner text =
     one_with (IsText SpellsAddr (Some text)) Address _ (one_text SpellsAddr SpellsAddr_unique (Some text)) λ address r s a b. a ∙ sym b
+
+pub one_outcome : OneOutcome
+one_outcome text number = (one_add text, one_move number text, one_route number text, one_unroute text, one_renew number text, one_adoption text, one_owner text)

@@ -6,11 +6,12 @@ use Rattle.wgr_http.specs.Message.{MessageView}
 use Rattle.wgr_http.specs.declared.message.MessageFault.{MessageFault}
 use Rattle.wgr_http.proofs.Growing.{answers_unique}
 use Rattle.wgr_request.specs.Bodies.{Outcome}
-use Rattle.wgr_request.specs.Request.{On, Asks, Follows, Judged, Requests, digest_given, on_network}
+use Rattle.wgr_request.specs.Laws.{IsOne, OneRequest}
+use Rattle.wgr_request.specs.Request.{On, Asks, Follows, Judged, digest_given, on_network}
 use Rattle.wgr_request.specs.Target.{TargetValue, resolved}
 use Rattle.wgr_request.specs.Target as target
 use Rattle.wgr_request.specs.declared.fault.Fault.{Fault}
-use Rattle.wgr_request.proofs.OneOutcome.{IsOne, one_move, one_route, one_unroute, one_renew, one_command, one_peers, one_adoption, one_owner}
+use Rattle.wgr_request.proofs.OneOutcome.{one_move, one_route, one_unroute, one_renew, one_command, one_peers, one_adoption, one_owner}
 
 one_on : (digest name : List ℕ) (Is : Outcome → Type 0) → IsOne Is → IsOne (On digest name Is)
 one_on digest name Is one r s a b = a.2 ∙ ap (on_network digest name) (one a.0 b.0 a.1 b.1) ∙ sym b.2
@@ -37,7 +38,7 @@ one_judged : (m : Result MessageView MessageFault) → IsOne (Judged m)
 one_judged (Err why) r s a b = a ∙ sym b
 one_judged (Ok m) r s a b = one_after (resolved m.method m.target) (digest_given m) m r s a b
 
-pub one_request : (bytes : List ℕ) → IsOne (Requests bytes)
+pub one_request : OneRequest
 one_request bytes r s a b =
     let same : b.0 ≡ a.0 = answers_unique bytes b.0 a.0 b.1 a.1 in
     one_judged a.0 r s a.2 (subst (λ m. Judged m s) same b.2)

@@ -9,13 +9,24 @@ use Rattle.wgr_http.specs.Message.{MessageView}
 use Rattle.wgr_text.specs.declared.key.Key.{Key}
 use Rattle.wgr_text.specs.Prefix.{AddrValue, PrefixValue}
 use Rattle.wgr_text.specs.PrefixText.{SpellsAddr}
-use Rattle.wgr_request.specs.Request.{MessageAsks, RequestView, Requests, ask, digest_given}
+use Rattle.wgr_request.specs.Bodies.{IsAdd, IsMove, IsRenew, IsRoute, IsUnroute}
+use Rattle.wgr_request.specs.Commands.{IsAdoption, IsOwner}
+use Rattle.wgr_request.specs.Request.{MessageAsks, RequestView, Requests, ask, digest_given, networks, refused}
 use Rattle.wgr_request.specs.Target.{TargetValue, resolved}
 use Rattle.wgr_request.specs.Target as target
 
+-- of at most one thing
+abbrev pub IsOne : {A : Type 0} → (A → Type 0) → Type 0
+IsOne {A} Is = (r s : A) → Is r → Is s → r ≡ s
+
 -- bytes have one request at most
 abbrev pub OneRequest : Type 0
-OneRequest = (bytes : List ℕ) (r s : RequestView) → Requests bytes r → Requests bytes s → r ≡ s
+OneRequest = (bytes : List ℕ) → IsOne (Requests bytes)
+
+-- and each body, dump or address has one outcome at most
+abbrev pub OneOutcome : Type 0
+OneOutcome = (text : List ℕ) (number : ℕ) → IsOne (IsAdd text) × IsOne (IsMove number text) × IsOne (IsRoute number text) × IsOne (IsUnroute text)
+    × IsOne (IsRenew number text) × IsOne (IsAdoption text) × IsOne (IsOwner text)
 
 -- of two dumps that differ in private and preshared keys alone, the same is asked
 abbrev pub SecretsAreUnasked : Type 0
@@ -56,5 +67,19 @@ Makes (target.server_file name form) m c = (m.method ≡ codes "GET") × (c ≡ 
 
 -- what is asked of a network is a command of the target's path, with the token's digest and the path's name
 abbrev pub PathsMakeCommands : Type 0
-PathsMakeCommands = (m : MessageView) (t : TargetValue) (digest name : List ℕ) (c : Command) → resolved m.method m.target ≡ Ok t
-    → MessageAsks m (ask digest name c) → (digest_given m ≡ Some digest) × (network_of t ≡ Some name) × Makes t m c
+PathsMakeCommands = (m : MessageView) (digest name : List ℕ) (c : Command) → MessageAsks m (ask digest name c)
+    → (t : TargetValue) × (resolved m.method m.target ≡ Ok t) × (digest_given m ≡ Some digest) × (network_of t ≡ Some name) × Makes t m c
+
+-- and the list of networks stands at its own path
+abbrev pub OnePathListsNetworks : Type 0
+OnePathListsNetworks = (m : MessageView) (digest : List ℕ) → MessageAsks m (networks digest)
+    → (resolved m.method m.target ≡ Ok target.networks) × (digest_given m ≡ Some digest) × (m.method ≡ codes "GET")
+
+abbrev pub digest_of_request : RequestView → Option (List ℕ)
+digest_of_request (refused why digest) = digest
+digest_of_request (networks digest) = Some digest
+digest_of_request (ask digest name c) = Some digest
+
+-- whatever is asked, and whatever refuses it, the digest is that of the message's token
+abbrev pub TokensAreKept : Type 0
+TokensAreKept = (m : MessageView) (r : RequestView) → MessageAsks m r → digest_of_request r ≡ digest_given m
