@@ -1,4 +1,4 @@
--- Bytes have one request at most.
+-- Bytes have one request at most, and a beginning that decides their message decides it.
 use Rattle.std.proofs.Common.{◌≡◌, ℕ, List, Option, Some, None, Result, Ok, Err, codes, sym, ap, subst, ◌∙◌}
 use Rattle.std.specs.Prelude.{bytes_eq}
 use Rattle.wgr_core.specs.declared.command.Command.TheVariants as command
@@ -6,7 +6,7 @@ use Rattle.wgr_http.specs.Message.{MessageView}
 use Rattle.wgr_http.specs.declared.message.MessageFault.{MessageFault}
 use Rattle.wgr_http.proofs.Growing.{answers_unique}
 use Rattle.wgr_request.specs.Bodies.{Outcome}
-use Rattle.wgr_request.specs.Laws.{IsOne, OneRequest}
+use Rattle.wgr_request.specs.Laws.{BeginningsAsk, IsOne, OneRequest}
 use Rattle.wgr_request.specs.Request.{On, Asks, Follows, Judged, digest_given, on_network}
 use Rattle.wgr_request.specs.Target.{TargetValue, resolved}
 use Rattle.wgr_request.specs.Target as target
@@ -42,3 +42,8 @@ pub one_request : OneRequest
 one_request bytes r s a b =
     let same : b.0 ≡ a.0 = answers_unique bytes b.0 a.0 b.1 a.1 in
     one_judged a.0 r s a.2 (subst (λ m. Judged m s) same b.2)
+
+-- what a beginning asks, all bytes ask
+pub beginnings : BeginningsAsk
+beginnings front None same = tt
+beginnings front (Some all) same = λ r is. (is.0, same is.0 is.1, is.2)

@@ -6,6 +6,7 @@ use Rattle.wgr_core.specs.declared.command.Command.TheVariants as command
 use Rattle.wgr_dump.specs.Dump.{DumpValue, IsDump}
 use Rattle.wgr_dump.specs.Laws.{DifferInSecrets}
 use Rattle.wgr_http.specs.Message.{MessageView}
+use Rattle.wgr_http.specs.Reading.{AnswersAs}
 use Rattle.wgr_text.specs.declared.key.Key.{Key}
 use Rattle.wgr_text.specs.Prefix.{AddrValue, PrefixValue}
 use Rattle.wgr_text.specs.PrefixText.{SpellsAddr}
@@ -15,7 +16,7 @@ use Rattle.wgr_request.specs.Request.{MessageAsks, RequestView, Requests, ask, d
 use Rattle.wgr_request.specs.Target.{TargetValue, resolved}
 use Rattle.wgr_request.specs.Target as target
 
--- of at most one thing
+-- it holds of at most one thing
 abbrev pub IsOne : {A : Type 0} → (A → Type 0) → Type 0
 IsOne {A} Is = (r s : A) → Is r → Is s → r ≡ s
 
@@ -27,6 +28,15 @@ OneRequest = (bytes : List ℕ) → IsOne (Requests bytes)
 abbrev pub OneOutcome : Type 0
 OneOutcome = (text : List ℕ) (number : ℕ) → IsOne (IsAdd text) × IsOne (IsMove number text) × IsOne (IsRoute number text) × IsOne (IsUnroute text)
     × IsOne (IsRenew number text) × IsOne (IsAdoption text) × IsOne (IsOwner text)
+
+-- a beginning asks what all bytes of a reader ask, where they are known
+abbrev pub RequestsAs : List ℕ → Option (List ℕ) → Type 0
+RequestsAs front None = Unit {0}
+RequestsAs front (Some all) = (r : RequestView) → Requests front r → Requests all r
+
+-- one that is answered as all of them are does
+abbrev pub BeginningsAsk : Type 0
+BeginningsAsk = (front : List ℕ) (all : Option (List ℕ)) → AnswersAs front all → RequestsAs front all
 
 -- of two dumps that differ in private and preshared keys alone, the same is asked
 abbrev pub SecretsAreUnasked : Type 0

@@ -1,10 +1,15 @@
 //! What follows of the definition of a request. Each function does nothing: its contract is the law.
-ghost use Rattle.wgr_request.specs.Laws.{OneOutcome, OnePathListsNetworks, OneRequest, PathsMakeCommands, SecretsAreUnasked, TokensAreKept};
+ghost use Rattle.wgr_request.specs.Laws.{BeginningsAsk, OneOutcome, OnePathListsNetworks, OneRequest, PathsMakeCommands, SecretsAreUnasked, TokensAreKept};
 
 /// Bytes are one request at most, and a body, a dump or an address has one outcome at most.
 pub fn requests_are_unique()
     ensures request { OneRequest }
     ensures outcome { OneOutcome }
+{}
+
+/// A beginning of a reader's bytes that is answered as all of them are asks what they ask.
+pub fn beginnings_ask()
+    ensures { BeginningsAsk }
 {}
 
 /// What is asked of a network is a command of the path, with the digest of the token and the name that
