@@ -1,5 +1,5 @@
 -- The text of a prefix is ASCII.
-use Rattle.std.proofs.Common.{◌≡◌, ℕ, ◌+◌, ◌*◌, ◌^◌, ◌<◌, ◌≤◌, ◌++◌, ◌⊎◌, List, [], codes, decimal, All, arith, inl, inr, refl}
+use Rattle.std.proofs.Common.{ℕ, ◌^◌, ◌<◌, [], codes, arith, inl, inr}
 use Rattle.std.specs.Prelude.{IsUtf8}
 use Rattle.std.specs.Str.{IsAscii}
 use Rattle.std.proofs.lemmas.Fmt.{IsAscii-decimal}
@@ -9,8 +9,8 @@ use Rattle.std.proofs.lemmas.Str.Ascii.{IsAscii-cons, IsAscii-nil, IsAscii-from_
 use Rattle.std.proofs.NetLemmas.Alphabet.{IsDigitOrDot, IsHexOrColon, All-ipv4_text, All-hex_groups_text}
 use Rattle.wgr_text.specs.declared.addr.Family.{Family}
 use Rattle.wgr_text.specs.declared.addr.Family.TheVariants.{V4, V6}
-use Rattle.wgr_text.specs.Prefix.{AddrValue, PrefixValue}
-use Rattle.wgr_text.specs.PrefixText.{canonical_addr, canonical_number, canonical_text, octets_of_number, groups_of_number}
+use Rattle.wgr_text.specs.Prefix.{PrefixValue}
+use Rattle.wgr_text.specs.PrefixText.{canonical_number, canonical_text, octets_of_number, groups_of_number}
 use Rattle.wgr_text.proofs.Bytes.{octets_small, groups_small}
 
 digit_or_dot : (c : ℕ) → IsDigitOrDot c → c < 128

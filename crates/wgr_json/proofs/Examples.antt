@@ -10,7 +10,6 @@ use Rattle.wgr_text.specs.declared.addr.Family.TheVariants.{V4}
 use Rattle.wgr_text.specs.declared.key.Key.{Key}
 use Rattle.wgr_text.specs.Prefix.{AddrValue, PrefixValue}
 use Rattle.wgr_text.specs.PrefixText.{octets_of_number}
-use Rattle.wgr_peers.specs.declared.peer.Peer.{Peer}
 use Rattle.wgr_peers.specs.declared.peer.Status.{Status}
 use Rattle.wgr_core.specs.Network.{NetworkValue}
 use Rattle.wgr_core.specs.declared.reply.PeerView.{PeerView}

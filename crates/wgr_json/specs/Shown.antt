@@ -1,10 +1,10 @@
 -- The JSON that shows peers and networks. Numbers are whole, and each text is a string.
-use Rattle.std.specs.Prelude.{ℕ, ◌==◌, List, [], ◌∷◌, ◌++◌, cond, map, codes, decimal, Option, Some, None}
+use Rattle.std.specs.Prelude.{ℕ, ◌==◌, List, ◌++◌, cond, map, codes, decimal, Option, Some, None}
 use Rattle.std.specs.List.{list_any}
 use Rattle.serde_json.specs.Data.{Data, null, number, unsigned, string, array, object, member, no_members}
 use Rattle.serde_json.specs.View.{items_of}
 use Rattle.wgr_text.specs.KeyText.{key_text}
-use Rattle.wgr_text.specs.Prefix.{AddrValue, PrefixValue}
+use Rattle.wgr_text.specs.Prefix.{PrefixValue}
 use Rattle.wgr_text.specs.PrefixText.{canonical_text}
 use Rattle.wgr_text.specs.declared.key.Key.{Key}
 use Rattle.wgr_peers.specs.declared.peer.Status.{Status}

@@ -1,7 +1,6 @@
 -- No number of an array is a float where none of its items has one.
 use Rattle.std.proofs.Common.{◌≡◌, ℕ, List, [], ◌∷◌, false, map, refl, Option, Some, None}
 use Rattle.serde_json.specs.Data.{Data}
-use Rattle.serde_json.specs.View.{items_of}
 use Rattle.serde_json.specs.Written.{has_float, members_have_float}
 use Rattle.wgr_peers.specs.declared.peer.Status.{Status}
 use Rattle.wgr_core.specs.declared.reply.PeerView.{PeerView}

@@ -1,4 +1,1 @@
 pub mod Examples
-pub mod ListedLemmas
-pub mod Numbers
-pub mod PartLemmas

@@ -12,11 +12,11 @@ use Rattle.wgr_http.specs.declared.status_code.StatusCode.{StatusCode}
 use Rattle.wgr_http.specs.declared.status_code.StatusCode.TheVariants as status
 use Rattle.wgr_json.specs.Bodies.{adopted_data, networks_data, owner_data, peers_data, revoked_data}
 use Rattle.wgr_json.specs.Shown.{count, peer_data}
-use Rattle.wgr_office.specs.Fault.{field_name}
-use Rattle.wgr_office.specs.Paths.{allow_text}
+use Rattle.wgr_request.specs.Fault.{field_name}
+use Rattle.wgr_request.specs.Paths.{allow_text}
 use Rattle.wgr_office.specs.Refused.{refusal_facts, refusal_name, refusal_status}
-use Rattle.wgr_office.specs.declared.fault.Fault.{Fault}
-use Rattle.wgr_office.specs.declared.fault.Fault.TheVariants as fault
+use Rattle.wgr_request.specs.declared.fault.Fault.{Fault}
+use Rattle.wgr_request.specs.declared.fault.Fault.TheVariants as fault
 use Rattle.wgr_office.specs.declared.response.Response.{Response}
 use Rattle.wgr_office.specs.declared.response.Response.TheVariants as response
 

@@ -6,12 +6,12 @@ ghost use Rattle.wgr_http.specs.declared.reply.Kind.TheVariants as kind;
 ghost use Rattle.wgr_json.specs.Bodies.{fact_members};
 ghost use Rattle.wgr_office.specs.Response.{fault_shown, message_fault_name, problem, response_bytes, shown_bytes, unavailable_shown};
 
-use crate::fault::Fault;
 use crate::refused::{fact_of, name_of, status_of};
 use std::alloc::{AllocError, Global};
 use wgr_core::{Name, Network, PeerView, Refusal};
 use wgr_http::{Kind, MessageFault, StatusCode, write_reply};
 use wgr_json::{Adopted, Fact, Networks, Owner, Peers, Problem, Revoked, ToJson, to_json};
+use wgr_request::Fault;
 
 /// What a request is answered.
 #[derive(Clone, Copy)]

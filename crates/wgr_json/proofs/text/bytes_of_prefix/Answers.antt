@@ -1,4 +1,4 @@
-use Rattle.std.proofs.Common.{◌≡◌, ℕ, List, ◌^◌, ◌<◌, ◌≤◌, ◌++◌, ◌∙◌, subst, sym, ap, arith}
+use Rattle.std.proofs.Common.{ℕ, List, ◌^◌, ◌<◌, ◌≤◌, ◌++◌, ◌∙◌, subst, sym, ap, arith}
 use Rattle.std.specs.Prelude.{IsUtf8}
 use Rattle.wgr_text.specs.declared.addr.Family.{Family}
 use Rattle.wgr_text.specs.declared.addr.Family.TheVariants.{V4, V6}

@@ -1,4 +1,3 @@
-use Rattle.std.proofs.Common.{◌≡◌}
 use Rattle.wgr_office.proofs.response.write_fault.Goals as goal
 
 pub returns-in-NoSuchPath : goal.returns-in-NoSuchPath

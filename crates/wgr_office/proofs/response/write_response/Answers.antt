@@ -1,4 +1,3 @@
-use Rattle.std.proofs.Common.{◌≡◌}
 use Rattle.wgr_office.proofs.response.write_response.Goals as goal
 
 pub returns-in-NoSuchNetwork : goal.returns-in-NoSuchNetwork

@@ -1,4 +1,4 @@
-use Rattle.std.proofs.Common.{subst, sym, ◌∙◌, List, ℕ}
+use Rattle.std.proofs.Common.{subst, sym}
 use Rattle.std.specs.Prelude.{IsUtf8}
 use Rattle.wgr_json.proofs.list.PrefixToJson.send.Goals as goal
 

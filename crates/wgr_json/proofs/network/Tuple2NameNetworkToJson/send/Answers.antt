@@ -1,8 +1,8 @@
-use Rattle.std.proofs.Common.{◌≡◌, ◌∙◌, subst, refl}
+use Rattle.std.proofs.Common.{◌∙◌, subst, refl}
 use Rattle.std.proofs.lemmas.Result.{on_ok_weaker}
 use Rattle.serde_json.specs.Data.{string}
 use Rattle.serde_json.specs.Events.{SendsValue}
-use Rattle.wgr_json.specs.Shown.{count, endpoint_text, key_data, prefix_data}
+use Rattle.wgr_json.specs.Shown.{count, key_data, prefix_data}
 use Rattle.wgr_json.proofs.network.Tuple2NameNetworkToJson.send.Goals as goal
 
 -- one member after the other

@@ -1,0 +1,10 @@
+pub mod Asking
+pub mod Examples
+pub mod ListedLemmas
+pub mod Making
+pub mod Numbers
+pub mod OneOutcome
+pub mod OneRequest
+pub mod PartLemmas
+pub mod Places
+pub mod Secrets

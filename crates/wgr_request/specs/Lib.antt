@@ -1,0 +1,9 @@
+pub mod Bodies
+pub mod Commands
+pub mod Digest
+pub mod Fault
+pub mod Fields
+pub mod Laws
+pub mod Paths
+pub mod Request
+pub mod Target

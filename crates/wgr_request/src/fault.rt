@@ -1,0 +1,53 @@
+//! What the bytes of a request alone refuse.
+ghost use Rattle.std.specs.Prelude.{◌≡◌};
+ghost use Rattle.wgr_request.specs.Fault.{field_name};
+
+use crate::paths::Methods;
+use wgr_http::MessageFault;
+
+/// A field of a request that isn't of its form.
+#[derive(Clone, Copy, Debug, PartialEq, Eq)]
+pub enum Field {
+    /// The body as a whole: no JSON object, or one with a member that its path doesn't have.
+    Body,
+    Key,
+    Label,
+    Address,
+    End,
+    Keepalive,
+    Prefix,
+}
+
+impl Field {
+    /// Its name in a request.
+    pub fn name(self) -> &'static str
+        ensures { result.now ≡ field_name self }
+    {
+        match self {
+            Field::Body => "body",
+            Field::Key => "key",
+            Field::Label => "label",
+            Field::Address => "address",
+            Field::End => "end",
+            Field::Keepalive => "keepalive",
+            Field::Prefix => "prefix",
+        }
+    }
+}
+
+/// Why a request is refused by its bytes alone.
+#[derive(Clone, Copy, Debug, PartialEq, Eq)]
+pub enum Fault {
+    /// The bytes are no message.
+    Message(MessageFault),
+    /// Nothing is served at its path.
+    NoSuchPath,
+    /// Its path has other methods.
+    WrongMethod(Methods),
+    /// It has no token, or one that no tenant has.
+    UnknownToken,
+    /// A field isn't of its form.
+    BadField(Field),
+    /// Its body is no dump: its first bad line and the least bad field in it, counted from 1.
+    BadDump { line: usize, field: u8 },
+}
