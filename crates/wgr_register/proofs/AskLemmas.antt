@@ -37,7 +37,7 @@ use Rattle.wgr_register.proofs.GivenLemmas.{reply_gives}
 use Rattle.wgr_register.proofs.StandLemmas.{steps_late}
 
 -- a step that leaves the register leaves its rows
-still : (t : Tables) (event : Event) (answer : Answer) → AreConsistent t → IsStep (register_of t) event answer (register_of t) → IsRowStep t event answer t
+pub still : (t : Tables) (event : Event) (answer : Answer) → AreConsistent t → IsStep (register_of t) event answer (register_of t) → IsRowStep t event answer t
 still t event answer is step = record { after = register_of t; step = step; rows = is.rows }
 
 refused_as : (n : NetworkValue) (why : Refusal) (o : Outcome) → Meets n (Err (act_fault.Refused why)) o → o ≡ Err why

@@ -20,6 +20,7 @@ use Rattle.wgr_model.proofs.SameLemmas.{same_id}
 use Rattle.wgr_orders.specs.OrderSteps.{new_row}
 use Rattle.wgr_tables.specs.Lookups.{settled}
 use Rattle.wgr_tables.specs.Writes.{Changes, NetworkGained}
+use Rattle.wgr_register.proofs.AskLemmas.{still}
 use Rattle.wgr_register.specs.Ends.{Admits}
 use Rattle.wgr_register.specs.declared.fault.OrderFault.{OrderFault}
 
@@ -53,7 +54,7 @@ module _ (t : Tables) (is : AreConsistent t) (tenant name : Bytes) (s : Settings
   event = AddNetwork tenant name s
 
   pub nobody_has_it : id_of t.tenants tenant ≡ None → IsRowStep t event (Refused NoSuchTenant) t
-  nobody_has_it none = record { after = register_of t; step = nobody_adds (register_of t) tenant name s none; rows = is.rows }
+  nobody_has_it none = still t event (Refused NoSuchTenant) is (nobody_adds (register_of t) tenant name s none)
 
   -- read in whatever order
   module _ (ts : List Tenant) (ws : List NetworkRow) (tenants : IsPermutation t.tenants ts) (networks : IsPermutation t.networks ws) (id : ℕ) (known : id_of t.tenants tenant ≡ Some id) where

@@ -17,10 +17,8 @@ use Rattle.wgr_model.proofs.OrderSteps.{digest_held, digest_is_held, name_is_hel
 use Rattle.wgr_model.proofs.CallLemmas.{step_is}
 use Rattle.wgr_model.proofs.RunLemmas.{same_itself}
 use Rattle.wgr_model.specs.Consistent.{IsId, has_tenant}
+use Rattle.wgr_register.proofs.AskLemmas.{still}
 use Rattle.wgr_tables.specs.Writes.{Changes, NetworkLost, TenantGained, TokenGained, TokenLost}
-
-still : (t : Tables) (event : Event) (answer : Answer) → AreConsistent t → IsStep (register_of t) event answer (register_of t) → IsRowStep t event answer t
-still t event answer is step = record { after = register_of t; step = step; rows = is.rows }
 
 module _ (t : Tables) (is : AreConsistent t) where
   pub no_such_token : (digest : Bytes) → tenant_of_token t.tokens digest ≡ None → IsRowStep t (EndToken digest) (Refused NoSuchToken) t

@@ -140,10 +140,10 @@ module _ {S : Type 0} (g : Ghosts S) where
   order_refused conn db late event (Err (order_fault.Fault other)) (order_fault.Refused why) is at refuses = cc
 
   -- its commit fails
-  pub order_unwritten : (old mid new : Held S) (db : Database) (late : List Event) (event : Event) (r : Result Done OrderFault) (why : Fault) (one : Written) → IsErrAnd r (λ e. e ≡ order_fault.Fault why) → new.in_transaction ≡ false
+  pub order_unwritten : (old new : Held S) (db : Database) (late : List Event) (event : Event) (r : Result Done OrderFault) (why : Fault) (one : Written) → IsErrAnd r (λ e. e ≡ order_fault.Fault why) → new.in_transaction ≡ false
       → (HasCleanDisk (state g new) → (u : Tables) → Changes one (tables_of db) u → IsRowStep (tables_of db) event answered.Done u)
       → (at : StandsAt g old db late) → Stands g new db (one ∷ at.pending) → OrderEnds g new db late event r
-  order_unwritten old mid new db late event r why one is idle makes at stands = order_late new db late event r why is
+  order_unwritten old new db late event r why one is idle makes at stands = order_late new db late event r why is
       (at_if new db (event ∷ late) idle stands.sound at.consistent
       (λ clean. record { pending = one ∷ at.pending; stands = stands; consistent = at.consistent; steps = steps_late (tables_of db) at.pending late event one (λ u made. (answered.Done, makes clean u made)) at.steps }))
 
