@@ -9,7 +9,7 @@ use Rattle.wgr_model.specs.Register.{Bytes, Register, id_of, is_same}
 use Rattle.wgr_model.specs.RowLaws.{AreConsistent, IsRowStep}
 use Rattle.wgr_model.specs.Rows.{AreRowsOf, NetworkRow, Tables, holding_of, register_of}
 use Rattle.wgr_model.specs.RowRules.{Removes}
-use Rattle.wgr_model.specs.Steps.{AddTenant, Answer, DigestHeld, Done, EndNetwork, EndToken, Event, Grant, IsStep, NameHeld, NoNetwork, NoSuchTenant, NoSuchToken, Refused, RegisterFull, granted, is_full, network_at, ordered, refuse, tenant_of_token, with_tenant, with_token, without_network, without_token}
+use Rattle.wgr_model.specs.Steps.{AddTenant, DigestHeld, Done, EndNetwork, EndToken, Grant, NameHeld, NoNetwork, NoSuchTenant, NoSuchToken, Refused, RegisterFull, granted, is_full, network_at, ordered, refuse, tenant_of_token, with_tenant, with_token, without_network, without_token}
 use Rattle.wgr_model.proofs.AskRowLemmas.{networks_are_found}
 use Rattle.wgr_model.proofs.CollectLemmas.{has_map}
 use Rattle.wgr_model.proofs.OrderRowLemmas.{networks_lose, tenants_gain, tokens_gain, tokens_lose}

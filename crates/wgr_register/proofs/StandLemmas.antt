@@ -14,7 +14,7 @@ use Rattle.wgr_core.specs.declared.refusal.Refusal.{Refusal}
 use Rattle.wgr_model.specs.Register.{Bytes}
 use Rattle.wgr_model.specs.RowLaws.{AreConsistent, IsRowStep}
 use Rattle.wgr_model.specs.Rows.{Tables}
-use Rattle.wgr_model.specs.Steps.{Answer, Declined, Event, IsProper}
+use Rattle.wgr_model.specs.Steps.{Answer, Declined, Event, IsProper, NoSuchNetwork, UnknownToken}
 use Rattle.wgr_model.specs.Calls.{refusal_of}
 use Rattle.wgr_model.specs.Steps as answered
 use Rattle.wgr_model.specs.declared.answer.OrderRefusal as refusal
@@ -25,7 +25,7 @@ use Rattle.wgr_sql.specs.declared.fault.Fault.TheVariants.{NoMemory}
 use Rattle.wgr_tables.specs.Decode.{IsRegister, tables_of}
 use Rattle.wgr_tables.specs.Standing.{IsDone, Stands}
 use Rattle.wgr_tables.specs.Writes.{Changes, Written}
-use Rattle.wgr_register.specs.Ends.{AskEnds, EndsWith, OrderEnds, ask_fault}
+use Rattle.wgr_register.specs.Ends.{AskEnds, EndsStill, EndsWith, OrderEnds, ask_fault}
 use Rattle.wgr_register.specs.Given.{GivenValue}
 use Rattle.wgr_register.specs.Standing.{AreSteps, StandsAt}
 use Rattle.wgr_register.specs.declared.fault.AskFault.{AskFault}
@@ -72,16 +72,16 @@ module _ {S : Type 0} (g : Ghosts S) where
   pub at_more : (conn : Held S) (db : Database) (late : List Event) (event : Event) → StandsAt g conn db late → StandsAt g conn db (event ∷ late)
   at_more conn db late event at = record { pending = at.pending; stands = at.stands; consistent = at.consistent; steps = steps_more (tables_of db) at.pending late event at.steps }
 
-  -- a step that changes no row
-  pub ends_still : (conn : Held S) (db : Database) (late : List Event) (event : Event) (P : Answer → Type 0) (answer : Answer) → StandsAt g conn db late → P answer → IsRowStep (tables_of db) event answer (tables_of db) → EndsWith g conn db late event P
-  ends_still conn db late event P answer at holds step clean = (answer, holds, db, step, inr (refl, at))
+  still_if : (conn : Held S) (db : Database) (late : List Event) (event : Event) (answer : Answer) → conn.in_transaction ≡ false → IsRegister db → AreConsistent (tables_of db)
+      → (HasCleanDisk (state g conn) → EndsStill g conn db late event answer) → EndsStill g conn db late event answer
+  still_if conn db late event answer idle good consistent ends = (at_if conn db late idle good consistent (λ clean. (ends clean).0), λ clean. (ends clean).1 clean)
 
   pub ask_if : (shown : GivenValue → Bytes) (conn : Held S) (db : Database) (late : List Event) (event : Event) (now : ℕ) (r : Result (Vec ℕ Global) AskFault) → conn.in_transaction ≡ false → IsRegister db → AreConsistent (tables_of db)
       → (HasCleanDisk (state g conn) → AskEnds g shown conn db late event now r) → AskEnds g shown conn db late event now r
   ask_if shown conn db late event now (Ok text) idle good consistent ends = λ clean. ends clean clean
-  ask_if shown conn db late event now (Err (fault.Refused why)) idle good consistent ends = λ clean. ends clean clean
-  ask_if shown conn db late event now (Err fault.UnknownToken) idle good consistent ends = λ clean. ends clean clean
-  ask_if shown conn db late event now (Err fault.NoSuchNetwork) idle good consistent ends = λ clean. ends clean clean
+  ask_if shown conn db late event now (Err (fault.Refused why)) idle good consistent ends = still_if conn db late event (Declined why) idle good consistent ends
+  ask_if shown conn db late event now (Err fault.UnknownToken) idle good consistent ends = still_if conn db late event UnknownToken idle good consistent ends
+  ask_if shown conn db late event now (Err fault.NoSuchNetwork) idle good consistent ends = still_if conn db late event NoSuchNetwork idle good consistent ends
   ask_if shown conn db late event now (Err (fault.Fault why)) idle good consistent ends = at_if conn db (event ∷ late) idle good consistent ends
 
   -- by a fault, whatever it is
@@ -100,7 +100,7 @@ module _ {S : Type 0} (g : Ghosts S) where
   undone_ends shown conn db late event now (Ok text) (act_fault.Refused why) is at refuses = absurd is
   undone_ends shown conn db late event now (Err (fault.Refused other)) (act_fault.Refused why) is at refuses =
       let same : other ≡ why = cc in
-      ends_still conn db late event (λ answer. answer ≡ Declined other) (Declined why) at (ap Declined (sym same)) (refuses why refl)
+      (at, λ clean. subst (λ x. IsRowStep (tables_of db) event (Declined x) (tables_of db)) (sym same) (refuses why refl))
   undone_ends shown conn db late event now (Err fault.UnknownToken) (act_fault.Refused why) is at refuses = cc
   undone_ends shown conn db late event now (Err fault.NoSuchNetwork) (act_fault.Refused why) is at refuses = cc
   undone_ends shown conn db late event now (Err (fault.Fault other)) (act_fault.Refused why) is at refuses = cc
@@ -112,9 +112,9 @@ module _ {S : Type 0} (g : Ghosts S) where
   pub ask_somewhere : (shown : GivenValue → Bytes) (conn : Held S) (db : Database) (late : List Event) (event : Event) (now : ℕ) (r : Result (Vec ℕ Global) AskFault)
       → AskEnds g shown conn db late event now r → HasCleanDisk (state g conn) → (next : Database) × (others : List Event) × StandsAt g conn next others
   ask_somewhere shown conn db late event now (Ok text) ends = with_somewhere conn db late event _ ends
-  ask_somewhere shown conn db late event now (Err (fault.Refused why)) ends = with_somewhere conn db late event _ ends
-  ask_somewhere shown conn db late event now (Err fault.UnknownToken) ends = with_somewhere conn db late event _ ends
-  ask_somewhere shown conn db late event now (Err fault.NoSuchNetwork) ends = with_somewhere conn db late event _ ends
+  ask_somewhere shown conn db late event now (Err (fault.Refused why)) ends = λ clean. (db, late, ends.0)
+  ask_somewhere shown conn db late event now (Err fault.UnknownToken) ends = λ clean. (db, late, ends.0)
+  ask_somewhere shown conn db late event now (Err fault.NoSuchNetwork) ends = λ clean. (db, late, ends.0)
   ask_somewhere shown conn db late event now (Err (fault.Fault why)) ends = λ clean. (db, event ∷ late, ends)
 
   -- ---- orders
@@ -136,7 +136,7 @@ module _ {S : Type 0} (g : Ghosts S) where
   order_refused conn db late event (Ok done) (order_fault.Refused why) is at refuses = absurd is
   order_refused conn db late event (Err (order_fault.Refused other)) (order_fault.Refused why) is at refuses =
       let same : other ≡ why = cc in
-      λ clean. ends_still conn db late event (λ answer. answer ≡ answered.Refused (refusal_of other)) (answered.Refused (refusal_of why)) at (ap (λ x. answered.Refused (refusal_of x)) (sym same)) (refuses why refl clean) clean
+      (at, λ clean. subst (λ x. IsRowStep (tables_of db) event (answered.Refused (refusal_of x)) (tables_of db)) (sym same) (refuses why refl clean))
   order_refused conn db late event (Err (order_fault.Fault other)) (order_fault.Refused why) is at refuses = cc
 
   -- its commit fails
@@ -157,5 +157,5 @@ module _ {S : Type 0} (g : Ghosts S) where
   -- or the register is at rest in any case
   pub order_somewhere : (conn : Held S) (db : Database) (late : List Event) (event : Event) (r : Result Done OrderFault) → OrderEnds g conn db late event r → HasCleanDisk (state g conn) → (next : Database) × (others : List Event) × StandsAt g conn next others
   order_somewhere conn db late event (Ok done) ends = with_somewhere conn db late event _ ends
-  order_somewhere conn db late event (Err (order_fault.Refused why)) ends = with_somewhere conn db late event _ ends
+  order_somewhere conn db late event (Err (order_fault.Refused why)) ends = λ clean. (db, late, ends.0)
   order_somewhere conn db late event (Err (order_fault.Fault why)) ends = λ clean. (db, event ∷ late, ends)

@@ -37,6 +37,10 @@ EndsWith g conn db late event P =
     HasCleanDisk (state g conn) → (answer : Answer) × P answer × (next : Database) × IsRowStep (tables_of db) event answer (tables_of next)
     × (StandsAt g conn next [] ⊎ ((next ≡ db) × StandsAt g conn db late))
 
+-- the event is a step with this answer that leaves every row, and all is as it was
+abbrev pub EndsStill : {S : Type 0} → Ghosts S → Held S → Database → List Event → Event → Answer → Type 0
+EndsStill g conn db late event answer = StandsAt g conn db late × (HasCleanDisk (state g conn) → IsRowStep (tables_of db) event answer (tables_of db))
+
 -- the event was answered by a fault: the rows are as they were, and a stop may leave it done
 abbrev pub EndsLate : {S : Type 0} → Ghosts S → Held S → Database → List Event → Event → Type 0
 EndsLate g conn db late event = StandsAt g conn db (event ∷ late)
@@ -44,15 +48,15 @@ EndsLate g conn db late event = StandsAt g conn db (event ∷ late)
 -- how an ask ends: with a text that shows its answer, with a refusal, or by a fault
 abbrev pub AskEnds : {S : Type 0} → Ghosts S → (GivenValue → Bytes) → Held S → Database → List Event → Event → ℕ → Result (Vec ℕ Global) AskFault → Type 0
 AskEnds g shown conn db late event now (Ok text) = EndsWith g conn db late event (IsShown shown now text.items)
-AskEnds g shown conn db late event now (Err (fault.Refused why)) = EndsWith g conn db late event (λ answer. answer ≡ Declined why)
-AskEnds g shown conn db late event now (Err fault.UnknownToken) = EndsWith g conn db late event (λ answer. answer ≡ UnknownToken)
-AskEnds g shown conn db late event now (Err fault.NoSuchNetwork) = EndsWith g conn db late event (λ answer. answer ≡ NoSuchNetwork)
+AskEnds g shown conn db late event now (Err (fault.Refused why)) = EndsStill g conn db late event (Declined why)
+AskEnds g shown conn db late event now (Err fault.UnknownToken) = EndsStill g conn db late event UnknownToken
+AskEnds g shown conn db late event now (Err fault.NoSuchNetwork) = EndsStill g conn db late event NoSuchNetwork
 AskEnds g shown conn db late event now (Err (fault.Fault why)) = EndsLate g conn db late event
 
 -- how an order ends: done, refused, or by a fault
 abbrev pub OrderEnds : {S : Type 0} → Ghosts S → Held S → Database → List Event → Event → Result Done OrderFault → Type 0
 OrderEnds g conn db late event (Ok done) = EndsWith g conn db late event (λ answer. answer ≡ answered.Done)
-OrderEnds g conn db late event (Err (order_fault.Refused why)) = EndsWith g conn db late event (λ answer. answer ≡ answered.Refused (refusal_of why))
+OrderEnds g conn db late event (Err (order_fault.Refused why)) = EndsStill g conn db late event (answered.Refused (refusal_of why))
 OrderEnds g conn db late event (Err (order_fault.Fault why)) = EndsLate g conn db late event
 
 -- a new network passes the checks beside these and has an id that no other has, or it is refused

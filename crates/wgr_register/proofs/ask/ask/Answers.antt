@@ -1,8 +1,8 @@
-use Rattle.std.proofs.Common.{◌≡◌, None, Some, refl, sym, ap, ◌∙◌}
-use Rattle.wgr_model.specs.Steps.{Ask, NoSuchNetwork, UnknownToken, tenant_of_token}
+use Rattle.std.proofs.Common.{◌≡◌, None, Some, sym, ap, ◌∙◌}
+use Rattle.wgr_model.specs.Steps.{Ask, tenant_of_token}
 use Rattle.wgr_tables.specs.Decode.{tables_of}
 use Rattle.wgr_register.proofs.AskLemmas.{nowhere, stranger}
-use Rattle.wgr_register.proofs.StandLemmas.{ask_if, at_more, at_read, ends_still, late_ends}
+use Rattle.wgr_register.proofs.StandLemmas.{ask_if, at_more, at_read, late_ends}
 use Rattle.wgr_register.proofs.ask.ask.Goals as goal
 
 pub returns-in_err-tenant-clause-ends : goal.returns-in_err-tenant-clause-ends
@@ -12,11 +12,13 @@ returns-in_err-tenant-clause-ends g c db late at =
     (at_more g.S.Store c.tenant_of_token.new.conn db late event (at_read g.S.Store c.args.conn.now c.tenant_of_token.new.conn db late (c.tenant_of_token.ensures.stands db) at))
 
 pub returns-in_default-clause-ends : goal.returns-in_default-clause-ends
-returns-in_default-clause-ends g c db late at clean =
-    let event = Ask c.args.digest.now c.args.name.now c.args.now c.args.command.now in
-    let none : tenant_of_token (tables_of db).tokens c.args.digest.now ≡ None = sym (c.in_ok-tenant.ensures.found db at.pending at.stands clean) ∙ c.in_default.is in
-    ends_still g.S.Store c.tenant_of_token.new.conn db late event (λ answer. answer ≡ UnknownToken) UnknownToken (at_read g.S.Store c.args.conn.now c.tenant_of_token.new.conn db late (c.tenant_of_token.ensures.stands db) at) refl
-    (stranger (tables_of db) at.consistent c.args.digest.now c.args.name.now c.args.now c.args.command.now none) clean
+returns-in_default-clause-ends g c db late at = (
+  at_read g.S.Store c.args.conn.now c.tenant_of_token.new.conn db late (c.tenant_of_token.ensures.stands db) at,
+  λ clean.
+      let event = Ask c.args.digest.now c.args.name.now c.args.now c.args.command.now in
+      let none : tenant_of_token (tables_of db).tokens c.args.digest.now ≡ None = sym (c.in_ok-tenant.ensures.found db at.pending at.stands clean) ∙ c.in_default.is in
+      stranger (tables_of db) at.consistent c.args.digest.now c.args.name.now c.args.now c.args.command.now none,
+)
 
 pub returns-in_err-id-clause-ends : goal.returns-in_err-id-clause-ends
 returns-in_err-id-clause-ends g c db late at =
@@ -25,13 +27,14 @@ returns-in_err-id-clause-ends g c db late at =
     (at_more g.S.Store c.find_network.new.conn db late event (at_read g.S.Store c.args.conn.now c.find_network.new.conn db late (λ pending stood. c.find_network.ensures.stands db pending (c.tenant_of_token.ensures.stands db pending stood)) at))
 
 pub returns-in_default-2-clause-ends : goal.returns-in_default-2-clause-ends
-returns-in_default-2-clause-ends g c db late at clean =
-    let event = Ask c.args.digest.now c.args.name.now c.args.now c.args.command.now in
-    let mid = c.tenant_of_token.ensures.stands db at.pending at.stands in
-    let known : tenant_of_token (tables_of db).tokens c.args.digest.now ≡ Some c.in-Some.tenant = sym (c.in_ok-tenant.ensures.found db at.pending at.stands (c.find_network.ensures.clean clean)) ∙ c.in-Some.is in
-    ends_still g.S.Store c.find_network.new.conn db late event (λ answer. answer ≡ NoSuchNetwork) NoSuchNetwork
-    (at_read g.S.Store c.args.conn.now c.find_network.new.conn db late (λ pending stood. c.find_network.ensures.stands db pending (c.tenant_of_token.ensures.stands db pending stood)) at) refl
-    (nowhere (tables_of db) at.consistent c.args.digest.now c.args.name.now c.args.now c.args.command.now c.in-Some.tenant known (rw c.in_default-2.is at c.in_ok-id.ensures.none db at.pending mid at.consistent clean)) clean
+returns-in_default-2-clause-ends g c db late at = (
+  at_read g.S.Store c.args.conn.now c.find_network.new.conn db late (λ pending stood. c.find_network.ensures.stands db pending (c.tenant_of_token.ensures.stands db pending stood)) at,
+  λ clean.
+      let event = Ask c.args.digest.now c.args.name.now c.args.now c.args.command.now in
+      let mid = c.tenant_of_token.ensures.stands db at.pending at.stands in
+      let known : tenant_of_token (tables_of db).tokens c.args.digest.now ≡ Some c.in-Some.tenant = sym (c.in_ok-tenant.ensures.found db at.pending at.stands (c.find_network.ensures.clean clean)) ∙ c.in-Some.is in
+      nowhere (tables_of db) at.consistent c.args.digest.now c.args.name.now c.args.now c.args.command.now c.in-Some.tenant known (rw c.in_default-2.is at c.in_ok-id.ensures.none db at.pending mid at.consistent clean),
+)
 
 pub returns-clause-ends : goal.returns-clause-ends
 returns-clause-ends g c db late at =

@@ -1,6 +1,6 @@
-use Rattle.std.proofs.Common.{◌≡◌, [], None, Some, Ok, Err, map, refl, sym, subst, ◌∙◌}
+use Rattle.std.proofs.Common.{◌≡◌, [], None, Some, Ok, Err, map, sym, subst, ◌∙◌}
 use Rattle.wgr_model.specs.Register.{Register, id_of}
-use Rattle.wgr_model.specs.Steps.{AddNetwork, NoSuchTenant, Refused}
+use Rattle.wgr_model.specs.Steps.{AddNetwork}
 use Rattle.wgr_orders.specs.OrderSteps.{new_row}
 use Rattle.wgr_tables.specs.Decode.{tables_of}
 use Rattle.wgr_tables.specs.Lookups.{settled}
@@ -8,7 +8,7 @@ use Rattle.wgr_tables.specs.Writes.{NetworkGained}
 use Rattle.wgr_register.specs.Ends.{Admits}
 use Rattle.wgr_register.specs.declared.fault.OrderFault.{OrderFault}
 use Rattle.wgr_register.proofs.NetworkLemmas.{admits_by, network_comes, network_refused, nobody_has_it}
-use Rattle.wgr_register.proofs.StandLemmas.{at_read, ends_still, order_done, order_refused, order_unread, order_unwritten}
+use Rattle.wgr_register.proofs.StandLemmas.{at_read, order_done, order_refused, order_unread, order_unwritten}
 use Rattle.wgr_register.proofs.order.add_network.Goals as goal
 
 pub returns-in_err-id-clause-ends : goal.returns-in_err-id-clause-ends
@@ -16,10 +16,12 @@ returns-in_err-id-clause-ends g c db late at proper =
     order_unread g.S.Store c.args.conn.now c.tenant_id.new.conn db late (AddNetwork c.args.tenant.now c.args.name.now c.args.settings.now) c.from_residual.result c.in_err-id.field-0.0 c.from_residual.ensures.1 (c.tenant_id.ensures.stands db) at
 
 pub returns-in_default-clause-ends : goal.returns-in_default-clause-ends
-returns-in_default-clause-ends g c db late at proper clean =
-    let none : id_of (tables_of db).tenants c.args.tenant.now ≡ None = sym (c.in_ok-id.ensures.found db at.pending at.stands clean) ∙ c.in_default.is in
-    ends_still g.S.Store c.tenant_id.new.conn db late (AddNetwork c.args.tenant.now c.args.name.now c.args.settings.now) (λ answer. answer ≡ Refused NoSuchTenant) (Refused NoSuchTenant)
-    (at_read g.S.Store c.args.conn.now c.tenant_id.new.conn db late (c.tenant_id.ensures.stands db) at) refl (nobody_has_it (tables_of db) at.consistent c.args.tenant.now c.args.name.now c.args.settings.now none) clean
+returns-in_default-clause-ends g c db late at proper = (
+  at_read g.S.Store c.args.conn.now c.tenant_id.new.conn db late (c.tenant_id.ensures.stands db) at,
+  λ clean.
+      let none : id_of (tables_of db).tenants c.args.tenant.now ≡ None = sym (c.in_ok-id.ensures.found db at.pending at.stands clean) ∙ c.in_default.is in
+      nobody_has_it (tables_of db) at.consistent c.args.tenant.now c.args.name.now c.args.settings.now none,
+)
 
 pub returns-in_err-tenants-clause-ends : goal.returns-in_err-tenants-clause-ends
 returns-in_err-tenants-clause-ends g c db late at proper =

@@ -1,10 +1,10 @@
-use Rattle.std.proofs.Common.{◌≡◌, None, Some, false, true, refl, sym, ◌∙◌}
+use Rattle.std.proofs.Common.{◌≡◌, None, Some, false, true, sym, ◌∙◌}
 use Rattle.wgr_model.specs.Register.{id_of}
-use Rattle.wgr_model.specs.Steps.{AddTenant, NameHeld, Refused, RegisterFull}
+use Rattle.wgr_model.specs.Steps.{AddTenant}
 use Rattle.wgr_tables.specs.Decode.{tables_of}
 use Rattle.wgr_tables.specs.Writes.{TenantGained}
 use Rattle.wgr_register.proofs.OrderLemmas.{name_held, room_by, tenant_comes, tenants_full, unused_by}
-use Rattle.wgr_register.proofs.StandLemmas.{at_read, ends_still, order_done, order_unread, order_unwritten}
+use Rattle.wgr_register.proofs.StandLemmas.{at_read, order_done, order_unread, order_unwritten}
 use Rattle.wgr_register.proofs.order.add_tenant.Goals as goal
 
 pub returns-in_err-tenant_id-clause-ends : goal.returns-in_err-tenant_id-clause-ends
@@ -12,10 +12,12 @@ returns-in_err-tenant_id-clause-ends g c db late at proper =
     order_unread g.S.Store c.args.conn.now c.tenant_id.new.conn db late (AddTenant c.args.name.now) c.from_residual.result c.in_err-tenant_id.field-0.0 c.from_residual.ensures.1 (c.tenant_id.ensures.stands db) at
 
 pub returns-in_default-clause-ends : goal.returns-in_default-clause-ends
-returns-in_default-clause-ends g c db late at proper clean =
-    let held : id_of (tables_of db).tenants c.args.name.now ≡ Some c.in_default.field-0 = sym (c.in_ok-tenant_id.ensures.found db at.pending at.stands clean) ∙ c.in_default.is in
-    ends_still g.S.Store c.tenant_id.new.conn db late (AddTenant c.args.name.now) (λ answer. answer ≡ Refused NameHeld) (Refused NameHeld)
-    (at_read g.S.Store c.args.conn.now c.tenant_id.new.conn db late (c.tenant_id.ensures.stands db) at) refl (name_held (tables_of db) at.consistent c.args.name.now c.in_default.field-0 held) clean
+returns-in_default-clause-ends g c db late at proper = (
+  at_read g.S.Store c.args.conn.now c.tenant_id.new.conn db late (c.tenant_id.ensures.stands db) at,
+  λ clean.
+      let held : id_of (tables_of db).tenants c.args.name.now ≡ Some c.in_default.field-0 = sym (c.in_ok-tenant_id.ensures.found db at.pending at.stands clean) ∙ c.in_default.is in
+      name_held (tables_of db) at.consistent c.args.name.now c.in_default.field-0 held,
+)
 
 pub returns-in_err-ids-clause-ends : goal.returns-in_err-ids-clause-ends
 returns-in_err-ids-clause-ends g c db late at proper =
@@ -23,14 +25,15 @@ returns-in_err-ids-clause-ends g c db late at proper =
     (λ pending stood. c.tenant_ids.ensures.stands db pending (c.tenant_id.ensures.stands db pending stood)) at
 
 pub returns-then-is_full-clause-ends : goal.returns-then-is_full-clause-ends
-returns-then-is_full-clause-ends g c db late at proper clean =
-    let mid = c.tenant_id.ensures.stands db at.pending at.stands in
-    let free : id_of (tables_of db).tenants c.args.name.now ≡ None = sym (c.in_ok-tenant_id.ensures.found db at.pending at.stands (c.tenant_ids.ensures.clean clean)) ∙ c.in-None.is in
-    let listed = c.in_ok-ids.ensures.listed db at.pending mid clean in
-    let full = room_by (tables_of db) c.in_ok-ids.ids.items listed true (rw c.as_slice.ensures.value at (sym c.is_full.ensures ∙ c.if-is_full.true)) in
-    ends_still g.S.Store c.tenant_ids.new.conn db late (AddTenant c.args.name.now) (λ answer. answer ≡ Refused RegisterFull) (Refused RegisterFull)
-    (at_read g.S.Store c.args.conn.now c.tenant_ids.new.conn db late (λ pending stood. c.tenant_ids.ensures.stands db pending (c.tenant_id.ensures.stands db pending stood)) at) refl
-    (tenants_full (tables_of db) at.consistent c.args.name.now free full) clean
+returns-then-is_full-clause-ends g c db late at proper = (
+  at_read g.S.Store c.args.conn.now c.tenant_ids.new.conn db late (λ pending stood. c.tenant_ids.ensures.stands db pending (c.tenant_id.ensures.stands db pending stood)) at,
+  λ clean.
+      let mid = c.tenant_id.ensures.stands db at.pending at.stands in
+      let free : id_of (tables_of db).tenants c.args.name.now ≡ None = sym (c.in_ok-tenant_id.ensures.found db at.pending at.stands (c.tenant_ids.ensures.clean clean)) ∙ c.in-None.is in
+      let listed = c.in_ok-ids.ensures.listed db at.pending mid clean in
+      let full = room_by (tables_of db) c.in_ok-ids.ids.items listed true (rw c.as_slice.ensures.value at (sym c.is_full.ensures ∙ c.if-is_full.true)) in
+      tenants_full (tables_of db) at.consistent c.args.name.now free full,
+)
 
 pub returns-in_err-add_tenant-clause-ends : goal.returns-in_err-add_tenant-clause-ends
 returns-in_err-add_tenant-clause-ends g c db late at proper =

@@ -1,11 +1,11 @@
-use Rattle.std.proofs.Common.{◌≡◌, None, Some, refl, sym, ◌∙◌}
+use Rattle.std.proofs.Common.{◌≡◌, None, Some, sym, ◌∙◌}
 use Rattle.wgr_model.specs.Register.{id_of}
-use Rattle.wgr_model.specs.Steps.{EndNetwork, NoNetwork, NoSuchTenant, Refused}
+use Rattle.wgr_model.specs.Steps.{EndNetwork}
 use Rattle.wgr_tables.specs.Decode.{tables_of}
 use Rattle.wgr_tables.specs.Writes.{NetworkLost}
 use Rattle.wgr_register.proofs.AskLemmas.{no_network}
 use Rattle.wgr_register.proofs.OrderLemmas.{network_ends, nobody_has, none_ends}
-use Rattle.wgr_register.proofs.StandLemmas.{at_read, ends_still, order_done, order_unread, order_unwritten}
+use Rattle.wgr_register.proofs.StandLemmas.{at_read, order_done, order_unread, order_unwritten}
 use Rattle.wgr_register.proofs.order.end_network.Goals as goal
 
 pub returns-in_err-id-clause-ends : goal.returns-in_err-id-clause-ends
@@ -13,10 +13,12 @@ returns-in_err-id-clause-ends g c db late at =
     order_unread g.S.Store c.args.conn.now c.tenant_id.new.conn db late (EndNetwork c.args.tenant.now c.args.name.now) c.from_residual.result c.in_err-id.field-0.0 c.from_residual.ensures.1 (c.tenant_id.ensures.stands db) at
 
 pub returns-in_default-clause-ends : goal.returns-in_default-clause-ends
-returns-in_default-clause-ends g c db late at clean =
-    let none : id_of (tables_of db).tenants c.args.tenant.now ≡ None = sym (c.in_ok-id.ensures.found db at.pending at.stands clean) ∙ c.in_default.is in
-    ends_still g.S.Store c.tenant_id.new.conn db late (EndNetwork c.args.tenant.now c.args.name.now) (λ answer. answer ≡ Refused NoSuchTenant) (Refused NoSuchTenant)
-    (at_read g.S.Store c.args.conn.now c.tenant_id.new.conn db late (c.tenant_id.ensures.stands db) at) refl (nobody_has (tables_of db) at.consistent c.args.tenant.now c.args.name.now none) clean
+returns-in_default-clause-ends g c db late at = (
+  at_read g.S.Store c.args.conn.now c.tenant_id.new.conn db late (c.tenant_id.ensures.stands db) at,
+  λ clean.
+      let none : id_of (tables_of db).tenants c.args.tenant.now ≡ None = sym (c.in_ok-id.ensures.found db at.pending at.stands clean) ∙ c.in_default.is in
+      nobody_has (tables_of db) at.consistent c.args.tenant.now c.args.name.now none,
+)
 
 pub returns-in_err-network-clause-ends : goal.returns-in_err-network-clause-ends
 returns-in_err-network-clause-ends g c db late at =
@@ -24,12 +26,13 @@ returns-in_err-network-clause-ends g c db late at =
     (λ pending stood. c.network_id.ensures.stands db pending (c.tenant_id.ensures.stands db pending stood)) at
 
 pub returns-in_default-2-clause-ends : goal.returns-in_default-2-clause-ends
-returns-in_default-2-clause-ends g c db late at clean =
-    let mid = c.tenant_id.ensures.stands db at.pending at.stands in
-    let known : id_of (tables_of db).tenants c.args.tenant.now ≡ Some c.in-Some.id = sym (c.in_ok-id.ensures.found db at.pending at.stands (c.network_id.ensures.clean clean)) ∙ c.in-Some.is in
-    ends_still g.S.Store c.network_id.new.conn db late (EndNetwork c.args.tenant.now c.args.name.now) (λ answer. answer ≡ Refused NoNetwork) (Refused NoNetwork)
-    (at_read g.S.Store c.args.conn.now c.network_id.new.conn db late (λ pending stood. c.network_id.ensures.stands db pending (c.tenant_id.ensures.stands db pending stood)) at) refl
-    (none_ends (tables_of db) at.consistent c.args.tenant.now c.args.name.now c.in-Some.id known (no_network (tables_of db) c.in-Some.id c.args.name.now (rw c.in_default-2.is at c.in_ok-network.ensures.none db at.pending mid clean))) clean
+returns-in_default-2-clause-ends g c db late at = (
+  at_read g.S.Store c.args.conn.now c.network_id.new.conn db late (λ pending stood. c.network_id.ensures.stands db pending (c.tenant_id.ensures.stands db pending stood)) at,
+  λ clean.
+      let mid = c.tenant_id.ensures.stands db at.pending at.stands in
+      let known : id_of (tables_of db).tenants c.args.tenant.now ≡ Some c.in-Some.id = sym (c.in_ok-id.ensures.found db at.pending at.stands (c.network_id.ensures.clean clean)) ∙ c.in-Some.is in
+      none_ends (tables_of db) at.consistent c.args.tenant.now c.args.name.now c.in-Some.id known (no_network (tables_of db) c.in-Some.id c.args.name.now (rw c.in_default-2.is at c.in_ok-network.ensures.none db at.pending mid clean)),
+)
 
 pub returns-in_err-end_network-clause-ends : goal.returns-in_err-end_network-clause-ends
 returns-in_err-end_network-clause-ends g c db late at =

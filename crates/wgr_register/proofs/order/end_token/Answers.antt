@@ -1,9 +1,9 @@
-use Rattle.std.proofs.Common.{◌≡◌, None, Some, refl, sym, ◌∙◌}
-use Rattle.wgr_model.specs.Steps.{EndToken, NoSuchToken, Refused, tenant_of_token}
+use Rattle.std.proofs.Common.{◌≡◌, None, Some, sym, ◌∙◌}
+use Rattle.wgr_model.specs.Steps.{EndToken, tenant_of_token}
 use Rattle.wgr_tables.specs.Decode.{tables_of}
 use Rattle.wgr_tables.specs.Writes.{TokenLost}
 use Rattle.wgr_register.proofs.OrderLemmas.{no_such_token, token_ends}
-use Rattle.wgr_register.proofs.StandLemmas.{at_read, ends_still, order_done, order_unread, order_unwritten}
+use Rattle.wgr_register.proofs.StandLemmas.{at_read, order_done, order_unread, order_unwritten}
 use Rattle.wgr_register.proofs.order.end_token.Goals as goal
 
 pub returns-in_err-_holder-clause-ends : goal.returns-in_err-_holder-clause-ends
@@ -11,10 +11,12 @@ returns-in_err-_holder-clause-ends g c db late at =
     order_unread g.S.Store c.args.conn.now c.tenant_of_token.new.conn db late (EndToken c.args.digest.now) c.from_residual.result c.in_err-_holder.field-0.0 c.from_residual.ensures.1 (c.tenant_of_token.ensures.stands db) at
 
 pub returns-in_default-clause-ends : goal.returns-in_default-clause-ends
-returns-in_default-clause-ends g c db late at clean =
-    let none : tenant_of_token (tables_of db).tokens c.args.digest.now ≡ None = sym (c.in_ok-_holder.ensures.found db at.pending at.stands clean) ∙ c.in_default.is in
-    ends_still g.S.Store c.tenant_of_token.new.conn db late (EndToken c.args.digest.now) (λ answer. answer ≡ Refused NoSuchToken) (Refused NoSuchToken)
-    (at_read g.S.Store c.args.conn.now c.tenant_of_token.new.conn db late (c.tenant_of_token.ensures.stands db) at) refl (no_such_token (tables_of db) at.consistent c.args.digest.now none) clean
+returns-in_default-clause-ends g c db late at = (
+  at_read g.S.Store c.args.conn.now c.tenant_of_token.new.conn db late (c.tenant_of_token.ensures.stands db) at,
+  λ clean.
+      let none : tenant_of_token (tables_of db).tokens c.args.digest.now ≡ None = sym (c.in_ok-_holder.ensures.found db at.pending at.stands clean) ∙ c.in_default.is in
+      no_such_token (tables_of db) at.consistent c.args.digest.now none,
+)
 
 pub returns-in_err-end_token-clause-ends : goal.returns-in_err-end_token-clause-ends
 returns-in_err-end_token-clause-ends g c db late at =

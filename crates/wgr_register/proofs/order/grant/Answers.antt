@@ -1,10 +1,10 @@
-use Rattle.std.proofs.Common.{◌≡◌, None, Some, false, true, refl, sym, ◌∙◌}
+use Rattle.std.proofs.Common.{◌≡◌, None, Some, false, true, sym, ◌∙◌}
 use Rattle.wgr_model.specs.Register.{id_of}
-use Rattle.wgr_model.specs.Steps.{DigestHeld, Grant, NoSuchTenant, Refused, RegisterFull, tenant_of_token}
+use Rattle.wgr_model.specs.Steps.{Grant, tenant_of_token}
 use Rattle.wgr_tables.specs.Decode.{tables_of}
 use Rattle.wgr_tables.specs.Writes.{TokenGained}
 use Rattle.wgr_register.proofs.OrderLemmas.{held_already, nobody_gets, token_comes, tokens_by, tokens_full}
-use Rattle.wgr_register.proofs.StandLemmas.{at_read, ends_still, order_done, order_unread, order_unwritten}
+use Rattle.wgr_register.proofs.StandLemmas.{at_read, order_done, order_unread, order_unwritten}
 use Rattle.wgr_register.proofs.order.grant.Goals as goal
 
 pub returns-in_err-id-clause-ends : goal.returns-in_err-id-clause-ends
@@ -12,10 +12,12 @@ returns-in_err-id-clause-ends g c db late at proper =
     order_unread g.S.Store c.args.conn.now c.tenant_id.new.conn db late (Grant c.args.tenant.now c.args.digest.now) c.from_residual.result c.in_err-id.field-0.0 c.from_residual.ensures.1 (c.tenant_id.ensures.stands db) at
 
 pub returns-in_default-clause-ends : goal.returns-in_default-clause-ends
-returns-in_default-clause-ends g c db late at proper clean =
-    let none : id_of (tables_of db).tenants c.args.tenant.now ≡ None = sym (c.in_ok-id.ensures.found db at.pending at.stands clean) ∙ c.in_default.is in
-    ends_still g.S.Store c.tenant_id.new.conn db late (Grant c.args.tenant.now c.args.digest.now) (λ answer. answer ≡ Refused NoSuchTenant) (Refused NoSuchTenant)
-    (at_read g.S.Store c.args.conn.now c.tenant_id.new.conn db late (c.tenant_id.ensures.stands db) at) refl (nobody_gets (tables_of db) at.consistent c.args.tenant.now c.args.digest.now none) clean
+returns-in_default-clause-ends g c db late at proper = (
+  at_read g.S.Store c.args.conn.now c.tenant_id.new.conn db late (c.tenant_id.ensures.stands db) at,
+  λ clean.
+      let none : id_of (tables_of db).tenants c.args.tenant.now ≡ None = sym (c.in_ok-id.ensures.found db at.pending at.stands clean) ∙ c.in_default.is in
+      nobody_gets (tables_of db) at.consistent c.args.tenant.now c.args.digest.now none,
+)
 
 pub returns-in_err-tenant_of_token-clause-ends : goal.returns-in_err-tenant_of_token-clause-ends
 returns-in_err-tenant_of_token-clause-ends g c db late at proper =
@@ -23,13 +25,14 @@ returns-in_err-tenant_of_token-clause-ends g c db late at proper =
     (λ pending stood. c.tenant_of_token.ensures.stands db pending (c.tenant_id.ensures.stands db pending stood)) at
 
 pub returns-in_default-2-clause-ends : goal.returns-in_default-2-clause-ends
-returns-in_default-2-clause-ends g c db late at proper clean =
-    let mid = c.tenant_id.ensures.stands db at.pending at.stands in
-    let known : id_of (tables_of db).tenants c.args.tenant.now ≡ Some c.in-Some.id = sym (c.in_ok-id.ensures.found db at.pending at.stands (c.tenant_of_token.ensures.clean clean)) ∙ c.in-Some.is in
-    let held : tenant_of_token (tables_of db).tokens c.args.digest.now ≡ Some c.in_default-2.field-0 = sym (c.in_ok-tenant_of_token.ensures.found db at.pending mid clean) ∙ c.in_default-2.is in
-    ends_still g.S.Store c.tenant_of_token.new.conn db late (Grant c.args.tenant.now c.args.digest.now) (λ answer. answer ≡ Refused DigestHeld) (Refused DigestHeld)
-    (at_read g.S.Store c.args.conn.now c.tenant_of_token.new.conn db late (λ pending stood. c.tenant_of_token.ensures.stands db pending (c.tenant_id.ensures.stands db pending stood)) at) refl
-    (held_already (tables_of db) at.consistent c.args.tenant.now c.args.digest.now c.in-Some.id known c.in_default-2.field-0 held) clean
+returns-in_default-2-clause-ends g c db late at proper = (
+  at_read g.S.Store c.args.conn.now c.tenant_of_token.new.conn db late (λ pending stood. c.tenant_of_token.ensures.stands db pending (c.tenant_id.ensures.stands db pending stood)) at,
+  λ clean.
+      let mid = c.tenant_id.ensures.stands db at.pending at.stands in
+      let known : id_of (tables_of db).tenants c.args.tenant.now ≡ Some c.in-Some.id = sym (c.in_ok-id.ensures.found db at.pending at.stands (c.tenant_of_token.ensures.clean clean)) ∙ c.in-Some.is in
+      let held : tenant_of_token (tables_of db).tokens c.args.digest.now ≡ Some c.in_default-2.field-0 = sym (c.in_ok-tenant_of_token.ensures.found db at.pending mid clean) ∙ c.in_default-2.is in
+      held_already (tables_of db) at.consistent c.args.tenant.now c.args.digest.now c.in-Some.id known c.in_default-2.field-0 held,
+)
 
 pub returns-in_err-count-clause-ends : goal.returns-in_err-count-clause-ends
 returns-in_err-count-clause-ends g c db late at proper =
@@ -37,16 +40,17 @@ returns-in_err-count-clause-ends g c db late at proper =
     (λ pending stood. c.count_tokens.ensures.stands db pending (c.tenant_of_token.ensures.stands db pending (c.tenant_id.ensures.stands db pending stood))) at
 
 pub returns-then-is_full-clause-ends : goal.returns-then-is_full-clause-ends
-returns-then-is_full-clause-ends g c db late at proper clean =
-    let mid = c.tenant_id.ensures.stands db at.pending at.stands in
-    let near = c.tenant_of_token.ensures.stands db at.pending mid in
-    let clean2 = c.count_tokens.ensures.clean clean in
-    let known : id_of (tables_of db).tenants c.args.tenant.now ≡ Some c.in-Some.id = sym (c.in_ok-id.ensures.found db at.pending at.stands (c.tenant_of_token.ensures.clean clean2)) ∙ c.in-Some.is in
-    let free : tenant_of_token (tables_of db).tokens c.args.digest.now ≡ None = sym (c.in_ok-tenant_of_token.ensures.found db at.pending mid clean2) ∙ c.in-None.is in
-    let full = tokens_by (tables_of db) c.in_ok-count.count (c.in_ok-count.ensures.counted db at.pending near clean) true (sym c.is_full.ensures ∙ c.if-is_full.true) in
-    ends_still g.S.Store c.count_tokens.new.conn db late (Grant c.args.tenant.now c.args.digest.now) (λ answer. answer ≡ Refused RegisterFull) (Refused RegisterFull)
-    (at_read g.S.Store c.args.conn.now c.count_tokens.new.conn db late (λ pending stood. c.count_tokens.ensures.stands db pending (c.tenant_of_token.ensures.stands db pending (c.tenant_id.ensures.stands db pending stood))) at) refl
-    (tokens_full (tables_of db) at.consistent c.args.tenant.now c.args.digest.now c.in-Some.id known free full) clean
+returns-then-is_full-clause-ends g c db late at proper = (
+  at_read g.S.Store c.args.conn.now c.count_tokens.new.conn db late (λ pending stood. c.count_tokens.ensures.stands db pending (c.tenant_of_token.ensures.stands db pending (c.tenant_id.ensures.stands db pending stood))) at,
+  λ clean.
+      let mid = c.tenant_id.ensures.stands db at.pending at.stands in
+      let near = c.tenant_of_token.ensures.stands db at.pending mid in
+      let clean2 = c.count_tokens.ensures.clean clean in
+      let known : id_of (tables_of db).tenants c.args.tenant.now ≡ Some c.in-Some.id = sym (c.in_ok-id.ensures.found db at.pending at.stands (c.tenant_of_token.ensures.clean clean2)) ∙ c.in-Some.is in
+      let free : tenant_of_token (tables_of db).tokens c.args.digest.now ≡ None = sym (c.in_ok-tenant_of_token.ensures.found db at.pending mid clean2) ∙ c.in-None.is in
+      let full = tokens_by (tables_of db) c.in_ok-count.count (c.in_ok-count.ensures.counted db at.pending near clean) true (sym c.is_full.ensures ∙ c.if-is_full.true) in
+      tokens_full (tables_of db) at.consistent c.args.tenant.now c.args.digest.now c.in-Some.id known free full,
+)
 
 pub returns-in_err-add_token-clause-ends : goal.returns-in_err-add_token-clause-ends
 returns-in_err-add_token-clause-ends g c db late at proper =
