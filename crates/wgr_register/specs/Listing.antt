@@ -9,7 +9,6 @@ use Rattle.wgr_core.specs.Network.{NetworkValue}
 use Rattle.wgr_model.specs.Register.{Bytes, Holding, view_at}
 use Rattle.wgr_model.specs.Rows.{Tables, register_of}
 use Rattle.wgr_tables.specs.Decode.{network_in}
-use Rattle.wgr_register.specs.Given.{as_added}
 
 -- the rows are those of the networks of the tenant of this id
 abbrev pub ShowNetworksOf : ℕ → Tables → List Row → Type 0
