@@ -15,6 +15,7 @@ mod register;
 mod run;
 
 pub use answer::{Answer, OrderRefusal};
+pub use listing::put_entry;
 pub use look::unused_id;
 pub use operate::admit_network;
 pub use order::{Order, Settings};

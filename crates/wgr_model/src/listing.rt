@@ -31,8 +31,8 @@ pub(crate) fn listed(
     Ok(Items::of(entries))
 }
 
-// Puts an entry in its place, in that of the one of its name if there is one.
-fn put_entry(
+/// Puts an entry in its place, in that of the one of its name if there is one.
+pub fn put_entry(
     entries: &mut Vec<(Name, Network)>,
     name: Name,
     network: Network,

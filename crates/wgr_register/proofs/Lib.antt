@@ -3,3 +3,4 @@ pub mod GivenLemmas
 pub mod AskLemmas
 pub mod OrderLemmas
 pub mod NetworkLemmas
+pub mod ListLemmas

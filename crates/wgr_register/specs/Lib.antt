@@ -1,3 +1,4 @@
 pub mod Given
 pub mod Standing
 pub mod Ends
+pub mod Listing

@@ -4,7 +4,7 @@ ghost use Rattle.wgr_register.specs.Given.{GivenValue, given_view, reply_given};
 
 use std::alloc::{AllocError, Global};
 use wgr_conf::{peer_file, server_file};
-use wgr_core::{Network, Reply};
+use wgr_core::{Name, Network, Reply};
 
 /// What an accepted request gives.
 #[derive(Clone, Copy)]
@@ -13,6 +13,9 @@ pub enum Given<'a> {
     Reply(&'a Reply),
     /// The text of a configuration file.
     File(&'a [u8]),
+    /// A tenant's networks in the order of their names, as they were added: without peers, and with
+    /// the first number next.
+    Networks(&'a [(Name, Network)]),
 }
 
 /// Makes the text of what is given. It is called before the commit, so that nothing grows after it.

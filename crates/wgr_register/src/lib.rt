@@ -4,6 +4,7 @@
 mod ask;
 mod fault;
 mod given;
+mod list;
 mod order;
 mod register;
 

@@ -1,10 +1,10 @@
 //! The register.
-ghost use Rattle.std.specs.Prelude.{◌≡◌, ◌↔◌, List, [], true, false, IfErr, IfOk, OnOk};
+ghost use Rattle.std.specs.Prelude.{◌≡◌, ◌↔◌, ℕ, List, [], true, false, IfErr, IfOk, OnOk};
 ghost use Rattle.sqlite.specs.Effect.{Database};
 ghost use Rattle.sqlite.specs.State.{HasCleanDisk};
 ghost use Rattle.sqlite.specs.Held.{state};
 ghost use Rattle.wgr_model.specs.Calls.{order_event};
-ghost use Rattle.wgr_model.specs.Steps.{Ask, Event};
+ghost use Rattle.wgr_model.specs.Steps.{Ask, Event, Networks};
 ghost use Rattle.wgr_register.specs.Ends.{AskEnds, OrderEnds};
 ghost use Rattle.wgr_register.specs.Standing.{StandsAt};
 ghost use Rattle.wgr_sql.specs.Calls.{IsKept};
@@ -13,7 +13,7 @@ ghost use Rattle.wgr_store.specs.declared.fault.RegisterFault.TheVariants.{NotAR
 
 use crate::fault::{AskFault, Done, OpenFault, OrderFault};
 use crate::given::Render;
-use crate::{ask, order};
+use crate::{ask, list, order};
 use sqlite::{Alter, Connection};
 use std::alloc::Global;
 use std::marker::Model;
@@ -101,5 +101,21 @@ impl<S: Alter> Register<S> {
         ensures ends { (db : Database) (late : List Event) → StandsAt S.Store self.old db late → AskEnds S.Store R.shown self.new db late (Ask digest.now name.now now command.now) now result }
     {
         ask::ask(alloc, &mut self.conn, digest, name, now, command, render)
+    }
+
+    /// The text of the list of the networks that the tenant of the token with this digest (SHA-256)
+    /// has, in the byte order of their names. The moment is of no account.
+    ///
+    /// It writes nothing.
+    pub fn networks<R: Render>(
+        &mut self,
+        alloc: Global,
+        digest: &[u8; 32],
+        render: &R,
+    ) -> Result<Vec<u8>, AskFault>
+        ensures clean { HasCleanDisk (state S.Store self.new) → HasCleanDisk (state S.Store self.old) }
+        ensures ends { (db : Database) (late : List Event) (now : ℕ) → StandsAt S.Store self.old db late → AskEnds S.Store R.shown self.new db late (Networks digest.now) now result }
+    {
+        list::networks(alloc, &mut self.conn, digest, render)
     }
 }

@@ -1,0 +1,15 @@
+use Rattle.std.proofs.Common.{pos, [], ◌∷◌}
+use Rattle.sqlite.specs.declared.types.Value.TheVariants.{Int}
+use Rattle.wgr_sql.proofs.ResultLemmas.{if_ok}
+use Rattle.wgr_tables.proofs.ReadLemmas.{stands_read, rows_read}
+use Rattle.wgr_register.specs.Listing.{ShowNetworksOf}
+use Rattle.wgr_register.proofs.ListLemmas.{networks_asks, networks_shown, networks_text}
+use Rattle.wgr_register.proofs.list.network_rows.Goals as goal
+
+pub returns-clause-stands : goal.returns-clause-stands
+returns-clause-stands g c db pending stood = stands_read g.S.Store c.args.conn.now c.query.new.conn db pending stood networks_text c.query.ensures.survives (λ others. (networks_asks others).means.plain) c.query.ensures.kept c.query.ensures.idle
+
+pub returns-clause-listed : goal.returns-clause-listed
+returns-clause-listed g c db pending stood clean =
+    if_ok c.query.result _ _ (λ rows given. rows_read g.S.Store c.args.conn.now c.query.new.conn db pending stood networks_text c.query.ensures.survives (ShowNetworksOf c.args.tenant) (Int (pos c.args.tenant) ∷ []) (λ a b register found shown. networks_shown a b register c.args.tenant found shown) clean rows.items
+    (rw c.number_value.ensures at given)) (c.query.ensures.shown clean)

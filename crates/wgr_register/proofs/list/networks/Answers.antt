@@ -1,0 +1,44 @@
+use Rattle.std.proofs.Common.{◌≡◌, None, Some, refl, sym, ap, ◌∙◌}
+use Rattle.wgr_sql.specs.declared.fault.Fault.TheVariants.{NoMemory}
+use Rattle.wgr_model.specs.Steps.{Listed, Networks, UnknownToken, tenant_of_token}
+use Rattle.wgr_tables.specs.Decode.{tables_of}
+use Rattle.wgr_register.specs.Given.{IsShown, OfNetworks}
+use Rattle.wgr_register.specs.Listing.{seen_by}
+use Rattle.wgr_register.proofs.ListLemmas.{holder_lists, nobody_lists}
+use Rattle.wgr_register.proofs.StandLemmas.{at_more, at_read, ends_still, late_ends}
+use Rattle.wgr_register.proofs.list.networks.Goals as goal
+
+pub returns-in_err-tenant-clause-ends : goal.returns-in_err-tenant-clause-ends
+returns-in_err-tenant-clause-ends g c db late now at =
+    let event = Networks c.args.digest.now in
+    late_ends g.S.Store g.R.Render.shown c.tenant_of_token.new.conn db late event now c.from_residual.result c.in_err-tenant.field-0.0 c.from_residual.ensures.1
+    (at_more g.S.Store c.tenant_of_token.new.conn db late event (at_read g.S.Store c.args.conn.now c.tenant_of_token.new.conn db late (c.tenant_of_token.ensures.stands db) at))
+
+pub returns-in_default-clause-ends : goal.returns-in_default-clause-ends
+returns-in_default-clause-ends g c db late now at clean =
+    let none : tenant_of_token (tables_of db).tokens c.args.digest.now ≡ None = sym (c.in_ok-tenant.ensures.found db at.pending at.stands clean) ∙ c.in_default.is in
+    ends_still g.S.Store c.tenant_of_token.new.conn db late (Networks c.args.digest.now) (λ answer. answer ≡ UnknownToken) UnknownToken (at_read g.S.Store c.args.conn.now c.tenant_of_token.new.conn db late (c.tenant_of_token.ensures.stands db) at) refl
+    (nobody_lists (tables_of db) at.consistent c.args.digest.now none) clean
+
+pub returns-in_err-networks-clause-ends : goal.returns-in_err-networks-clause-ends
+returns-in_err-networks-clause-ends g c db late now at =
+    let event = Networks c.args.digest.now in
+    late_ends g.S.Store g.R.Render.shown c.added_networks.new.conn db late event now c.from_residual-in_err-networks.result c.in_err-networks.field-0.0 c.from_residual-in_err-networks.ensures.1
+    (at_more g.S.Store c.added_networks.new.conn db late event (at_read g.S.Store c.args.conn.now c.added_networks.new.conn db late (λ pending stood. c.added_networks.ensures.stands db pending (c.tenant_of_token.ensures.stands db pending stood)) at))
+
+pub returns-in_err-text-clause-ends : goal.returns-in_err-text-clause-ends
+returns-in_err-text-clause-ends g c db late now at =
+    let event = Networks c.args.digest.now in
+    late_ends g.S.Store g.R.Render.shown c.added_networks.new.conn db late event now c.from_residual-in_err-text.result NoMemory c.from_residual-in_err-text.ensures.1
+    (at_more g.S.Store c.added_networks.new.conn db late event (at_read g.S.Store c.args.conn.now c.added_networks.new.conn db late (λ pending stood. c.added_networks.ensures.stands db pending (c.tenant_of_token.ensures.stands db pending stood)) at))
+
+pub returns-clause-ends : goal.returns-clause-ends
+returns-clause-ends g c db late now at clean =
+    let event = Networks c.args.digest.now in
+    let mid = c.tenant_of_token.ensures.stands db at.pending at.stands in
+    let here = at_read g.S.Store c.args.conn.now c.added_networks.new.conn db late (λ pending stood. c.added_networks.ensures.stands db pending (c.tenant_of_token.ensures.stands db pending stood)) at in
+    let known : tenant_of_token (tables_of db).tokens c.args.digest.now ≡ Some c.in-Some.tenant = sym (c.in_ok-tenant.ensures.found db at.pending at.stands (c.added_networks.ensures.clean clean)) ∙ c.in-Some.is in
+    let listed = c.as_slice.ensures.value ∙ c.in_ok-networks.ensures.listed db at.pending mid at.consistent clean in
+    ends_still g.S.Store c.added_networks.new.conn db late event (IsShown g.R.Render.shown now c.in_ok-text.text.items) (Listed (seen_by (tables_of db) c.in-Some.tenant)) here
+    (ap Some (ap (λ ns. g.R.Render.shown (OfNetworks ns)) (sym listed) ∙ sym c.in_ok-text.ensures))
+    (holder_lists (tables_of db) at.consistent c.args.digest.now c.in-Some.tenant known) clean

@@ -1,0 +1,102 @@
+//! The list of a tenant's networks.
+ghost use Rattle.std.specs.Prelude.{◌≡◌, ℕ, List, map, false, IfOk, OnOk};
+ghost use Rattle.sqlite.specs.Effect.{Database};
+ghost use Rattle.sqlite.specs.State.{HasCleanDisk};
+ghost use Rattle.sqlite.specs.Held.{state};
+ghost use Rattle.wgr_model.specs.Listing.{put_entry};
+ghost use Rattle.wgr_model.specs.RowLaws.{AreConsistent};
+ghost use Rattle.wgr_model.specs.Steps.{Event, Networks};
+ghost use Rattle.wgr_tables.specs.Decode.{network_in, tables_of};
+ghost use Rattle.wgr_tables.specs.Lookups.{settled};
+ghost use Rattle.wgr_tables.specs.Standing.{Stands};
+ghost use Rattle.wgr_tables.specs.Writes.{Written};
+ghost use Rattle.wgr_register.specs.Ends.{AskEnds};
+ghost use Rattle.wgr_register.specs.Given.{as_added};
+ghost use Rattle.wgr_register.specs.Listing.{ShowNetworksOf, by_name, seen_by};
+ghost use Rattle.wgr_register.specs.Standing.{StandsAt};
+
+use crate::fault::AskFault;
+use crate::given::{Given, Render};
+use sqlite::{Alter, Connection, Row};
+use std::alloc::Global;
+use wgr_core::{Name, Network};
+use wgr_model::{Holding, put_entry};
+use wgr_sql::query;
+use wgr_tables::{Fault, number_value, read_settled, tenant_of_token};
+
+// The rows of the networks of the tenant of this id.
+fn network_rows<S: Alter>(conn: &mut Connection<S>, tenant: u32) -> Result<Vec<Row>, Fault>
+    requires idle { conn.old.in_transaction ≡ false }
+    ensures idle { conn.new.in_transaction ≡ false }
+    ensures stands { (db : Database) (pending : List Written) → Stands S.Store conn.old db pending → Stands S.Store conn.new db pending }
+    ensures clean { HasCleanDisk (state S.Store conn.new) → HasCleanDisk (state S.Store conn.old) }
+    ensures listed { (db : Database) (pending : List Written) → Stands S.Store conn.old db pending → HasCleanDisk (state S.Store conn.new)
+        → IfOk result (λ rows. ShowNetworksOf tenant (tables_of db) rows.items) }
+{
+    query(
+        conn,
+        "SELECT id, NULL, tenant, name, family, lo, length, host, port, server, capacity, next FROM network WHERE tenant = ?1",
+        &[number_value(tenant)],
+    )
+}
+
+// Puts a network in the place that its name has.
+fn put(entries: &mut Vec<(Name, Network)>, name: Name, network: Network) -> Result<(), Fault>
+    ensures { OnOk result (entries.new.items ≡ put_entry name network entries.old.items) }
+{
+    match put_entry(entries, name, network) {
+        Ok(()) => Ok(()),
+        Err(_) => Err(Fault::NoMemory),
+    }
+}
+
+// The networks of these rows in the order of their names, as they were added.
+fn entries_in(alloc: Global, rows: &[Row]) -> Result<Vec<(Name, Network)>, Fault>
+    ensures { IfOk result (λ entries. entries.items ≡ by_name (map (λ r. settled (network_in r)) rows.now)) }
+{
+    let mut entries = Vec::new(alloc);
+    let mut rest = rows.len();
+    while rest > 0 {
+        rest -= 1;
+        let Holding { name, network, .. } = read_settled(alloc, &rows[rest])?;
+        put(&mut entries, name, network)?;
+    }
+    Ok(entries)
+}
+
+// The networks of the tenant of this id, as they were added. Their peers aren't read.
+fn added_networks<S: Alter>(
+    alloc: Global,
+    conn: &mut Connection<S>,
+    tenant: u32,
+) -> Result<Vec<(Name, Network)>, Fault>
+    requires idle { conn.old.in_transaction ≡ false }
+    ensures idle { conn.new.in_transaction ≡ false }
+    ensures stands { (db : Database) (pending : List Written) → Stands S.Store conn.old db pending → Stands S.Store conn.new db pending }
+    ensures clean { HasCleanDisk (state S.Store conn.new) → HasCleanDisk (state S.Store conn.old) }
+    ensures listed { (db : Database) (pending : List Written) → Stands S.Store conn.old db pending → AreConsistent (tables_of db) → HasCleanDisk (state S.Store conn.new)
+        → IfOk result (λ networks. networks.items ≡ map as_added (seen_by (tables_of db) tenant)) }
+{
+    let rows = network_rows(conn, tenant)?;
+    entries_in(alloc, rows.as_slice())
+}
+
+// The text of the list of the networks that the tenant of the token has.
+pub(crate) fn networks<S: Alter, R: Render>(
+    alloc: Global,
+    conn: &mut Connection<S>,
+    digest: &[u8; 32],
+    render: &R,
+) -> Result<Vec<u8>, AskFault>
+    requires idle { conn.old.in_transaction ≡ false }
+    ensures idle { conn.new.in_transaction ≡ false }
+    ensures clean { HasCleanDisk (state S.Store conn.new) → HasCleanDisk (state S.Store conn.old) }
+    ensures ends { (db : Database) (late : List Event) (now : ℕ) → StandsAt S.Store conn.old db late → AskEnds S.Store R.shown conn.new db late (Networks digest.now) now result }
+{
+    let Some(tenant) = tenant_of_token(conn, digest)? else {
+        return Err(AskFault::UnknownToken);
+    };
+    let networks = added_networks(alloc, conn, tenant)?;
+    let text = render.given(alloc, Given::Networks(networks.as_slice()))?;
+    Ok(text)
+}
