@@ -72,6 +72,10 @@ module _ {S : Type 0} (g : Ghosts S) where
   pub at_more : (conn : Held S) (db : Database) (late : List Event) (event : Event) → StandsAt g conn db late → StandsAt g conn db (event ∷ late)
   at_more conn db late event at = record { pending = at.pending; stands = at.stands; consistent = at.consistent; steps = steps_more (tables_of db) at.pending late event at.steps }
 
+  -- a reading
+  pub ends_still : (conn : Held S) (db : Database) (late : List Event) (event : Event) (P : Answer → Type 0) (answer : Answer) → StandsAt g conn db late → P answer → IsRowStep (tables_of db) event answer (tables_of db) → EndsWith g conn db late event P
+  ends_still conn db late event P answer at holds step clean = (answer, holds, db, step, inr (refl, at))
+
   still_if : (conn : Held S) (db : Database) (late : List Event) (event : Event) (answer : Answer) → conn.in_transaction ≡ false → IsRegister db → AreConsistent (tables_of db)
       → (HasCleanDisk (state g conn) → EndsStill g conn db late event answer) → EndsStill g conn db late event answer
   still_if conn db late event answer idle good consistent ends = (at_if conn db late idle good consistent (λ clean. (ends clean).0), λ clean. (ends clean).1 clean)
