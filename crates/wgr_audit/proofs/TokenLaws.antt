@@ -1,5 +1,5 @@
 -- Rows of tokens that pass the tests are those of consistent tokens.
-use Rattle.std.proofs.Common.{◌≡◌, ◌≤◌, ◌↔◌, ℕ, ℤ, pos, List, [], ◌∷◌, length, map, true, false, nat_eq, refl, sym, ap, subst, ◌∙◌, inl, inr, true≢false}
+use Rattle.std.proofs.Common.{◌≡◌, ◌≤◌, ◌↔◌, ℕ, ℤ, pos, List, [], ◌∷◌, map, true, false, nat_eq, refl, sym, ap, subst, ◌∙◌, inl, inr, true≢false}
 use Rattle.std.specs.List.{IsDistinct, list_any}
 use Rattle.std.specs.Ordering.{int_eq}
 use Rattle.std.proofs.lemmas.Bool.{false_from_ne_true}
