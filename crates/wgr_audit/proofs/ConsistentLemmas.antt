@@ -25,7 +25,7 @@ use Rattle.wgr_audit.specs.Fields.{IsNameAt}
 use Rattle.wgr_audit.specs.TenantRows.{AreGoodTenants, IsTenantRow}
 use Rattle.wgr_audit.specs.Laws.{AreConsistentTenants}
 
-here_too : {X : Type 0} (xs : List X) (x : X) → Has xs x → model.Has xs x
+pub here_too : {X : Type 0} (xs : List X) (x : X) → Has xs x → model.Has xs x
 here_too [] x here = absurd here
 here_too (y ∷ xs) x (inl same) = inl (sym same)
 here_too (y ∷ xs) x (inr later) = inr (here_too xs x later)
@@ -57,7 +57,7 @@ there rows good =
     }
 
 module _ (db : Database) (laid : IsLaidOut db.schema) (database : IsDatabase db) where
-  sound : IsDatabase (record { schema = schema_with laid.others; trees = db.trees })
+  pub sound : IsDatabase (record { schema = schema_with laid.others; trees = db.trees })
   sound = subst (λ s. IsDatabase (record { schema = s; trees = db.trees })) laid.schema_is database
 
   named : AreConsistentTenants (db.trees 1) → (r : Row) → Has (db.trees 1) r → IsNameAt r 2

@@ -15,7 +15,7 @@ use Rattle.wgr_audit.specs.Fields.{IsNameAt}
 use Rattle.wgr_audit.specs.TenantRows.{AreIdsOf, HaveOwnIds, HaveOwnNames, IsTenantRow, Lists, tenant_values, name_values}
 use Rattle.wgr_audit.proofs.KeyLemmas.{each_there, each_back, keys_same, apart_there, apart_back, keys_sorted}
 
-as_naturals : (m n : ℕ) → int_cmp (pos m) (pos n) ≡ nat_cmp m n
+pub as_naturals : (m n : ℕ) → int_cmp (pos m) (pos n) ≡ nat_cmp m n
 as_naturals m n = grind (arith)
 
 module _ (table rows : List Row) (l : Lists tenant_values 0 table rows) where

@@ -1,4 +1,5 @@
 pub mod Fields
 pub mod Layouts
 pub mod TenantRows
+pub mod TokenRows
 pub mod Laws

@@ -1,7 +1,11 @@
 //! Values of the program, read from the places of a row, if they stand there.
-ghost use Rattle.std.specs.Prelude.{◌≡◌, IfOk, IfSome, IfNone};
+ghost use Rattle.std.specs.Prelude.{◌≡◌, ◌<◌, IfOk, IfSome, IfNone};
+ghost use Rattle.std.specs.List.{AllByRecursion};
+ghost use Rattle.sqlite_value.specs.Order.{column};
+ghost use Rattle.sqlite_rules.specs.Edit.{id_in};
+ghost use Rattle.wgr_model.specs.Consistent.{IsDigest};
 ghost use Rattle.wgr_tables.specs.Decode.{number_at, bytes_at};
-ghost use Rattle.wgr_audit.specs.Fields.{IsIdAt, IsNameAt};
+ghost use Rattle.wgr_audit.specs.Fields.{IsDigestAt, IsIdAt, IsIntegerAt, IsNameAt};
 
 use sqlite::Row;
 use sqlite::types::ValueRef;
@@ -35,4 +39,45 @@ pub(crate) fn name_at(alloc: Global, row: &Row, at: usize) -> Result<Option<Name
         Ok(found) => Ok(found),
         Err(_) => Err(Fault::NoMemory),
     }
+}
+
+// A byte is below 256.
+fn tell_bytes(bytes: &[u8])
+    ensures { AllByRecursion (λ b. b < 256) bytes.now }
+{}
+
+/// The digest that has these bytes.
+fn digest_of(bytes: &[u8]) -> Option<[u8; 32]>
+    ensures some { IfSome result (λ digest. IsDigest bytes.now × (digest ≡ bytes.now)) }
+    ensures none { IfNone result (IsDigest bytes.now → ⊥) }
+{
+    tell_bytes(bytes);
+    if bytes.len() != 32 {
+        return None;
+    }
+    let mut digest = [0; 32];
+    digest.copy_from_slice(bytes);
+    Some(digest)
+}
+
+/// The digest at this place.
+pub(crate) fn digest_at(row: &Row, at: usize) -> Option<[u8; 32]>
+    ensures some { IfSome result (λ digest. IsDigestAt row.now at × (digest ≡ bytes_at row.now at)) }
+    ensures none { IfNone result (IsDigestAt row.now at → ⊥) }
+{
+    let Ok(ValueRef::Blob(bytes)) = row.get_ref(at) else {
+        return None;
+    };
+    digest_of(bytes)
+}
+
+/// The integer at this place.
+pub(crate) fn integer_at(row: &Row, at: usize) -> Option<i64>
+    ensures some { IfSome result (λ number. IsIntegerAt row.now at × (number ≡ id_in (column row.now at))) }
+    ensures none { IfNone result (IsIntegerAt row.now at → ⊥) }
+{
+    let Ok(ValueRef::Int(number)) = row.get_ref(at) else {
+        return None;
+    };
+    Some(number)
 }

@@ -1,0 +1,12 @@
+use Rattle.sqlite.specs.Held.{state}
+use Rattle.wgr_sql.proofs.ResultLemmas.{if_both}
+use Rattle.wgr_audit.proofs.TokenLemmas.{owned, owned_back, owners_sorted}
+use Rattle.wgr_audit.proofs.tokens.have_owners.Goals as goal
+
+pub returns-clause-told : goal.returns-clause-told
+returns-clause-told g c clean laid rise =
+    let table = (state g.S.Store c.args.conn.now).now.trees 3 in
+    let rows = c.in_ok-rows.rows.items in
+    let listed = c.in_ok-rows.ensures.listed clean laid in
+    if_both c.are_owned.result _ _ _ (λ is so only. (listed.0, ((λ told. owned table rows listed.1 c.args.ids.now (so told)), (λ own. let back = owned_back table rows listed.1 c.args.ids.now own in only rise (owners_sorted table rows listed.1 c.args.ids.now back) back))))
+    (rw c.as_slice.ensures.value at c.are_owned.ensures.is) (rw c.as_slice.ensures.value at c.are_owned.ensures.only)
