@@ -10,6 +10,7 @@
 //! where `TOKEN` is the byte that a digest repeats. Answers are written as `shown.rt` says, and
 //! networks are answered by their names.
 mod orders;
+mod stored;
 mod worlds;
 
 use crate::fixtures::{byte, capacity, host, key, number, port};
@@ -114,7 +115,9 @@ fn event(rt: &(impl Abort + AllocGlobal), now: u64, line: &str) -> Event {
         "networks" => Event::Networks {
             digest: digest(rt, rest),
         },
-        "list" | "add" | "route" => ask(rt, now, kind, rest),
+        "list" | "add" | "route" | "revoke" | "owner" | "server" | "file" => {
+            ask(rt, now, kind, rest)
+        }
         _ => Event::Order(order(rt, kind, rest)),
     }
 }
