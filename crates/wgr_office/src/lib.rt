@@ -4,9 +4,14 @@
 //! takes no memory. What a request asks is read by the crate below, `wgr_request`.
 #![tactic(auto)]
 
+mod answer;
+mod office;
+mod pages;
 mod refused;
 mod response;
 #[cfg(test)]
 mod tests;
 
+pub use answer::Answer;
+pub use office::Office;
 pub use response::{Response, unavailable, write_response};

@@ -1,0 +1,68 @@
+-- From how an ask ends to what is answered.
+use Rattle.std.proofs.Common.{◌≡◌, ◌⊎◌, ℕ, List, ◌∷◌, Option, Some, None, Result, Ok, Err, option_map, refl, sym, subst, inl, inr}
+use Rattle.std.specs.Prelude.{IfOk}
+use Rattle.std.specs.declared.vec.Vec.{Vec}
+use Rattle.std.specs.declared.alloc.Global.{Global}
+use Rattle.std.specs.declared.alloc.AllocError.{AllocError}
+use Rattle.sqlite.specs.Effect.{Database}
+use Rattle.sqlite.specs.Store.{Ghosts}
+use Rattle.sqlite.specs.Held.{Held}
+use Rattle.wgr_model.specs.Register.{Bytes}
+use Rattle.wgr_model.specs.Rows.{register_of}
+use Rattle.wgr_model.specs.Steps.{Answer, Decided, Declined, Done, Event, Listed, NoSuchNetwork, Plain, Refused, Replied, UnknownToken}
+use Rattle.wgr_model.proofs.CallLemmas.{quiet}
+use Rattle.wgr_office.specs.Pages.{IsAnswered, IsEnd, IsMade, Responds, answer_bytes, event_of, fault_page, page, page_if}
+use Rattle.wgr_office.specs.declared.answer.Answer as given
+use Rattle.wgr_office.specs.declared.answer.Answer.TheVariants as givens
+use Rattle.wgr_register.specs.Ends.{AskEnds}
+use Rattle.wgr_register.specs.Given.{GivenValue, IsShown, given_of}
+use Rattle.wgr_register.specs.Standing.{StandsAt}
+use Rattle.wgr_register.specs.declared.fault.AskFault.{AskFault}
+use Rattle.wgr_register.specs.declared.fault.AskFault.TheVariants as ask_fault
+use Rattle.wgr_register.proofs.AskLemmas.{still}
+use Rattle.wgr_register.proofs.StandLemmas.{at_more}
+use Rattle.wgr_request.specs.Request.{RequestView, Requests, refused}
+use Rattle.wgr_request.specs.declared.fault.Fault.{Fault}
+use Rattle.wgr_tables.specs.Decode.{tables_of}
+
+page_of : (o : Option GivenValue) (text : Bytes) → option_map page o ≡ Some text → text ≡ page_if o
+page_of None text is = cc
+page_of (Some given) text is = let same : page given ≡ text = cc in sym same
+
+shown_as : (now : ℕ) (answer : Answer) (text : Bytes) → IsShown page now text answer → text ≡ answer_bytes now answer
+shown_as now (Plain bytes) text is = cc
+shown_as now (Replied reply network) text is = page_of (given_of now (Replied reply network)) text is
+shown_as now (Declined why) text is = cc
+shown_as now (Listed networks) text is = page_of (given_of now (Listed networks)) text is
+shown_as now UnknownToken text is = cc
+shown_as now NoSuchNetwork text is = cc
+shown_as now Done text is = cc
+shown_as now (Refused why) text is = cc
+
+module _ {S : Type 0} (g : Ghosts S) (conn : Held S) (db : Database) (late : List Event) (now : ℕ) where
+  pub responds : (r : RequestView) (end : Result (Vec ℕ Global) AskFault) (answer : given.Answer) → IsEnd end answer → AskEnds g page conn db late (event_of now r) now end → Responds g conn db late now r answer
+  responds r (Ok bytes) answer is ends = subst (Responds g conn db late now r) (sym is) (λ clean. let e = ends clean in (e.0, shown_as now e.0 bytes.items e.1, e.2, e.3, e.4))
+  responds r (Err (ask_fault.Refused why)) (givens.Bytes bytes) is ends = λ clean. (Declined why, is, db, ends.1 clean, inr (refl, ends.0))
+  responds r (Err (ask_fault.Refused why)) givens.Unavailable is ends = at_more g conn db late (event_of now r) ends.0
+  responds r (Err (ask_fault.Refused why)) (givens.Order done) is ends = absurd is
+  responds r (Err ask_fault.UnknownToken) (givens.Bytes bytes) is ends = λ clean. (UnknownToken, is, db, ends.1 clean, inr (refl, ends.0))
+  responds r (Err ask_fault.UnknownToken) givens.Unavailable is ends = at_more g conn db late (event_of now r) ends.0
+  responds r (Err ask_fault.UnknownToken) (givens.Order done) is ends = absurd is
+  responds r (Err ask_fault.NoSuchNetwork) (givens.Bytes bytes) is ends = λ clean. (NoSuchNetwork, is, db, ends.1 clean, inr (refl, ends.0))
+  responds r (Err ask_fault.NoSuchNetwork) givens.Unavailable is ends = at_more g conn db late (event_of now r) ends.0
+  responds r (Err ask_fault.NoSuchNetwork) (givens.Order done) is ends = absurd is
+  responds r (Err (ask_fault.Fault why)) answer is ends = subst (Responds g conn db late now r) (sym is) ends
+
+  -- a request that its bytes decide
+  pub decides : (why : Fault) (digest : Option Bytes) (reply : Result (Vec ℕ Global) AllocError) (answer : given.Answer) → IsMade reply answer → IfOk reply (λ bytes. bytes.items ≡ fault_page why) → StandsAt g conn db late
+      → Responds g conn db late now (refused why digest) answer
+  decides why digest (Ok bytes) answer is made at =
+      let event = Decided digest (fault_page why) in
+      subst (Responds g conn db late now (refused why digest)) (sym is)
+      (λ clean. (Plain (fault_page why), made, db, still (tables_of db) event (Plain (fault_page why)) at.consistent (quiet (register_of (tables_of db)) event (Plain (fault_page why)) refl refl), inr (refl, at)))
+  decides why digest (Err e) answer is made at = subst (Responds g conn db late now (refused why digest)) (sym is) (at_more g conn db late (Decided digest (fault_page why)) at)
+
+  pub answered : (message : Bytes) (r : RequestView) (answer : given.Answer) → Requests message r → Responds g conn db late now r answer → IsAnswered g conn db late now message answer
+  answered message r (givens.Bytes bytes) asks ends = (r, asks, ends)
+  answered message r givens.Unavailable asks at = inr (r, asks, at)
+  answered message r (givens.Order done) asks ends = absurd ends

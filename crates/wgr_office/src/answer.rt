@@ -1,0 +1,44 @@
+//! The answers to events.
+ghost use Rattle.std.specs.Prelude.{◌≡◌};
+ghost use Rattle.wgr_office.specs.Pages.{IsEnd, IsMade};
+
+use crate::response::{Response, write_response};
+use std::alloc::{AllocError, Global};
+use wgr_register::{AskFault, Done, OrderRefusal};
+use wgr_request::Fault;
+
+/// What an event is answered.
+#[derive(Drop)]
+pub enum Answer {
+    /// The bytes of the reply to a request.
+    Bytes(Vec<u8>),
+    /// Memory or the store failed; the rows are as before.
+    Unavailable,
+    /// The order is done or refused.
+    Order(Result<Done, OrderRefusal>),
+}
+
+// The answer of a reply that was made, or not for want of memory.
+pub(crate) fn made(reply: Result<Vec<u8>, AllocError>) -> Answer
+    ensures { IsMade reply result }
+{
+    match reply {
+        Ok(bytes) => Answer::Bytes(bytes),
+        Err(_) => Answer::Unavailable,
+    }
+}
+
+// The answer of how an ask ended.
+pub(crate) fn ended(alloc: Global, asked: Result<Vec<u8>, AskFault>) -> Answer
+    ensures { IsEnd asked result }
+{
+    match asked {
+        Ok(bytes) => Answer::Bytes(bytes),
+        Err(AskFault::Refused(why)) => made(write_response(alloc, Response::Refused(why))),
+        Err(AskFault::UnknownToken) => {
+            made(write_response(alloc, Response::Fault(Fault::UnknownToken)))
+        }
+        Err(AskFault::NoSuchNetwork) => made(write_response(alloc, Response::NoSuchNetwork)),
+        Err(AskFault::Fault(_)) => Answer::Unavailable,
+    }
+}

@@ -1,0 +1,43 @@
+//! Accepted requests as replies.
+ghost use Rattle.std.specs.Prelude.{◌≡◌, IfOk};
+ghost use Rattle.wgr_office.specs.Pages.{page};
+ghost use Rattle.wgr_register.specs.Given.{OfReply};
+
+use crate::response::{Response, write_response};
+use std::alloc::{AllocError, Global};
+use wgr_core::Reply;
+use wgr_register::{Given, Render};
+
+/// Makes the whole reply of what an accepted request gives.
+pub(crate) struct Pages;
+
+impl Render for Pages {
+    ghost shown = { λ given. page given };
+
+    fn given(&self, alloc: Global, given: Given<'_>) -> Result<Vec<u8>, AllocError> {
+        match given {
+            Given::Reply(reply) => write_page(alloc, reply),
+            Given::File(file) => write_response(alloc, Response::File(file)),
+        }
+    }
+}
+
+// The reply of what a command answers. Where it allows a file, the file is given, and not it.
+fn write_page(alloc: Global, reply: &Reply) -> Result<Vec<u8>, AllocError>
+    ensures { IfOk result (λ bytes. bytes.items ≡ page (OfReply reply.now)) }
+{
+    match reply {
+        Reply::Peer(peer) => write_response(alloc, Response::Peer(peer)),
+        Reply::Revoked(number) => write_response(alloc, Response::Revoked(*number)),
+        Reply::List(peers) => write_response(alloc, Response::Peers(peers.as_slice())),
+        Reply::Owner(number) => write_response(alloc, Response::Owner(*number)),
+        Reply::Adopted { added, known } => write_response(
+            alloc,
+            Response::Adopted {
+                added: added.as_slice(),
+                known: *known,
+            },
+        ),
+        Reply::Server(_) | Reply::File { .. } => write_response(alloc, Response::File(b"")),
+    }
+}
