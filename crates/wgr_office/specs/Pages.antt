@@ -18,7 +18,7 @@ use Rattle.wgr_http.specs.declared.status_code.StatusCode.TheVariants as status
 use Rattle.wgr_office.specs.declared.answer.Answer as given
 use Rattle.wgr_office.specs.declared.answer.Answer.TheVariants as givens
 use Rattle.wgr_register.specs.Ends.{EndsWith}
-use Rattle.wgr_register.specs.Given.{GivenValue, OfFile, OfReply, given_of}
+use Rattle.wgr_register.specs.Given.{GivenValue, OfFile, OfNetworks, OfReply, given_of}
 use Rattle.wgr_register.specs.Standing.{StandsAt}
 use Rattle.wgr_register.specs.declared.fault.AskFault.{AskFault}
 use Rattle.wgr_register.specs.declared.fault.AskFault.TheVariants as ask_fault
@@ -36,6 +36,7 @@ given_shown (OfReply (reply.Adopted added known)) = done (json (adopted_data add
 given_shown (OfReply (reply.Server form)) = done (text [])
 given_shown (OfReply (reply.File number form)) = done (text [])
 given_shown (OfFile file) = done (text file)
+given_shown (OfNetworks networks) = done (json (networks_data networks))
 
 abbrev pub page : GivenValue → Bytes
 page given = shown_bytes (given_shown given)

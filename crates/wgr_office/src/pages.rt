@@ -18,6 +18,7 @@ impl Render for Pages {
         match given {
             Given::Reply(reply) => write_page(alloc, reply),
             Given::File(file) => write_response(alloc, Response::File(file)),
+            Given::Networks(networks) => write_response(alloc, Response::Networks(networks)),
         }
     }
 }
