@@ -36,7 +36,7 @@ given_shown (OfReply (reply.Adopted added known)) = done (json (adopted_data add
 given_shown (OfReply (reply.Server form)) = done (text [])
 given_shown (OfReply (reply.File number form)) = done (text [])
 given_shown (OfFile file) = done (text file)
-given_shown (OfNetworks networks) = done (json (networks_data networks))
+given_shown (OfNetworks listed) = done (json (networks_data listed))
 
 abbrev pub page : GivenValue → Bytes
 page given = shown_bytes (given_shown given)

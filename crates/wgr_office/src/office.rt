@@ -85,6 +85,9 @@ fn respond<S: Alter>(
             digest,
             name,
             command,
-        } => ended(alloc, register.ask(alloc, &digest, name, now, &command, &Pages)),
+        } => ended(
+            alloc,
+            register.ask(alloc, &digest, name, now, &command, &Pages),
+        ),
     }
 }

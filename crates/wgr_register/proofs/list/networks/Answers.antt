@@ -15,10 +15,12 @@ returns-in_err-tenant-clause-ends g c db late now at =
     (at_more g.S.Store c.tenant_of_token.new.conn db late event (at_read g.S.Store c.args.conn.now c.tenant_of_token.new.conn db late (c.tenant_of_token.ensures.stands db) at))
 
 pub returns-in_default-clause-ends : goal.returns-in_default-clause-ends
-returns-in_default-clause-ends g c db late now at =
-    (at_read g.S.Store c.args.conn.now c.tenant_of_token.new.conn db late (c.tenant_of_token.ensures.stands db) at, λ clean.
-    let none : tenant_of_token (tables_of db).tokens c.args.digest.now ≡ None = sym (c.in_ok-tenant.ensures.found db at.pending at.stands clean) ∙ c.in_default.is in
-    nobody_lists (tables_of db) at.consistent c.args.digest.now none)
+returns-in_default-clause-ends g c db late now at = (
+  at_read g.S.Store c.args.conn.now c.tenant_of_token.new.conn db late (c.tenant_of_token.ensures.stands db) at,
+  λ clean.
+      let none : tenant_of_token (tables_of db).tokens c.args.digest.now ≡ None = sym (c.in_ok-tenant.ensures.found db at.pending at.stands clean) ∙ c.in_default.is in
+      nobody_lists (tables_of db) at.consistent c.args.digest.now none,
+)
 
 pub returns-in_err-networks-clause-ends : goal.returns-in_err-networks-clause-ends
 returns-in_err-networks-clause-ends g c db late now at =
