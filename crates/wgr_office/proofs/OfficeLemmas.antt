@@ -1,5 +1,5 @@
 -- From how an ask ends to what is answered.
-use Rattle.std.proofs.Common.{◌≡◌, ◌⊎◌, ℕ, List, ◌∷◌, Option, Some, None, Result, Ok, Err, option_map, refl, sym, subst, inl, inr}
+use Rattle.std.proofs.Common.{◌≡◌, ℕ, List, Option, Some, None, Result, Ok, Err, option_map, refl, sym, subst, inr}
 use Rattle.std.specs.Prelude.{IfOk}
 use Rattle.std.specs.declared.vec.Vec.{Vec}
 use Rattle.std.specs.declared.alloc.Global.{Global}
@@ -11,7 +11,7 @@ use Rattle.wgr_model.specs.Register.{Bytes}
 use Rattle.wgr_model.specs.Rows.{register_of}
 use Rattle.wgr_model.specs.Steps.{Answer, Decided, Declined, Done, Event, Listed, NoSuchNetwork, Plain, Refused, Replied, UnknownToken}
 use Rattle.wgr_model.proofs.CallLemmas.{quiet}
-use Rattle.wgr_office.specs.Pages.{IsAnswered, IsEnd, IsMade, Responds, answer_bytes, event_of, fault_page, page, page_if}
+use Rattle.wgr_office.specs.Pages.{IsAnswered, IsEnd, IsMade, IsReadAs, Responds, answer_bytes, event_of, fault_page, page, page_if}
 use Rattle.wgr_office.specs.declared.answer.Answer as given
 use Rattle.wgr_office.specs.declared.answer.Answer.TheVariants as givens
 use Rattle.wgr_register.specs.Ends.{AskEnds}
@@ -21,7 +21,7 @@ use Rattle.wgr_register.specs.declared.fault.AskFault.{AskFault}
 use Rattle.wgr_register.specs.declared.fault.AskFault.TheVariants as ask_fault
 use Rattle.wgr_register.proofs.AskLemmas.{still}
 use Rattle.wgr_register.proofs.StandLemmas.{at_more}
-use Rattle.wgr_request.specs.Request.{RequestView, Requests, refused}
+use Rattle.wgr_request.specs.Request.{RequestView, refused}
 use Rattle.wgr_request.specs.declared.fault.Fault.{Fault}
 use Rattle.wgr_tables.specs.Decode.{tables_of}
 
@@ -62,7 +62,7 @@ module _ {S : Type 0} (g : Ghosts S) (conn : Held S) (db : Database) (late : Lis
       (λ clean. (Plain (fault_page why), made, db, still (tables_of db) event (Plain (fault_page why)) at.consistent (quiet (register_of (tables_of db)) event (Plain (fault_page why)) refl refl), inr (refl, at)))
   decides why digest (Err e) answer is made at = subst (Responds g conn db late now (refused why digest)) (sym is) (at_more g conn db late (Decided digest (fault_page why)) at)
 
-  pub answered : (message : Bytes) (r : RequestView) (answer : given.Answer) → Requests message r → Responds g conn db late now r answer → IsAnswered g conn db late now message answer
+  pub answered : (message : Bytes) (r : RequestView) (answer : given.Answer) → IsReadAs now message r → Responds g conn db late now r answer → IsAnswered g conn db late now message answer
   answered message r (givens.Bytes bytes) asks ends = (r, asks, ends)
   answered message r givens.Unavailable asks at = inr (r, asks, at)
   answered message r (givens.Order done) asks ends = absurd ends

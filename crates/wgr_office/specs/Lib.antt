@@ -1,3 +1,4 @@
 pub mod Refused
 pub mod Response
 pub mod Pages
+pub mod Events

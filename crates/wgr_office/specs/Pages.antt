@@ -11,7 +11,7 @@ use Rattle.wgr_core.specs.declared.reply.Reply.TheVariants as reply
 use Rattle.wgr_json.specs.Bodies.{adopted_data, networks_data, owner_data, peers_data, revoked_data}
 use Rattle.wgr_json.specs.Shown.{peer_data}
 use Rattle.wgr_model.specs.Register.{Bytes}
-use Rattle.wgr_model.specs.Steps.{Answer, Ask, Decided, Declined, Event, NoSuchNetwork, Networks, Plain, UnknownToken}
+use Rattle.wgr_model.specs.Steps.{Answer, Ask, Decided, Declined, Event, NoSuchNetwork, Networks, Plain, UnknownToken, IsProper}
 use Rattle.wgr_office.specs.Refused.{refusal_facts, refusal_name, refusal_status}
 use Rattle.wgr_office.specs.Response.{Shown, done, fault_shown, json, plain, problem, shown_bytes, text}
 use Rattle.wgr_http.specs.declared.status_code.StatusCode.TheVariants as status
@@ -70,12 +70,17 @@ answer_bytes now UnknownToken = fault_page fault.UnknownToken
 answer_bytes now NoSuchNetwork = nowhere_page
 answer_bytes now answer = page_if (given_of now answer)
 
+-- the message is this request, and what it asks is of the forms that the types of its fields keep
+pub record IsReadAs (now : ℕ) (message : Bytes) (r : RequestView) : Type 0 where
+  pub asks : Requests message r
+  pub proper : IsProper (event_of now r)
+
 -- The bytes are those of the answer of a step for the request that the message is; or the request is
 -- answered Unavailable, the rows are as they were, and a stop may leave it done.
 abbrev pub IsAnswered : {S : Type 0} → Ghosts S → Held S → Database → List Event → ℕ → Bytes → given.Answer → Type 0
-IsAnswered g conn db late now message (givens.Bytes bytes) = (r : RequestView) × Requests message r × EndsWith g conn db late (event_of now r) (λ answer. bytes.items ≡ answer_bytes now answer)
+IsAnswered g conn db late now message (givens.Bytes bytes) = (r : RequestView) × IsReadAs now message r × EndsWith g conn db late (event_of now r) (λ answer. bytes.items ≡ answer_bytes now answer)
 IsAnswered g conn db late now message (givens.Order done) = ⊥
-IsAnswered g conn db late now message givens.Unavailable = StandsAt g conn db late ⊎ ((r : RequestView) × Requests message r × StandsAt g conn db (event_of now r ∷ late))
+IsAnswered g conn db late now message givens.Unavailable = StandsAt g conn db late ⊎ ((r : RequestView) × IsReadAs now message r × StandsAt g conn db (event_of now r ∷ late))
 
 -- so for what is asked
 abbrev pub Responds : {S : Type 0} → Ghosts S → Held S → Database → List Event → ℕ → RequestView → given.Answer → Type 0

@@ -9,9 +9,11 @@ mod office;
 mod pages;
 mod refused;
 mod response;
+mod run;
 #[cfg(test)]
 mod tests;
 
 pub use answer::Answer;
 pub use office::Office;
 pub use response::{Response, unavailable, write_response};
+pub use run::Event;

@@ -1,20 +1,24 @@
 //! Requests of tenants, from their bytes to those of the replies.
-ghost use Rattle.std.specs.Prelude.{◌≡◌, List, IfErr, IfOk};
+ghost use Rattle.std.specs.Prelude.{◌≡◌, List, length, IfErr, IfOk, OnErr};
 ghost use Rattle.sqlite.specs.Effect.{Database};
 ghost use Rattle.sqlite.specs.State.{HasCleanDisk};
 ghost use Rattle.sqlite.specs.Held.{state};
-ghost use Rattle.wgr_model.specs.Steps.{Event};
-ghost use Rattle.wgr_office.specs.Pages.{IsAnswered, Responds};
+ghost use Rattle.wgr_model.specs.Steps.{Event, IsProper};
+ghost use Rattle.wgr_model.specs.Calls.{order_event};
+ghost use Rattle.wgr_office.specs.Events.{HasRun};
+ghost use Rattle.wgr_register.specs.Ends.{OrderEnds};
+ghost use Rattle.wgr_office.specs.Pages.{IsAnswered, Responds, event_of};
 ghost use Rattle.wgr_register.specs.Standing.{StandsAt};
 ghost use Rattle.wgr_request.specs.Request.{request_view};
 
 use crate::answer::{Answer, ended, made};
 use crate::pages::Pages;
 use crate::response::{Response, write_response};
+use crate::run;
 use sqlite::Alter;
-use std::alloc::Global;
+use std::alloc::{AllocError, Global};
 use std::marker::Model;
-use wgr_register::Register;
+use wgr_register::{Done, Order, OrderFault, Register};
 use wgr_request::{Paths, Request, request_of};
 
 /// Answers the requests of tenants over a register.
@@ -66,6 +70,29 @@ impl<S: Alter> Office<S> {
             Err(_) => Answer::Unavailable,
         }
     }
+
+    /// Does an order of the operator, or refuses it.
+    pub(crate) fn operate(&mut self, alloc: Global, order: &Order) -> Result<Done, OrderFault>
+        ensures clean { HasCleanDisk (state S.Store self.new) → HasCleanDisk (state S.Store self.old) }
+        ensures ends { (db : Database) (late : List Event) → StandsAt S.Store self.old db late → OrderEnds S.Store self.new db late (order_event order.now) result }
+    {
+        self.register.operate(alloc, order)
+    }
+
+    /// Answers all events in turn, each in its place. Where there is no memory for the answers, none is
+    /// done.
+    ///
+    /// Each tenant has the answers, byte for byte, and in the end the rows that its own requests and the
+    /// accepted orders about it give on its own rows alone, requests answered `Unavailable` left out; and
+    /// no two peers hold one address.
+    pub fn run(&mut self, alloc: Global, events: &[run::Event]) -> Result<Vec<Answer>, AllocError>
+        ensures each { IfOk result (λ answers. length answers.items ≡ length events.now) }
+        ensures clean { HasCleanDisk (state S.Store self.new) → HasCleanDisk (state S.Store self.old) }
+        ensures run { IfOk result (λ answers. (db : Database) (late : List Event) → StandsAt S.Store self.old db late → HasCleanDisk (state S.Store self.new) → HasRun S.Store self.new db late events.now answers.items) }
+        ensures undone { OnErr result (self.new ≡ self.old) }
+    {
+        run::run(alloc, self, events)
+    }
 }
 
 // The answer to what is asked at this moment.
@@ -76,6 +103,7 @@ fn respond<S: Alter>(
     request: Request<'_>,
 ) -> Answer
     ensures clean { HasCleanDisk (state S.Store register.new) → HasCleanDisk (state S.Store register.old) }
+    ensures proper { IsProper (event_of now (request_view request.entry)) }
     ensures responds { (db : Database) (late : List Event) → StandsAt S.Store register.old db late → Responds S.Store register.new db late now (request_view request.entry) result }
 {
     match request {
@@ -85,9 +113,12 @@ fn respond<S: Alter>(
             digest,
             name,
             command,
-        } => ended(
-            alloc,
-            register.ask(alloc, &digest, name, now, &command, &Pages),
-        ),
+        } => {
+            command.tell_forms();
+            ended(
+                alloc,
+                register.ask(alloc, &digest, name, now, &command, &Pages),
+            )
+        }
     }
 }

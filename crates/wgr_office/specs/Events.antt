@@ -1,0 +1,119 @@
+-- Lists of events, and what a run of them has given, in the words of the model.
+use Rattle.std.specs.Prelude.{◌≡◌, ◌⊎◌, List, [], ◌∷◌, Option, Some, None, Result, Ok, Err, ⊤}
+use Rattle.sqlite.specs.Effect.{Database}
+use Rattle.sqlite.specs.Store.{Ghosts}
+use Rattle.sqlite.specs.Held.{Held}
+use Rattle.wgr_model.specs.Calls.{order_event, refusal_of}
+use Rattle.wgr_model.specs.Register.{Bytes}
+use Rattle.wgr_model.specs.RowLaws.{HasOneRow, IsRowRun, IsRowStep, rows_view}
+use Rattle.wgr_model.specs.Rows.{Tables}
+use Rattle.wgr_model.specs.Runs.{AreProper, Served, acknowledged}
+use Rattle.wgr_model.specs.Steps.{Answer, Decided, Done, Event, IsProper, Refused}
+use Rattle.wgr_model.specs.Tenants.{tenant_run}
+use Rattle.wgr_office.specs.Pages.{answer_bytes, event_of}
+use Rattle.wgr_office.specs.declared.answer.Answer as given
+use Rattle.wgr_office.specs.declared.answer.Answer.TheVariants as givens
+use Rattle.wgr_office.specs.declared.run.Event as event
+use Rattle.wgr_office.specs.declared.run.Event.TheVariants as events
+use Rattle.wgr_register.specs.Standing.{StandsAt}
+use Rattle.wgr_register.specs.declared.fault.Done as done
+use Rattle.wgr_register.specs.declared.fault.OrderFault.{OrderFault}
+use Rattle.wgr_register.specs.declared.fault.OrderFault.TheVariants as order_fault
+use Rattle.wgr_request.specs.Request.{RequestView, Requests}
+use Rattle.wgr_tables.specs.Decode.{tables_of}
+
+-- ---- events and answers
+
+-- a request that memory could not read asks nothing
+abbrev pub unread : Event
+unread = Decided None []
+
+-- what is given is the model's answer: to a request its bytes, to an order an order's answer
+abbrev pub IsAnswerTo : event.Event → given.Answer → Answer → Type 0
+IsAnswerTo (events.Ask now bytes) (givens.Bytes reply) answer = reply.items ≡ answer_bytes now answer
+IsAnswerTo (events.Order order) (givens.Order (Ok done)) answer = answer ≡ Done
+IsAnswerTo (events.Order order) (givens.Order (Err why)) answer = answer ≡ Refused (refusal_of why)
+IsAnswerTo event given answer = ⊥
+
+-- the event is that of the bytes, or of the order; it has an answer, or is answered Unavailable
+abbrev pub Serves : event.Event → given.Answer → Event → Option Answer → Type 0
+Serves (events.Ask now bytes) givens.Unavailable e None = (e ≡ unread) ⊎ ((r : RequestView) × Requests bytes.items r × (e ≡ event_of now r))
+Serves (events.Ask now bytes) given e (Some answer) = (r : RequestView) × Requests bytes.items r × (e ≡ event_of now r) × IsAnswerTo (events.Ask now bytes) given answer
+Serves (events.Order order) givens.Unavailable e None = e ≡ order_event order
+Serves (events.Order order) given e (Some answer) = (e ≡ order_event order) × IsAnswerTo (events.Order order) given answer
+Serves event given e answer = ⊥
+
+-- one answer for each event
+abbrev pub AreServed : List event.Event → List given.Answer → List Served → Type 0
+AreServed [] [] [] = ⊤
+AreServed (event ∷ events) (given ∷ answers) (s ∷ served) = Serves event given s.0 s.1 × AreServed events answers served
+AreServed events answers served = ⊥
+
+-- ---- the rows along them
+
+-- From the rows of one database to those of another by an event. A stop may leave those events done
+-- that were answered Unavailable since the last acknowledged one that changed a row: the last two lists.
+abbrev pub Goes : Database → List Event → Event → Option Answer → Database → List Event → Type 0
+Goes db late e None next left = (next ≡ db) × ((left ≡ late) ⊎ (left ≡ e ∷ late))
+Goes db late e (Some answer) next left = IsRowStep (tables_of db) e answer (tables_of next) × ((left ≡ []) ⊎ ((next ≡ db) × (left ≡ late)))
+
+-- and by all of them in turn
+abbrev pub GoesAll : Database → List Event → List Served → Database → List Event → Type 0
+GoesAll db late [] next left = (next ≡ db) × (left ≡ late)
+GoesAll db late (s ∷ served) next left = (mid : Database) × (between : List Event) × Goes db late s.0 s.1 mid between × GoesAll mid between served next left
+
+-- one event was served at a register that stood at these rows
+pub record IsServed {S : Type 0} (g : Ghosts S) (conn : Held S) (db : Database) (late : List Event) (event : event.Event) (given : given.Answer) : Type 0 where
+  pub e : Event
+  pub answer : Option Answer
+  pub serves : Serves event given e answer
+  pub proper : IsProper e
+  pub next : Database
+  pub left : List Event
+  pub goes : Goes db late e answer next left
+  pub stands : StandsAt g conn next left
+
+-- these events were served in turn, one answer for each
+pub record HaveBeenServed {S : Type 0} (g : Ghosts S) (conn : Held S) (db : Database) (late : List Event) (asked : List event.Event) (answers : List given.Answer) : Type 0 where
+  pub served : List Served
+  pub told : AreServed asked answers served
+  pub proper : AreProper served
+  pub next : Database
+  pub left : List Event
+  pub goes : GoesAll db late served next left
+  pub stands : StandsAt g conn next left
+
+-- ---- the main theorem
+
+-- an answer that a tenant alone has is the one that was given: of a request, byte for byte
+abbrev pub Tells : event.Event → given.Answer → Option Answer → Type 0
+Tells event given None = ⊤
+Tells event given (Some answer) = IsAnswerTo event given answer
+
+-- and so at each place of the list, those answered Unavailable left out
+abbrev pub AgreeAsGiven : List event.Event → List given.Answer → List (Option Answer) → Type 0
+AgreeAsGiven [] [] [] = ⊤
+AgreeAsGiven (event ∷ events) (givens.Unavailable ∷ answers) alone = AgreeAsGiven events answers alone
+AgreeAsGiven (event ∷ events) (given ∷ answers) (a ∷ alone) = Tells event given a × AgreeAsGiven events answers alone
+AgreeAsGiven events answers alone = ⊥
+
+-- For every tenant, the answers to its requests and its rows at the end are those that its own
+-- requests and the accepted orders about it give on its own rows alone, requests answered
+-- Unavailable left out; and no two peers hold one address.
+pub record AreApart (rows : Tables) (asked : List event.Event) (answers : List given.Answer) (served : List Served) (after : Tables) : Type 0 where
+  pub answered : (tenant : Bytes) → AgreeAsGiven asked answers (tenant_run tenant (rows_view rows tenant) (acknowledged served)).0
+  pub views : (tenant : Bytes) → (tenant_run tenant (rows_view rows tenant) (acknowledged served)).1 ≡ rows_view after tenant
+  pub holders : HasOneRow after
+
+-- A run of the events on a register that stood at these rows: one answer for each event, a chain of
+-- steps from rows to rows, each tenant apart, and where the register stands after it.
+pub record HasRun {S : Type 0} (g : Ghosts S) (conn : Held S) (db : Database) (late : List Event) (asked : List event.Event) (answers : List given.Answer) : Type 0 where
+  pub all : HaveBeenServed g conn db late asked answers
+  pub run : IsRowRun (tables_of db) all.served (tables_of all.next)
+  pub apart : AreApart (tables_of db) asked answers all.served (tables_of all.next)
+
+-- what becomes of an order
+abbrev pub IsSettled : Result done.Done OrderFault → given.Answer → Type 0
+IsSettled (Ok done) given = given ≡ givens.Order (Ok done)
+IsSettled (Err (order_fault.Refused why)) given = given ≡ givens.Order (Err why)
+IsSettled (Err (order_fault.Fault why)) given = given ≡ givens.Unavailable
