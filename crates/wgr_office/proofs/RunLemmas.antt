@@ -1,7 +1,9 @@
 -- A run grows at its end.
 use Rattle.std.proofs.Common.{◌≡◌, ◌⊎◌, ℕ, List, [], ◌∷◌, ◌++◌, Option, Some, None, Result, Ok, Err, refl, sym, ap, subst, inl, inr}
+use Rattle.std.specs.Prelude.{IfOk}
 use Rattle.std.specs.declared.vec.Vec.{Vec}
 use Rattle.std.specs.declared.alloc.Global.{Global}
+use Rattle.std.specs.declared.alloc.AllocError.{AllocError}
 use Rattle.sqlite.specs.Effect.{Database}
 use Rattle.sqlite.specs.State.{HasCleanDisk}
 use Rattle.sqlite.specs.Store.{Ghosts}
@@ -20,7 +22,7 @@ use Rattle.wgr_office.specs.declared.answer.Answer.TheVariants as givens
 use Rattle.wgr_office.specs.declared.run.Event as event
 use Rattle.wgr_office.specs.declared.run.Event.TheVariants as events
 use Rattle.wgr_register.specs.Ends.{OrderEnds}
-use Rattle.wgr_register.specs.Standing.{StandsAt}
+use Rattle.wgr_register.specs.Standing.{IsAtRest, StandsAt}
 use Rattle.wgr_register.specs.declared.fault.Done as done
 use Rattle.wgr_register.specs.declared.fault.OrderFault.{OrderFault}
 use Rattle.wgr_register.specs.declared.fault.OrderFault.TheVariants as order_fault
@@ -145,3 +147,10 @@ module _ {S : Type 0} (g : Ghosts S) (db : Database) (late : List Event) (asked 
         run = run;
         apart = record { answered = λ me. agree_given asked answers all.served _ all.told (isolated.answers me); views = isolated.views; holders = isolated.holders };
       }
+
+-- a register at rest stands somewhere
+pub at_rest : {S : Type 0} (g : Ghosts S) (old new : Held S) (asked : List event.Event) (end : Result (Vec given.Answer Global) AllocError) → IsAtRest g old → (HasCleanDisk (state g new) → HasCleanDisk (state g old))
+    → IfOk end (λ answers. (db : Database) (late : List Event) → StandsAt g old db late → HasCleanDisk (state g new) → HasRun g new db late asked answers.items)
+    → IfOk end (λ answers. HasCleanDisk (state g new) → (db : Database) × (late : List Event) × StandsAt g old db late × HasRun g new db late asked answers.items)
+at_rest g old new asked (Ok answers) rest cleans all = λ clean. let at = rest.somewhere (cleans clean) in (at.0, at.1, at.2, all at.0 at.1 at.2 clean)
+at_rest g old new asked (Err e) rest cleans all = tt

@@ -89,8 +89,10 @@ impl<S: Alter> Office<S> {
         ensures each { IfOk result (λ answers. length answers.items ≡ length events.now) }
         ensures clean { HasCleanDisk (state S.Store self.new) → HasCleanDisk (state S.Store self.old) }
         ensures run { IfOk result (λ answers. (db : Database) (late : List Event) → StandsAt S.Store self.old db late → HasCleanDisk (state S.Store self.new) → HasRun S.Store self.new db late events.now answers.items) }
+        ensures isolated { IfOk result (λ answers. HasCleanDisk (state S.Store self.new) → (db : Database) × (late : List Event) × StandsAt S.Store self.old db late × HasRun S.Store self.new db late events.now answers.items) }
         ensures undone { OnErr result (self.new ≡ self.old) }
     {
+        self.register.tell_rest();
         run::run(alloc, self, events)
     }
 }

@@ -6,7 +6,7 @@ ghost use Rattle.sqlite.specs.Held.{state};
 ghost use Rattle.wgr_model.specs.Calls.{order_event};
 ghost use Rattle.wgr_model.specs.Steps.{Ask, Event, Networks};
 ghost use Rattle.wgr_register.specs.Ends.{AskEnds, OrderEnds};
-ghost use Rattle.wgr_register.specs.Standing.{StandsAt};
+ghost use Rattle.wgr_register.specs.Standing.{IsAtRest, StandsAt};
 ghost use Rattle.wgr_sql.specs.Calls.{IsKept};
 ghost use Rattle.wgr_store.specs.Fresh.{IsFresh, is_any_taken, no_schema};
 ghost use Rattle.wgr_store.specs.declared.fault.RegisterFault.TheVariants.{NotARegister, NotEmpty, NotGood};
@@ -64,6 +64,13 @@ impl<S: Alter> Register<S> {
                 connection: conn,
             }),
         }
+    }
+
+    /// Tells the prover at what the register stands; it does nothing.
+    pub fn tell_rest(&self)
+        ensures { IsAtRest S.Store self.now }
+    {
+        let _rest = &self.conn;
     }
 
     /// The connection, as it stands.
