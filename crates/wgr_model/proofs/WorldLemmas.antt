@@ -11,7 +11,7 @@ if_false : {A : Type 0} (b : Bool) (x y : A) → b ≡ false → (if b then x el
 if_false true x y e = absurd (true≢false e)
 if_false false x y e = refl
 
-not_own : (me : Bytes) (v : View) (e : Event) (done : Bool) → is_own me v e done ≡ false → (tenant_answer v e ≡ None) × (tenant_after me v e done ≡ v)
+pub not_own : (me : Bytes) (v : View) (e : Event) (done : Bool) → is_own me v e done ≡ false → (tenant_answer v e ≡ None) × (tenant_after me v e done ≡ v)
 not_own me v (Decided None answer) done h = (refl, refl)
 not_own me v (Decided (Some digest) answer) done h = (if_false (set_.contains v.digests digest) _ _ h, refl)
 not_own me v (Ask digest name now command) done h = (if_false (set_.contains v.digests digest) _ _ h, if_false (set_.contains v.digests digest) _ _ h)

@@ -1,3 +1,4 @@
 pub mod Examples
 pub mod OfficeLemmas
 pub mod RunLemmas
+pub mod WorldLemmas

@@ -2,3 +2,4 @@ pub mod Refused
 pub mod Response
 pub mod Pages
 pub mod Events
+pub mod Worlds

@@ -5,6 +5,7 @@
 #![tactic(auto)]
 
 mod answer;
+mod laws;
 mod office;
 mod pages;
 mod refused;
@@ -14,6 +15,7 @@ mod run;
 mod tests;
 
 pub use answer::Answer;
+pub use laws::worlds_are_alike;
 pub use office::Office;
 pub use response::{Response, unavailable, write_response};
 pub use run::Event;

@@ -1,0 +1,49 @@
+-- What a tenant is given, byte for byte, in two worlds.
+use Rattle.std.specs.Prelude.{◌≡◌, List, [], ◌∷◌, Option, Some, None}
+use Rattle.wgr_model.specs.Register.{Bytes}
+use Rattle.wgr_model.specs.RowLaws.{rows_view}
+use Rattle.wgr_model.specs.Rows.{Tables}
+use Rattle.wgr_model.specs.Runs.{Served, acknowledged}
+use Rattle.wgr_model.specs.Steps.{Answer}
+use Rattle.wgr_model.specs.Tenants.{own_events, tenant_run}
+use Rattle.wgr_office.specs.Events.{AreApart, AreServed}
+use Rattle.wgr_office.specs.declared.answer.Answer as given
+use Rattle.wgr_office.specs.declared.answer.Answer.TheVariants as givens
+use Rattle.wgr_office.specs.declared.run.Event as event
+
+abbrev pub bytes_given : given.Answer → Bytes
+bytes_given (givens.Bytes bytes) = bytes.items
+bytes_given givens.Unavailable = []
+bytes_given (givens.Order done) = []
+
+-- the replies that were given where the tenant alone has an answer, those answered Unavailable left out
+abbrev pub replies_to : List given.Answer → List (Option Answer) → List Bytes
+replies_to [] alone = []
+replies_to (givens.Unavailable ∷ answers) alone = replies_to answers alone
+replies_to (given ∷ answers) [] = []
+replies_to (given ∷ answers) (None ∷ alone) = replies_to answers alone
+replies_to (given ∷ answers) (Some answer ∷ alone) = bytes_given given ∷ replies_to answers alone
+
+-- a list of events that was run on a register with these rows
+pub record World : Type 0 where
+  pub rows : Tables
+  pub asked : List event.Event
+  pub answers : List given.Answer
+  pub served : List Served
+  pub after : Tables
+
+pub record IsWorld (w : World) : Type 0 where
+  pub told : AreServed w.asked w.answers w.served
+  pub apart : AreApart w.rows w.asked w.answers w.served w.after
+
+-- the replies to a tenant in a world
+abbrev pub replies_in : Bytes → World → List Bytes
+replies_in tenant w = replies_to w.answers (tenant_run tenant (rows_view w.rows tenant) (acknowledged w.served)).0
+
+-- Two registers whose rows show a tenant one view, and on each a list of events, such that the lists
+-- agree, in order, on the events that are the tenant's own: it is given the same replies, byte for
+-- byte, and the rows at the end show it one view.
+abbrev pub WorldsAreAlike : Type 0
+WorldsAreAlike = (tenant : Bytes) (w x : World) → IsWorld w → IsWorld x → rows_view w.rows tenant ≡ rows_view x.rows tenant
+    → own_events tenant (rows_view w.rows tenant) (acknowledged w.served) ≡ own_events tenant (rows_view x.rows tenant) (acknowledged x.served)
+    → (replies_in tenant w ≡ replies_in tenant x) × (rows_view w.after tenant ≡ rows_view x.after tenant)
