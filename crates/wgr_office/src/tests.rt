@@ -10,6 +10,8 @@ use wgr_http::MessageFault;
 use wgr_request::{Fault, Field, Methods};
 use wgr_text::{Addr, Key, Prefix, read_loose};
 
+mod events;
+
 /// The text of a table: in it `@` stands for the key of 32 bytes 0x01.
 fn text_of(rt: &(impl Abort + AllocGlobal), row: &[u8]) -> Vec<u8> {
     let mut text = Vec::new(rt.alloc());
