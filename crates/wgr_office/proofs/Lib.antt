@@ -2,3 +2,4 @@ pub mod Examples
 pub mod OfficeLemmas
 pub mod RunLemmas
 pub mod WorldLemmas
+pub mod ServeLemmas

@@ -3,3 +3,4 @@ pub mod Response
 pub mod Pages
 pub mod Events
 pub mod Worlds
+pub mod Serving

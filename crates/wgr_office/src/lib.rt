@@ -11,6 +11,7 @@ mod pages;
 mod refused;
 mod response;
 mod run;
+mod serve;
 #[cfg(test)]
 mod tests;
 
@@ -19,3 +20,4 @@ pub use laws::worlds_are_alike;
 pub use office::Office;
 pub use response::{Response, unavailable, write_response};
 pub use run::Event;
+pub use serve::ServeFault;

@@ -1,11 +1,14 @@
 //! Requests of tenants, from their bytes to those of the replies.
-ghost use Rattle.std.specs.Prelude.{◌≡◌, List, length, IfErr, IfOk, OnErr};
+ghost use Rattle.std.specs.Prelude.{◌≡◌, List, length, IfErr, IfOk, OnErr, OnOk};
+ghost use Rattle.std.specs.Io.KnownBytes.{Appends};
 ghost use Rattle.sqlite.specs.Effect.{Database};
 ghost use Rattle.sqlite.specs.State.{HasCleanDisk};
 ghost use Rattle.sqlite.specs.Held.{state};
 ghost use Rattle.wgr_model.specs.Steps.{Event, IsProper};
 ghost use Rattle.wgr_model.specs.Calls.{order_event};
 ghost use Rattle.wgr_office.specs.Events.{HasRun};
+ghost use Rattle.wgr_office.specs.Serving.{IsServeFault, Takes, reply_of};
+ghost use Rattle.wgr_office.specs.declared.answer.Answer as given;
 ghost use Rattle.wgr_register.specs.Ends.{OrderEnds};
 ghost use Rattle.wgr_office.specs.Pages.{IsAnswered, Responds, event_of};
 ghost use Rattle.wgr_register.specs.Standing.{StandsAt};
@@ -15,9 +18,11 @@ use crate::answer::{Answer, ended, made};
 use crate::pages::Pages;
 use crate::response::{Response, write_response};
 use crate::run;
+use crate::serve::{self, ServeFault};
 use sqlite::Alter;
 use std::alloc::{AllocError, Global};
 use std::marker::Model;
+use wgr_io::{Read, Write};
 use wgr_register::{Done, Order, OrderFault, Register};
 use wgr_request::{Paths, Request, request_of};
 
@@ -94,6 +99,27 @@ impl<S: Alter> Office<S> {
     {
         self.register.tell_rest();
         run::run(alloc, self, events)
+    }
+
+    /// Reads a message, answers it at this moment (seconds since 1970-01-01), and writes the reply.
+    ///
+    /// Want of memory to read it is answered by the bytes of [`unavailable`](crate::unavailable).
+    pub fn serve_one<R: Read, W: Write>(
+        &mut self,
+        alloc: Global,
+        now: u64,
+        input: &mut R,
+        out: &mut W,
+    ) -> Result<(), ServeFault>
+        ensures clean { HasCleanDisk (state S.Store self.new) → HasCleanDisk (state S.Store self.old) }
+        ensures ok { OnOk result ((answer : given.Answer) × Takes S.Store self.old self.new now (R.remaining input.old) answer × Appends (W.contents out.old) (W.contents out.new) (reply_of answer)) }
+        ensures sound { OnOk result ((R.failed input.new ≡ R.failed input.old) × (W.failed out.new ≡ W.failed out.old)) }
+        ensures fault { IfErr result (λ fault. IsServeFault S.Store self.old self.new now
+            (record { input = R.remaining input.old; read_failed = R.failed input.old; written = W.contents out.old; write_failed = W.failed out.old })
+            (record { input = R.remaining input.new; read_failed = R.failed input.new; written = W.contents out.new; write_failed = W.failed out.new })
+            fault) }
+    {
+        serve::serve_one(alloc, self, now, input, out)
     }
 }
 

@@ -1,0 +1,84 @@
+//! One connection: a message is read and answered, and the reply written.
+ghost use Rattle.std.specs.Prelude.{◌≡◌, true, IfErr, IfOk, OnErr, OnOk};
+ghost use Rattle.std.specs.Io.KnownBytes.{Appends};
+ghost use Rattle.sqlite.specs.State.{HasCleanDisk};
+ghost use Rattle.sqlite.specs.Held.{state};
+ghost use Rattle.wgr_office.specs.Serving.{IsServeFault, Takes, reply_of};
+ghost use Rattle.wgr_office.specs.declared.answer.Answer as given;
+
+use crate::answer::Answer;
+use crate::office::Office;
+use crate::response::unavailable;
+use sqlite::Alter;
+use std::alloc::Global;
+use wgr_http::read_message;
+use wgr_io::{DeviceError, Read, ReadFault, Write, WriteFault, write_all};
+use wgr_request::laws::beginnings_ask;
+
+/// Why a connection was not served to its end.
+#[derive(Clone, Copy, Debug, PartialEq, Eq)]
+pub enum ServeFault {
+    /// Reading failed: nothing was done, and nothing written.
+    Read,
+    /// Writing failed: the request was answered, and so many bytes of the reply went out.
+    Write { sent: usize },
+}
+
+// Reads a message, answers it, and writes the reply.
+pub(crate) fn serve_one<S: Alter, R: Read, W: Write>(
+    alloc: Global,
+    office: &mut Office<S>,
+    now: u64,
+    input: &mut R,
+    out: &mut W,
+) -> Result<(), ServeFault>
+    ensures clean { HasCleanDisk (state S.Store office.new) → HasCleanDisk (state S.Store office.old) }
+    ensures ok { OnOk result ((answer : given.Answer) × Takes S.Store office.old office.new now (R.remaining input.old) answer × Appends (W.contents out.old) (W.contents out.new) (reply_of answer)) }
+    ensures sound { OnOk result ((R.failed input.new ≡ R.failed input.old) × (W.failed out.new ≡ W.failed out.old)) }
+    ensures fault { IfErr result (λ fault. IsServeFault S.Store office.old office.new now
+        (record { input = R.remaining input.old; read_failed = R.failed input.old; written = W.contents out.old; write_failed = W.failed out.old })
+        (record { input = R.remaining input.new; read_failed = R.failed input.new; written = W.contents out.new; write_failed = W.failed out.new })
+        fault) }
+{
+    let answer = match answered(alloc, office, now, input) {
+        Ok(answer) => answer,
+        Err(_) => return Err(ServeFault::Read),
+    };
+    match write_all(out, bytes_of(&answer)) {
+        Ok(()) => Ok(()),
+        Err(WriteFault { sent }) => Err(ServeFault::Write { sent }),
+    }
+}
+
+// The bytes to be written.
+fn bytes_of(answer: &Answer) -> &[u8]
+    ensures { result.now ≡ reply_of answer.now }
+{
+    match answer {
+        Answer::Bytes(bytes) => bytes.as_slice(),
+        Answer::Unavailable => unavailable(),
+        Answer::Order(_) => unavailable(),
+    }
+}
+
+// The answer to what a reader gives; Unavailable where there is no memory to read it.
+fn answered<S: Alter, R: Read>(
+    alloc: Global,
+    office: &mut Office<S>,
+    now: u64,
+    input: &mut R,
+) -> Result<Answer, DeviceError>
+    ensures clean { HasCleanDisk (state S.Store office.new) → HasCleanDisk (state S.Store office.old) }
+    ensures ok { IfOk result (λ answer. Takes S.Store office.old office.new now (R.remaining input.old) answer) }
+    ensures sound { OnOk result (R.failed input.new ≡ R.failed input.old) }
+    ensures failed { OnErr result (R.failed input.new ≡ true) }
+    ensures undone { OnErr result (office.new ≡ office.old) }
+{
+    beginnings_ask();
+    let mut message = Vec::new(alloc);
+    match read_message(input, &mut message) {
+        Ok(()) => Ok(office.answer(alloc, now, &message)),
+        Err(ReadFault::NoMemory) => Ok(Answer::Unavailable),
+        Err(ReadFault::Device) => Err(DeviceError),
+    }
+}
