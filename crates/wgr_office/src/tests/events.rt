@@ -8,6 +8,7 @@ use std::alloc::AllocGlobal;
 use std::process::Abort;
 use std::str::Split;
 use wgr_core::{Capacity, Host, Name, Port};
+use wgr_io::Device;
 use wgr_model::{Order, Settings};
 use wgr_register::{OpenFault, Register};
 use wgr_request::token_digest;
@@ -273,6 +274,19 @@ fn a_message_is_answered(rt: HostRuntime) {
     let answer = office.answer(rt.alloc(), 7, b"GET /networks HTTP/1.1\r\n\r\n");
     assert_eq!(rt;
         given(&rt, &answer).as_slice(),
+        wanted(&rt, NOBODY, r#"{"error":"unknown_token"}"#).as_slice()
+    );
+    end(office);
+}
+
+#[test]
+fn a_connection_is_served(rt: HostRuntime) {
+    let mut office = empty(&rt);
+    let mut input = Device::new(b"GET /networks HTTP/1.1\r\n\r\nmore".as_slice());
+    let mut out = Device::new(Vec::new(rt.alloc()));
+    assert!(rt; office.serve_one(rt.alloc(), 7, &mut input, &mut out) == Ok(()));
+    assert_eq!(rt;
+        out.inner.as_slice(),
         wanted(&rt, NOBODY, r#"{"error":"unknown_token"}"#).as_slice()
     );
     end(office);
