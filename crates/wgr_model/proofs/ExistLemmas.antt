@@ -34,16 +34,16 @@ use Rattle.wgr_model.proofs.StepLemmas.{has_step}
 -- ---- keys that are apart
 
 module _ {A B : Type 0} (e : B → B → Bool) (f : A → B) where
-  none_distinct : IsDistinct e (map f [])
+  pub none_distinct : IsDistinct e (map f [])
   unfolding IsDistinct
   none_distinct = tt
 
-  apart_from : (b : B) (xs : List A) → ((a : A) → Has xs a → e b (f a) ≡ false) → AllByRecursion (λ y. e b y ≡ false) (map f xs)
+  pub apart_from : (b : B) (xs : List A) → ((a : A) → Has xs a → e b (f a) ≡ false) → AllByRecursion (λ y. e b y ≡ false) (map f xs)
   apart_from b [] h = tt
   apart_from b (x ∷ xs) h = (h x (inl refl), apart_from b xs (λ a k. h a (inr k)))
 
   -- where a relation of each two tells it
-  distinct_pairs : (R : A → A → Type 0) → ((a b : A) → R a b → e (f a) (f b) ≡ false) → (xs : List A) → AllPairs R xs → IsDistinct e (map f xs)
+  pub distinct_pairs : (R : A → A → Type 0) → ((a b : A) → R a b → e (f a) (f b) ≡ false) → (xs : List A) → AllPairs R xs → IsDistinct e (map f xs)
   distinct_pairs R tells [] pairs = none_distinct
   distinct_pairs R tells (x ∷ xs) pairs =
       let all = recursion_from_All (R x) xs (AllPairs-head R x xs pairs) in
@@ -90,28 +90,28 @@ differ_turn p q h = by_family p.address.family q.address.family h where
   by_family V6 V6 h = grind (arith, nat_tests, h)
 
 module _ (h : Holding) (rules : IsNetwork h.network) where
-  peers_apart : IsDistinct same_pair (map (λ p. (p.network, number_in p.network p.id)) (peer_rows h))
+  pub peers_apart : IsDistinct same_pair (map (λ p. (p.network, number_in p.network p.id)) (peer_rows h))
   peers_apart = subst (IsDistinct same_pair) (sym (map_map (peer_row h.id) (λ p. (p.network, number_in p.network p.id)) h.network.peers))
       (distinct_pairs same_pair (λ (p : Peer). (h.id, number_in h.id (peer_id h.id p.number))) IsNumberedBelow
       (λ p q lt. ap₂ (λ x y. nat_eq h.id h.id && nat_eq x y) (number_back h.id p.number) (number_back h.id q.number) ∙ numbers_apart h.id p.number q.number lt)
       h.network.peers rules.numbered)
 
-  owners_apart : IsDistinct same_pair (map (λ a. (a.network, a.peer)) (map (address_row h.id) h.network.peers))
+  pub owners_apart : IsDistinct same_pair (map (λ a. (a.network, a.peer)) (map (address_row h.id) h.network.peers))
   owners_apart = subst (IsDistinct same_pair) (sym (map_map (address_row h.id) (λ a. (a.network, a.peer)) h.network.peers))
       (distinct_pairs same_pair (λ (p : Peer). (h.id, peer_id h.id p.number)) IsNumberedBelow (λ p q lt. ids_apart h.id p.number q.number lt) h.network.peers rules.numbered)
 
-  addresses_apart : IsDistinct same_allowed (map allowed_key (map (address_row h.id) h.network.peers))
+  pub addresses_apart : IsDistinct same_allowed (map allowed_key (map (address_row h.id) h.network.peers))
   addresses_apart = subst (IsDistinct same_allowed) (sym (map_map (address_row h.id) allowed_key h.network.peers))
       (distinct_pairs same_allowed (λ p. allowed_key (address_row h.id p)) IsApart
       (λ p q apart. prefixes_apart h.id (full p.address) (full q.address) (ap (λ b. b && nat_eq (full p.address).length (full q.address).length) apart.1))
       h.network.peers rules.apart)
 
-  routes_apart : IsDistinct same_allowed (map allowed_key (map (route_row h.id) h.network.routes))
+  pub routes_apart : IsDistinct same_allowed (map allowed_key (map (route_row h.id) h.network.routes))
   routes_apart = subst (IsDistinct same_allowed) (sym (map_map (route_row h.id) allowed_key h.network.routes))
       (distinct_pairs same_allowed (λ r. allowed_key (route_row h.id r)) ComesBefore (λ r s before. prefixes_apart h.id r.0 s.0 (not_same s.0 r before)) h.network.routes rules.ordered)
 
   -- no route is a peer's address
-  kinds_apart : (a b : AllowedRow) → Has (map (address_row h.id) h.network.peers) a → Has (map (route_row h.id) h.network.routes) b → same_allowed (allowed_key a) (allowed_key b) ≡ false
+  pub kinds_apart : (a b : AllowedRow) → Has (map (address_row h.id) h.network.peers) a → Has (map (route_row h.id) h.network.routes) b → same_allowed (allowed_key a) (allowed_key b) ≡ false
   kinds_apart a b at there =
       let p = from_map (address_row h.id) h.network.peers a at in
       let r = from_map (route_row h.id) h.network.routes b there in
@@ -149,7 +149,7 @@ only_addresses (h ∷ hs) =
 
 -- ---- all rows
 
-pair_by_id : (a b c d : ℕ) → nat_eq a b ≡ false → (nat_eq a b && nat_eq c d) ≡ false
+pub pair_by_id : (a b c d : ℕ) → nat_eq a b ≡ false → (nat_eq a b && nat_eq c d) ≡ false
 pair_by_id a b c d h = ap (λ x. x && nat_eq c d) h
 
 pub rows_exist : RowsExist

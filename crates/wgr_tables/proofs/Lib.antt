@@ -21,6 +21,7 @@ pub mod PeersCome
 pub mod PeerRests
 pub mod CommitRows
 pub mod LoadLemmas
+pub mod ToldLemmas
 pub mod ListedLemmas
 pub mod ReadLemmas
 pub mod SameBytes

@@ -7,3 +7,4 @@ pub mod Loads
 pub mod Lookups
 pub mod Writes
 pub mod Standing
+pub mod Told

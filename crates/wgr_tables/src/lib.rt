@@ -13,6 +13,7 @@ mod lookup;
 mod read;
 mod route;
 mod settled;
+mod told;
 mod value;
 
 pub use commit::commit_change;
@@ -20,5 +21,6 @@ pub use field::word_at;
 pub use load::load_network;
 pub use lookup::{network_id, tenant_id, tenant_of_token};
 pub use settled::{read_settled, read_tenant};
+pub use told::told_network;
 pub use value::{bytes_of, family_value, number_value};
 pub use wgr_sql::Fault;

@@ -24,7 +24,7 @@ use wgr_sql::{Fault, query};
 use wgr_text::Prefix;
 
 /// The rows of the network's peers, in the order of their ids.
-fn peer_rows<S: Alter>(conn: &mut Connection<S>, network: u32) -> Result<Vec<Row>, Fault>
+pub(crate) fn peer_rows<S: Alter>(conn: &mut Connection<S>, network: u32) -> Result<Vec<Row>, Fault>
     requires idle { conn.old.in_transaction ≡ false }
     ensures idle { conn.new.in_transaction ≡ false }
     ensures stands { (db : Database) (pending : List Written) → Stands S.Store conn.old db pending → Stands S.Store conn.new db pending }
@@ -40,7 +40,10 @@ fn peer_rows<S: Alter>(conn: &mut Connection<S>, network: u32) -> Result<Vec<Row
 }
 
 /// The rows of their addresses, in the order of the peers.
-fn address_rows<S: Alter>(conn: &mut Connection<S>, network: u32) -> Result<Vec<Row>, Fault>
+pub(crate) fn address_rows<S: Alter>(
+    conn: &mut Connection<S>,
+    network: u32,
+) -> Result<Vec<Row>, Fault>
     requires idle { conn.old.in_transaction ≡ false }
     ensures idle { conn.new.in_transaction ≡ false }
     ensures stands { (db : Database) (pending : List Written) → Stands S.Store conn.old db pending → Stands S.Store conn.new db pending }
@@ -56,7 +59,10 @@ fn address_rows<S: Alter>(conn: &mut Connection<S>, network: u32) -> Result<Vec<
 }
 
 /// The rows of the network's routes, in the order of their prefixes.
-fn route_rows<S: Alter>(conn: &mut Connection<S>, network: u32) -> Result<Vec<Row>, Fault>
+pub(crate) fn route_rows<S: Alter>(
+    conn: &mut Connection<S>,
+    network: u32,
+) -> Result<Vec<Row>, Fault>
     requires idle { conn.old.in_transaction ≡ false }
     ensures idle { conn.new.in_transaction ≡ false }
     ensures stands { (db : Database) (pending : List Written) → Stands S.Store conn.old db pending → Stands S.Store conn.new db pending }
@@ -156,7 +162,7 @@ fn parts_of(
 }
 
 /// The network of a row, with these peers and routes, which may come in any order.
-fn make_network(
+pub(crate) fn make_network(
     alloc: Global,
     row: &Row,
     peers: Vec<Peer>,
@@ -207,7 +213,10 @@ pub(crate) fn only(mut rows: Vec<Row>) -> Result<Option<Row>, Fault>
 }
 
 /// The row of the network of this id.
-fn network_row<S: Alter>(conn: &mut Connection<S>, network: u32) -> Result<Option<Row>, Fault>
+pub(crate) fn network_row<S: Alter>(
+    conn: &mut Connection<S>,
+    network: u32,
+) -> Result<Option<Row>, Fault>
     requires idle { conn.old.in_transaction ≡ false }
     ensures idle { conn.new.in_transaction ≡ false }
     ensures stands { (db : Database) (pending : List Written) → Stands S.Store conn.old db pending → Stands S.Store conn.new db pending }

@@ -1,0 +1,155 @@
+//! A network that its rows tell, if they tell one.
+ghost use Rattle.std.specs.Prelude.{◌≡◌, Ok, IfOk, IfSome, All, IsPermutation, filter, map, not, ◌&&◌, nat_eq, false, List};
+ghost use Rattle.sqlite.specs.Effect.{Database};
+ghost use Rattle.sqlite.specs.State.{HasCleanDisk};
+ghost use Rattle.sqlite.specs.Held.{state};
+ghost use Rattle.wgr_core.specs.Forms.{HasForms, IsFormed, IsKeepalive, IsKey, IsStatus};
+ghost use Rattle.wgr_model.specs.Rows.{address_row, peer_row, route_row};
+ghost use Rattle.wgr_tables.specs.Decode.{tables_of};
+ghost use Rattle.wgr_tables.specs.Told.{IsTold};
+ghost use Rattle.wgr_tables.specs.Writes.{Written};
+ghost use Rattle.wgr_tables.specs.Standing.{Stands};
+
+use crate::load::{address_rows, make_network, network_row, peer_rows, route_rows};
+use crate::read::{peers_of, routes_of};
+use sqlite::{Alter, Connection};
+use std::alloc::Global;
+use wgr_core::Network;
+use wgr_peers::{Peer, Status};
+use wgr_sql::Fault;
+use wgr_text::{Key, Prefix};
+
+// A key has 32 bytes.
+fn tell_key(key: &Key)
+    ensures { IsKey key.now }
+{
+    let _bytes = key.0;
+}
+
+fn tell_status(status: &Status)
+    ensures { IsStatus status.now }
+{
+    let _handshake = status.handshake.value();
+    let _received = status.received.value();
+    let _sent = status.sent.value();
+}
+
+fn tell_seen(status: &Option<Status>)
+    ensures { IfSome status.now IsStatus }
+{
+    if let Some(status) = status {
+        tell_status(status);
+    }
+}
+
+// The seconds fit 16 bits.
+fn tell_keepalive(seconds: u16)
+    ensures { IsKeepalive seconds }
+{}
+
+// Does nothing. Each field of a peer is of the form that its type keeps.
+fn tell_peer(peer: &Peer)
+    ensures { IsFormed peer.now }
+{
+    tell_key(&peer.key);
+    let _label = peer.label.as_str();
+    let _until = peer.until.seconds();
+    tell_keepalive(peer.keepalive);
+    tell_seen(&peer.status);
+}
+
+// The same of all peers. The loop is for the proof.
+fn tell_peers(peers: &[Peer])
+    ensures { All IsFormed peers.now }
+{
+    for peer in peers {
+        tell_peer(peer);
+    }
+}
+
+// Does nothing that is seen: the fields of a network are of the forms that their types keep.
+fn tell_network(network: &Network)
+    ensures { HasForms network.now }
+{
+    let server = network.server();
+    tell_key(&server);
+    tell_peers(network.peers());
+}
+
+/// What rows tell, or `None` where they tell nothing of the sort.
+fn told<T>(read: Result<T, Fault>) -> Result<Option<T>, Fault>
+    ensures { IfOk result (λ found. IfSome found (λ x. read ≡ Ok x)) }
+{
+    match read {
+        Ok(x) => Ok(Some(x)),
+        Err(Fault::Store) => Ok(None),
+        Err(Fault::NoMemory) => Err(Fault::NoMemory),
+    }
+}
+
+/// The network's peers, if its rows tell them.
+fn told_peers<S: Alter>(
+    alloc: Global,
+    conn: &mut Connection<S>,
+    network: u32,
+) -> Result<Option<Vec<Peer>>, Fault>
+    requires idle { conn.old.in_transaction ≡ false }
+    ensures idle { conn.new.in_transaction ≡ false }
+    ensures stands { (db : Database) (pending : List Written) → Stands S.Store conn.old db pending → Stands S.Store conn.new db pending }
+    ensures clean { HasCleanDisk (state S.Store conn.new) → HasCleanDisk (state S.Store conn.old) }
+    ensures rows { (db : Database) (pending : List Written) → Stands S.Store conn.old db pending → HasCleanDisk (state S.Store conn.new)
+        → IfOk result (λ found. IfSome found (λ peers. IsPermutation (filter (λ p. nat_eq p.network network) (tables_of db).peers) (map (peer_row network) peers.items))) }
+    ensures addresses { (db : Database) (pending : List Written) → Stands S.Store conn.old db pending → HasCleanDisk (state S.Store conn.new)
+        → IfOk result (λ found. IfSome found (λ peers. IsPermutation (filter (λ a. nat_eq a.network network && not a.is_route) (tables_of db).allowed) (map (address_row network) peers.items))) }
+{
+    let rows = peer_rows(conn, network)?;
+    let addresses = address_rows(conn, network)?;
+    told(peers_of(alloc, rows.as_slice(), addresses.as_slice(), network))
+}
+
+/// The network's routes, if its rows tell them.
+fn told_routes<S: Alter>(
+    alloc: Global,
+    conn: &mut Connection<S>,
+    network: u32,
+) -> Result<Option<Vec<(Prefix, u32)>>, Fault>
+    requires idle { conn.old.in_transaction ≡ false }
+    ensures idle { conn.new.in_transaction ≡ false }
+    ensures stands { (db : Database) (pending : List Written) → Stands S.Store conn.old db pending → Stands S.Store conn.new db pending }
+    ensures clean { HasCleanDisk (state S.Store conn.new) → HasCleanDisk (state S.Store conn.old) }
+    ensures rows { (db : Database) (pending : List Written) → Stands S.Store conn.old db pending → HasCleanDisk (state S.Store conn.new)
+        → IfOk result (λ found. IfSome found (λ routes. IsPermutation (filter (λ a. a.is_route && nat_eq a.network network) (tables_of db).allowed) (map (route_row network) routes.items))) }
+{
+    let rows = route_rows(conn, network)?;
+    told(routes_of(alloc, rows.as_slice(), network))
+}
+
+/// The network of this id, or `None` where no row has the id or the rows tell no network that keeps
+/// the rules.
+pub fn told_network<S: Alter>(
+    alloc: Global,
+    conn: &mut Connection<S>,
+    network: u32,
+) -> Result<Option<Network>, Fault>
+    requires idle { conn.old.in_transaction ≡ false }
+    ensures idle { conn.new.in_transaction ≡ false }
+    ensures stands { (db : Database) (pending : List Written) → Stands S.Store conn.old db pending → Stands S.Store conn.new db pending }
+    ensures clean { HasCleanDisk (state S.Store conn.new) → HasCleanDisk (state S.Store conn.old) }
+    ensures some { (db : Database) (pending : List Written) → Stands S.Store conn.old db pending → HasCleanDisk (state S.Store conn.new)
+        → IfOk result (λ found. IfSome found (λ n. IsTold (tables_of db) network n)) }
+{
+    let Some(row) = network_row(conn, network)? else {
+        return Ok(None);
+    };
+    let Some(peers) = told_peers(alloc, conn, network)? else {
+        return Ok(None);
+    };
+    let Some(routes) = told_routes(alloc, conn, network)? else {
+        return Ok(None);
+    };
+    let Some(made) = told(make_network(alloc, &row, peers, routes))? else {
+        return Ok(None);
+    };
+    tell_network(&made);
+    Ok(Some(made))
+}

@@ -1,0 +1,5 @@
+use Rattle.wgr_whole.proofs.WholeLemmas.{whole_is_consistent}
+use Rattle.wgr_whole.proofs.laws.whole_rows_are_consistent.Goals as goal
+
+pub returns : goal.returns
+returns c = whole_is_consistent
