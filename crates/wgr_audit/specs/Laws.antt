@@ -1,14 +1,20 @@
 -- What the tests of rows have to do with a register's consistency.
-use Rattle.std.specs.Prelude.{◌≡◌, ◌≤◌, ◌↔◌, ℕ, List, length, map, true, nat_eq}
+use Rattle.std.specs.Prelude.{◌≡◌, ◌<◌, ◌≤◌, ◌↔◌, ℕ, List, length, map, true, nat_eq}
 use Rattle.std.specs.List.{AllByRecursion, IsDistinct}
 use Rattle.sqlite_value.specs.Order.{Row}
 use Rattle.sqlite.specs.Effect.{Database, IsDatabase}
 use Rattle.wgr_model.specs.Register.{is_same}
-use Rattle.wgr_model.specs.Consistent.{IsDigest, IsTenant, has_tenant}
-use Rattle.wgr_tables.specs.Decode.{AreTenants, AreTokens, tenant_in, token_in}
+use Rattle.wgr_pool.specs.Pool.{IsPool}
+use Rattle.wgr_peers.specs.Host.{IsHost}
+use Rattle.wgr_peers.specs.Limits.{IsCapacity, IsPort}
+use Rattle.wgr_core.specs.Forms.{IsKey}
+use Rattle.wgr_model.specs.Consistent.{IsDigest, IsId, IsName, IsTenant, has_tenant, overlaps, same_endpoint, same_slot}
+use Rattle.wgr_model.specs.Rows.{NetworkRow}
+use Rattle.wgr_tables.specs.Decode.{AreNetworks, AreTenants, AreTokens, network_in, tenant_in, token_in}
 use Rattle.wgr_store.specs.LaidOut.{IsLaidOut}
 use Rattle.wgr_audit.specs.TenantRows.{AreGoodTenants, AreIdsOf}
 use Rattle.wgr_audit.specs.TokenRows.{AreGoodTokens}
+use Rattle.wgr_audit.specs.NetworkRows.{AreGoodNetworks}
 
 -- what `IsRegister` asks of the rows of tenants, and `IsConsistent` of the tenants that they are
 pub record AreConsistentTenants (rows : List Row) : Type 0 where
@@ -25,9 +31,35 @@ pub record AreConsistentTokens (tenants rows : List Row) : Type 0 where
   pub owners : AllByRecursion (λ t. has_tenant (map tenant_in tenants) t.tenant ≡ true) (map token_in rows)
   pub few : length (map token_in rows) ≤ 65536
 
+-- what stands in a network's row is of its form
+pub record IsSettled (w : NetworkRow) : Type 0 where
+  pub id : IsId w.id
+  pub name : IsName w.name
+  pub pool : IsPool w.pool
+  pub host : IsHost w.host
+  pub port : IsPort w.port
+  pub server : IsKey w.server
+  pub capacity : IsCapacity w.capacity
+  pub next : w.next < 4294967296
+
+-- the same of the rows of networks, and of the networks that they are, but for their peers
+pub record AreConsistentNetworks (tenants rows : List Row) : Type 0 where
+  pub written : AreNetworks rows
+  pub each : AllByRecursion IsSettled (map network_in rows)
+  pub ids : IsDistinct nat_eq (map (λ w. w.id) (map network_in rows))
+  pub slots : IsDistinct same_slot (map (λ w. (w.tenant, w.name)) (map network_in rows))
+  pub endpoints : IsDistinct same_endpoint (map (λ w. (w.host, w.port)) (map network_in rows))
+  pub pools : IsDistinct overlaps (map (λ w. w.pool) (map network_in rows))
+  pub owners : AllByRecursion (λ w. has_tenant (map tenant_in tenants) w.tenant ≡ true) (map network_in rows)
+  pub few : length (map network_in rows) ≤ 65536
+
 abbrev pub GoodTenantsAreConsistent : Type 0
 GoodTenantsAreConsistent = (db : Database) → IsLaidOut db.schema → IsDatabase db → AreGoodTenants (db.trees 1) ↔ AreConsistentTenants (db.trees 1)
 
 abbrev pub GoodTokensAreConsistent : Type 0
 GoodTokensAreConsistent = (db : Database) → IsLaidOut db.schema → IsDatabase db → AreGoodTenants (db.trees 1) → (ids : List ℕ) → AreIdsOf (db.trees 1) ids
     → AreGoodTokens ids (db.trees 3) ↔ AreConsistentTokens (db.trees 1) (db.trees 3)
+
+abbrev pub GoodNetworksAreConsistent : Type 0
+GoodNetworksAreConsistent = (db : Database) → IsLaidOut db.schema → IsDatabase db → AreGoodTenants (db.trees 1) → (ids : List ℕ) → AreIdsOf (db.trees 1) ids
+    → AreGoodNetworks ids (db.trees 5) ↔ AreConsistentNetworks (db.trees 1) (db.trees 5)

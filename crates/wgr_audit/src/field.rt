@@ -42,7 +42,7 @@ pub(crate) fn name_at(alloc: Global, row: &Row, at: usize) -> Result<Option<Name
 }
 
 // A byte is below 256.
-fn tell_bytes(bytes: &[u8])
+pub(crate) fn tell_bytes(bytes: &[u8])
     ensures { AllByRecursion (λ b. b < 256) bytes.now }
 {}
 

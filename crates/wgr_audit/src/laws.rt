@@ -1,5 +1,5 @@
 //! What follows of the definitions. The function does nothing: its contract is the law.
-ghost use Rattle.wgr_audit.specs.Laws.{GoodTenantsAreConsistent, GoodTokensAreConsistent};
+ghost use Rattle.wgr_audit.specs.Laws.{GoodNetworksAreConsistent, GoodTenantsAreConsistent, GoodTokensAreConsistent};
 
 /// `read_tenants` asks of the rows what a register's consistency asks of its tenants, and no more.
 pub fn good_tenants_are_consistent()
@@ -10,4 +10,10 @@ pub fn good_tenants_are_consistent()
 /// asks of its tokens, and no more.
 pub fn good_tokens_are_consistent()
     ensures { GoodTokensAreConsistent }
+{}
+
+/// `read_networks` asks of the rows, given the ids of good tenants, what a register's consistency
+/// asks of its networks but for their peers, and no more.
+pub fn good_networks_are_consistent()
+    ensures { GoodNetworksAreConsistent }
 {}

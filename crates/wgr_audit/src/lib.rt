@@ -1,11 +1,18 @@
-//! All rows of a register's tables, read and tested. Only those of tenants and tokens are, yet.
+//! All rows of a register's tables, read and tested. Those of peers, and of what they are allowed,
+//! are not, yet.
 #![tactic(auto)]
 
 mod field;
 mod laws;
+mod network_field;
+mod network_order;
+mod networks;
 mod tenants;
 mod tokens;
 
-pub use laws::{good_tenants_are_consistent, good_tokens_are_consistent};
+pub use laws::{
+    good_networks_are_consistent, good_tenants_are_consistent, good_tokens_are_consistent,
+};
+pub use networks::read_networks;
 pub use tenants::read_tenants;
 pub use tokens::tokens_are_good;
