@@ -8,4 +8,4 @@ mod tokens;
 
 pub use laws::{good_tenants_are_consistent, good_tokens_are_consistent};
 pub use tenants::read_tenants;
-pub use tokens::tokens_are_good;
+pub use tokens::{are_own_rowids, tokens_are_good};
