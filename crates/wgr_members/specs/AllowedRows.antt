@@ -1,5 +1,5 @@
 -- Rows of allowed prefixes.
-use Rattle.std.specs.Prelude.{◌≡◌, ℕ, List, [], ◌∷◌, map, true, nat_eq}
+use Rattle.std.specs.Prelude.{◌≡◌, ◌⊎◌, ℕ, List, [], ◌∷◌, map, true, nat_eq}
 use Rattle.std.specs.List.{AllByRecursion, list_any}
 use Rattle.sqlite_value.specs.Order.{Row, column}
 use Rattle.sqlite.specs.declared.types.Value.TheVariants.{Text}
@@ -31,7 +31,7 @@ IsAllowedRowOf networks row = IsAllowedRow row × (list_any (λ id. nat_eq (numb
 pub record AreWrittenAllowed (networks : List ℕ) (rows : List Row) : Type 0 where
   pub own_rowids : HaveOwnRowids rows
   pub each : AllByRecursion IsAllowedRow rows
-  pub networks : AreAmong (map (λ r. number_at r 1) rows) networks
+  pub among : AreAmong (map (λ r. number_at r 1) rows) networks
 
 -- ---- what the query shows
 

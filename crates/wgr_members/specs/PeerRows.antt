@@ -1,5 +1,5 @@
 -- Rows of peers.
-use Rattle.std.specs.Prelude.{◌≡◌, ℕ, List, [], ◌∷◌, map, true, nat_eq}
+use Rattle.std.specs.Prelude.{◌≡◌, ◌⊎◌, ℕ, List, [], ◌∷◌, map, true, nat_eq}
 use Rattle.std.specs.List.{AllByRecursion, IsDistinct, list_any}
 use Rattle.sqlite_value.specs.Order.{Row, column}
 use Rattle.sqlite.specs.declared.types.Value.TheVariants.{Null}
@@ -29,7 +29,7 @@ IsPeerRowOf networks row = IsPeerRow row × (list_any (λ id. nat_eq (number_at 
 pub record AreWrittenPeers (networks : List ℕ) (rows : List Row) : Type 0 where
   pub each : AllByRecursion IsPeerRow rows
   pub ids : IsDistinct nat_eq (map (λ r. number_at r 0) rows)
-  pub networks : AreAmong (map (λ r. number_at r 2) rows) networks
+  pub among : AreAmong (map (λ r. number_at r 2) rows) networks
 
 -- ---- what the query shows
 

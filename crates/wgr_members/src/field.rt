@@ -37,7 +37,7 @@ pub(crate) fn is_family_at(row: &Row, at: usize) -> bool
     ensures { IsTrue result ↔ (IsNaturalAt row.now at × IsFamily (number_at row.now at)) }
 {
     match row.get_ref(at) {
-        Ok(ValueRef::Int(number)) => number == 4 || number == 6,
+        Ok(ValueRef::Int(4 | 6)) => true,
         _ => false,
     }
 }
