@@ -31,8 +31,8 @@ here_too (y ∷ xs) x (inl same) = inl (sym same)
 here_too (y ∷ xs) x (inr later) = inr (here_too xs x later)
 
 -- rowids that are natural, and no two of which are one, tell the rows apart
-keyed : (rows : List Row) → ((r : Row) → Has rows r → column r 0 ≡ Int (pos (number_at r 0))) → IsDistinct nat_eq (map (λ r. number_at r 0) rows) → IsKeyed rows
-keyed rows natural apart = record {
+pub keyed_by_ids : (rows : List Row) → ((r : Row) → Has rows r → column r 0 ≡ Int (pos (number_at r 0))) → IsDistinct nat_eq (map (λ r. number_at r 0) rows) → IsKeyed rows
+keyed_by_ids rows natural apart = record {
   ints = λ r here. let e = natural r here in e ∙ sym (ap (λ v. Int (id_in v)) e);
   once = λ r s h k same. elim (one_or_apart (λ (x : Row). number_at x 0) nat_eq eqb_sym rows r s apart (here_too rows r h) (here_too rows s k)) [
     | inl one ↦ one
@@ -46,7 +46,7 @@ there rows good =
     let natural = λ (r : Row) (here : Has rows r). (all_has IsTenantRow rows r each here).0.0 in
     record {
       written = record {
-        keyed = keyed rows natural good.0.ids;
+        keyed = keyed_by_ids rows natural good.0.ids;
         numbers_are = λ r here p place. elim place [ inl e ↦ subst (λ x. column r x ≡ Int (pos (number_at r x))) (sym e) (natural r here) | inr none ↦ absurd none ];
         addresses_are = λ r here p none. absurd none;
         families_are = λ r here p none. absurd none;

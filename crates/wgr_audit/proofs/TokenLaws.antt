@@ -40,8 +40,8 @@ Digest r = bytes_at r 1
 abbrev Owner : Row → ℕ
 Owner r = number_at r 2
 
-keyed : (rows : List Row) → HaveOwnRowids rows → IsKeyed rows
-keyed rows own = record {
+pub keyed_by_rowids : (rows : List Row) → HaveOwnRowids rows → IsKeyed rows
+keyed_by_rowids rows own = record {
   ints = λ r here. all_has (λ x. IsIntegerAt x 0) rows r own.each here;
   once = λ r s h k same. elim (one_or_apart Rowid int_eq int_flips rows r s own.rowids (here_too rows r h) (here_too rows s k)) [
     | inl one ↦ one
@@ -72,7 +72,7 @@ module _ (tenants : List Row) (ids : List ℕ) (are : AreIdsOf tenants ids) wher
       let among = λ (r : Row) (here : Has rows r). all_has (λ x. list_any (λ id. nat_eq (Owner x) id) ids ≡ true) rows r (all_from_map (λ owner. list_any (λ id. nat_eq owner id) ids ≡ true) Owner rows good.owned.owners) here in
       record {
         written = record {
-          keyed = keyed rows good.own_keys.0;
+          keyed = keyed_by_rowids rows good.own_keys.0;
           numbers_are = λ r here p place. elim place [ inl e ↦ subst (λ x. column r x ≡ Int (pos (number_at r x))) (sym e) (owner_at r here) | inr none ↦ absurd none ];
           addresses_are = λ r here p none. absurd none;
           families_are = λ r here p none. absurd none;

@@ -15,4 +15,4 @@ pub use laws::{
 };
 pub use networks::read_networks;
 pub use tenants::read_tenants;
-pub use tokens::tokens_are_good;
+pub use tokens::{are_own_rowids, tokens_are_good};

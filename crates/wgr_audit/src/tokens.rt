@@ -139,7 +139,7 @@ fn rows_by_owner<S: Alter>(conn: &mut Connection<S>) -> Result<Vec<Row>, Fault>
 }
 
 /// Whether all rowids in these rows are integers, and none stands twice.
-fn are_own_rowids(alloc: Global, rows: &[Row]) -> Result<bool, Fault>
+pub fn are_own_rowids(alloc: Global, rows: &[Row]) -> Result<bool, Fault>
     ensures is { IfOk result (λ is. IsTrue is → HaveOwnRowids rows.now) }
     ensures only { IfOk result (λ is. IsSorted int_cmp (map (λ r. id_in (column r 0)) rows.now) → HaveOwnRowids rows.now → IsTrue is) }
 {

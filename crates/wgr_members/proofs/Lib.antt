@@ -1,0 +1,5 @@
+pub mod Queries
+pub mod AddressLemmas
+pub mod RowLemmas
+pub mod MemberLemmas
+pub mod MemberLaws

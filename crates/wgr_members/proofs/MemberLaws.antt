@@ -1,0 +1,74 @@
+-- Rows that are written as the register writes them are rows of a register.
+use Rattle.std.proofs.Common.{◌≡◌, ℕ, pos, List, ◌∷◌, [], map, refl, sym, subst, inl, inr}
+use Rattle.sqlite.specs.Order.{Row}
+use Rattle.sqlite.specs.declared.types.Value.TheVariants.{Int, Blob}
+use Rattle.sqlite_value.specs.Order.{column}
+use Rattle.sqlite_rules.specs.Lists.{Has}
+use Rattle.sqlite_rules.proofs.ListLemmas.{all_has}
+use Rattle.wgr_model.specs.Rows.{AllowedRow, PeerRow, family_number}
+use Rattle.wgr_sql.proofs.Answers.{map-both}
+use Rattle.wgr_tables.specs.Decode.{AreAllowed, ArePeers, allowed_in, allowed_addresses, allowed_numbers, bytes_at, bytes_of, family_of, number_at, number_of, peer_in, peer_numbers}
+use Rattle.wgr_ordered.specs.Orders.{AreAmong}
+use Rattle.wgr_audit.proofs.ConsistentLemmas.{keyed_by_ids}
+use Rattle.wgr_audit.proofs.TokenLaws.{keyed_by_rowids}
+use Rattle.wgr_members.specs.Fields.{IsAddressAt, IsNaturalAt}
+use Rattle.wgr_members.specs.PeerRows.{AreWrittenPeers, IsPeerRow}
+use Rattle.wgr_members.specs.AllowedRows.{AreWrittenAllowed, IsAllowedRow, IsFamily}
+
+module _ (networks : List ℕ) (rows : List Row) where
+  module _ (good : AreWrittenPeers networks rows) where
+    peer_row : (r : Row) → Has rows r → IsPeerRow r
+    peer_row r here = all_has IsPeerRow rows r good.each here
+
+    peer_number : (r : Row) → Has rows r → (p : ℕ) → Has peer_numbers p → IsNaturalAt r p
+    peer_number r here p (inl e) = subst (IsNaturalAt r) (sym e) (peer_row r here).id
+    peer_number r here p (inr (inl e)) = subst (IsNaturalAt r) (sym e) (peer_row r here).network
+    peer_number r here p (inr (inr (inl e))) = subst (IsNaturalAt r) (sym e) (peer_row r here).until
+    peer_number r here p (inr (inr (inr (inl e)))) = subst (IsNaturalAt r) (sym e) (peer_row r here).keepalive
+    peer_number r here p (inr (inr (inr (inr none)))) = absurd none
+
+    pub peers_are : ArePeers rows × AreAmong (map (λ p. p.network) (map peer_in rows)) networks
+    peers_are = (
+      record {
+        keyed = keyed_by_ids rows (λ r here. (peer_row r here).id) good.ids;
+        numbers_are = peer_number;
+        addresses_are = λ r here p none. absurd none;
+        families_are = λ r here p none. absurd none;
+      },
+      subst (λ l. AreAmong l networks) (sym (map-both peer_in (λ (p : PeerRow). p.network) rows)) good.among,
+    )
+
+  module _ (good : AreWrittenAllowed networks rows) where
+    allowed_row : (r : Row) → Has rows r → IsAllowedRow r
+    allowed_row r here = all_has IsAllowedRow rows r good.each here
+
+    allowed_number : (r : Row) → Has rows r → (p : ℕ) → Has allowed_numbers p → IsNaturalAt r p
+    allowed_number r here p (inl e) = subst (IsNaturalAt r) (sym e) (allowed_row r here).network
+    allowed_number r here p (inr (inl e)) = subst (IsNaturalAt r) (sym e) (allowed_row r here).family.0
+    allowed_number r here p (inr (inr (inl e))) = subst (IsNaturalAt r) (sym e) (allowed_row r here).length
+    allowed_number r here p (inr (inr (inr (inl e)))) = subst (IsNaturalAt r) (sym e) (allowed_row r here).peer
+    allowed_number r here p (inr (inr (inr (inr none)))) = absurd none
+
+    allowed_address : (r : Row) → Has rows r → (p : ℕ) → Has allowed_addresses p → IsAddressAt r p
+    allowed_address r here p (inl e) = subst (IsAddressAt r) (sym e) (allowed_row r here).lo
+    allowed_address r here p (inr (inl e)) = subst (IsAddressAt r) (sym e) (allowed_row r here).hi
+    allowed_address r here p (inr (inr none)) = absurd none
+
+    family_is : (n : ℕ) → IsFamily n → n ≡ family_number (family_of n)
+    family_is n (inl e) = subst (λ m. m ≡ family_number (family_of m)) (sym e) refl
+    family_is n (inr e) = subst (λ m. m ≡ family_number (family_of m)) (sym e) refl
+
+    allowed_family : (r : Row) → Has rows r → (p : ℕ) → Has (2 ∷ []) p → number_at r p ≡ family_number (family_of (number_at r p))
+    allowed_family r here p (inl e) = subst (λ x. number_at r x ≡ family_number (family_of (number_at r x))) (sym e) (family_is (number_at r 2) (allowed_row r here).family.1)
+    allowed_family r here p (inr none) = absurd none
+
+    pub allowed_are : AreAllowed rows × AreAmong (map (λ a. a.network) (map allowed_in rows)) networks
+    allowed_are = (
+      record {
+        keyed = keyed_by_rowids rows good.own_rowids;
+        numbers_are = allowed_number;
+        addresses_are = allowed_address;
+        families_are = allowed_family;
+      },
+      subst (λ l. AreAmong l networks) (sym (map-both allowed_in (λ (a : AllowedRow). a.network) rows)) good.among,
+    )

@@ -1,0 +1,39 @@
+-- Rows of allowed prefixes.
+use Rattle.std.specs.Prelude.{◌≡◌, ◌⊎◌, ℕ, List, [], ◌∷◌, map, true, nat_eq}
+use Rattle.std.specs.List.{AllByRecursion, list_any}
+use Rattle.sqlite_value.specs.Order.{Row, column}
+use Rattle.sqlite.specs.declared.types.Value.TheVariants.{Text}
+use Rattle.wgr_tables.specs.Decode.{number_at, address_kind, route_kind}
+use Rattle.wgr_ordered.specs.Orders.{AreAmong}
+use Rattle.wgr_audit.specs.TokenRows.{HaveOwnRowids}
+use Rattle.wgr_members.specs.Fields.{IsAddressAt, IsNaturalAt}
+
+abbrev pub IsFamily : ℕ → Type 0
+IsFamily n = (n ≡ 4) ⊎ (n ≡ 6)
+
+abbrev pub IsKindAt : Row → ℕ → Type 0
+IsKindAt row at = (column row at ≡ Text address_kind) ⊎ (column row at ≡ Text route_kind)
+
+pub record IsAllowedRow (row : Row) : Type 0 where
+  pub network : IsNaturalAt row 1
+  pub family : IsNaturalAt row 2 × IsFamily (number_at row 2)
+  pub lo : IsAddressAt row 3
+  pub length : IsNaturalAt row 4
+  pub hi : IsAddressAt row 5
+  pub peer : IsNaturalAt row 6
+  pub kind : IsKindAt row 7
+
+-- the row of an allowed prefix in one of these networks
+abbrev pub IsAllowedRowOf : List ℕ → Row → Type 0
+IsAllowedRowOf networks row = IsAllowedRow row × (list_any (λ id. nat_eq (number_at row 1) id) networks ≡ true)
+
+-- the rows are those of allowed prefixes in these networks, no two of which have a rowid
+pub record AreWrittenAllowed (networks : List ℕ) (rows : List Row) : Type 0 where
+  pub own_rowids : HaveOwnRowids rows
+  pub each : AllByRecursion IsAllowedRow rows
+  pub among : AreAmong (map (λ r. number_at r 1) rows) networks
+
+-- ---- what the query shows
+
+abbrev pub allowed_values : Row → Row
+allowed_values row = column row 0 ∷ column row 1 ∷ column row 2 ∷ column row 3 ∷ column row 4 ∷ column row 5 ∷ column row 6 ∷ column row 7 ∷ []

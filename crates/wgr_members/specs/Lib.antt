@@ -1,0 +1,5 @@
+pub mod Fields
+pub mod OwnRows
+pub mod PeerRows
+pub mod AllowedRows
+pub mod Laws
