@@ -1,6 +1,11 @@
-//! The rows of networks' members: peers, and the prefixes that lead to them.
+//! Whether a database is a register whose rows are good: the tables, the rows of each, and the
+//! network that the rows of each network tell.
 #![tactic(auto)]
 
+mod check;
 mod laws;
+mod read;
+mod told;
 
+pub use check::check_register;
 pub use laws::whole_rows_are_consistent;

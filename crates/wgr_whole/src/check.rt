@@ -1,0 +1,56 @@
+//! Whether a database is a register whose rows are good.
+ghost use Rattle.std.specs.Prelude.{◌≡◌, [], false, Err, IsTrue, IfOk, OnOk};
+ghost use Rattle.sqlite.specs.State.{HasCleanDisk};
+ghost use Rattle.sqlite.specs.Held.{state};
+ghost use Rattle.wgr_sql.specs.Calls.{IsKept};
+ghost use Rattle.wgr_store.specs.FirstVersion.{IsFirstVersion};
+ghost use Rattle.wgr_store.specs.declared.fault.RegisterFault.TheVariants.{NotARegister, NotEmpty};
+ghost use Rattle.wgr_tables.specs.Standing.{Stands};
+ghost use Rattle.wgr_whole.specs.Good.{IsGood};
+
+use crate::read::read_tables;
+use crate::told::networks_are_told;
+use sqlite::{Alter, Connection};
+use std::alloc::Global;
+use wgr_sql::Fault;
+use wgr_store::{RegisterFault, check_layout};
+
+/// Whether the rows of a database that has the register's tables are good.
+fn rows_are_good<S: Alter>(alloc: Global, conn: &mut Connection<S>) -> Result<bool, Fault>
+    requires idle { conn.old.in_transaction ≡ false }
+    ensures idle { conn.new.in_transaction ≡ false }
+    ensures good { HasCleanDisk (state S.Store conn.new) → (IsTrue (state S.Store conn.old).is_open → IsFirstVersion (state S.Store conn.old).now)
+        → IfOk result (λ is. IsTrue is → IsGood (state S.Store conn.old).now × Stands S.Store conn.new (state S.Store conn.old).now []) }
+    ensures kept { (HasCleanDisk (state S.Store conn.new) → IsTrue (state S.Store conn.old).is_open → IsFirstVersion (state S.Store conn.old).now) → IsKept (state S.Store conn.old) (state S.Store conn.new) }
+    ensures clean { HasCleanDisk (state S.Store conn.new) → HasCleanDisk (state S.Store conn.old) }
+{
+    let Some(networks) = read_tables(alloc, conn)? else {
+        return Ok(false);
+    };
+    let _live = conn.schema();
+    let _settled = conn.is_autocommit();
+    networks_are_told(alloc, conn, networks.as_slice())
+}
+
+/// Tells by `NotARegister` that the database lacks the register's tables or has those of another
+/// version, and by `NotGood` that its rows aren't shown to be those of a consistent register. It
+/// changes nothing.
+pub fn check_register<S: Alter>(
+    alloc: Global,
+    conn: &mut Connection<S>,
+) -> Result<(), RegisterFault>
+    requires idle { conn.old.in_transaction ≡ false }
+    ensures idle { conn.new.in_transaction ≡ false }
+    ensures right { HasCleanDisk (state S.Store conn.new) → OnOk result (IsGood (state S.Store conn.old).now × Stands S.Store conn.new (state S.Store conn.old).now []) }
+    ensures wrong { HasCleanDisk (state S.Store conn.new) → result ≡ Err NotARegister → IsFirstVersion (state S.Store conn.old).now → ⊥ }
+    ensures full { result ≡ Err NotEmpty → ⊥ }
+    ensures kept { IsKept (state S.Store conn.old) (state S.Store conn.new) }
+{
+    check_layout(conn)?;
+    match rows_are_good(alloc, conn) {
+        Ok(true) => Ok(()),
+        Ok(false) => Err(RegisterFault::NotGood),
+        Err(Fault::NoMemory) => Err(RegisterFault::NoMemory),
+        Err(Fault::Store) => Err(RegisterFault::Store),
+    }
+}
