@@ -1,13 +1,11 @@
 -- Rows that are written as the register writes them are rows of a register.
-use Rattle.std.proofs.Common.{◌≡◌, ℕ, pos, List, ◌∷◌, [], map, refl, sym, subst, inl, inr}
+use Rattle.std.proofs.Common.{◌≡◌, ℕ, List, ◌∷◌, [], map, refl, sym, subst, inl, inr}
 use Rattle.sqlite.specs.Order.{Row}
-use Rattle.sqlite.specs.declared.types.Value.TheVariants.{Int, Blob}
-use Rattle.sqlite_value.specs.Order.{column}
 use Rattle.sqlite_rules.specs.Lists.{Has}
 use Rattle.sqlite_rules.proofs.ListLemmas.{all_has}
 use Rattle.wgr_model.specs.Rows.{AllowedRow, PeerRow, family_number}
 use Rattle.wgr_sql.proofs.Answers.{map-both}
-use Rattle.wgr_tables.specs.Decode.{AreAllowed, ArePeers, allowed_in, allowed_addresses, allowed_numbers, bytes_at, bytes_of, family_of, number_at, number_of, peer_in, peer_numbers}
+use Rattle.wgr_tables.specs.Decode.{AreAllowed, ArePeers, allowed_in, allowed_addresses, allowed_numbers, family_of, number_at, peer_in, peer_numbers}
 use Rattle.wgr_ordered.specs.Orders.{AreAmong}
 use Rattle.wgr_audit.proofs.ConsistentLemmas.{keyed_by_ids}
 use Rattle.wgr_audit.proofs.TokenLaws.{keyed_by_rowids}

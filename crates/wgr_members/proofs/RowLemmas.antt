@@ -1,10 +1,9 @@
 -- What listed rows tell of a table's.
-use Rattle.std.proofs.Common.{◌≡◌, ◌↔◌, ℕ, ℤ, pos, List, [], ◌∷◌, map, true, false, nat_eq, refl, sym, ap, ap₂, subst, ◌∙◌, arith}
+use Rattle.std.proofs.Common.{◌≡◌, ℕ, ℤ, pos, List, [], ◌∷◌, map, Bool, true, false, nat_eq, refl, sym, ap, ap₂, subst, ◌∙◌, arith}
 use Rattle.std.specs.List.{AllByRecursion, IsDistinct}
 use Rattle.std.specs.List.Sorted.{IsSorted}
 use Rattle.std.specs.Ordering.{int_cmp, int_eq}
 use Rattle.sqlite.specs.Order.{Row}
-use Rattle.sqlite.specs.declared.types.Value.{Value}
 use Rattle.sqlite.specs.declared.types.Value.TheVariants.{Int}
 use Rattle.sqlite_value.specs.Order.{column, value_cmp}
 use Rattle.sqlite_value.proofs.OrderLemmas.{value_cmp-Int}
@@ -74,7 +73,7 @@ apart_there_too : (ns : List ℕ) → IsDistinct int_eq (map pos ns) → IsDisti
 unfolding IsDistinct
 apart_there_too [] apart = tt
 apart_there_too (n ∷ ns) apart = (
-  subst (λ f. AllByRecursion (λ m. f m ≡ false) ns) (λ k m. as_natural n m k) (all_from_map (λ z. int_eq (pos n) z ≡ false) pos ns apart.0),
+  subst (λ (f : ℕ → Bool). AllByRecursion (λ m. f m ≡ false) ns) (λ k m. as_natural n m k) (all_from_map (λ z. int_eq (pos n) z ≡ false) pos ns apart.0),
   apart_there_too ns apart.1,
 )
 
@@ -82,7 +81,7 @@ apart_back_too : (ns : List ℕ) → IsDistinct nat_eq ns → IsDistinct int_eq 
 unfolding IsDistinct
 apart_back_too [] apart = tt
 apart_back_too (n ∷ ns) apart = (
-  all-map (λ z. int_eq (pos n) z ≡ false) pos ns (subst (λ f. AllByRecursion (λ m. f m ≡ false) ns) (λ k m. sym (as_natural n m) k) apart.0),
+  all-map (λ z. int_eq (pos n) z ≡ false) pos ns (subst (λ (f : ℕ → Bool). AllByRecursion (λ m. f m ≡ false) ns) (λ k m. sym (as_natural n m) k) apart.0),
   apart_back_too ns apart.1,
 )
 

@@ -42,8 +42,8 @@ pub(crate) fn is_family_at(row: &Row, at: usize) -> bool
     }
 }
 
-// A byte is below 256.
-fn are_address(bytes: &[u8]) -> bool
+/// Whether these are as many bytes as an address has. Each byte is below 256.
+fn is_address(bytes: &[u8]) -> bool
     ensures length { IsTrue result ↔ (length bytes.now ≡ 16) }
     ensures bytes { AllByRecursion (λ b. b < 256) bytes.now }
 {
@@ -55,7 +55,7 @@ pub(crate) fn is_address_at(row: &Row, at: usize) -> bool
     ensures { IsTrue result ↔ IsAddressAt row.now at }
 {
     match row.get_ref(at) {
-        Ok(ValueRef::Blob(bytes)) => are_address(bytes),
+        Ok(ValueRef::Blob(bytes)) => is_address(bytes),
         _ => false,
     }
 }
@@ -70,14 +70,14 @@ pub(crate) fn is_kind_at(row: &Row, at: usize) -> bool
     }
 }
 
-/// Whether the number is one of those, which rise.
+/// Whether the number is one of these, which rise.
 fn is_among(number: u32, numbers: &[u32]) -> bool
     ensures { IsSorted nat_cmp numbers.now → IsTrue result ↔ (list_any (λ id. nat_eq number id) numbers.now ≡ true) }
 {
     numbers.binary_search(&number).is_ok()
 }
 
-/// Whether one of the numbers, which rise, stands at this place.
+/// Whether one of these numbers, which rise, stands at this place.
 pub(crate) fn is_among_at(row: &Row, at: usize, numbers: &[u32]) -> bool
     ensures { IsSorted nat_cmp numbers.now → IsTrue result ↔ (IsNaturalAt row.now at × (list_any (λ id. nat_eq (number_at row.now at) id) numbers.now ≡ true)) }
 {

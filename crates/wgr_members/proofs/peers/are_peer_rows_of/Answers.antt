@@ -1,5 +1,5 @@
-use Rattle.std.proofs.Common.{[], refl, arith}
-use Rattle.wgr_audit.proofs.ListLemmas.{all_places, one_more}
+use Rattle.std.proofs.Common.{[], arith}
+use Rattle.wgr_audit.proofs.ListLemmas.{all_places}
 use Rattle.wgr_members.specs.PeerRows.{IsPeerRowOf}
 use Rattle.wgr_members.proofs.peers.are_peer_rows_of.Goals as goal
 
