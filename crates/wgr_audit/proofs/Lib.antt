@@ -1,8 +1,12 @@
 pub mod ListLemmas
 pub mod Queries
 pub mod TokenQueries
+pub mod NetworkQueries
 pub mod KeyLemmas
 pub mod TenantLemmas
 pub mod TokenLemmas
+pub mod SpelledLemmas
+pub mod HostLemmas
+pub mod NetworkLemmas
 pub mod ConsistentLemmas
 pub mod TokenLaws

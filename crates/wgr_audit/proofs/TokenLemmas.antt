@@ -33,7 +33,7 @@ int_itself a = grind (arith)
 pub int_is : (a b : ℤ) → int_eq a b ≡ true → a ≡ b
 int_is a b h = grind (arith)
 
-as_many : (values : Row → Row) (at : ℕ) (table rows : List Row) → Lists values at table rows → length table ≡ length rows
+pub as_many : (values : Row → Row) (at : ℕ) (table rows : List Row) → Lists values at table rows → length table ≡ length rows
 as_many values at table rows l = sym (length_permutation table l.chosen l.same) ∙ sym (length-map l.chosen values) ∙ (λ k. length (sym l.shown k))
 
 module _ (table rows : List Row) (l : Lists rowid_values 0 table rows) where

@@ -76,11 +76,16 @@ fn host_of(alloc: Global, text: &[u8]) -> Result<Option<Host>, Fault>
     ensures some { IfOk result (λ found. IfSome found (λ host. IsHostText text.now text.now × (host ≡ text.now))) }
     ensures none { IfOk result (λ found. IfNone found (IsHostText text.now text.now → ⊥)) }
 {
-    match Host::read(alloc, text) {
-        Ok(Some(host)) if host.as_str().as_bytes() == text => Ok(Some(host)),
-        Ok(_) => Ok(None),
-        Err(_) => Err(Fault::NoMemory),
+    let Ok(found) = Host::read(alloc, text) else {
+        return Err(Fault::NoMemory);
+    };
+    let Some(host) = found else {
+        return Ok(None);
+    };
+    if host.as_str().as_bytes() != text {
+        return Ok(None);
     }
+    Ok(Some(host))
 }
 
 /// The host at this place.
@@ -106,6 +111,13 @@ fn family_at(row: &Row, at: usize) -> Option<Family>
     }
 }
 
+/// The number of 16 bytes, the highest first.
+fn joined(bytes: [u8; 16]) -> u128
+    ensures { result ≡ number_of bytes }
+{
+    u128::from_be_bytes(bytes)
+}
+
 /// The number that has these bytes, the highest first.
 fn number_of(bytes: &[u8]) -> Option<u128>
     ensures some { IfSome result (λ number. (Blob bytes.now ≡ Blob (bytes_of (number_of bytes.now))) × (number ≡ number_of bytes.now)) }
@@ -117,7 +129,7 @@ fn number_of(bytes: &[u8]) -> Option<u128>
     }
     let mut all = [0; 16];
     all.copy_from_slice(bytes);
-    Some(u128::from_be_bytes(all))
+    Some(joined(all))
 }
 
 /// The number whose 16 bytes stand at this place.

@@ -1,0 +1,22 @@
+use Rattle.std.proofs.Common.{sym, subst}
+use Rattle.std.specs.List.{AllByRecursion}
+use Rattle.sqlite.specs.Held.{state}
+use Rattle.wgr_sql.proofs.ResultLemmas.{if_ok, if_some, if_none}
+use Rattle.wgr_audit.proofs.NetworkLemmas.{good_there, good_back, ids_are, ids_sorted}
+use Rattle.wgr_audit.proofs.networks.read_networks.Goals as goal
+
+pub returns-clause-some : goal.returns-clause-some
+returns-clause-some g c clean laid =
+    let table = (state g.S.Store c.args.conn.now).now.trees 5 in
+    let rows = c.in_ok-rows.rows.items in
+    let listed = c.in_ok-rows.ensures.listed clean laid in
+    if_ok c.good_ids.result _ _ (λ found. if_some found _ _ (λ ids some. (listed.0, good_there table rows listed.1 c.args.tenants.now some.0, ids_are table rows listed.1 c.args.tenants.now some.0 ids.items some.1)))
+    (rw c.as_slice.ensures.value at c.good_ids.ensures.some)
+
+pub returns-clause-none : goal.returns-clause-none
+returns-clause-none g c clean laid rise =
+    let table = (state g.S.Store c.args.conn.now).now.trees 5 in
+    let rows = c.in_ok-rows.rows.items in
+    let listed = (c.in_ok-rows.ensures.listed clean laid).1 in
+    if_ok c.good_ids.result _ _ (λ found. if_none found _ _ (λ none good. let back = good_back table rows listed c.args.tenants.now good in none rise (ids_sorted table rows listed c.args.tenants.now back) back))
+    (rw c.as_slice.ensures.value at c.good_ids.ensures.none)
