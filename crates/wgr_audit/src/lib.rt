@@ -1,4 +1,4 @@
-//! All rows of a register's tables, read and tested. Only those of tenants and tokens are, yet.
+//! All rows of a register's tables of tenants and of tokens, read and tested.
 #![tactic(auto)]
 
 mod field;
