@@ -1,5 +1,4 @@
-//! All rows of a register's tables, read and tested. Those of peers, and of what they are allowed,
-//! are not, yet.
+//! All rows of a register's tables of tenants and of tokens, read and tested.
 #![tactic(auto)]
 
 mod field;

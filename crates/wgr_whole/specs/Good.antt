@@ -15,7 +15,7 @@ use Rattle.wgr_members.specs.AllowedRows.{AreWrittenAllowed}
 
 -- the rows of tenants and of tokens; the tenants have these ids, rising
 pub record HasEntries (trees : Trees) (tenants : List ℕ) : Type 0 where
-  pub tenants : AreGoodTenants (trees 1)
+  pub apart : AreGoodTenants (trees 1)
   pub few : length (trees 1) ≤ 65536
   pub ids : AreIdsOf (trees 1) tenants
   pub tokens : AreGoodTokens tenants (trees 3)
@@ -24,7 +24,7 @@ pub record HasEntries (trees : Trees) (tenants : List ℕ) : Type 0 where
 pub record HasNetworks (trees : Trees) (networks : List ℕ) : Type 0 where
   pub owners : List ℕ
   pub entries : HasEntries trees owners
-  pub networks : AreGoodNetworks owners (trees 5)
+  pub apart : AreGoodNetworks owners (trees 5)
   pub ids : AreIdsOf (trees 5) networks
 
 -- and of peers and of allowed prefixes of these networks
