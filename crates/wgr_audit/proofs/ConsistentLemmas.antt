@@ -31,7 +31,7 @@ here_too (y ∷ xs) x (inl same) = inl (sym same)
 here_too (y ∷ xs) x (inr later) = inr (here_too xs x later)
 
 -- rowids that are natural, and no two of which are one, tell the rows apart
-keyed : (rows : List Row) → ((r : Row) → Has rows r → column r 0 ≡ Int (pos (number_at r 0))) → IsDistinct nat_eq (map (λ r. number_at r 0) rows) → IsKeyed rows
+pub keyed : (rows : List Row) → ((r : Row) → Has rows r → column r 0 ≡ Int (pos (number_at r 0))) → IsDistinct nat_eq (map (λ r. number_at r 0) rows) → IsKeyed rows
 keyed rows natural apart = record {
   ints = λ r here. let e = natural r here in e ∙ sym (ap (λ v. Int (id_in v)) e);
   once = λ r s h k same. elim (one_or_apart (λ (x : Row). number_at x 0) nat_eq eqb_sym rows r s apart (here_too rows r h) (here_too rows s k)) [
