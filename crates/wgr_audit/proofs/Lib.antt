@@ -10,3 +10,4 @@ pub mod HostLemmas
 pub mod NetworkLemmas
 pub mod ConsistentLemmas
 pub mod TokenLaws
+pub mod NetworkLaws

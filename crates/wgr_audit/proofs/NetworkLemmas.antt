@@ -1,5 +1,5 @@
 -- What the listed rows of networks tell of all.
-use Rattle.std.proofs.Common.{◌≡◌, ◌≤◌, ℕ, pos, List, length, map, Bool, true, nat_eq, refl, sym, ap, ap₂, subst, ◌∙◌, IsPermutation}
+use Rattle.std.proofs.Common.{◌≡◌, ◌≤◌, ℕ, pos, List, map, Bool, true, nat_eq, refl, sym, ap, ap₂, subst, ◌∙◌, IsPermutation}
 use Rattle.std.specs.Cmp.{IsTotalOrder}
 use Rattle.std.specs.List.{AllByRecursion, IsDistinct, list_any}
 use Rattle.std.specs.List.Sorted.{IsSorted}

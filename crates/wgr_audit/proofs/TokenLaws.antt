@@ -63,7 +63,7 @@ rowids_apart (r ∷ rows) once apart = (
 
 module _ (tenants : List Row) (ids : List ℕ) (are : AreIdsOf tenants ids) where
   -- an owner is one of the ids where one of the tenants has its id
-  among_is : (id : ℕ) → list_any (nat_eq id) ids ≡ has_tenant (map tenant_in tenants) id
+  pub among_is : (id : ℕ) → list_any (nat_eq id) ids ≡ has_tenant (map tenant_in tenants) id
   among_is id = sym (list_any-IsPermutation (nat_eq id) _ _ are.same) ∙ ap (list_any (nat_eq id)) (sym (map-both tenant_in (λ (t : Tenant). t.id) tenants))
 
   there : (rows : List Row) → AreGoodTokens ids rows → AreConsistentTokens tenants rows
@@ -85,7 +85,7 @@ module _ (tenants : List Row) (ids : List ℕ) (are : AreIdsOf tenants ids) wher
 
   module _ (good : AreGoodTenants tenants) where
     -- an id that is one of the tenants' is an id
-    is_id : (id : ℕ) → has_tenant (map tenant_in tenants) id ≡ true → IsId id
+    pub is_id : (id : ℕ) → has_tenant (map tenant_in tenants) id ≡ true → IsId id
     is_id id any =
         let found = some_has (nat_eq id) (map (λ (r : Row). number_at r 0) tenants) (sym (ap (list_any (nat_eq id)) (map-both tenant_in (λ (t : Tenant). t.id) tenants)) ∙ any) in
         let each = all-map IsId (λ (r : Row). number_at r 0) tenants (all_from (λ r. IsId (number_at r 0)) tenants (λ r here. (all_has IsTenantRow tenants r good.0.each here).0.1)) in

@@ -64,14 +64,14 @@ pub record HaveOwnPools (rows : List Row) : Type 0 where
   pub each : AllByRecursion (λ r. IsPoolAt r 4) rows
   pub pools : IsDistinct overlaps (map (λ r. prefix_at r 4) rows)
 
-abbrev pub AreApart : List Row → Type 0
-AreApart rows = HaveOwnSlots rows × HaveOwnEndpoints rows × HaveOwnPools rows
+abbrev pub AreNetworksApart : List Row → Type 0
+AreNetworksApart rows = HaveOwnSlots rows × HaveOwnEndpoints rows × HaveOwnPools rows
 
 -- what `AreGoodNetworks` asks, but for ids
 pub record AreFit (tenants : List ℕ) (rows : List Row) : Type 0 where
   pub few : length rows ≤ 65536
   pub settings : AllByRecursion HasSettings rows
-  pub apart : AreApart rows
+  pub apart : AreNetworksApart rows
   pub owned : HaveOwners tenants rows
 
 -- ---- what the query shows

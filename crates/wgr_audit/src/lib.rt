@@ -1,4 +1,4 @@
-//! All rows of a register's tables of tenants and of tokens, read and tested.
+//! All rows of a register's tables of tenants, tokens and networks, read and tested.
 #![tactic(auto)]
 
 mod field;

@@ -11,7 +11,7 @@ ghost use Rattle.wgr_audit.specs.Fields.{IsIdAt, IsPoolAt};
 ghost use Rattle.wgr_audit.specs.Layouts.{Laid};
 ghost use Rattle.wgr_audit.specs.TenantRows.{AreIdsOf, Lists};
 ghost use Rattle.wgr_audit.specs.TokenRows.{HaveOwners};
-ghost use Rattle.wgr_audit.specs.NetworkRows.{AreApart, AreFit, AreGoodNetworks, HaveOwnEndpoints, HaveOwnPools, HaveOwnSlots, HasSettings, IsEndpointRow, IsSlotRow, endpoint_at, network_values, slot_at};
+ghost use Rattle.wgr_audit.specs.NetworkRows.{AreNetworksApart, AreFit, AreGoodNetworks, HaveOwnEndpoints, HaveOwnPools, HaveOwnSlots, HasSettings, IsEndpointRow, IsSlotRow, endpoint_at, network_values, slot_at};
 
 use crate::field::{id_at, name_at};
 use crate::network_field::{host_at, is_capacity_at, is_key_at, is_word_at, pool_in, port_at};
@@ -185,7 +185,7 @@ fn are_owned(alloc: Global, rows: &[Row], tenants: &[u32]) -> Result<bool, Fault
 
 /// Whether no two of these rows have a slot, an endpoint or an address of their pools in common.
 fn are_apart(alloc: Global, rows: &[Row]) -> Result<bool, Fault>
-    ensures { IfOk result (λ is. IsTrue is ↔ AreApart rows.now) }
+    ensures { IfOk result (λ is. IsTrue is ↔ AreNetworksApart rows.now) }
 {
     if !are_own_slots(alloc, rows)? {
         return Ok(false);

@@ -1,4 +1,4 @@
-use Rattle.std.proofs.Common.{rules, ◌≡◌, sym, subst, ◌∙◌}
+use Rattle.std.proofs.Common.{rules, ◌≡◌, subst}
 use Rattle.wgr_peers.specs.Host.{IsHostText}
 use Rattle.wgr_audit.proofs.HostLemmas.{kept_once}
 use Rattle.wgr_audit.proofs.network_field.host_of.Goals as goal

@@ -1,4 +1,4 @@
-use Rattle.std.proofs.Common.{ℕ, rules, is_lt}
+use Rattle.std.proofs.Common.{rules, is_lt}
 use Rattle.std.proofs.lemmas.List.Sorted.{ranks_by, answers_always}
 use Rattle.wgr_text.specs.Prefix.{PrefixValue}
 use Rattle.wgr_ordered.specs.Orders.{pool_cmp}

@@ -1,4 +1,4 @@
-use Rattle.std.proofs.Common.{rules, nat_eq, refl, subst, ◌∙◌, sym, true≢false}
+use Rattle.std.proofs.Common.{rules, nat_eq, refl, subst}
 use Rattle.std.specs.List.{IsDistinct}
 use Rattle.wgr_audit.specs.NetworkRows.{AreFit}
 use Rattle.wgr_audit.proofs.NetworkLemmas.{good_of, fit_of}

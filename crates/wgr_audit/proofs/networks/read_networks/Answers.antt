@@ -1,5 +1,3 @@
-use Rattle.std.proofs.Common.{sym, subst}
-use Rattle.std.specs.List.{AllByRecursion}
 use Rattle.sqlite.specs.Held.{state}
 use Rattle.wgr_sql.proofs.ResultLemmas.{if_ok, if_some, if_none}
 use Rattle.wgr_audit.proofs.NetworkLemmas.{good_there, good_back, ids_are, ids_sorted}
