@@ -9,7 +9,9 @@ ghost use Rattle.wgr_register.specs.Ends.{AskEnds, OrderEnds};
 ghost use Rattle.wgr_register.specs.Standing.{IsAtRest, StandsAt};
 ghost use Rattle.wgr_sql.specs.Calls.{IsKept};
 ghost use Rattle.wgr_store.specs.Fresh.{IsFresh, is_any_taken, no_schema};
+ghost use Rattle.wgr_store.specs.FirstVersion.{IsFirstVersion};
 ghost use Rattle.wgr_store.specs.declared.fault.RegisterFault.TheVariants.{NotARegister, NotEmpty, NotGood};
+ghost use Rattle.wgr_whole.specs.Good.{IsGood};
 
 use crate::fault::{AskFault, Done, OpenFault, OrderFault};
 use crate::given::Render;
@@ -20,6 +22,7 @@ use std::marker::Model;
 use wgr_core::Command;
 use wgr_model::Order;
 use wgr_store::make;
+use wgr_whole::check_register;
 
 /// The networks of many tenants, in a database whose rows are consistent at all times.
 ///
@@ -58,6 +61,27 @@ impl<S: Alter> Register<S> {
         ensures idle { IfErr result (λ e. e.connection.in_transaction ≡ false) }
     {
         match make(&mut conn) {
+            Ok(()) => Ok(Register { conn }),
+            Err(fault) => Err(OpenFault {
+                fault,
+                connection: conn,
+            }),
+        }
+    }
+
+    /// Opens the register that the database holds. Whatever else the database has is left alone.
+    ///
+    /// `NotARegister` where the register's tables are missing or of another version, and `NotGood`
+    /// where not all rows are read as those of a consistent register. The database is as before.
+    pub fn open(alloc: Global, mut conn: Connection<S>) -> Result<Register<S>, OpenFault<S>>
+        requires idle { conn.in_transaction ≡ false }
+        ensures good { IfOk result (λ register. HasCleanDisk (state S.Store register) → IsGood (state S.Store conn).now × StandsAt S.Store register (state S.Store conn).now []) }
+        ensures foreign { IfErr result (λ e. HasCleanDisk (state S.Store e.connection) → e.fault ≡ NotARegister → IsFirstVersion (state S.Store conn).now → ⊥) }
+        ensures taken { IfErr result (λ e. e.fault ≡ NotEmpty → ⊥) }
+        ensures kept { IfErr result (λ e. IsKept (state S.Store conn) (state S.Store e.connection)) }
+        ensures idle { IfErr result (λ e. e.connection.in_transaction ≡ false) }
+    {
+        match check_register(alloc, &mut conn) {
             Ok(()) => Ok(Register { conn }),
             Err(fault) => Err(OpenFault {
                 fault,

@@ -1,16 +1,14 @@
 -- Rows that are whole are those of a consistent register.
-use Rattle.std.proofs.Common.{◌≡◌, ◌≤◌, ℕ, Bool, true, false, not, ◌&&◌, List, [], ◌∷◌, ◌++◌, map, filter, flat_map, nat_eq, length, refl, sym, ap, ap₂, subst, ◌∙◌, inl, inr, true≢false, IsPermutation}
+use Rattle.std.proofs.Common.{◌≡◌, ◌≤◌, ℕ, Bool, true, false, not, ◌&&◌, List, [], ◌∷◌, map, filter, nat_eq, refl, sym, ap, ap₂, subst, ◌∙◌, inl, inr, true≢false, IsPermutation}
 use Rattle.std.specs.List.{AllByRecursion, IsDistinct}
 use Rattle.std.proofs.lemmas.List.Sorted.{IsPermutation-map, IsPermutation-refl, IsPermutation-sym}
 use Rattle.std.proofs.lemmas.Map.Keys.{IsDistinct-IsPermutation}
 use Rattle.std.proofs.Math.ListN.{length-map}
-use Rattle.wgr_peers.specs.declared.peer.Peer.{Peer}
 use Rattle.wgr_core.specs.Forms.{HasForms}
 use Rattle.wgr_core.specs.Network.{IsNetwork, NetworkValue}
 use Rattle.wgr_model.specs.Consistent.{IsConsistent, IsHolding, endpoint, has_tenant, overlaps, pool_of, same_endpoint, same_slot, slot}
 use Rattle.wgr_model.specs.Laws.{Has}
 use Rattle.wgr_model.specs.Register.{Holding}
-use Rattle.wgr_model.specs.RowLaws.{AreConsistent}
 use Rattle.wgr_model.specs.Rows.{AllowedRow, AreKeyed, AreRowsOf, NetworkRow, PeerRow, Tables, address_row, allowed_key, allowed_rows, holding_of, network_row, number_in, peer_row, peer_rows, register_of, route_row, same_allowed, same_pair}
 use Rattle.wgr_model.proofs.CollectLemmas.{from_append, from_flat, from_map, has_flat, has_left, has_map, has_right}
 use Rattle.wgr_model.proofs.ExistLemmas.{peers_apart, owners_apart, addresses_apart, routes_apart, kinds_apart, pair_by_id}

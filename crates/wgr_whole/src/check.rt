@@ -20,15 +20,15 @@ fn rows_are_good<S: Alter>(alloc: Global, conn: &mut Connection<S>) -> Result<bo
     requires idle { conn.old.in_transaction ≡ false }
     ensures idle { conn.new.in_transaction ≡ false }
     ensures good { HasCleanDisk (state S.Store conn.new) → (IsTrue (state S.Store conn.old).is_open → IsFirstVersion (state S.Store conn.old).now)
-        → IfOk result (λ is. IsTrue is → IsGood (state S.Store conn.old).now × Stands S.Store conn.new (state S.Store conn.old).now []) }
+        → IfOk result (λ is. IsTrue is → IsTrue (state S.Store conn.old).is_open × IsGood (state S.Store conn.old).now × Stands S.Store conn.new (state S.Store conn.old).now []) }
     ensures kept { (HasCleanDisk (state S.Store conn.new) → IsTrue (state S.Store conn.old).is_open → IsFirstVersion (state S.Store conn.old).now) → IsKept (state S.Store conn.old) (state S.Store conn.new) }
     ensures clean { HasCleanDisk (state S.Store conn.new) → HasCleanDisk (state S.Store conn.old) }
 {
+    let _live = conn.schema();
+    let _settled = conn.is_autocommit();
     let Some(networks) = read_tables(alloc, conn)? else {
         return Ok(false);
     };
-    let _live = conn.schema();
-    let _settled = conn.is_autocommit();
     networks_are_told(alloc, conn, networks.as_slice())
 }
 

@@ -1,0 +1,42 @@
+use Rattle.std.proofs.Common.{IfSome, IsTrue, [], not, ap, subst, ◌∙◌}
+use Rattle.std.specs.List.{AllByRecursion}
+use Rattle.sqlite.specs.Held.{state}
+use Rattle.wgr_sql.proofs.ResultLemmas.{if_ok}
+use Rattle.wgr_tables.specs.Decode.{tables_of}
+use Rattle.wgr_audit.specs.Layouts.{Laid}
+use Rattle.wgr_whole.specs.Good.{HasTables, TellsNetwork}
+use Rattle.wgr_whole.proofs.JoinLemmas.{is_good, register, stands_read}
+use Rattle.wgr_whole.proofs.check.rows_are_good.Goals as goal
+
+pub returns-clause-good : goal.returns-clause-good
+returns-clause-good g c clean first =
+    let old = state g.S.Store c.args.conn.now in
+    let before = c.networks_are_told.ensures.clean clean in
+    let laid : Laid old = λ live. (first live).0 in
+    let found = subst (λ o. IfSome o (λ x. IsTrue old.is_open × HasTables old.now.trees x.items)) c.in-Some.is (c.in_ok-networks.ensures.some before laid) in
+    let live = found.0 in
+    let sound = (c.schema-live.ensures.live live).0 in
+    let ids = c.in-Some.networks.items in
+    let stood = stands_read g.S.Store c.args.conn.now c.read_tables.new.conn c.requires.idle c.read_tables.ensures.idle live (register old.now (first live).0 (first live).1 sound ids found.1)
+    (c.is_autocommit-settled.ensures.settled (c.is_autocommit-settled.ensures.value ∙ ap not c.requires.idle)) (λ trees shown may. g.met.S.Store.settled c.args.conn.now.store trees shown may)
+    (c.read_tables.ensures.kept (λ _. laid)) c.read_tables.ensures.survives in
+    if_ok c.networks_are_told.result _ _ (λ is told so. (
+      live,
+      is_good old.now (first live).0 (first live).1 sound ids found.1 (subst (AllByRecursion (TellsNetwork (tables_of old.now))) c.as_slice.ensures.value (told so)),
+      c.networks_are_told.ensures.stands old.now [] stood,
+    )) (c.networks_are_told.ensures.told old.now [] stood clean)
+
+pub returns-clause-kept : goal.returns-clause-kept
+returns-clause-kept g c version clean shown =
+    let old = state g.S.Store c.args.conn.now in
+    let first = version clean in
+    let before = c.networks_are_told.ensures.clean clean in
+    let laid : Laid old = λ live. (first live).0 in
+    let found = subst (λ o. IfSome o (λ x. IsTrue old.is_open × HasTables old.now.trees x.items)) c.in-Some.is (c.in_ok-networks.ensures.some before laid) in
+    let live = found.0 in
+    let sound = (c.schema-live.ensures.live live).0 in
+    let ids = c.in-Some.networks.items in
+    let stood = stands_read g.S.Store c.args.conn.now c.read_tables.new.conn c.requires.idle c.read_tables.ensures.idle live (register old.now (first live).0 (first live).1 sound ids found.1)
+    (c.is_autocommit-settled.ensures.settled (c.is_autocommit-settled.ensures.value ∙ ap not c.requires.idle)) (λ trees open_then may. g.met.S.Store.settled c.args.conn.now.store trees open_then may)
+    (c.read_tables.ensures.kept (λ _. laid)) c.read_tables.ensures.survives in
+    (live, (c.networks_are_told.ensures.stands old.now [] stood).shows clean shown)

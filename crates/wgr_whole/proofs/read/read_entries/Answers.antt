@@ -1,0 +1,30 @@
+use Rattle.std.proofs.Common.{IfSome, IsTrue, sym, subst, arith}
+use Rattle.std.specs.List.Sorted.{IsSorted}
+use Rattle.std.specs.Ordering.{nat_cmp}
+use Rattle.sqlite.specs.Effect.{Database}
+use Rattle.sqlite.specs.State.{HasCleanDisk}
+use Rattle.sqlite.specs.Held.{state}
+use Rattle.wgr_audit.specs.TenantRows.{AreGoodTenants, AreIdsOf}
+use Rattle.wgr_audit.specs.TokenRows.{AreGoodTokens}
+use Rattle.wgr_whole.proofs.JoinLemmas.{laid_still, few_rows}
+use Rattle.wgr_whole.proofs.read.read_entries.Goals as goal
+
+pub returns-clause-some : goal.returns-clause-some
+returns-clause-some g c clean laid =
+    let old = state g.S.Store c.args.conn.now in
+    let mid = state g.S.Store c.read_tenants.new.conn in
+    let ids = c.in-Some.tenants.items in
+    let before : HasCleanDisk mid = omega (arith, c.tokens_are_good.ensures.survives.clean, clean) in
+    let found = subst (λ o. IfSome o (λ x. IsTrue old.is_open × AreGoodTenants (old.now.trees 1) × AreIdsOf (old.now.trees 1) x.items)) c.in-Some.is (c.in_ok-tenants.ensures.some before laid) in
+    let kept = c.read_tenants.ensures.kept (λ _. laid) in
+    let sorted = subst (IsSorted nat_cmp) (sym c.as_slice.ensures.value) found.2.sorted in
+    let told = c.in_ok-tokens_are_good.ensures.told clean (laid_still old mid before laid kept) sorted in
+    let tokens = subst (λ l. AreGoodTokens l (mid.now.trees 3)) c.as_slice.ensures.value (told.1.0 c.if-not-branch.false) in (
+      found.0,
+      record {
+        apart = found.1;
+        few = few_rows (old.now.trees 1) ids found.2 (omega (arith, c.if-len-gt65536.false, c.len.ensures));
+        ids = found.2;
+        tokens = subst (λ (d : Database). AreGoodTokens ids (d.trees 3)) (kept before told.0).1 tokens;
+      },
+    )
