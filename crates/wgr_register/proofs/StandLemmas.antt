@@ -20,6 +20,7 @@ use Rattle.wgr_model.specs.Steps as answered
 use Rattle.wgr_model.specs.declared.answer.OrderRefusal as refusal
 use Rattle.wgr_model.proofs.RowRunLemmas.{no_rows_consistent, row_step}
 use Rattle.wgr_store.specs.Fresh.{IsFresh}
+use Rattle.wgr_whole.specs.Good.{IsGood}
 use Rattle.wgr_sql.specs.declared.fault.Fault.{Fault}
 use Rattle.wgr_sql.specs.declared.fault.Fault.TheVariants.{NoMemory}
 use Rattle.wgr_tables.specs.Decode.{IsRegister, tables_of}
@@ -64,6 +65,9 @@ module _ {S : Type 0} (g : Ghosts S) where
   -- a register that was just made
   pub at_fresh : (conn : Held S) (db : Database) → IsFresh db → Stands g conn db [] → StandsAt g conn db []
   at_fresh conn db is stands = record { pending = []; stands = stands; consistent = subst AreConsistent (sym is.rows) no_rows_consistent; steps = λ one here. absurd here }
+
+  pub at_good : (conn : Held S) (db : Database) → IsGood db → Stands g conn db [] → StandsAt g conn db []
+  at_good conn db is stands = record { pending = []; stands = stands; consistent = is.consistent; steps = λ one here. absurd here }
 
   -- a call that reads leaves it where it is
   pub at_read : (old new : Held S) (db : Database) (late : List Event) → ((pending : List Written) → Stands g old db pending → Stands g new db pending) → StandsAt g old db late → StandsAt g new db late
