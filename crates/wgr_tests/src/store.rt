@@ -3,7 +3,7 @@ use sqlite::{Alter, Connection, FileStore, MemStore, Options};
 use sqlite_disk::{Disk, Files, Fuse, Memory};
 use std::alloc::AllocGlobal;
 use std::process::Abort;
-use wgr_audit::read_tenants;
+use wgr_audit::{read_networks, read_tenants};
 use wgr_store::{RegisterFault, check_layout, make};
 
 fn run<S: Alter>(rt: &(impl Abort + AllocGlobal), conn: &mut Connection<S>, statements: &str) {
@@ -154,5 +154,49 @@ fn rows_of_tenants_are_tested(rt: HostRuntime) {
         ("INSERT INTO tenant (id, name) VALUES (1, '')", None),
     ] {
         assert!(rt; tenants(&rt, statements) == want, "{statements}");
+    }
+}
+
+// How many networks of the tenant 7 are read of two good rows that the statements change, or none
+// where they aren't good any more.
+fn networks(rt: &(impl Abort + AllocGlobal), statements: &str) -> Option<usize> {
+    let mut conn = database(rt, "");
+    made(rt, &mut conn).expect(rt, "a register");
+    run(
+        rt,
+        &mut conn,
+        "INSERT INTO network (id, tenant, name, family, lo, length, host, port, server, capacity, next) VALUES
+         (1, 7, 'home', 4, X'0000000000000000000000000a000000', 24, 'vpn.example', 51820,
+         X'0000000000000000000000000000000000000000000000000000000000000001', 9, 1),
+         (9, 7, 'away', 4, X'0000000000000000000000000a000100', 24, '2001:db8::1', 51820,
+         X'0000000000000000000000000000000000000000000000000000000000000001', 4096, 77)",
+    );
+    run(rt, &mut conn, statements);
+    assert!(rt; conn.is_autocommit());
+    let found = read_networks(rt.alloc(), &mut conn, &[7]).expect(rt, "rows");
+    found.map(|ids| ids.len())
+}
+
+#[test]
+fn rows_of_networks_are_tested(rt: HostRuntime) {
+    for (statements, want) in [
+        ("DELETE FROM network WHERE id = 9", Some(1)),
+        ("UPDATE network SET port = 1", Some(2)),
+        ("UPDATE network SET id = 65537 WHERE id = 9", None),
+        ("UPDATE network SET tenant = 8 WHERE id = 9", None),
+        ("UPDATE network SET name = 'Away' WHERE id = 9", None),
+        ("UPDATE network SET family = 5 WHERE id = 9", None),
+        ("UPDATE network SET lo = X'0a000100' WHERE id = 9", None),
+        ("UPDATE network SET length = 23 WHERE id = 1", None),
+        ("UPDATE network SET length = 31 WHERE id = 9", None),
+        ("UPDATE network SET length = 22 WHERE id = 9", None),
+        ("UPDATE network SET host = '2001:DB8::1' WHERE id = 9", None),
+        ("UPDATE network SET host = 'VPN.example' WHERE id = 1", None),
+        ("UPDATE network SET port = 0 WHERE id = 1", None),
+        ("UPDATE network SET server = X'01' WHERE id = 1", None),
+        ("UPDATE network SET capacity = 4097 WHERE id = 1", None),
+        ("UPDATE network SET next = -1 WHERE id = 1", None),
+    ] {
+        assert!(rt; networks(&rt, statements) == want, "{statements}");
     }
 }
