@@ -17,7 +17,17 @@ HELP = [
     ("help plan", ["help", "plan"], "plan_help.txt"),
     ("behind the pool", ["plan", "10.8.0.0/24", "--help"], "plan_help.txt"),
     ("help help", ["help", "help"], "help_help.txt"),
+    ("init --help", ["init", "--help"], "init_help.txt"),
+    ("tenant-add --help", ["tenant-add", "--help"], "tenant_add_help.txt"),
+    ("token-grant --help", ["token-grant", "--help"], "token_grant_help.txt"),
+    ("token-end --help", ["token-end", "--help"], "token_end_help.txt"),
+    ("network-add --help", ["network-add", "--help"], "network_add_help.txt"),
+    ("network-end --help", ["network-end", "--help"], "network_end_help.txt"),
+    ("help network-add", ["help", "network-add"], "network_add_help.txt"),
 ]
+
+NETWORK = ["network-add", "a.db", "acme", "office", "--pool", "10.8.0.0/24", "--host", "h"]
+NETWORK += ["--port", "1", "--key", "k", "--capacity", "1"]
 
 # The words, and a part of what standard error says.
 MISTAKES = [
@@ -25,6 +35,14 @@ MISTAKES = [
     ("an unknown command", ["plane"], b"unrecognized subcommand 'plane'"),
     ("no pool", ["plan"], b"  <POOL>\n\nUsage: wgr plan <POOL>\n"),
     ("a word too many", ["plan", "10.8.0.0/24", "more"], b"unexpected argument 'more' found"),
+    ("no database", ["init"], b"  <DB>\n\nUsage: wgr init <DB>\n"),
+    ("two databases", ["init", "a.db", "b.db"], b"unexpected argument 'b.db' found"),
+    ("no tenant", ["tenant-add", "a.db"], b"  <NAME>\n\nUsage: wgr tenant-add <DB> <NAME>\n"),
+    ("a token among the words", ["token-end", "a.db", "abc"], b"unexpected argument 'abc' found"),
+    ("no pool of a network", NETWORK[:4] + NETWORK[6:], b"  --pool <P>\n"),
+    ("a pool twice", [*NETWORK, "--pool", "10.9.0.0/24"], b"'--pool <P>' cannot be used multiple times"),
+    ("an option without a value", NETWORK[:-1], b"a value is required for '--capacity <N>'"),
+    ("an unknown option", [*NETWORK, "--mtu", "1420"], b"unexpected argument '--mtu' found"),
     ("an unknown flag", ["--quiet"], b"unexpected argument '--quiet' found"),
 ]
 

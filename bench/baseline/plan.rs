@@ -1,20 +1,20 @@
 //! The same job as `wgr plan POOL`, as plain Rust with no proofs: what `bench/run` compares against.
 
+// `serve` uses more of these.
+#[allow(dead_code)]
+mod key;
+#[allow(dead_code)]
+mod prefix;
+
+use key::key_of;
+use prefix::{Family, Prefix};
 use std::collections::hash_map::Entry;
 use std::collections::HashMap;
 use std::io::{self, Read, Write};
-use std::net::{IpAddr, Ipv4Addr, Ipv6Addr};
 use std::process::ExitCode;
 
 const CAPACITY: usize = 4096;
 const SERVER_KEY: [u8; 32] = [0xFF; 32];
-const KEY_TEXT: usize = 44;
-
-#[derive(Clone, Copy)]
-enum Family {
-    V4,
-    V6,
-}
 
 /// The addresses that are still to be given: `left` of them in order, from `next` on.
 struct Pool {
@@ -36,55 +36,8 @@ enum Refusal {
     PoolFull,
 }
 
-impl Family {
-    fn width(self) -> u32 {
-        match self {
-            Family::V4 => 32,
-            Family::V6 => 128,
-        }
-    }
-
-    fn write(self, number: u128, out: &mut Vec<u8>) -> io::Result<()> {
-        match self {
-            Family::V4 => write!(out, "{}/32", Ipv4Addr::from(number as u32)),
-            Family::V6 => {
-                let ip = Ipv6Addr::from(number);
-                match ip.to_ipv4_mapped() {
-                    // Std writes these with dots; the register writes groups of hex digits alone.
-                    Some(_) => {
-                        let [.., high, low] = ip.segments();
-                        write!(out, "::ffff:{high:x}:{low:x}/128")
-                    }
-                    None => write!(out, "{ip}/128"),
-                }
-            }
-        }
-    }
-}
-
-/// A decimal number of at most three digits, with no zero in front.
-fn length_of(text: &str) -> Option<u32> {
-    let plain = text == "0" || !text.starts_with('0');
-    let digits = (1..=3).contains(&text.len()) && text.bytes().all(|b| b.is_ascii_digit());
-    if plain && digits { text.parse().ok() } else { None }
-}
-
 fn pool_of(text: &str) -> Result<Pool, PoolError> {
-    let (address, length) = match text.rsplit_once('/') {
-        Some((address, length)) => (address, Some(length)),
-        None => (text, None),
-    };
-    let (family, number) = match address.parse::<IpAddr>().map_err(|_| PoolError::BadField)? {
-        IpAddr::V4(ip) => (Family::V4, u128::from(u32::from(ip))),
-        IpAddr::V6(ip) => (Family::V6, u128::from(ip)),
-    };
-    let length = match length {
-        Some(length) => length_of(length).ok_or(PoolError::BadField)?,
-        None => family.width(),
-    };
-    if length > family.width() {
-        return Err(PoolError::BadField);
-    }
+    let Prefix { family, number, length } = Prefix::read(text).ok_or(PoolError::BadField)?;
     let is_length = match family {
         Family::V4 => (8..=30).contains(&length),
         Family::V6 => (48..=126).contains(&length),
@@ -102,43 +55,6 @@ fn pool_of(text: &str) -> Result<Pool, PoolError> {
         Family::V6 => size - 2,
     };
     Ok(Pool { family, next: number + 2, left })
-}
-
-fn sextet(byte: u8) -> Option<u32> {
-    let value = match byte {
-        b'A'..=b'Z' => byte - b'A',
-        b'a'..=b'z' => byte - b'a' + 26,
-        b'0'..=b'9' => byte - b'0' + 52,
-        b'+' => 62,
-        b'/' => 63,
-        _ => return None,
-    };
-    Some(u32::from(value))
-}
-
-/// The 32 bytes of a key text: strict base64, with its padding and no stray bits.
-fn key_of(text: &[u8]) -> Option<[u8; 32]> {
-    if text.len() != KEY_TEXT || text[KEY_TEXT - 1] != b'=' {
-        return None;
-    }
-    let mut key = [0; 32];
-    let (groups, tail) = text[..KEY_TEXT - 1].split_at(40);
-    for (group, bytes) in groups.chunks_exact(4).zip(key.chunks_exact_mut(3)) {
-        let mut bits = 0;
-        for byte in group {
-            bits = bits << 6 | sextet(*byte)?;
-        }
-        bytes.copy_from_slice(&bits.to_be_bytes()[1..]);
-    }
-    let mut bits = 0;
-    for byte in tail {
-        bits = bits << 6 | sextet(*byte)?;
-    }
-    if bits & 3 != 0 {
-        return None;
-    }
-    key[30..].copy_from_slice(&(bits >> 2).to_be_bytes()[2..]);
-    Some(key)
 }
 
 fn add(
@@ -168,7 +84,7 @@ fn add(
     let _ = write!(out, "{number}\t");
     out.extend_from_slice(line);
     out.push(b'\t');
-    let _ = pool.family.write(pool.next, out);
+    let _ = Prefix::full(pool.family, pool.next).write(out);
     out.push(b'\n');
     pool.next = pool.next.wrapping_add(1);
     pool.left -= 1;

@@ -6,7 +6,6 @@ pub mod KeyLemmas
 pub mod TenantLemmas
 pub mod TokenLemmas
 pub mod SpelledLemmas
-pub mod HostLemmas
 pub mod NetworkLemmas
 pub mod ConsistentLemmas
 pub mod TokenLaws

@@ -21,7 +21,7 @@ use Rattle.wgr_audit.specs.TenantRows.{AreGoodTenants, AreIdsOf}
 use Rattle.wgr_audit.specs.NetworkRows.{AreGoodNetworks, IsNetworkRow}
 use Rattle.wgr_audit.specs.Laws.{AreConsistentNetworks, IsSettled}
 use Rattle.wgr_audit.proofs.ConsistentLemmas.{keyed_by_ids, sound}
-use Rattle.wgr_audit.proofs.HostLemmas.{kept_again}
+use Rattle.wgr_tables.proofs.HostLemmas.{kept_again}
 use Rattle.wgr_audit.proofs.TokenLaws.{among_is, is_id}
 
 abbrev Owner : Row → ℕ

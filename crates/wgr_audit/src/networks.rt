@@ -254,7 +254,7 @@ pub fn read_networks<S: Alter>(
     requires idle { conn.old.in_transaction ≡ false }
     ensures idle { conn.new.in_transaction ≡ false }
     ensures some { HasCleanDisk (state S.Store conn.new) → Laid (state S.Store conn.old) → IfOk result (λ found. IfSome found (λ ids. IsTrue (state S.Store conn.old).is_open × AreGoodNetworks tenants.now ((state S.Store conn.old).now.trees 5) × AreIdsOf ((state S.Store conn.old).now.trees 5) ids.items)) }
-    ensures none { HasCleanDisk (state S.Store conn.new) → Laid (state S.Store conn.old) → IsSorted nat_cmp tenants.now → IfOk result (λ found. IfNone found (AreGoodNetworks tenants.now ((state S.Store conn.old).now.trees 5) → ⊥)) }
+    ensures none { HasCleanDisk (state S.Store conn.new) → Laid (state S.Store conn.old) → IsSorted nat_cmp tenants.now → IfOk result (λ found. IfNone found (IsTrue (state S.Store conn.old).is_open × (AreGoodNetworks tenants.now ((state S.Store conn.old).now.trees 5) → ⊥))) }
     ensures kept { (HasCleanDisk (state S.Store conn.new) → Laid (state S.Store conn.old)) → IsKept (state S.Store conn.old) (state S.Store conn.new) }
     ensures survives { Survives (state S.Store conn.old) (state S.Store conn.new) (λ _. ⊥) }
 {

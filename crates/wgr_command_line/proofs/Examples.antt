@@ -2,39 +2,59 @@
 use Rattle.std.proofs.Common.{◌≡◌, [], ◌∷◌, Some, None, codes, refl}
 use Rattle.clap.specs.declared.error.kind.ErrorKind.TheVariants as kind
 use Rattle.clap.proofs.OnLiterals.{clap_on_literals}
-use Rattle.wgr_command_line.specs.Words.{pool_asked, wrong_with}
+use Rattle.wgr_command_line.specs.Words.{asked_by, wrong_with, NetworkAdd, Init, NetworkEnd, Operate, Plan, TenantAdd, TokenEnd, TokenGrant}
 
-plan : pool_asked (codes "plan" ∷ codes "10.8.0.0/24" ∷ []) ≡ Some (codes "10.8.0.0/24")
+plan : asked_by (codes "plan" ∷ codes "10.8.0.0/24" ∷ []) ≡ Some (Plan (codes "10.8.0.0/24"))
 unfolding clap_on_literals
 plan = refl
 
-plan_after_dashes : pool_asked (codes "plan" ∷ codes "--" ∷ codes "--help" ∷ []) ≡ Some (codes "--help")
+plan_after_dashes : asked_by (codes "plan" ∷ codes "--" ∷ codes "--help" ∷ []) ≡ Some (Plan (codes "--help"))
 unfolding clap_on_literals
 plan_after_dashes = refl
 
-no_word : pool_asked [] ≡ None
+no_word : asked_by [] ≡ None
 unfolding clap_on_literals
 no_word = refl
 
-no_pool : pool_asked (codes "plan" ∷ []) ≡ None
+no_pool : asked_by (codes "plan" ∷ []) ≡ None
 unfolding clap_on_literals
 no_pool = refl
 
-other_command : pool_asked (codes "plane" ∷ codes "10.8.0.0/24" ∷ []) ≡ None
+other_command : asked_by (codes "plane" ∷ codes "10.8.0.0/24" ∷ []) ≡ None
 unfolding clap_on_literals
 other_command = refl
 
-two_pools : pool_asked (codes "plan" ∷ codes "10.8.0.0/24" ∷ codes "10.9.0.0/24" ∷ []) ≡ None
+two_pools : asked_by (codes "plan" ∷ codes "10.8.0.0/24" ∷ codes "10.9.0.0/24" ∷ []) ≡ None
 unfolding clap_on_literals
 two_pools = refl
 
-help_of_plan : pool_asked (codes "plan" ∷ codes "--help" ∷ []) ≡ None
+help_of_plan : asked_by (codes "plan" ∷ codes "--help" ∷ []) ≡ None
 unfolding clap_on_literals
 help_of_plan = refl
 
-version : pool_asked (codes "--version" ∷ []) ≡ None
+version : asked_by (codes "--version" ∷ []) ≡ None
 unfolding clap_on_literals
 version = refl
+
+init : asked_by (codes "init" ∷ codes "a.db" ∷ []) ≡ Some (Init (codes "a.db"))
+unfolding clap_on_literals
+init = refl
+
+tenant_add : asked_by (codes "tenant-add" ∷ codes "a.db" ∷ codes "acme" ∷ []) ≡ Some (Operate (codes "a.db") (TenantAdd (codes "acme")))
+unfolding clap_on_literals
+tenant_add = refl
+
+token_grant : asked_by (codes "token-grant" ∷ codes "a.db" ∷ codes "acme" ∷ []) ≡ Some (Operate (codes "a.db") (TokenGrant (codes "acme")))
+unfolding clap_on_literals
+token_grant = refl
+
+token_end : asked_by (codes "token-end" ∷ codes "a.db" ∷ []) ≡ Some (Operate (codes "a.db") TokenEnd)
+unfolding clap_on_literals
+token_end = refl
+
+network_end : asked_by (codes "network-end" ∷ codes "a.db" ∷ codes "acme" ∷ codes "lab" ∷ []) ≡ Some (Operate (codes "a.db") (NetworkEnd (codes "acme") (codes "lab")))
+unfolding clap_on_literals
+network_end = refl
 
 -- what is wrong with them
 no_word_wrong : wrong_with [] ≡ kind.MissingSubcommand ∷ []

@@ -5,16 +5,65 @@ use Rattle.clap.specs.Kinds.{or_else}
 use Rattle.clap.specs.Simple.{new_shape}
 use Rattle.clap.specs.Words.{App, Kinds, Row, Rule, Text, fault_of, first_of, new_app, new_rule, subcommand_of, with_rule, with_subcommand}
 use Rattle.clap.specs.declared.error.kind.ErrorKind.TheVariants.{MissingSubcommand}
+use Rattle.wgr_command_line.specs.declared.request.NetworkWords.{NetworkWords}
+use Rattle.wgr_command_line.specs.declared.request.OrderWords.{OrderWords}
+use Rattle.wgr_command_line.specs.declared.request.OrderWords.TheVariants as order
 use Rattle.wgr_command_line.specs.declared.request.Request.{Request}
-use Rattle.wgr_command_line.specs.declared.request.Request.TheVariants.{Plan}
+use Rattle.wgr_command_line.specs.declared.request.Request.TheVariants as request
 
--- `POOL`: one value, which has to be there
-abbrev pub pool_rule : Rule
-pool_rule = record (new_rule (codes "pool")) { value_names = 1; required = true }
+-- ---- the commands
+
+-- a value that has to be there, by its place
+abbrev pub value_rule : Text → Rule
+value_rule id = record (new_rule id) { value_names = 1; required = true }
+
+-- or behind its name, as `--port N`
+abbrev pub option_rule : Text → Rule
+option_rule id = record (value_rule id) { long = Some id }
+
+abbrev pub with_value : Text → App → App
+with_value id app = with_rule app (value_rule id)
+
+abbrev pub with_option : Text → App → App
+with_option id app = with_rule app (option_rule id)
 
 -- `plan POOL`
 abbrev pub plan_app : App
-plan_app = with_rule (new_app (codes "plan")) pool_rule
+plan_app = with_value (codes "pool") (new_app (codes "plan"))
+
+-- a command on the register in the file `DB`
+abbrev pub db_app : Text → App
+db_app name = with_value (codes "db") (new_app name)
+
+-- `init DB`
+abbrev pub init_app : App
+init_app = db_app (codes "init")
+
+-- `tenant-add DB NAME`
+abbrev pub tenant_add_app : App
+tenant_add_app = with_value (codes "name") (db_app (codes "tenant-add"))
+
+-- `token-grant DB TENANT`
+abbrev pub token_grant_app : App
+token_grant_app = with_value (codes "tenant") (db_app (codes "token-grant"))
+
+-- `token-end DB`
+abbrev pub token_end_app : App
+token_end_app = db_app (codes "token-end")
+
+-- a command on a network of a tenant's: `DB TENANT NAME`
+abbrev pub network_app : Text → App
+network_app name = with_value (codes "name") (with_value (codes "tenant") (db_app name))
+
+-- `network-add DB TENANT NAME --pool P --host H --port N --key K --capacity N`
+abbrev pub network_add_app : App
+network_add_app =
+    with_option (codes "capacity") (with_option (codes "key") (with_option (codes "port") (with_option (codes "host") (with_option (codes "pool")
+    (network_app (codes "network-add"))))))
+
+-- `network-end DB TENANT NAME`
+abbrev pub network_end_app : App
+network_end_app = network_app (codes "network-end")
 
 -- `wgr` has a version and does nothing by itself; its own name is none of the words
 abbrev pub wgr_alone : App
@@ -23,36 +72,135 @@ wgr_alone = record {
   subs = [];
 }
 
+abbrev pub with_command : App → App → App
+with_command command app = with_subcommand app command.top
+
 abbrev pub wgr_app : App
-wgr_app = with_subcommand wgr_alone plan_app.top
+wgr_app =
+    with_command network_end_app (with_command network_add_app (with_command token_end_app (with_command token_grant_app
+    (with_command tenant_add_app (with_command init_app (with_command plan_app wgr_alone))))))
 
--- the pool, of a subcommand with its values
-abbrev pub plan_pool : Text × List Row → Option Text
-plan_pool (name, rows) = if bytes_eq name (codes "plan") then first_of (codes "pool") rows else None
+-- ---- what is asked for
 
-abbrev pub plan_named : List Text → Option Text
-plan_named words = option_and_then plan_pool (subcommand_of wgr_app words)
+-- what `network-add` asks of a new network
+pub record NetworkAsked : Type 0 where
+  pub tenant : Text
+  pub name : Text
+  pub pool : Text
+  pub host : Text
+  pub port : Text
+  pub key : Text
+  pub capacity : Text
+
+-- an order on a register
+pub data OrderAsked : Type 0 where
+  TenantAdd : (name : Text) → OrderAsked
+  TokenGrant : (tenant : Text) → OrderAsked
+  TokenEnd : OrderAsked
+  NetworkAdd : (network : NetworkAsked) → OrderAsked
+  NetworkEnd : (tenant name : Text) → OrderAsked
+
+-- a plan of a pool, a new register in the file `db`, or an order on the register there
+pub data Asked : Type 0 where
+  Plan : (pool : Text) → Asked
+  Init : (db : Text) → Asked
+  Operate : (db : Text) (order : OrderAsked) → Asked
+
+-- what is made of the value under this name, which may not be missing
+abbrev pub with_first : Text → List Row → (Text → Option Asked) → Option Asked
+with_first id rows made = option_and_then made (first_of id rows)
+
+abbrev pub plan_in : List Row → Option Asked
+plan_in rows = with_first (codes "pool") rows (λ pool. Some (Plan pool))
+
+abbrev pub init_in : List Row → Option Asked
+init_in rows = with_first (codes "db") rows (λ db. Some (Init db))
+
+abbrev pub tenant_add_in : List Row → Option Asked
+tenant_add_in rows =
+    with_first (codes "db") rows (λ db.
+    with_first (codes "name") rows (λ name.
+    Some (Operate db (TenantAdd name))))
+
+abbrev pub token_grant_in : List Row → Option Asked
+token_grant_in rows =
+    with_first (codes "db") rows (λ db.
+    with_first (codes "tenant") rows (λ tenant.
+    Some (Operate db (TokenGrant tenant))))
+
+abbrev pub token_end_in : List Row → Option Asked
+token_end_in rows = with_first (codes "db") rows (λ db. Some (Operate db TokenEnd))
+
+abbrev pub network_add_in : List Row → Option Asked
+network_add_in rows =
+    with_first (codes "db") rows (λ db.
+    with_first (codes "tenant") rows (λ tenant.
+    with_first (codes "name") rows (λ name.
+    with_first (codes "pool") rows (λ pool.
+    with_first (codes "host") rows (λ host.
+    with_first (codes "port") rows (λ port.
+    with_first (codes "key") rows (λ key.
+    with_first (codes "capacity") rows (λ capacity.
+    Some (Operate db (NetworkAdd (record { tenant = tenant; name = name; pool = pool; host = host; port = port; key = key; capacity = capacity })))))))))))
+
+abbrev pub network_end_in : List Row → Option Asked
+network_end_in rows =
+    with_first (codes "db") rows (λ db.
+    with_first (codes "tenant") rows (λ tenant.
+    with_first (codes "name") rows (λ name.
+    Some (Operate db (NetworkEnd tenant name)))))
+
+-- what a command asks for by its values
+abbrev pub asked_in : Text × List Row → Option Asked
+asked_in (name, rows) =
+    if bytes_eq name (codes "plan") then plan_in rows else
+    if bytes_eq name (codes "init") then init_in rows else
+    if bytes_eq name (codes "tenant-add") then tenant_add_in rows else
+    if bytes_eq name (codes "token-grant") then token_grant_in rows else
+    if bytes_eq name (codes "token-end") then token_end_in rows else
+    if bytes_eq name (codes "network-add") then network_add_in rows else
+    if bytes_eq name (codes "network-end") then network_end_in rows else
+    None
+
+abbrev pub named_by : List Text → Option Asked
+named_by words = option_and_then asked_in (subcommand_of wgr_app words)
 
 -- nothing is asked for where something is wrong
-abbrev pub unless_wrong : Kinds → Option Text → Option Text
+abbrev pub unless_wrong : Kinds → Option Asked → Option Asked
 unless_wrong [] asked = asked
 unless_wrong (kind ∷ kinds) asked = None
 
--- the pool that the words ask a plan for
-abbrev pub pool_asked : List Text → Option Text
-pool_asked words = unless_wrong (fault_of wgr_app words) (plan_named words)
+-- what the words ask for
+abbrev pub asked_by : List Text → Option Asked
+asked_by words = unless_wrong (fault_of wgr_app words) (named_by words)
 
-abbrev pub if_missing : Option Text → Kinds
+abbrev pub if_missing : Option Asked → Kinds
 if_missing None = MissingSubcommand ∷ []
-if_missing (Some pool) = []
+if_missing (Some asked) = []
 
--- The kinds of error that the words may have, among them the asking for help and for the version. There is none where the words ask for a pool.
+-- The kinds of error that the words may have, among them the asking for help and for the version. There is none where the words ask for something.
 abbrev pub wrong_with : List Text → Kinds
-wrong_with words = or_else (fault_of wgr_app words) (if_missing (plan_named words))
+wrong_with words = or_else (fault_of wgr_app words) (if_missing (named_by words))
 
-abbrev pub pool_of : Request → Text
-pool_of (Plan pool) = pool.now
+-- ---- what is asked for, as the program has it
+
+abbrev pub network_asked : NetworkWords → NetworkAsked
+network_asked w = record { tenant = w.tenant.now; name = w.name.now; pool = w.pool.now; host = w.host.now; port = w.port.now; key = w.key.now; capacity = w.capacity.now }
+
+abbrev pub order_asked : OrderWords → OrderAsked
+order_asked (order.TenantAdd name) = TenantAdd name.now
+order_asked (order.TokenGrant tenant) = TokenGrant tenant.now
+order_asked order.TokenEnd = TokenEnd
+order_asked (order.NetworkAdd network) = NetworkAdd (network_asked network)
+order_asked (order.NetworkEnd tenant name) = NetworkEnd tenant.now name.now
+
+abbrev pub asked_of : Request → Asked
+asked_of (request.Plan pool) = Plan pool.now
+asked_of (request.Init db) = Init db.now
+asked_of (request.Operate db order) = Operate db.now (order_asked order)
+
+-- ---- a law
 
 -- the word after `plan` is the pool, unless it begins as a flag does, with a hyphen (45)
 abbrev pub PoolIsAsked : Type 0
-PoolIsAsked = (pool : Text) → slice_get pool 0 ≢ Some 45 → pool_asked (codes "plan" ∷ pool ∷ []) ≡ Some pool
+PoolIsAsked = (pool : Text) → slice_get pool 0 ≢ Some 45 → asked_by (codes "plan" ∷ pool ∷ []) ≡ Some (Plan pool)

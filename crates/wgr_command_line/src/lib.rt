@@ -1,7 +1,10 @@
 //! The command line of `wgr`, read by `clap`.
 #![tactic(auto)]
 
+mod commands;
+mod help;
 mod laws;
 mod request;
+mod values;
 
-pub use request::{Request, read_words};
+pub use request::{NetworkWords, OrderWords, Request, read_words};

@@ -5,7 +5,7 @@ use Rattle.sqlite_rules.specs.Lists.{Has}
 use Rattle.sqlite_rules.proofs.ListLemmas.{all_has}
 use Rattle.wgr_model.specs.Rows.{AllowedRow, PeerRow, family_number}
 use Rattle.wgr_sql.proofs.Answers.{map-both}
-use Rattle.wgr_tables.specs.Decode.{AreAllowed, ArePeers, allowed_in, allowed_addresses, allowed_numbers, family_of, number_at, peer_in, peer_numbers}
+use Rattle.wgr_tables.specs.Decode.{AreAllowed, ArePeers, HaveKinds, HaveStatuses, allowed_in, allowed_addresses, allowed_numbers, family_of, number_at, peer_in, peer_numbers}
 use Rattle.wgr_ordered.specs.Orders.{AreAmong}
 use Rattle.wgr_audit.proofs.ConsistentLemmas.{keyed_by_ids}
 use Rattle.wgr_audit.proofs.TokenLaws.{keyed_by_rowids}
@@ -25,7 +25,7 @@ module _ (networks : List ℕ) (rows : List Row) where
     peer_number r here p (inr (inr (inr (inl e)))) = subst (IsNaturalAt r) (sym e) (peer_row r here).keepalive
     peer_number r here p (inr (inr (inr (inr none)))) = absurd none
 
-    pub peers_are : ArePeers rows × AreAmong (map (λ p. p.network) (map peer_in rows)) networks
+    pub peers_are : ArePeers rows × HaveStatuses rows × AreAmong (map (λ p. p.network) (map peer_in rows)) networks
     peers_are = (
       record {
         keyed = keyed_by_ids rows (λ r here. (peer_row r here).id) good.ids;
@@ -33,6 +33,7 @@ module _ (networks : List ℕ) (rows : List Row) where
         addresses_are = λ r here p none. absurd none;
         families_are = λ r here p none. absurd none;
       },
+      (λ r here. (peer_row r here).status),
       subst (λ l. AreAmong l networks) (sym (map-both peer_in (λ (p : PeerRow). p.network) rows)) good.among,
     )
 
@@ -60,7 +61,7 @@ module _ (networks : List ℕ) (rows : List Row) where
     allowed_family r here p (inl e) = subst (λ x. number_at r x ≡ family_number (family_of (number_at r x))) (sym e) (family_is (number_at r 2) (allowed_row r here).family.1)
     allowed_family r here p (inr none) = absurd none
 
-    pub allowed_are : AreAllowed rows × AreAmong (map (λ a. a.network) (map allowed_in rows)) networks
+    pub allowed_are : AreAllowed rows × HaveKinds rows × AreAmong (map (λ a. a.network) (map allowed_in rows)) networks
     allowed_are = (
       record {
         keyed = keyed_by_rowids rows good.own_rowids;
@@ -68,5 +69,6 @@ module _ (networks : List ℕ) (rows : List Row) where
         addresses_are = allowed_address;
         families_are = allowed_family;
       },
+      (λ r here. (allowed_row r here).kind),
       subst (λ l. AreAmong l networks) (sym (map-both allowed_in (λ (a : AllowedRow). a.network) rows)) good.among,
     )

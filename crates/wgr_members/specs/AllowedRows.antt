@@ -2,17 +2,13 @@
 use Rattle.std.specs.Prelude.{◌≡◌, ◌⊎◌, ℕ, List, [], ◌∷◌, map, true, nat_eq}
 use Rattle.std.specs.List.{AllByRecursion, list_any}
 use Rattle.sqlite_value.specs.Order.{Row, column}
-use Rattle.sqlite.specs.declared.types.Value.TheVariants.{Text}
-use Rattle.wgr_tables.specs.Decode.{number_at, address_kind, route_kind}
+use Rattle.wgr_tables.specs.Decode.{IsKindAt, number_at}
 use Rattle.wgr_ordered.specs.Orders.{AreAmong}
 use Rattle.wgr_audit.specs.TokenRows.{HaveOwnRowids}
 use Rattle.wgr_members.specs.Fields.{IsAddressAt, IsNaturalAt}
 
 abbrev pub IsFamily : ℕ → Type 0
 IsFamily n = (n ≡ 4) ⊎ (n ≡ 6)
-
-abbrev pub IsKindAt : Row → ℕ → Type 0
-IsKindAt row at = (column row at ≡ Text address_kind) ⊎ (column row at ≡ Text route_kind)
 
 pub record IsAllowedRow (row : Row) : Type 0 where
   pub network : IsNaturalAt row 1

@@ -1,25 +1,18 @@
 -- Rows of peers.
-use Rattle.std.specs.Prelude.{◌≡◌, ◌⊎◌, ℕ, List, [], ◌∷◌, map, true, nat_eq}
+use Rattle.std.specs.Prelude.{◌≡◌, ℕ, List, [], ◌∷◌, map, true, nat_eq}
 use Rattle.std.specs.List.{AllByRecursion, IsDistinct, list_any}
 use Rattle.sqlite_value.specs.Order.{Row, column}
 use Rattle.sqlite.specs.declared.types.Value.TheVariants.{Null}
-use Rattle.wgr_tables.specs.Decode.{number_at}
+use Rattle.wgr_tables.specs.Decode.{IsStatusRow, number_at}
 use Rattle.wgr_ordered.specs.Orders.{AreAmong}
 use Rattle.wgr_members.specs.Fields.{IsNaturalAt}
-
--- three counts, all there or all absent
-abbrev pub IsStatusThere : Row → Type 0
-IsStatusThere row = IsNaturalAt row 7 × IsNaturalAt row 8 × IsNaturalAt row 9
-
-abbrev pub IsStatusAbsent : Row → Type 0
-IsStatusAbsent row = (column row 7 ≡ Null) × (column row 8 ≡ Null) × (column row 9 ≡ Null)
 
 pub record IsPeerRow (row : Row) : Type 0 where
   pub id : IsNaturalAt row 0
   pub network : IsNaturalAt row 2
   pub until : IsNaturalAt row 5
   pub keepalive : IsNaturalAt row 6
-  pub status : IsStatusThere row ⊎ IsStatusAbsent row
+  pub status : IsStatusRow row
 
 -- the row of a peer of one of these networks
 abbrev pub IsPeerRowOf : List ℕ → Row → Type 0

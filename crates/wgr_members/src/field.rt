@@ -5,8 +5,8 @@ ghost use Rattle.std.specs.List.Sorted.{IsSorted};
 ghost use Rattle.std.specs.Ordering.{nat_cmp};
 ghost use Rattle.sqlite_value.specs.Order.{column};
 ghost use Rattle.sqlite.specs.declared.types.Value.TheVariants.{Null};
-ghost use Rattle.wgr_tables.specs.Decode.{bytes_of, number_at, number_of};
-ghost use Rattle.wgr_members.specs.AllowedRows.{IsFamily, IsKindAt};
+ghost use Rattle.wgr_tables.specs.Decode.{IsKindAt, bytes_of, number_at, number_of};
+ghost use Rattle.wgr_members.specs.AllowedRows.{IsFamily};
 ghost use Rattle.wgr_members.specs.Fields.{IsAddressAt, IsNaturalAt};
 
 use sqlite::Row;

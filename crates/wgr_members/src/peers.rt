@@ -8,10 +8,11 @@ ghost use Rattle.sqlite.specs.Held.{state};
 ghost use Rattle.sqlite_value.specs.Order.{column};
 ghost use Rattle.sqlite_rules.specs.Edit.{id_in};
 ghost use Rattle.wgr_sql.specs.Calls.{IsKept};
+ghost use Rattle.wgr_tables.specs.Decode.{IsStatusAbsent, IsStatusThere};
 ghost use Rattle.wgr_audit.specs.Layouts.{Laid};
 ghost use Rattle.wgr_audit.specs.TenantRows.{Lists};
 ghost use Rattle.wgr_members.specs.OwnRows.{AreOwnRows};
-ghost use Rattle.wgr_members.specs.PeerRows.{AreWrittenPeers, IsPeerRow, IsPeerRowOf, IsStatusAbsent, IsStatusThere, peer_values};
+ghost use Rattle.wgr_members.specs.PeerRows.{AreWrittenPeers, IsPeerRow, IsPeerRowOf, peer_values};
 
 use crate::field::{is_among_at, is_natural_at, is_null_at};
 use sqlite::{Alter, Connection, Row};

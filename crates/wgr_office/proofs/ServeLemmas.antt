@@ -1,20 +1,30 @@
 -- From a message to all bytes of a reader.
 use Rattle.std.proofs.Common.{ℕ, List, Option, Some, None, inl, inr}
+use Rattle.std.specs.declared.vec.Vec.{Vec}
+use Rattle.std.specs.declared.alloc.Global.{Global}
 use Rattle.sqlite.specs.Effect.{Database}
 use Rattle.sqlite.specs.Store.{Ghosts}
 use Rattle.sqlite.specs.Held.{Held}
 use Rattle.wgr_model.specs.Register.{Bytes}
 use Rattle.wgr_model.specs.Steps.{Event}
 use Rattle.wgr_office.specs.Pages.{IsAnswered}
-use Rattle.wgr_office.specs.Serving.{IsTaken}
+use Rattle.wgr_office.specs.Serving.{IsAnsweredAt, Takes}
 use Rattle.wgr_office.specs.declared.answer.Answer as given
 use Rattle.wgr_office.specs.declared.answer.Answer.TheVariants as givens
 use Rattle.wgr_request.specs.Laws.{RequestsAs}
 
-module _ {S : Type 0} (g : Ghosts S) (conn : Held S) (db : Database) (late : List Event) (now : ℕ) where
-  pub taken : (message : Bytes) (input : Option Bytes) (answer : given.Answer) → RequestsAs message input → IsAnswered g conn db late now message answer → IsTaken g conn db late now input answer
-  taken message None answer alike is = (message, is)
-  taken message (Some all) (givens.Bytes bytes) alike (r, read, ends) = (r, record { asks = alike r read.asks; proper = read.proper }, ends)
-  taken message (Some all) givens.Unavailable alike (inl at) = inl at
-  taken message (Some all) givens.Unavailable alike (inr (r, read, at)) = inr (r, record { asks = alike r read.asks; proper = read.proper }, at)
-  taken message (Some all) (givens.Order done) alike bad = absurd bad
+module _ {S : Type 0} (g : Ghosts S) (now : ℕ) where
+  all_answered : (conn : Held S) (db : Database) (late : List Event) (message all : Bytes) (answer : given.Answer) → RequestsAs message (Some all) → IsAnswered g conn db late now message answer → IsAnswered g conn db late now all answer
+  all_answered conn db late message all (givens.Bytes bytes) alike (r, read, ends) = (r, record { asks = alike r read.asks; proper = read.proper }, ends)
+  all_answered conn db late message all givens.Unavailable alike (inl at) = inl at
+  all_answered conn db late message all givens.Unavailable alike (inr (r, read, at)) = inr (r, record { asks = alike r read.asks; proper = read.proper }, at)
+  all_answered conn db late message all (givens.Order done) alike bad = absurd bad
+
+  pub taken : (old new : Held S) (message : Vec ℕ Global) (input : Option Bytes) (answer : given.Answer) → RequestsAs message.items input → IsAnsweredAt g old new now message.items answer → Takes g old new now input answer
+  taken old new message None answer alike is = record { message = message; held = is; all = tt }
+  taken old new message (Some all) answer alike is = record { message = message; held = is; all = λ db late at. all_answered new db late message.items all answer alike (is db late at) }
+
+  -- for want of memory nothing was read, and the register stands as it did
+  pub untaken : (conn : Held S) (message : Vec ℕ Global) (input : Option Bytes) → Takes g conn conn now input givens.Unavailable
+  untaken conn message None = record { message = message; held = λ db late at. inl at; all = tt }
+  untaken conn message (Some all) = record { message = message; held = λ db late at. inl at; all = λ db late at. inl at }

@@ -8,14 +8,14 @@ use Rattle.wgr_model.specs.Calls.{order_event}
 use Rattle.wgr_model.specs.Register.{Bytes, View}
 use Rattle.wgr_model.specs.RowLaws.{rows_view}
 use Rattle.wgr_model.specs.Runs.{Served, acknowledged}
-use Rattle.wgr_model.specs.Steps.{Answer, Ask, Event, Listed, Plain, is_done}
+use Rattle.wgr_model.specs.Steps.{Answer, Event, Listed, Plain, is_done}
 use Rattle.wgr_model.specs.Tenants.{is_own, own_events, tenant_after, tenant_answer, tenant_run}
 use Rattle.wgr_model.specs.declared.order.Order.{Order}
 use Rattle.wgr_model.specs.declared.order.Order.TheVariants as ordered
 use Rattle.wgr_model.proofs.WorldLemmas.{not_own, two_worlds}
 use Rattle.wgr_office.specs.Events.{AgreeAsGiven, AreServed, Tells}
 use Rattle.wgr_office.specs.Pages.{answer_bytes, event_of, fault_page}
-use Rattle.wgr_office.specs.Worlds.{WorldsAreAlike, replies_to}
+use Rattle.wgr_office.specs.Worlds.{WorldsAreAlike, in_front, moment_of, own_replies, replies_to}
 use Rattle.wgr_office.specs.declared.answer.Answer as given
 use Rattle.wgr_office.specs.declared.answer.Answer.TheVariants as givens
 use Rattle.wgr_office.specs.declared.run.Event as event
@@ -23,20 +23,6 @@ use Rattle.wgr_office.specs.declared.run.Event.TheVariants as events
 use Rattle.wgr_request.specs.Request.{RequestView, ask, networks, refused}
 
 -- ---- bytes by the event alone
-
--- the moment that a reply may hang on
-abbrev moment_of : Event → ℕ
-moment_of (Ask digest name now command) = now
-moment_of e = 0
-
-abbrev in_front : ℕ → Option Answer → List Bytes → List Bytes
-in_front now None pages = pages
-in_front now (Some answer) pages = answer_bytes now answer ∷ pages
-
--- what the own events alone give
-abbrev pages : Bytes → View → List (Event × Bool) → List Bytes
-pages me v [] = []
-pages me v (e ∷ es) = in_front (moment_of e.0) (tenant_answer v e.0) (pages me (tenant_after me v e.0 e.1) es)
 
 if_some : (b : Bool) (x a : Answer) → (if b then Some x else None) ≡ Some a → x ≡ a
 if_some true x a e = cc
@@ -70,20 +56,20 @@ module _ (me : Bytes) (v : View) (reply : given.Answer) (answers : List given.An
 
   next : ((ys : List Bytes) → replies_to answers (tenant_run me w es).0 ≡ ys → replies_to (reply ∷ answers) (tenant_answer v e ∷ (tenant_run me w es).0) ≡ in_front (moment_of e) (tenant_answer v e) ys)
       → (replies_to (reply ∷ answers) (None ∷ (tenant_run me w es).0) ≡ replies_to answers (tenant_run me w es).0)
-      → replies_to answers (tenant_run me w es).0 ≡ pages me w (own_events me w es)
-      → replies_to (reply ∷ answers) (tenant_answer v e ∷ (tenant_run me w es).0) ≡ pages me v (own_events me v ((e, a) ∷ es))
+      → replies_to answers (tenant_run me w es).0 ≡ own_replies me w (own_events me w es)
+      → replies_to (reply ∷ answers) (tenant_answer v e ∷ (tenant_run me w es).0) ≡ own_replies me v (own_events me v ((e, a) ∷ es))
   next front skip rest = by_test (is_own me v e (is_done a)) refl where
-    by_test : (b : Bool) → is_own me v e (is_done a) ≡ b → replies_to (reply ∷ answers) (tenant_answer v e ∷ (tenant_run me w es).0) ≡ pages me v (if b then (e, is_done a) ∷ own_events me w es else own_events me v es)
-    by_test true own = front (pages me w (own_events me w es)) rest
+    by_test : (b : Bool) → is_own me v e (is_done a) ≡ b → replies_to (reply ∷ answers) (tenant_answer v e ∷ (tenant_run me w es).0) ≡ own_replies me v (if b then (e, is_done a) ∷ own_events me w es else own_events me v es)
+    by_test true own = front (own_replies me w (own_events me w es)) rest
     by_test false own =
         let n = not_own me v e (is_done a) own in
-        ap (λ o. replies_to (reply ∷ answers) (o ∷ (tenant_run me w es).0)) n.0 ∙ skip ∙ rest ∙ ap (λ x. pages me x (own_events me x es)) n.1
+        ap (λ o. replies_to (reply ∷ answers) (o ∷ (tenant_run me w es).0)) n.0 ∙ skip ∙ rest ∙ ap (λ x. own_replies me x (own_events me x es)) n.1
 
 -- ---- all of them
 
 pub given_own : (me : Bytes) (v : View) (asked : List event.Event) (answers : List given.Answer) (served : List Served)
     → AreServed asked answers served → AgreeAsGiven asked answers (tenant_run me v (acknowledged served)).0
-    → replies_to answers (tenant_run me v (acknowledged served)).0 ≡ pages me v (own_events me v (acknowledged served))
+    → replies_to answers (tenant_run me v (acknowledged served)).0 ≡ own_replies me v (own_events me v (acknowledged served))
 given_own me v [] [] [] told agree = refl
 given_own me v [] [] (s ∷ served) told agree = absurd told
 given_own me v [] (b ∷ answers) served told agree = absurd told
@@ -120,7 +106,7 @@ worlds_are_alike me w x is ix same own =
     let right = acknowledged x.served in
     let views = two_worlds me v left right (own ∙ ap (λ z. own_events me z right) (sym same)) in (
       given_own me v w.asked w.answers w.served is.told (is.apart.answered me)
-          ∙ ap₂ (λ z es. pages me z es) same own
+          ∙ ap₂ (λ z es. own_replies me z es) same own
           ∙ sym (given_own me u x.asked x.answers x.served ix.told (ix.apart.answered me)),
       sym (is.apart.views me) ∙ views.1 ∙ ap (λ z. (tenant_run me z right).1) same ∙ ix.apart.views me,
     )

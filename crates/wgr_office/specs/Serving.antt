@@ -1,5 +1,7 @@
 -- What a connection is given.
-use Rattle.std.specs.Prelude.{◌≡◌, ◌<◌, ℕ, Bool, true, List, length, take, Option, Some, None}
+use Rattle.std.specs.Prelude.{◌≡◌, ◌<◌, ℕ, Bool, true, List, length, take, Option, IfSome}
+use Rattle.std.specs.declared.vec.Vec.{Vec}
+use Rattle.std.specs.declared.alloc.Global.{Global}
 use Rattle.std.specs.Io.KnownBytes.{Appends}
 use Rattle.sqlite.specs.Effect.{Database}
 use Rattle.sqlite.specs.Store.{Ghosts}
@@ -20,14 +22,16 @@ reply_of (givens.Bytes bytes) = bytes.items
 reply_of givens.Unavailable = shown_bytes unavailable_shown
 reply_of (givens.Order done) = shown_bytes unavailable_shown
 
--- All bytes that a reader has were answered at this moment; where they aren't known, some were.
-abbrev pub IsTaken : {S : Type 0} → Ghosts S → Held S → Database → List Event → ℕ → Option Bytes → given.Answer → Type 0
-IsTaken g conn db late now None answer = (message : Bytes) × IsAnswered g conn db late now message answer
-IsTaken g conn db late now (Some all) answer = IsAnswered g conn db late now all answer
+-- a message was answered at this moment, wherever the register stood
+abbrev pub IsAnsweredAt : {S : Type 0} → Ghosts S → Held S → Held S → ℕ → Bytes → given.Answer → Type 0
+IsAnsweredAt g old new now message answer = (db : Database) (late : List Event) → StandsAt g old db late → IsAnswered g new db late now message answer
 
--- and so wherever the register stood
-abbrev pub Takes : {S : Type 0} → Ghosts S → Held S → Held S → ℕ → Option Bytes → given.Answer → Type 0
-Takes g old new now input answer = (db : Database) (late : List Event) → StandsAt g old db late → IsTaken g new db late now input answer
+-- A message that memory holds was answered; and so were all bytes that the reader has, where they are
+-- known.
+pub record Takes {S : Type 0} (g : Ghosts S) (old new : Held S) (now : ℕ) (input : Option Bytes) (answer : given.Answer) : Type 0 where
+  pub message : Vec ℕ Global
+  pub held : IsAnsweredAt g old new now message.items answer
+  pub all : IfSome input (λ bytes. IsAnsweredAt g old new now bytes answer)
 
 -- a reader and a writer at a moment
 pub record Ends : Type 0 where

@@ -1,12 +1,13 @@
 -- What a tenant is given, byte for byte, in two worlds.
-use Rattle.std.specs.Prelude.{◌≡◌, List, [], ◌∷◌, Option, Some, None}
-use Rattle.wgr_model.specs.Register.{Bytes}
+use Rattle.std.specs.Prelude.{◌≡◌, ℕ, Bool, List, [], ◌∷◌, Option, Some, None}
+use Rattle.wgr_model.specs.Register.{Bytes, View}
 use Rattle.wgr_model.specs.RowLaws.{rows_view}
 use Rattle.wgr_model.specs.Rows.{Tables}
 use Rattle.wgr_model.specs.Runs.{Served, acknowledged}
-use Rattle.wgr_model.specs.Steps.{Answer}
-use Rattle.wgr_model.specs.Tenants.{own_events, tenant_run}
+use Rattle.wgr_model.specs.Steps.{Answer, Ask, Event}
+use Rattle.wgr_model.specs.Tenants.{own_events, tenant_after, tenant_answer, tenant_run}
 use Rattle.wgr_office.specs.Events.{AreApart, AreServed}
+use Rattle.wgr_office.specs.Pages.{answer_bytes}
 use Rattle.wgr_office.specs.declared.answer.Answer as given
 use Rattle.wgr_office.specs.declared.answer.Answer.TheVariants as givens
 use Rattle.wgr_office.specs.declared.run.Event as event
@@ -23,6 +24,24 @@ replies_to (givens.Unavailable ∷ answers) alone = replies_to answers alone
 replies_to (given ∷ answers) [] = []
 replies_to (given ∷ answers) (None ∷ alone) = replies_to answers alone
 replies_to (given ∷ answers) (Some answer ∷ alone) = bytes_given given ∷ replies_to answers alone
+
+-- ---- what the own events of a tenant give on its own rows alone
+
+-- the moment that a reply may hang on
+abbrev pub moment_of : Event → ℕ
+moment_of (Ask digest name now command) = now
+moment_of e = 0
+
+abbrev pub in_front : ℕ → Option Answer → List Bytes → List Bytes
+in_front now None replies = replies
+in_front now (Some answer) replies = answer_bytes now answer ∷ replies
+
+-- the replies to them, in turn
+abbrev pub own_replies : Bytes → View → List (Event × Bool) → List Bytes
+own_replies me v [] = []
+own_replies me v (e ∷ es) = in_front (moment_of e.0) (tenant_answer v e.0) (own_replies me (tenant_after me v e.0 e.1) es)
+
+-- ---- two worlds
 
 -- a list of events that was run on a register with these rows
 pub record World : Type 0 where

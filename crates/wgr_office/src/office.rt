@@ -11,7 +11,7 @@ ghost use Rattle.wgr_office.specs.Serving.{IsServeFault, Takes, reply_of};
 ghost use Rattle.wgr_office.specs.declared.answer.Answer as given;
 ghost use Rattle.wgr_register.specs.Ends.{OrderEnds};
 ghost use Rattle.wgr_office.specs.Pages.{IsAnswered, Responds, event_of};
-ghost use Rattle.wgr_register.specs.Standing.{StandsAt};
+ghost use Rattle.wgr_register.specs.Standing.{IsAtRest, StandsAt};
 ghost use Rattle.wgr_request.specs.Request.{request_view};
 
 use crate::answer::{Answer, ended, made};
@@ -52,6 +52,13 @@ impl<S: Alter> Office<S> {
             Ok(paths) => Ok(Office { register, paths }),
             Err(_) => Err(register),
         }
+    }
+
+    /// Tells the prover at what the register stands; it does nothing.
+    pub fn tell_rest(&self)
+        ensures { IsAtRest S.Store self.now }
+    {
+        self.register.tell_rest();
     }
 
     /// The register, as it stands.

@@ -22,14 +22,14 @@ use Rattle.wgr_model.proofs.OrderLemmas.{from_filter}
 use Rattle.wgr_sql.proofs.RowLemmas.{equal_nats, map_filter}
 use Rattle.wgr_sql.proofs.Values.{and_true, blob_at}
 use Rattle.wgr_tables.specs.Layout.{schema_with, token_at, network_at, peer_at, allowed_at}
-use Rattle.wgr_tables.specs.Decode.{IsRegister, tables_of, token_in, network_in, peer_in, allowed_in, number_at, bytes_at, network_numbers, peer_numbers, allowed_numbers, allowed_addresses}
+use Rattle.wgr_tables.specs.Decode.{IsKindAt, IsStatusRow, IsRegister, tables_of, token_in, network_in, peer_in, allowed_in, number_at, bytes_at, network_numbers, peer_numbers, allowed_numbers, allowed_addresses}
 use Rattle.wgr_tables.specs.Writes.{TokenGoes}
 use Rattle.wgr_tables.proofs.EditLemmas.{tokens_after, register_tokens, networks_after, register_networks, peers_after, register_peers, allowed_after, register_allowed}
 use Rattle.wgr_tables.proofs.LeftRows.{rows_keyed, not_true, not_false}
 use Rattle.wgr_tables.proofs.Made.{Made}
 use Rattle.wgr_tables.proofs.SameBytes.{same_blobs}
 use Rattle.wgr_tables.proofs.WriteLemmas.{rows_deleted}
-use Rattle.wgr_tables.proofs.WrittenLemmas.{written_filter}
+use Rattle.wgr_tables.proofs.WrittenLemmas.{each_filter, written_filter}
 use Rattle.wgr_orders.specs.OrderSteps.{AllowedGoes, NetworkGoes, NetworkRowGoes, PeersGo}
 use Rattle.wgr_orders.proofs.Meanings.{drop_token_text, drop_token_means, drop_allowed_text, drop_allowed_means, drop_peers_text, drop_peers_means, drop_network_text, drop_network_means, at_place}
 
@@ -63,7 +63,8 @@ module _ (old new : State) (register : IsRegister old.now) (id count : ℕ) wher
       let p = λ (r : Row). list_all (holds (params ∷ r ∷ [])) (at_place 1) in
       let done = rows_deleted old new register drop_allowed_text params count ran 5 (allowed_at 10) refl refl (at_place 1) (drop_allowed_means register.others) register.written.allowed.keyed in
       record {
-        sound = register_allowed old.now new.now _ register done.sound done.edits (written_filter allowed_numbers allowed_addresses (2 ∷ []) (λ r. not (p r)) rows register.written.allowed);
+        sound = register_allowed old.now new.now _ register done.sound done.edits (written_filter allowed_numbers allowed_addresses (2 ∷ []) (λ r. not (p r)) rows register.written.allowed)
+            (each_filter (λ r. IsKindAt r 7) (λ r. not (p r)) rows register.written.kinds);
         made = allowed_after old.now new.now _ register done.sound done.edits
             ∙ ap (λ l. record (tables_of old.now) { allowed = l }) (map_filter allowed_in (λ r. not (p r)) (λ a. not (nat_eq a.network id)) rows
             (λ r here. ap not (ap (λ v. is_true (binary (Compare Eq Binary) v (Int (pos id))) && true) (register.written.allowed.numbers_are r here 1 (inl refl)) ∙ and_true _ ∙ equal_nats (number_at r 1) id)));
@@ -75,7 +76,8 @@ module _ (old new : State) (register : IsRegister old.now) (id count : ℕ) wher
       let p = λ (r : Row). list_all (holds (params ∷ r ∷ [])) (at_place 2) in
       let done = rows_deleted old new register drop_peers_text params count ran 4 (peer_at 8) refl refl (at_place 2) (drop_peers_means register.others) register.written.peers.keyed in
       record {
-        sound = register_peers old.now new.now _ register done.sound done.edits (written_filter peer_numbers [] [] (λ r. not (p r)) rows register.written.peers);
+        sound = register_peers old.now new.now _ register done.sound done.edits (written_filter peer_numbers [] [] (λ r. not (p r)) rows register.written.peers)
+            (each_filter IsStatusRow (λ r. not (p r)) rows register.written.statuses);
         made = peers_after old.now new.now _ register done.sound done.edits
             ∙ ap (λ l. record (tables_of old.now) { peers = l }) (map_filter peer_in (λ r. not (p r)) (λ a. not (nat_eq a.network id)) rows
             (λ r here. ap not (ap (λ v. is_true (binary (Compare Eq Binary) v (Int (pos id))) && true) (register.written.peers.numbers_are r here 2 (inr (inl refl))) ∙ and_true _ ∙ equal_nats (number_at r 2) id)));

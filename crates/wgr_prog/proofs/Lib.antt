@@ -1,2 +1,2 @@
-pub mod OnePlan
-pub mod PlanLemmas
+pub mod OrderLemmas
+pub mod RegisterLemmas

@@ -1,4 +1,4 @@
-pub mod Plan
-pub mod PlanFault
-pub mod PlanLaws
+pub mod OnRegister
+pub mod Order
 pub mod Status
+pub mod Words

@@ -1,18 +1,25 @@
 -- What a run of `wgr` leaves, and its exit status.
-use Rattle.std.specs.Prelude.{ℕ, ◌≡◌, ◌≢◌, ◌⊎◌, true, Bool, List, Option, Result, Ok, Err, IfSome, IfNone}
+use Rattle.std.specs.Prelude.{ℕ, ◌≡◌, ◌≢◌, ◌⊎◌, true, false, Bool, List, Option, Result, Ok, Err, IfErr, IfNone, IfOk, IfSome, codes}
+use Rattle.std.specs.Io.KnownBytes.{Appends}
 use Rattle.std.specs.declared.io.ErrorKind as io
 use Rattle.std.specs.declared.io.ErrorKind.TheVariants.{InvalidData}
 use Rattle.clap.specs.Words.{IsAmong, Kinds, Text}
 use Rattle.clap.specs.declared.error.kind.ErrorKind.{ErrorKind}
 use Rattle.clap.specs.declared.error.kind.ErrorKind.TheVariants.{DisplayHelp, DisplayVersion, OutOfMemory}
-use Rattle.wgr_command_line.specs.Words.{pool_asked, wrong_with}
+use Rattle.sqlite.specs.Store.{Ghosts}
+use Rattle.wgr_command_line.specs.Words.{Asked, Init, Operate, OrderAsked, Plan, asked_by, wrong_with}
+use Rattle.wgr_register.specs.declared.fault.Done.{Done}
 use Rattle.wgr_text.specs.Prefix.{PrefixValue}
 use Rattle.wgr_text.specs.PrefixText.{Spells}
 use Rattle.wgr_pool.specs.Pool.{IsPool}
-use Rattle.wgr_prog.specs.declared.plan.PlanFault.{PlanFault}
-use Rattle.wgr_prog.specs.declared.plan.PlanFault.TheVariants.{Refused, NoMemory, Read, Write}
-use Rattle.wgr_prog.specs.declared.program.TheConstants.{DONE, FAULT, REFUSED}
-use Rattle.wgr_prog.specs.PlanFault.{Answers, Streams}
+use Rattle.wgr_plan.specs.declared.planner.PlanFault.{PlanFault}
+use Rattle.wgr_plan.specs.declared.planner.PlanFault.TheVariants.{Refused, NoMemory, Read, Write}
+use Rattle.wgr_prog.specs.declared.messages.TheConstants.{DONE, FAULT, REFUSED}
+use Rattle.wgr_plan.specs.PlanFault.{Answers, Streams}
+use Rattle.wgr_prog.specs.OnRegister.{CarriesOut, IsMade}
+use Rattle.wgr_prog.specs.Order.{Input, wants_token}
+use Rattle.wgr_prog.specs.declared.register_words.Failure.{Failure}
+use Rattle.wgr_prog.specs.declared.register_words.Failure.TheVariants as failure
 
 -- the streams of a reader and a writer
 abbrev pub streams : {R W : Type 0} → (R → Option (List ℕ)) → (R → Bool) → (W → Option (List ℕ)) → (W → Bool) → R → W → Streams
@@ -49,13 +56,62 @@ pub record TellsPlan (text : Text) (old new : Streams) (status : ℕ) : Type 0 w
 abbrev pub RunsPlan : Text → Streams → Streams → ℕ → Type 0
 RunsPlan text old new status = RefusesPool text old new status ⊎ TellsPlan text old new status
 
+-- ---- a register
+
+-- nothing is read
+abbrev pub ReadsNothing : Streams → Streams → Type 0
+ReadsNothing old new = (new.input ≡ old.input) × (new.read_failed ≡ old.read_failed)
+
+-- a failure of the words is a refusal, as is that of the register
+abbrev pub failure_status : Failure → ℕ
+failure_status (failure.Field field) = REFUSED
+failure_status (failure.Refused why) = REFUSED
+failure_status (failure.Register why) = FAULT
+failure_status failure.Device = FAULT
+
+-- `done` and a newline are printed, or the writer fails
+abbrev pub TellsDone : Option (List ℕ) → Option (List ℕ) → Bool → Bool → ℕ → Type 0
+TellsDone written written' failed failed' status =
+    ((status ≡ DONE) × Appends written written' (codes "done\n") × (failed' ≡ failed))
+    ⊎ ((status ≡ FAULT) × (failed' ≡ true))
+
+-- how it went is told; where nothing is done, nothing is printed
+abbrev pub Told : Streams → Streams → Result Done Failure → ℕ → Type 0
+Told old new (Ok done) status = TellsDone old.written new.written old.write_failed new.write_failed status
+Told old new (Err why) status = (status ≡ failure_status why) × (new.written ≡ old.written) × (new.write_failed ≡ old.write_failed)
+
+-- a register is made, or a fault is told; nothing is read
+pub record RunsInit {S : Type 0} (g : Ghosts S) (old new : Streams) (status : ℕ) : Type 0 where
+  pub answer : Result Done Failure
+  pub made : IfOk answer (λ done. IsMade g)
+  pub fault : IfErr answer (λ why. failure_status why ≡ FAULT)
+  pub told : Told old new answer status
+  pub unread : ReadsNothing old new
+
+abbrev pub input_in : Streams → Input
+input_in s = record { remaining = s.input; failed = s.read_failed }
+
+-- the order that the words and the token spell is carried out; nothing is read where there is no token
+pub record RunsOrder {S : Type 0} (g : Ghosts S) (asked : OrderAsked) (old new : Streams) (status : ℕ) : Type 0 where
+  pub answer : Result Done Failure
+  pub carried : CarriesOut g asked (input_in old) (input_in new) answer
+  pub told : Told old new answer status
+  pub unread : wants_token asked ≡ false → ReadsNothing old new
+
+-- ---- the command line
+
 -- memory is wanting, and nothing is read or printed
 abbrev pub LacksMemory : Streams → Streams → ℕ → Type 0
 LacksMemory old new status = (new ≡ old) × (status ≡ FAULT)
 
--- the words ask for a pool
-abbrev pub ServesPool : Text → Streams → Streams → ℕ → Type 0
-ServesPool text old new status = LacksMemory old new status ⊎ RunsPlan text old new status
+abbrev pub Runs : {S : Type 0} → Ghosts S → Asked → Streams → Streams → ℕ → Type 0
+Runs g (Plan pool) old new status = RunsPlan pool old new status
+Runs g (Init db) old new status = RunsInit g old new status
+Runs g (Operate db order) old new status = RunsOrder g order old new status
+
+-- the words ask for something
+abbrev pub ServesAsked : {S : Type 0} → Ghosts S → Asked → Streams → Streams → ℕ → Type 0
+ServesAsked g asked old new status = LacksMemory old new status ⊎ Runs g asked old new status
 
 -- help and the version were asked for, and are no mistake
 abbrev pub kind_status : ErrorKind → ℕ
@@ -63,10 +119,6 @@ kind_status DisplayHelp = DONE
 kind_status DisplayVersion = DONE
 kind_status OutOfMemory = FAULT
 kind_status mistake = REFUSED
-
--- nothing is read
-abbrev pub ReadsNothing : Streams → Streams → Type 0
-ReadsNothing old new = (new.input ≡ old.input) × (new.read_failed ≡ old.read_failed)
 
 -- the text of help or of the version can't be written
 abbrev pub FailsToWrite : Streams → Streams → ℕ → Type 0
@@ -81,14 +133,14 @@ pub record TellsKind (kinds : Kinds) (old new : Streams) (status : ℕ) : Type 0
   pub sound : new.write_failed ≡ old.write_failed
   pub kept : kind_status kind ≢ DONE → new ≡ old
 
--- the words ask for no pool
+-- the words ask for nothing
 abbrev pub TellsError : Kinds → Streams → Streams → ℕ → Type 0
 TellsError kinds old new status = LacksMemory old new status ⊎ FailsToWrite old new status ⊎ TellsKind kinds old new status
 
--- the words ask for a pool, or for none
-pub record Serves (words : List Text) (old new : Streams) (status : ℕ) : Type 0 where
-  pub planned : IfSome (pool_asked words) (λ pool. ServesPool pool old new status)
-  pub told : IfNone (pool_asked words) (TellsError (wrong_with words) old new status)
+-- the words ask for something, or for nothing
+pub record Serves {S : Type 0} (g : Ghosts S) (words : List Text) (old new : Streams) (status : ℕ) : Type 0 where
+  pub served : IfSome (asked_by words) (λ asked. ServesAsked g asked old new status)
+  pub told : IfNone (asked_by words) (TellsError (wrong_with words) old new status)
 
 -- the words can't be had: they aren't UTF-8, or memory is wanting; nothing is read or printed
 pub record LacksWords (why : io.ErrorKind) (old new : Streams) (status : ℕ) : Type 0 where

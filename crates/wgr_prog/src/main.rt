@@ -1,9 +1,13 @@
 //! The program `wgr`.
 #![tactic(auto)]
 
-mod laws;
-mod plan;
+mod database;
+mod field;
+mod messages;
+mod numbers;
+mod order;
 mod program;
+mod register_words;
 
 use std::process::ExitCode;
 use std::{env, io};

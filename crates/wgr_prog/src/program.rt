@@ -4,37 +4,35 @@ ghost use Rattle.std.specs.IoError.{error_kind};
 ghost use Rattle.std.specs.declared.io.ErrorKind.TheVariants.{InvalidData};
 ghost use Rattle.clap.specs.Words.{kind_of};
 ghost use Rattle.wgr_prog.specs.Status.{LacksWords, RunsPlan, Serves, fault_status, kind_status, streams};
+ghost use Rattle.wgr_prog.specs.declared.messages.TheConstants.{DONE, FAULT, REFUSED};
 
-use crate::plan::{PlanFault, plan};
+use crate::messages::{DONE, REFUSED, Text, device, no_memory, refusal};
+use crate::register_words::{run_init, run_order};
 use clap::error::ErrorKind;
+use sqlite::{File, FileStore};
+use sqlite_trees::store::Store;
 use std::alloc::Global;
 use std::convert::AsStr;
 use std::fmt::Write as _;
-use std::{fmt, io};
+use std::io;
 use wgr_command_line::{Request, read_words};
 use wgr_core::Pool;
 use wgr_io::{Read, Write, write_all};
+use wgr_plan::{PlanFault, plan};
 use wgr_text::read_loose;
-
-/// All is done.
-const DONE: u8 = 0;
-/// Memory, a file or a stream failed.
-const FAULT: u8 = 1;
-/// A refusal, or a command line that does not read.
-const REFUSED: u8 = 2;
 
 /// Does what the program's arguments ask for, of which the first is its own name, and answers the
 /// exit status; or says why there are none.
 ///
 /// Where standard error fails there is nobody to tell, and the status stays.
-pub fn run<H: AllocGlobal, R: Read, W: Write, E: Write>(
-    rt: &H,
+pub fn run<R: Read, W: Write, E: Write>(
+    rt: &HostRuntime,
     arguments: &io::Result<Vec<String>>,
     input: &mut R,
     out: &mut W,
     err: &mut E,
 ) -> u8
-    ensures serves { IfOk arguments.now (λ all. Serves (map string_bytes (drop 1 all.items)) (streams R.remaining R.failed W.contents W.failed input.old out.old) (streams R.remaining R.failed W.contents W.failed input.new out.new) result) }
+    ensures serves { IfOk arguments.now (λ all. Serves ⟦<FileStore<File> as Store>⟧ (map string_bytes (drop 1 all.items)) (streams R.remaining R.failed W.contents W.failed input.old out.old) (streams R.remaining R.failed W.contents W.failed input.new out.new) result) }
     ensures lacks { IfErr arguments.now (λ error. LacksWords (error_kind error) (streams R.remaining R.failed W.contents W.failed input.old out.old) (streams R.remaining R.failed W.contents W.failed input.new out.new) result) }
 {
     match arguments {
@@ -54,18 +52,20 @@ fn words_of(arguments: &[String]) -> &[String]
 }
 
 /// Does what the words ask for, and answers the exit status.
-fn program<H: AllocGlobal, S: AsStr, R: Read, W: Write, E: Write>(
-    rt: &H,
-    words: &[S],
+fn program<T: AsStr, R: Read, W: Write, E: Write>(
+    rt: &HostRuntime,
+    words: &[T],
     input: &mut R,
     out: &mut W,
     err: &mut E,
 ) -> u8
-    ensures { Serves (map S.text words.now) (streams R.remaining R.failed W.contents W.failed input.old out.old) (streams R.remaining R.failed W.contents W.failed input.new out.new) result }
+    ensures { Serves ⟦<FileStore<File> as Store>⟧ (map T.text words.now) (streams R.remaining R.failed W.contents W.failed input.old out.old) (streams R.remaining R.failed W.contents W.failed input.new out.new) result }
 {
     let alloc = rt.alloc();
     match read_words(alloc, words) {
         Ok(Request::Plan { pool }) => run_plan(alloc, pool, input, out, err),
+        Ok(Request::Init { db }) => run_init(rt, db, out, err),
+        Ok(Request::Operate { db, order }) => { run_order(rt, db, &order, input, out, err) }
         Err(answer) => no_request(alloc, &answer, out, err),
     }
 }
@@ -80,32 +80,6 @@ fn no_words<E: Write>(error: &io::Error, err: &mut E) -> u8
     } else {
         no_memory(err)
     }
-}
-
-fn no_memory<E: Write>(err: &mut E) -> u8
-    ensures status { result ≡ FAULT }
-{
-    fault(err, b"wgr: no_memory\n")
-}
-
-fn fault<E: Write>(err: &mut E, text: &[u8]) -> u8
-    ensures status { result ≡ FAULT }
-{
-    let _ = write_all(err, text);
-    FAULT
-}
-
-fn refusal<E: Write>(err: &mut E, text: &[u8]) -> u8
-    ensures status { result ≡ REFUSED }
-{
-    let _ = write_all(err, text);
-    REFUSED
-}
-
-fn device<E: Write>(err: &mut E) -> u8
-    ensures status { result ≡ FAULT }
-{
-    fault(err, b"wgr: device\n")
 }
 
 /// Prints the help or the version, or says what is wrong with the command line.
@@ -170,21 +144,6 @@ fn plan_fault<E: Write>(why: &PlanFault, err: &mut E) -> u8
         } => {
             let _ = write!(Text { err }, "wgr: line {line}: {reason}\n");
             REFUSED
-        }
-    }
-}
-
-/// Standard error as a sink of text: what is told needs no memory.
-#[derive(Drop)]
-struct Text<'a, E> {
-    err: &'a mut E,
-}
-
-impl<E: Write> fmt::Write for Text<'_, E> {
-    fn write_str(&mut self, text: &str) -> fmt::Result {
-        match write_all(self.err, text.as_bytes()) {
-            Ok(()) => Ok(()),
-            Err(_) => Err(fmt::Error),
         }
     }
 }

@@ -72,11 +72,12 @@ impl<S: Alter> Register<S> {
     /// Opens the register that the database holds. Whatever else the database has is left alone.
     ///
     /// `NotARegister` where the register's tables are missing or of another version, and `NotGood`
-    /// where not all rows are read as those of a consistent register. The database is as before.
+    /// where the rows aren't those of a consistent register, and there alone. The database is as before.
     pub fn open(alloc: Global, mut conn: Connection<S>) -> Result<Register<S>, OpenFault<S>>
         requires idle { conn.in_transaction ≡ false }
         ensures good { IfOk result (λ register. HasCleanDisk (state S.Store register) → IsGood (state S.Store conn).now × StandsAt S.Store register (state S.Store conn).now []) }
         ensures foreign { IfErr result (λ e. HasCleanDisk (state S.Store e.connection) → e.fault ≡ NotARegister → IsFirstVersion (state S.Store conn).now → ⊥) }
+        ensures bad { IfErr result (λ e. HasCleanDisk (state S.Store e.connection) → e.fault ≡ NotGood → IsGood (state S.Store conn).now → ⊥) }
         ensures taken { IfErr result (λ e. e.fault ≡ NotEmpty → ⊥) }
         ensures kept { IfErr result (λ e. IsKept (state S.Store conn) (state S.Store e.connection)) }
         ensures idle { IfErr result (λ e. e.connection.in_transaction ≡ false) }

@@ -10,6 +10,7 @@ use Rattle.sqlite.specs.State.{State, Executes}
 use Rattle.sqlite.specs.Tree.{Trees}
 use Rattle.sqlite_value.specs.Order.{column}
 use Rattle.sqlite_trees.specs.Tree.{put_row}
+use Rattle.sqlite_rules.specs.Lists.{Has}
 use Rattle.wgr_model.specs.RowLaws.{no_rows}
 use Rattle.wgr_sql.proofs.RowLemmas.{inserted}
 use Rattle.wgr_sql.proofs.TableLemmas.{cast_null, cast_int, apart}
@@ -54,6 +55,8 @@ written_trees db is = record {
   networks = subst (AreWritten network_numbers (5 ∷ []) (4 ∷ [])) (sym is.networks) (none_written network_numbers (5 ∷ []) (4 ∷ []));
   peers = subst (AreWritten peer_numbers [] []) (sym is.peers) (none_written peer_numbers [] []);
   allowed = subst (AreWritten allowed_numbers allowed_addresses (2 ∷ [])) (sym is.allowed) (none_written allowed_numbers allowed_addresses (2 ∷ []));
+  statuses = λ r here. absurd (subst (λ l. Has l r) is.peers here);
+  kinds = λ r here. absurd (subst (λ l. Has l r) is.allowed here);
 }
 
 none_read : (db : Database) → Rows db → tables_of db ≡ no_rows

@@ -1,5 +1,5 @@
 -- The statements on prefixes that lead to a peer.
-use Rattle.std.proofs.Common.{◌≡◌, ◌<◌, ◌^◌, ℕ, pos, List, [], ◌∷◌, map, nat_eq, bytes_eq, Bool, true, false, not, ◌&&◌, Ok, IsPermutation, refl, sym, ap, subst, ◌∙◌, inl, inr, arith, true≢false}
+use Rattle.std.proofs.Common.{◌≡◌, ◌⊎◌, ◌<◌, ◌^◌, ℕ, pos, List, [], ◌∷◌, map, nat_eq, bytes_eq, Bool, true, false, not, ◌&&◌, Ok, IsPermutation, refl, sym, ap, subst, ◌∙◌, inl, inr, arith, true≢false}
 use Rattle.std.specs.List.{list_all}
 use Rattle.std.specs.Ordering.{is_eq}
 use Rattle.std.proofs.lemmas.List.Sorted.{IsPermutation-map}
@@ -33,7 +33,7 @@ use Rattle.wgr_tables.proofs.UniqueLemmas.{from_model, differ_ints, allowed_apar
 use Rattle.sqlite.specs.Command.TheVariants.{Insert}
 use Rattle.sqlite.specs.Source.TheVariants.{Values}
 use Rattle.wgr_tables.specs.Layout.{Others, schema_with, allowed_at}
-use Rattle.wgr_tables.specs.Decode.{IsRegister, tables_of, allowed_in, number_at, bytes_at, bytes_of, number_of, family_of, route_kind, allowed_numbers, allowed_addresses}
+use Rattle.wgr_tables.specs.Decode.{IsKindAt, IsRegister, tables_of, allowed_in, number_at, bytes_at, bytes_of, number_of, family_of, address_kind, route_kind, allowed_numbers, allowed_addresses}
 use Rattle.wgr_tables.specs.TableSteps.{AllowedComes, RouteGoes, is_route_at}
 use Rattle.wgr_tables.proofs.ByteLemmas.{number_back}
 use Rattle.wgr_sql.proofs.KeyedLemmas.{has_moved, not_taken}
@@ -41,7 +41,7 @@ use Rattle.wgr_sql.proofs.RowLemmas.{equal_nats, map_filter}
 use Rattle.wgr_tables.proofs.EditLemmas.{allowed_after, register_allowed}
 use Rattle.wgr_tables.proofs.Made.{Made}
 use Rattle.wgr_tables.proofs.WriteLemmas.{rows_deleted, row_inserted}
-use Rattle.wgr_tables.proofs.WrittenLemmas.{IsWritten, written_filter, written_put}
+use Rattle.wgr_tables.proofs.WrittenLemmas.{IsWritten, each_filter, each_put, written_filter, written_put}
 use Rattle.wgr_tables.proofs.Meanings.{Means, drop_route_text, drop_route_means, of_route, allowed_values}
 use Rattle.wgr_sql.proofs.TableLemmas.{cast_null, cast_int, put_one}
 use Rattle.wgr_sql.proofs.TextLemmas.{text_at, equal_texts}
@@ -123,7 +123,8 @@ route_gone old new register network p count low ran =
     let q = λ (r : Row). list_all (holds (params ∷ r ∷ [])) of_route in
     let done = rows_deleted old new register drop_route_text params count ran 5 (allowed_at 10) refl refl of_route (drop_route_means register.others) register.written.allowed.keyed in
     record {
-      sound = register_allowed old.now new.now _ register done.sound done.edits (written_filter allowed_numbers allowed_addresses (2 ∷ []) (λ r. not (q r)) rows register.written.allowed);
+      sound = register_allowed old.now new.now _ register done.sound done.edits (written_filter allowed_numbers allowed_addresses (2 ∷ []) (λ r. not (q r)) rows register.written.allowed)
+          (each_filter (λ r. IsKindAt r 7) (λ r. not (q r)) rows register.written.kinds);
       made = allowed_after old.now new.now _ register done.sound done.edits
           ∙ ap (λ l. record (tables_of old.now) { allowed = l }) (map_filter allowed_in (λ r. not (q r)) (λ it. not (is_route_at network p it)) rows (λ r here. ap not (passes r here)));
     }
@@ -153,12 +154,19 @@ route_gone old new register network p count low ran =
 abbrev allowed_params : ℕ → PrefixValue → ℕ → ℕ → Row
 allowed_params network p hi peer = Int (pos network) ∷ Int (pos (family_number p.address.family)) ∷ Blob (bytes_of p.address.number) ∷ Int (pos p.length) ∷ Blob (bytes_of hi) ∷ Int (pos peer) ∷ []
 
+abbrev IsKind : List ℕ → Type 0
+IsKind kind = (kind ≡ address_kind) ⊎ (kind ≡ route_kind)
+
+kind_written : (kind : List ℕ) → IsKind kind → (Text kind ≡ Text address_kind) ⊎ (Text kind ≡ Text route_kind)
+kind_written kind (inl is) = inl (ap Text is)
+kind_written kind (inr is) = inr (ap Text is)
+
 -- a row of either kind
-pub allowed_came : (kind text : List ℕ) → ((others : Others) → Means others text (Insert 5 (Values (allowed_values kind) 8)))
+pub allowed_came : (kind text : List ℕ) → IsKind kind → ((others : Others) → Means others text (Insert 5 (Values (allowed_values kind) 8)))
     → (old new : State) (register : IsRegister old.now) (network : ℕ) (p : PrefixValue) (hi number count : ℕ) → p.address.number < 2 ^ 128 → hi < 2 ^ 128 → hi ≡ (last_of p).number
     → Executes text (allowed_params network p hi (peer_id network number)) old new (Ok count)
     → Made (AllowedComes (allowed_row network (bytes_eq kind route_kind) p number)) old.now new.now
-allowed_came kind text means old new register network p hi number count low high last ran =
+allowed_came kind text is_kind means old new register network p hi number count low high last ran =
     let peer = peer_id network number in
     let rows = old.now.trees 10 in
     let row = stored_allowed rows kind network p hi peer in
@@ -167,7 +175,8 @@ allowed_came kind text means old new register network p hi number count low high
     let done = row_inserted old new register text (allowed_params network p hi peer) count ran 5 (allowed_at 10) refl refl (allowed_values kind) 8 (means register.others) refl row news in
     let same = stored_is rows kind network p hi number low high last in
     record {
-      sound = register_allowed old.now new.now _ register done.0.sound done.0.edits (written_put allowed_numbers allowed_addresses (2 ∷ []) row rows refl done.1 (stored_written rows kind network p hi peer low high) register.written.allowed);
+      sound = register_allowed old.now new.now _ register done.0.sound done.0.edits (written_put allowed_numbers allowed_addresses (2 ∷ []) row rows refl done.1 (stored_written rows kind network p hi peer low high) register.written.allowed)
+          (each_put (λ r. IsKindAt r 7) row rows done.1 (kind_written kind is_kind) register.written.kinds);
       made = (
         map allowed_in (put_row row rows),
         subst (λ x. IsPermutation (x ∷ map allowed_in rows) (map allowed_in (put_row row rows))) same (IsPermutation-map allowed_in _ _ (put_one row rows done.1)),

@@ -13,13 +13,13 @@ use Rattle.sqlite.specs.State.{State, Executes}
 use Rattle.sqlite_rules.specs.Lists.{Has}
 use Rattle.sqlite.specs.Effect.{IsDatabase}
 use Rattle.wgr_tables.specs.Layout.{schema_with, peer_at, allowed_at}
-use Rattle.wgr_tables.specs.Decode.{IsRegister, tables_of, peer_in, allowed_in, number_at, bytes_at, route_kind, peer_numbers, allowed_numbers, allowed_addresses}
+use Rattle.wgr_tables.specs.Decode.{IsKindAt, IsRegister, IsStatusRow, tables_of, peer_in, allowed_in, number_at, bytes_at, route_kind, peer_numbers, allowed_numbers, allowed_addresses}
 use Rattle.wgr_tables.specs.TableSteps.{PeerGoes, AllowedGoes, is_peer, is_of_peer, is_address_of}
 use Rattle.wgr_tables.proofs.Made.{Made}
 use Rattle.wgr_sql.proofs.RowLemmas.{equal_nats, map_filter}
 use Rattle.wgr_tables.proofs.EditLemmas.{peers_after, register_peers, allowed_after, register_allowed}
 use Rattle.wgr_tables.proofs.WriteLemmas.{rows_deleted}
-use Rattle.wgr_tables.proofs.WrittenLemmas.{written_filter}
+use Rattle.wgr_tables.proofs.WrittenLemmas.{each_filter, written_filter}
 use Rattle.wgr_tables.proofs.Meanings.{drop_peer_text, drop_peer_means, of_peer_row, drop_allowed_text, drop_allowed_means, of_peer, drop_address_text, drop_address_means, of_address}
 use Rattle.wgr_sql.proofs.TextLemmas.{text_at, differ_texts}
 use Rattle.wgr_sql.proofs.Values.{and_true}
@@ -31,7 +31,8 @@ peer_gone old new register network id count ran =
     let p = λ (r : Row). list_all (holds (params ∷ r ∷ [])) of_peer_row in
     let done = rows_deleted old new register drop_peer_text params count ran 4 (peer_at 8) refl refl of_peer_row (drop_peer_means register.others) register.written.peers.keyed in
     record {
-      sound = register_peers old.now new.now _ register done.sound done.edits (written_filter peer_numbers [] [] (λ r. not (p r)) rows register.written.peers);
+      sound = register_peers old.now new.now _ register done.sound done.edits (written_filter peer_numbers [] [] (λ r. not (p r)) rows register.written.peers)
+          (each_filter IsStatusRow (λ r. not (p r)) rows register.written.statuses);
       made = peers_after old.now new.now _ register done.sound done.edits
           ∙ ap (λ l. record (tables_of old.now) { peers = l }) (map_filter peer_in (λ r. not (p r)) (λ it. not (is_peer network id it)) rows (λ r here. ap not (passes r here)));
     }
@@ -48,7 +49,8 @@ allowed_gone old new register network id count ran =
     let p = λ (r : Row). list_all (holds (params ∷ r ∷ [])) of_peer in
     let done = rows_deleted old new register drop_allowed_text params count ran 5 (allowed_at 10) refl refl of_peer (drop_allowed_means register.others) register.written.allowed.keyed in
     record {
-      sound = register_allowed old.now new.now _ register done.sound done.edits (written_filter allowed_numbers allowed_addresses (2 ∷ []) (λ r. not (p r)) rows register.written.allowed);
+      sound = register_allowed old.now new.now _ register done.sound done.edits (written_filter allowed_numbers allowed_addresses (2 ∷ []) (λ r. not (p r)) rows register.written.allowed)
+          (each_filter (λ r. IsKindAt r 7) (λ r. not (p r)) rows register.written.kinds);
       made = allowed_after old.now new.now _ register done.sound done.edits
           ∙ ap (λ l. record (tables_of old.now) { allowed = l }) (map_filter allowed_in (λ r. not (p r)) (λ it. not (is_of_peer network id it)) rows (λ r here. ap not (passes r here)));
     }
@@ -65,7 +67,8 @@ address_gone old new register network id count ran =
     let p = λ (r : Row). list_all (holds (params ∷ r ∷ [])) of_address in
     let done = rows_deleted old new register drop_address_text params count ran 5 (allowed_at 10) refl refl of_address (drop_address_means register.others) register.written.allowed.keyed in
     record {
-      sound = register_allowed old.now new.now _ register done.sound done.edits (written_filter allowed_numbers allowed_addresses (2 ∷ []) (λ r. not (p r)) rows register.written.allowed);
+      sound = register_allowed old.now new.now _ register done.sound done.edits (written_filter allowed_numbers allowed_addresses (2 ∷ []) (λ r. not (p r)) rows register.written.allowed)
+          (each_filter (λ r. IsKindAt r 7) (λ r. not (p r)) rows register.written.kinds);
       made = allowed_after old.now new.now _ register done.sound done.edits
           ∙ ap (λ l. record (tables_of old.now) { allowed = l }) (map_filter allowed_in (λ r. not (p r)) (λ it. not (is_address_of network id it)) rows (λ r here. ap not (passes r here)));
     }

@@ -7,7 +7,7 @@ use Rattle.sqlite_trees.specs.Tree.{with_tree}
 use Rattle.sqlite.specs.Effect.{Database, IsDatabase}
 use Rattle.wgr_sql.specs.Effects.{Edits}
 use Rattle.wgr_tables.specs.Layout.{register_indexes, schema_with}
-use Rattle.wgr_tables.specs.Decode.{AreTrees, AreWritten, AreTenants, AreTokens, AreNetworks, ArePeers, AreAllowed, IsRegister, tables_in, tables_of, meta_in, tenant_in, token_in, network_in, peer_in, allowed_in}
+use Rattle.wgr_tables.specs.Decode.{AreTrees, AreWritten, AreTenants, AreTokens, AreNetworks, ArePeers, AreAllowed, HaveStatuses, HaveKinds, IsRegister, tables_in, tables_of, meta_in, tenant_in, token_in, network_in, peer_in, allowed_in}
 use Rattle.wgr_tables.proofs.LayoutLemmas.{is_no_index}
 
 module _ (old new : Database) (register : IsRegister old) (tree : ℕ) (after : List Row) (e : Edits (schema_with register.others) tree after old new) where
@@ -42,6 +42,8 @@ module _ (old new : Database) (register : IsRegister old) (tree : ℕ) (after : 
         networks = subst AreNetworks (sym (stays 5 refl refl)) written.networks;
         peers = subst ArePeers (sym (stays 8 refl refl)) written.peers;
         allowed = subst AreAllowed (sym (stays 10 refl refl)) written.allowed;
+        statuses = subst HaveStatuses (sym (stays 8 refl refl)) written.statuses;
+        kinds = subst HaveKinds (sym (stays 10 refl refl)) written.kinds;
       };
     }
 
@@ -56,32 +58,32 @@ module _ (old new : Database) (after : List Row) (register : IsRegister old) (so
     tenants_after = tables_after old new register 1 after e
 
     pub register_tenants : AreTenants after → IsRegister new
-    register_tenants tenants = register_after old new register 1 after e sound (record { meta = good.meta; tenants = tenants; tokens = good.tokens; networks = good.networks; peers = good.peers; allowed = good.allowed })
+    register_tenants tenants = register_after old new register 1 after e sound (record { meta = good.meta; tenants = tenants; tokens = good.tokens; networks = good.networks; peers = good.peers; allowed = good.allowed; statuses = good.statuses; kinds = good.kinds })
 
   module _ (e : Edits (schema_with register.others) 3 after old new) where
     pub tokens_after : tables_of new ≡ record (tables_of old) { tokens = map token_in after }
     tokens_after = tables_after old new register 3 after e
 
     pub register_tokens : AreTokens after → IsRegister new
-    register_tokens tokens = register_after old new register 3 after e sound (record { meta = good.meta; tenants = good.tenants; tokens = tokens; networks = good.networks; peers = good.peers; allowed = good.allowed })
+    register_tokens tokens = register_after old new register 3 after e sound (record { meta = good.meta; tenants = good.tenants; tokens = tokens; networks = good.networks; peers = good.peers; allowed = good.allowed; statuses = good.statuses; kinds = good.kinds })
 
   module _ (e : Edits (schema_with register.others) 5 after old new) where
     pub networks_after : tables_of new ≡ record (tables_of old) { networks = map network_in after }
     networks_after = tables_after old new register 5 after e
 
     pub register_networks : AreNetworks after → IsRegister new
-    register_networks networks = register_after old new register 5 after e sound (record { meta = good.meta; tenants = good.tenants; tokens = good.tokens; networks = networks; peers = good.peers; allowed = good.allowed })
+    register_networks networks = register_after old new register 5 after e sound (record { meta = good.meta; tenants = good.tenants; tokens = good.tokens; networks = networks; peers = good.peers; allowed = good.allowed; statuses = good.statuses; kinds = good.kinds })
 
   module _ (e : Edits (schema_with register.others) 8 after old new) where
     pub peers_after : tables_of new ≡ record (tables_of old) { peers = map peer_in after }
     peers_after = tables_after old new register 8 after e
 
-    pub register_peers : ArePeers after → IsRegister new
-    register_peers peers = register_after old new register 8 after e sound (record { meta = good.meta; tenants = good.tenants; tokens = good.tokens; networks = good.networks; peers = peers; allowed = good.allowed })
+    pub register_peers : ArePeers after → HaveStatuses after → IsRegister new
+    register_peers peers statuses = register_after old new register 8 after e sound (record { meta = good.meta; tenants = good.tenants; tokens = good.tokens; networks = good.networks; peers = peers; allowed = good.allowed; statuses = statuses; kinds = good.kinds })
 
   module _ (e : Edits (schema_with register.others) 10 after old new) where
     pub allowed_after : tables_of new ≡ record (tables_of old) { allowed = map allowed_in after }
     allowed_after = tables_after old new register 10 after e
 
-    pub register_allowed : AreAllowed after → IsRegister new
-    register_allowed allowed = register_after old new register 10 after e sound (record { meta = good.meta; tenants = good.tenants; tokens = good.tokens; networks = good.networks; peers = good.peers; allowed = allowed })
+    pub register_allowed : AreAllowed after → HaveKinds after → IsRegister new
+    register_allowed allowed kinds = register_after old new register 10 after e sound (record { meta = good.meta; tenants = good.tenants; tokens = good.tokens; networks = good.networks; peers = good.peers; allowed = allowed; statuses = good.statuses; kinds = kinds })

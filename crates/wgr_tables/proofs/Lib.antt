@@ -23,6 +23,10 @@ pub mod CommitRows
 pub mod LoadLemmas
 pub mod ToldLemmas
 pub mod ListedLemmas
+pub mod StoredLemmas
+pub mod HostLemmas
+pub mod ArrangeLemmas
+pub mod FieldLemmas
 pub mod ReadLemmas
 pub mod SameBytes
 pub mod LookupLemmas

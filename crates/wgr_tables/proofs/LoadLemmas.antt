@@ -1,5 +1,5 @@
 -- A network that is read from rows is the one that they form.
-use Rattle.std.proofs.Common.{◌≡◌, ℕ, Bool, true, false, not, ◌&&◌, List, [], ◌∷◌, eqb-true, map, filter, nat_eq, IsPermutation, ◌∙◌, refl, sym, subst, inl}
+use Rattle.std.proofs.Common.{◌≡◌, ℕ, Bool, true, false, not, ◌&&◌, List, [], ◌∷◌, eqb-true, map, filter, nat_eq, IsPermutation, ◌∙◌, refl, sym, subst, inl, inr}
 use Rattle.std.specs.Ordering.{nat_cmp}
 use Rattle.std.specs.Cmp.{nat_cmp_total}
 use Rattle.std.specs.FinMap.{nat_cmp-IsAntisymmetric}
@@ -81,6 +81,14 @@ none_listed networks n none w here = go (nat_eq w.id n) refl
     go : (b : Bool) → nat_eq w.id n ≡ b → nat_eq w.id n ≡ false
     go false e = e
     go true e = elim (has_permutation (filter (λ x. nat_eq x.id n) networks) [] w none (in_filter (λ x. nat_eq x.id n) networks w here e)) [ ]
+
+-- no other row has its id
+pub only_listed : (networks : List NetworkRow) (n : ℕ) (x w : NetworkRow) → IsPermutation (filter (λ y. nat_eq y.id n) networks) (x ∷ []) → Has networks w → w.id ≡ n → x ≡ w
+only_listed networks n x w one here is =
+    elim (has_permutation (filter (λ y. nat_eq y.id n) networks) (x ∷ []) w one (in_filter (λ y. nat_eq y.id n) networks w here (subst (λ k. nat_eq w.id k ≡ true) is (eqb_self w.id)))) [
+      | inl same ↦ same
+      | inr none ↦ elim none [ ]
+    ]
 
 pub one_listed : (networks : List NetworkRow) (n : ℕ) (w : NetworkRow) → IsPermutation (filter (λ x. nat_eq x.id n) networks) (w ∷ []) → Has networks w × (w.id ≡ n)
 one_listed networks n w one =

@@ -3,7 +3,7 @@ use Rattle.std.proofs.Common.{◌≡◌, ℕ, pos, [], ◌∷◌, map, nat_eq, B
 use Rattle.std.specs.Ordering.{is_eq}
 use Rattle.std.proofs.lemmas.List.Sorted.{IsPermutation-map}
 use Rattle.std.proofs.lemmas.Cmp.{tied_itself}
-use Rattle.sqlite.specs.declared.types.Value.TheVariants.{Null, Int, Text, Blob}
+use Rattle.sqlite.specs.declared.types.Value.TheVariants.{Int, Text, Blob}
 use Rattle.sqlite.specs.Order.{Row}
 use Rattle.sqlite_value.specs.Order.{column, value_cmp}
 use Rattle.sqlite_value.proofs.OrderLemmas.{value_cmp_total}
@@ -21,7 +21,8 @@ use Rattle.wgr_model.proofs.CollectLemmas.{from_map}
 use Rattle.wgr_sql.proofs.KeyedLemmas.{not_taken}
 use Rattle.wgr_sql.proofs.TableLemmas.{cast_null, cast_int, put_one}
 use Rattle.wgr_tables.specs.Layout.{peer_at}
-use Rattle.wgr_tables.specs.Decode.{IsRegister, peer_in, number_at, peer_numbers}
+use Rattle.wgr_tables.specs.Decode.{IsRegister, IsStatusRow, peer_in, number_at, peer_numbers}
+use Rattle.wgr_tables.specs.Stored.{stored_peer}
 use Rattle.wgr_tables.specs.Parameters.{status_value}
 use Rattle.wgr_tables.specs.TableSteps.{PeerRowComes}
 use Rattle.wgr_tables.proofs.EditLemmas.{peers_after, register_peers}
@@ -29,19 +30,11 @@ use Rattle.wgr_tables.proofs.Made.{Made}
 use Rattle.wgr_tables.proofs.Meanings.{insert_peer_text, insert_peer_means, peer_values}
 use Rattle.wgr_tables.proofs.UniqueLemmas.{from_model}
 use Rattle.wgr_tables.proofs.WriteLemmas.{row_inserted}
-use Rattle.wgr_tables.proofs.WrittenLemmas.{IsWritten, written_put}
+use Rattle.wgr_tables.proofs.WrittenLemmas.{IsWritten, each_put, written_put}
 
--- the three places of a status
-abbrev status_values : Option Status → Row
-status_values None = Null ∷ Null ∷ Null ∷ []
-status_values (Some s) = Int (pos s.handshake) ∷ Int (pos s.received) ∷ Int (pos s.sent) ∷ []
-
--- the parameters of a peer's row, and the row as the table stores it
+-- the parameters of a peer's row
 abbrev pub peer_params : PeerRow → Row
 peer_params p = Int (pos p.id) ∷ Int (pos p.network) ∷ Blob p.key.0 ∷ Text p.label ∷ Int (pos p.until) ∷ Int (pos p.keepalive) ∷ bound (status_value (λ s. s.handshake) p.status ∷ status_value (λ s. s.received) p.status ∷ status_value (λ s. s.sent) p.status ∷ [])
-
-abbrev stored_peer : PeerRow → Row
-stored_peer p = Int (pos p.id) ∷ Null ∷ Int (pos p.network) ∷ Blob p.key.0 ∷ Text p.label ∷ Int (pos p.until) ∷ Int (pos p.keepalive) ∷ status_values p.status
 
 stored_is : (p : PeerRow) (s : Option Status) → peer_in (stored_peer (record p { status = s })) ≡ record p { status = s }
 stored_is p None = refl
@@ -64,6 +57,10 @@ stored_written p = record { number_is = numbers; address_is = λ q none. elim no
     numbers q (inr (inr (inr (inl e)))) = subst (λ x. column new x ≡ Int (pos (number_at new x))) (sym e) refl
     numbers q (inr (inr (inr (inr none)))) = elim none [ ]
 
+status_written : (p : PeerRow) (s : Option Status) → IsStatusRow (stored_peer (record p { status = s }))
+status_written p None = inr (refl, refl, refl)
+status_written p (Some s) = inl (refl, refl, refl)
+
 untied : (m n : ℕ) → is_eq (value_cmp (Int (pos m)) (Int (pos n))) ≡ false → nat_eq m n ≡ false
 untied m n h = go (nat_eq m n) refl
   where
@@ -77,7 +74,8 @@ peer_came old new register p count ran =
     let row = stored_peer p in
     let done = row_inserted old new register insert_peer_text (peer_params p) count ran 4 (peer_at 8) refl refl peer_values 10 (insert_peer_means register.others) refl row (news_are old.now.trees p p.status) in
     record {
-      sound = register_peers old.now new.now _ register done.0.sound done.0.edits (written_put peer_numbers [] [] row rows refl done.1 (stored_written p) register.written.peers);
+      sound = register_peers old.now new.now _ register done.0.sound done.0.edits (written_put peer_numbers [] [] row rows refl done.1 (stored_written p) register.written.peers)
+          (each_put IsStatusRow row rows done.1 (status_written p p.status) register.written.statuses);
       made = (
         map peer_in (put_row row rows),
         subst (λ x. IsPermutation (x ∷ map peer_in rows) (map peer_in (put_row row rows))) (stored_is p p.status) (IsPermutation-map peer_in _ _ (put_one row rows done.1)),

@@ -19,6 +19,17 @@ pub record IsWritten (numbers addresses families : List ℕ) (r : Row) : Type 0 
   pub address_is : (p : ℕ) → Has addresses p → column r p ≡ Blob (bytes_of (number_of (bytes_at r p)))
   pub family_is : (p : ℕ) → Has families p → number_at r p ≡ family_number (family_of (number_at r p))
 
+-- what is said of each row of a table
+module _ (P : Row → Type 0) where
+  pub each_filter : (p : Row → Bool) (rows : List Row) → ((r : Row) → Has rows r → P r) → (r : Row) → Has (filter p rows) r → P r
+  each_filter p rows each r here = each r (has_filtered p rows r here).0
+
+  pub each_put : (new : Row) (rows : List Row) → is_taken rows new ≡ false → P new → ((r : Row) → Has rows r → P r) → (r : Row) → Has (put_row new rows) r → P r
+  each_put new rows free this each r here = elim (has_moved (put_row new rows) (new ∷ rows) r (IsPermutation-sym _ _ (put_one new rows free)) here) [
+    | inl same ↦ subst P (sym same) this
+    | inr later ↦ each r later
+  ]
+
 module _ (numbers addresses families : List ℕ) where
   pub written_filter : (p : Row → Bool) (rows : List Row) → AreWritten numbers addresses families rows → AreWritten numbers addresses families (filter p rows)
   written_filter p rows good =

@@ -1,11 +1,11 @@
 -- The rows of the model, read from the rows of the database. A table's columns stand from place 1
 -- on, and its rowid, which is an INTEGER PRIMARY KEY where it has one, at place 0.
-use Rattle.std.specs.Prelude.{◌≡◌, ℕ, pos, ◌+◌, cond, nat_eq, List, [], ◌∷◌, map, codes, bytes_eq, Option, Some, None, unsigned_abs}
+use Rattle.std.specs.Prelude.{◌≡◌, ◌⊎◌, ℕ, pos, ◌+◌, cond, nat_eq, List, [], ◌∷◌, map, codes, bytes_eq, Option, Some, None, unsigned_abs}
 use Rattle.std.specs.Int.{w128, from_be_bytes, to_be_bytes}
 use Rattle.sqlite_value.specs.Order.{Row, column, bytes}
 use Rattle.sqlite_rules.specs.Edit.{id_in}
 use Rattle.sqlite_rules.specs.Lists.{Has}
-use Rattle.sqlite.specs.declared.types.Value.TheVariants.{Int, Blob}
+use Rattle.sqlite.specs.declared.types.Value.TheVariants.{Null, Int, Text, Blob}
 use Rattle.sqlite.specs.Tree.{Trees}
 use Rattle.sqlite.specs.Effect.{Database, IsDatabase}
 use Rattle.sqlite_sql.specs.Ops.{is_null}
@@ -107,9 +107,13 @@ tables_of db = tables_in db.trees
 
 -- ---- rows that are written as such
 
+-- an integer from 0 on
+abbrev pub IsNumberAt : Row → ℕ → Type 0
+IsNumberAt row at = column row at ≡ Int (pos (number_at row at))
+
 -- the values at these places are integers from 0 on
 abbrev pub AreNatural : List ℕ → List Row → Type 0
-AreNatural places rows = (r : Row) → Has rows r → (p : ℕ) → Has places p → column r p ≡ Int (pos (number_at r p))
+AreNatural places rows = (r : Row) → Has rows r → (p : ℕ) → Has places p → IsNumberAt r p
 
 -- the bytes at these places are the 16 of a number
 abbrev pub AreSpelled : List ℕ → List Row → Type 0
@@ -153,6 +157,26 @@ ArePeers = AreWritten peer_numbers [] []
 abbrev pub AreAllowed : List Row → Type 0
 AreAllowed = AreWritten allowed_numbers allowed_addresses (2 ∷ [])
 
+-- three counts of a status, all there or all absent
+abbrev pub IsStatusThere : Row → Type 0
+IsStatusThere row = IsNumberAt row 7 × IsNumberAt row 8 × IsNumberAt row 9
+
+abbrev pub IsStatusAbsent : Row → Type 0
+IsStatusAbsent row = (column row 7 ≡ Null) × (column row 8 ≡ Null) × (column row 9 ≡ Null)
+
+abbrev pub IsStatusRow : Row → Type 0
+IsStatusRow row = IsStatusThere row ⊎ IsStatusAbsent row
+
+abbrev pub HaveStatuses : List Row → Type 0
+HaveStatuses rows = (r : Row) → Has rows r → IsStatusRow r
+
+abbrev pub IsKindAt : Row → ℕ → Type 0
+IsKindAt row at = (column row at ≡ Text address_kind) ⊎ (column row at ≡ Text route_kind)
+
+-- each is an address or a route
+abbrev pub HaveKinds : List Row → Type 0
+HaveKinds rows = (r : Row) → Has rows r → IsKindAt r 7
+
 -- the rows of the six tables
 pub record AreTrees (trees : Trees) : Type 0 where
   pub meta : AreWritten (0 ∷ []) [] [] (trees 0)
@@ -161,6 +185,8 @@ pub record AreTrees (trees : Trees) : Type 0 where
   pub networks : AreNetworks (trees 5)
   pub peers : ArePeers (trees 8)
   pub allowed : AreAllowed (trees 10)
+  pub statuses : HaveStatuses (trees 8)
+  pub kinds : HaveKinds (trees 10)
 
 -- the database has the register's tables, perhaps with others after them that stand apart, and
 -- their rows are written as such

@@ -1,6 +1,7 @@
 pub mod Layout
 pub mod Texts
 pub mod Decode
+pub mod Stored
 pub mod Parameters
 pub mod TableSteps
 pub mod Loads

@@ -1,14 +1,16 @@
 //! A network, loaded from its rows.
-ghost use Rattle.std.specs.Prelude.{◌≡◌, ℕ, List, [], ◌∷◌, IfOk, IfSome, IfNone, IsPermutation, map, not, ◌&&◌, nat_eq, false};
+ghost use Rattle.std.specs.Prelude.{◌≡◌, ℕ, List, [], ◌∷◌, IfErr, IfOk, IfSome, IfNone, IsPermutation, map, not, ◌&&◌, nat_eq, false};
 ghost use Rattle.std.specs.List.{filter};
 ghost use Rattle.sqlite.specs.Effect.{Database};
 ghost use Rattle.sqlite.specs.State.{HasCleanDisk};
 ghost use Rattle.sqlite.specs.Held.{state};
-ghost use Rattle.wgr_core.specs.Network.{IsNetwork};
+ghost use Rattle.wgr_core.specs.Network.{IsNetwork, NetworkValue};
 ghost use Rattle.wgr_core.specs.Parts.{network_of};
 ghost use Rattle.wgr_model.specs.Laws.{Has};
 ghost use Rattle.wgr_model.specs.Rows.{AreKeyed, NetworkRow, address_row, holding_of, peer_row, route_row};
-ghost use Rattle.wgr_tables.specs.Decode.{tables_of, network_in, number_at};
+ghost use Rattle.wgr_sql.specs.declared.fault.Fault.TheVariants.{Store};
+ghost use Rattle.wgr_tables.specs.Decode.{tables_of, allowed_in, network_in, number_at, peer_in};
+ghost use Rattle.wgr_tables.specs.Stored.{AreRising, AreSettings, AreStored, stored_allowed, stored_network, stored_peer};
 ghost use Rattle.wgr_tables.specs.Loads.{IsMade, ShowAddresses, ShowNetwork, ShowPeers, ShowRoutes, network_with};
 ghost use Rattle.wgr_tables.specs.Writes.{Written};
 ghost use Rattle.wgr_tables.specs.Standing.{Stands};
@@ -31,6 +33,10 @@ pub(crate) fn peer_rows<S: Alter>(conn: &mut Connection<S>, network: u32) -> Res
     ensures clean { HasCleanDisk (state S.Store conn.new) → HasCleanDisk (state S.Store conn.old) }
     ensures listed { (db : Database) (pending : List Written) → Stands S.Store conn.old db pending → HasCleanDisk (state S.Store conn.new)
         → IfOk result (λ rows. ShowPeers network (tables_of db) rows.items) }
+    ensures stored { (db : Database) (pending : List Written) → Stands S.Store conn.old db pending → HasCleanDisk (state S.Store conn.new)
+        → IfOk result (λ rows. AreStored stored_peer peer_in rows.items) }
+    ensures rising { (db : Database) (pending : List Written) → Stands S.Store conn.old db pending → HasCleanDisk (state S.Store conn.new)
+        → IfOk result (λ rows. AreRising (λ p. p.id) peer_in rows.items) }
 {
     query(
         conn,
@@ -50,6 +56,10 @@ pub(crate) fn address_rows<S: Alter>(
     ensures clean { HasCleanDisk (state S.Store conn.new) → HasCleanDisk (state S.Store conn.old) }
     ensures listed { (db : Database) (pending : List Written) → Stands S.Store conn.old db pending → HasCleanDisk (state S.Store conn.new)
         → IfOk result (λ rows. ShowAddresses network (tables_of db) rows.items) }
+    ensures stored { (db : Database) (pending : List Written) → Stands S.Store conn.old db pending → HasCleanDisk (state S.Store conn.new)
+        → IfOk result (λ rows. AreStored stored_allowed allowed_in rows.items) }
+    ensures rising { (db : Database) (pending : List Written) → Stands S.Store conn.old db pending → HasCleanDisk (state S.Store conn.new)
+        → IfOk result (λ rows. AreRising (λ a. a.peer) allowed_in rows.items) }
 {
     query(
         conn,
@@ -69,6 +79,8 @@ pub(crate) fn route_rows<S: Alter>(
     ensures clean { HasCleanDisk (state S.Store conn.new) → HasCleanDisk (state S.Store conn.old) }
     ensures listed { (db : Database) (pending : List Written) → Stands S.Store conn.old db pending → HasCleanDisk (state S.Store conn.new)
         → IfOk result (λ rows. ShowRoutes network (tables_of db) rows.items) }
+    ensures stored { (db : Database) (pending : List Written) → Stands S.Store conn.old db pending → HasCleanDisk (state S.Store conn.new)
+        → IfOk result (λ rows. AreStored stored_allowed allowed_in rows.items) }
 {
     query(
         conn,
@@ -85,6 +97,8 @@ fn network_rows<S: Alter>(conn: &mut Connection<S>, network: u32) -> Result<Vec<
     ensures clean { HasCleanDisk (state S.Store conn.new) → HasCleanDisk (state S.Store conn.old) }
     ensures listed { (db : Database) (pending : List Written) → Stands S.Store conn.old db pending → HasCleanDisk (state S.Store conn.new)
         → IfOk result (λ rows. ShowNetwork network (tables_of db) rows.items) }
+    ensures stored { (db : Database) (pending : List Written) → Stands S.Store conn.old db pending → HasCleanDisk (state S.Store conn.new)
+        → IfOk result (λ rows. AreStored stored_network network_in rows.items) }
 {
     query(
         conn,
@@ -137,7 +151,8 @@ fn parts_of(
     peers: Vec<Peer>,
     routes: Vec<(Prefix, u32)>,
 ) -> Result<Parts, Fault>
-    ensures { IfOk result (λ parts. network_of parts ≡ network_with (network_in row.now) peers.items routes.items) }
+    ensures value { IfOk result (λ parts. network_of parts ≡ network_with (network_in row.now) peers.items routes.items) }
+    ensures only { IfErr result (λ e. e ≡ Store → (w : NetworkRow) → AreSettings w → row.now ≡ stored_network w → ⊥) }
 {
     let pool = pool_in(row)?;
     let Some(port) = Port::new(short_at(row, 8)?) else {
@@ -168,7 +183,8 @@ pub(crate) fn make_network(
     peers: Vec<Peer>,
     routes: Vec<(Prefix, u32)>,
 ) -> Result<Network, Fault>
-    ensures { IfOk result (λ n. IsMade (network_in row.now) peers.items routes.items n) }
+    ensures made { IfOk result (λ n. IsMade (network_in row.now) peers.items routes.items n) }
+    ensures only { IfErr result (λ e. e ≡ Store → (n : NetworkValue) → IsMade (network_in row.now) peers.items routes.items n → AreSettings (network_in row.now) → row.now ≡ stored_network (network_in row.now) → ⊥) }
 {
     let parts = parts_of(alloc, row, peers, routes)?;
     match Network::of(alloc, parts) {
@@ -223,6 +239,10 @@ pub(crate) fn network_row<S: Alter>(
     ensures clean { HasCleanDisk (state S.Store conn.new) → HasCleanDisk (state S.Store conn.old) }
     ensures some { (db : Database) (pending : List Written) → Stands S.Store conn.old db pending → HasCleanDisk (state S.Store conn.new)
         → IfOk result (λ found. IfSome found (λ row. Has (tables_of db).networks (network_in row) × (number_at row 0 ≡ network))) }
+    ensures stored { (db : Database) (pending : List Written) → Stands S.Store conn.old db pending → HasCleanDisk (state S.Store conn.new)
+        → IfOk result (λ found. IfSome found (λ row. row ≡ stored_network (network_in row))) }
+    ensures once { (db : Database) (pending : List Written) → Stands S.Store conn.old db pending → HasCleanDisk (state S.Store conn.new)
+        → IfOk result (λ found. IfSome found (λ row. (w : NetworkRow) → Has (tables_of db).networks w → w.id ≡ network → network_in row ≡ w)) }
     ensures none { (db : Database) (pending : List Written) → Stands S.Store conn.old db pending → HasCleanDisk (state S.Store conn.new)
         → IfOk result (λ found. IfNone found ((w : NetworkRow) → Has (tables_of db).networks w → nat_eq w.id network ≡ false)) }
 {

@@ -1,15 +1,22 @@
 //! Peers and routes of a network, read from their rows.
-ghost use Rattle.std.specs.Prelude.{◌≡◌, ℕ, IfOk, map, false};
+ghost use Rattle.std.specs.Prelude.{◌≡◌, ℕ, List, Option, IfErr, IfOk, IfSome, OnErr, map, false};
+ghost use Rattle.std.specs.List.{AllByRecursion};
+ghost use Rattle.wgr_text.specs.Prefix.{AddrValue, PrefixValue, IsAddr};
 ghost use Rattle.wgr_pool.specs.PrefixTests.{full};
+ghost use Rattle.wgr_peers.specs.Routes.{Routes};
+ghost use Rattle.wgr_peers.specs.declared.peer.Peer.{Peer};
+ghost use Rattle.wgr_peers.specs.declared.peer.Status.{Status};
+ghost use Rattle.wgr_core.specs.Forms.{IsStatus};
 ghost use Rattle.wgr_model.specs.Rows.{allowed_row, peer_row, address_row, route_row};
+ghost use Rattle.wgr_sql.specs.declared.fault.Fault.TheVariants.{Store};
 ghost use Rattle.wgr_tables.specs.Decode.{status_at, peer_in, allowed_in};
+ghost use Rattle.wgr_tables.specs.Stored.{HasStatus, IsKeptPeer, IsKeptRoute, stored_allowed, stored_peer};
 
 use crate::field::{
-    address_at, address_number_at, count_at, end_at, is_number, is_route, key_at, label_at,
-    peer_number_at, prefix_in, short_at,
+    address_at, address_number_at, count_at, end_at, is_null_at, is_number, is_route, key_at,
+    label_at, peer_number_at, prefix_in, short_at,
 };
 use sqlite::Row;
-use sqlite::types::ValueRef;
 use std::alloc::Global;
 use wgr_peers::{Peer, Status};
 use wgr_sql::Fault;
@@ -17,9 +24,10 @@ use wgr_text::{Addr, Prefix};
 
 /// What a running interface last showed of a peer, at the places 7 to 9.
 fn status_of(row: &Row) -> Result<Option<Status>, Fault>
-    ensures { IfOk result (λ status. status ≡ status_at row.now) }
+    ensures value { IfOk result (λ status. status ≡ status_at row.now) }
+    ensures only { OnErr result ((status : Option Status) → IfSome status IsStatus → HasStatus row.now status → ⊥) }
 {
-    if let Ok(ValueRef::Null) = row.get_ref(7) {
+    if is_null_at(row, 7) {
         return Ok(None);
     }
     Ok(Some(Status {
@@ -31,7 +39,8 @@ fn status_of(row: &Row) -> Result<Option<Status>, Fault>
 
 /// The address of the network's peer of this number, whose row of `allowed` this is.
 fn address_of(row: &Row, network: u32, number: u32) -> Result<Addr, Fault>
-    ensures { IfOk result (λ address. allowed_row network false (full address) number ≡ allowed_in row.now) }
+    ensures value { IfOk result (λ address. allowed_row network false (full address) number ≡ allowed_in row.now) }
+    ensures only { OnErr result ((a : AddrValue) → IsAddr a → row.now ≡ stored_allowed (allowed_row network false (full a) number) → ⊥) }
 {
     let address = address_at(row, 2, 3)?;
     let width = u64::from(address.family().width());
@@ -51,6 +60,7 @@ fn address_of(row: &Row, network: u32, number: u32) -> Result<Addr, Fault>
 fn peer_of(alloc: Global, row: &Row, address: &Row, network: u32) -> Result<Peer, Fault>
     ensures row { IfOk result (λ p. peer_row network p ≡ peer_in row.now) }
     ensures address { IfOk result (λ p. address_row network p ≡ allowed_in address.now) }
+    ensures only { IfErr result (λ e. e ≡ Store → (p : Peer) → IsKeptPeer p → row.now ≡ stored_peer (peer_row network p) → address.now ≡ stored_allowed (address_row network p) → ⊥) }
 {
     if !is_number(row, 2, u64::from(network))? {
         return Err(Fault::Store);
@@ -82,6 +92,8 @@ pub(crate) fn peers_of(
 ) -> Result<Vec<Peer>, Fault>
     ensures rows { IfOk result (λ peers. map (peer_row network) peers.items ≡ map peer_in rows.now) }
     ensures addresses { IfOk result (λ peers. map (address_row network) peers.items ≡ map allowed_in addresses.now) }
+    ensures only { IfErr result (λ e. e ≡ Store → (peers : List Peer) → AllByRecursion IsKeptPeer peers
+        → rows.now ≡ map stored_peer (map (peer_row network) peers) → addresses.now ≡ map stored_allowed (map (address_row network) peers) → ⊥) }
 {
     if rows.len() != addresses.len() {
         return Err(Fault::Store);
@@ -98,7 +110,8 @@ pub(crate) fn peers_of(
 
 /// The route of the network whose row this is.
 fn route_of(row: &Row, network: u32) -> Result<(Prefix, u32), Fault>
-    ensures { IfOk result (λ r. route_row network r ≡ allowed_in row.now) }
+    ensures value { IfOk result (λ r. route_row network r ≡ allowed_in row.now) }
+    ensures only { OnErr result ((r : PrefixValue × ℕ) → IsKeptRoute r → row.now ≡ stored_allowed (route_row network r) → ⊥) }
 {
     let prefix = prefix_in(row)?;
     if !is_number(row, 1, u64::from(network))? || !is_route(row)? {
@@ -116,7 +129,8 @@ pub(crate) fn routes_of(
     rows: &[Row],
     network: u32,
 ) -> Result<Vec<(Prefix, u32)>, Fault>
-    ensures { IfOk result (λ routes. map (route_row network) routes.items ≡ map allowed_in rows.now) }
+    ensures value { IfOk result (λ routes. map (route_row network) routes.items ≡ map allowed_in rows.now) }
+    ensures only { IfErr result (λ e. e ≡ Store → (routes : Routes) → AllByRecursion IsKeptRoute routes → rows.now ≡ map stored_allowed (map (route_row network) routes) → ⊥) }
 {
     let mut routes = Vec::new(alloc);
     for row in rows {

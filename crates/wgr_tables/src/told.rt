@@ -1,10 +1,13 @@
 //! A network that its rows tell, if they tell one.
-ghost use Rattle.std.specs.Prelude.{◌≡◌, Ok, IfOk, IfSome, All, IsPermutation, filter, map, not, ◌&&◌, nat_eq, false, List};
+ghost use Rattle.std.specs.Prelude.{◌≡◌, Ok, Err, IfOk, IfSome, IfNone, All, IsPermutation, filter, map, not, ◌&&◌, nat_eq, false, List};
 ghost use Rattle.sqlite.specs.Effect.{Database};
 ghost use Rattle.sqlite.specs.State.{HasCleanDisk};
 ghost use Rattle.sqlite.specs.Held.{state};
 ghost use Rattle.wgr_core.specs.Forms.{HasForms, IsFormed, IsKeepalive, IsKey, IsStatus};
+ghost use Rattle.wgr_core.specs.Network.{NetworkValue};
+ghost use Rattle.wgr_peers.specs.Host.{IsHost};
 ghost use Rattle.wgr_model.specs.Rows.{address_row, peer_row, route_row};
+ghost use Rattle.wgr_sql.specs.declared.fault.Fault.TheVariants.{Store};
 ghost use Rattle.wgr_tables.specs.Decode.{tables_of};
 ghost use Rattle.wgr_tables.specs.Told.{IsTold};
 ghost use Rattle.wgr_tables.specs.Writes.{Written};
@@ -69,8 +72,10 @@ fn tell_peers(peers: &[Peer])
 
 // Does nothing that is seen: the fields of a network are of the forms that their types keep.
 fn tell_network(network: &Network)
-    ensures { HasForms network.now }
+    ensures forms { HasForms network.now }
+    ensures host { IsHost network.now.host }
 {
+    let _host = network.host().as_str();
     let server = network.server();
     tell_key(&server);
     tell_peers(network.peers());
@@ -78,7 +83,8 @@ fn tell_network(network: &Network)
 
 /// What rows tell, or `None` where they tell nothing of the sort.
 fn told<T>(read: Result<T, Fault>) -> Result<Option<T>, Fault>
-    ensures { IfOk result (λ found. IfSome found (λ x. read ≡ Ok x)) }
+    ensures some { IfOk result (λ found. IfSome found (λ x. read ≡ Ok x)) }
+    ensures none { IfOk result (λ found. IfNone found (read ≡ Err Store)) }
 {
     match read {
         Ok(x) => Ok(Some(x)),
@@ -101,6 +107,10 @@ fn told_peers<S: Alter>(
         → IfOk result (λ found. IfSome found (λ peers. IsPermutation (filter (λ p. nat_eq p.network network) (tables_of db).peers) (map (peer_row network) peers.items))) }
     ensures addresses { (db : Database) (pending : List Written) → Stands S.Store conn.old db pending → HasCleanDisk (state S.Store conn.new)
         → IfOk result (λ found. IfSome found (λ peers. IsPermutation (filter (λ a. nat_eq a.network network && not a.is_route) (tables_of db).allowed) (map (address_row network) peers.items))) }
+    ensures own { (db : Database) (pending : List Written) → Stands S.Store conn.old db pending → HasCleanDisk (state S.Store conn.new)
+        → IfOk result (λ found. IfSome found (λ peers. (n : NetworkValue) → IsTold (tables_of db) network n → peers.items ≡ n.peers)) }
+    ensures none { (db : Database) (pending : List Written) → Stands S.Store conn.old db pending → HasCleanDisk (state S.Store conn.new)
+        → IfOk result (λ found. IfNone found ((n : NetworkValue) → IsTold (tables_of db) network n → ⊥)) }
 {
     let rows = peer_rows(conn, network)?;
     let addresses = address_rows(conn, network)?;
@@ -119,13 +129,15 @@ fn told_routes<S: Alter>(
     ensures clean { HasCleanDisk (state S.Store conn.new) → HasCleanDisk (state S.Store conn.old) }
     ensures rows { (db : Database) (pending : List Written) → Stands S.Store conn.old db pending → HasCleanDisk (state S.Store conn.new)
         → IfOk result (λ found. IfSome found (λ routes. IsPermutation (filter (λ a. a.is_route && nat_eq a.network network) (tables_of db).allowed) (map (route_row network) routes.items))) }
+    ensures none { (db : Database) (pending : List Written) → Stands S.Store conn.old db pending → HasCleanDisk (state S.Store conn.new)
+        → IfOk result (λ found. IfNone found ((n : NetworkValue) → IsTold (tables_of db) network n → ⊥)) }
 {
     let rows = route_rows(conn, network)?;
     told(routes_of(alloc, rows.as_slice(), network))
 }
 
 /// The network of this id, or `None` where no row has the id or the rows tell no network that keeps
-/// the rules.
+/// the rules, and there alone.
 pub fn told_network<S: Alter>(
     alloc: Global,
     conn: &mut Connection<S>,
@@ -137,6 +149,8 @@ pub fn told_network<S: Alter>(
     ensures clean { HasCleanDisk (state S.Store conn.new) → HasCleanDisk (state S.Store conn.old) }
     ensures some { (db : Database) (pending : List Written) → Stands S.Store conn.old db pending → HasCleanDisk (state S.Store conn.new)
         → IfOk result (λ found. IfSome found (λ n. IsTold (tables_of db) network n)) }
+    ensures none { (db : Database) (pending : List Written) → Stands S.Store conn.old db pending → HasCleanDisk (state S.Store conn.new)
+        → IfOk result (λ found. IfNone found ((n : NetworkValue) → IsTold (tables_of db) network n → ⊥)) }
 {
     let Some(row) = network_row(conn, network)? else {
         return Ok(None);

@@ -9,6 +9,7 @@
 //!
 //! where `TOKEN` is the byte that a digest repeats. Answers are written as `shown.rt` says, and
 //! networks are answered by their names.
+mod opened;
 mod orders;
 mod stored;
 mod worlds;

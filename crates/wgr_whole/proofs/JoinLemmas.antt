@@ -24,7 +24,7 @@ use Rattle.wgr_sql.specs.Calls.{IsKept}
 use Rattle.wgr_sql.proofs.StandingLemmas.{stands_kept, stands_open}
 use Rattle.wgr_store.specs.FirstVersion.{SaysFirst}
 use Rattle.wgr_store.specs.LaidOut.{IsLaidOut}
-use Rattle.wgr_tables.specs.Decode.{AreAllowed, ArePeers, AreWritten, IsRegister, allowed_in, network_in, number_at, peer_in, tables_of, tenant_in}
+use Rattle.wgr_tables.specs.Decode.{AreAllowed, ArePeers, AreWritten, HaveKinds, HaveStatuses, IsRegister, allowed_in, network_in, number_at, peer_in, tables_of, tenant_in}
 use Rattle.wgr_tables.specs.Standing.{Stands}
 use Rattle.wgr_tables.specs.Writes.{Writes}
 use Rattle.wgr_ordered.specs.Orders.{AreAmong}
@@ -46,6 +46,9 @@ laid_still old new clean laid kept live = let is = kept clean live in subst (λ 
 -- as many ids, as many rows
 pub few_rows : (rows : List Row) (ids : List ℕ) → AreIdsOf rows ids → length ids ≤ 65536 → length rows ≤ 65536
 few_rows rows ids are few = subst (λ n. n ≤ 65536) (length_permutation (map (λ r. number_at r 0) rows) ids are.same ∙ length-map rows (λ r. number_at r 0)) few
+
+pub few_ids : (rows : List Row) (ids : List ℕ) → AreIdsOf rows ids → length rows ≤ 65536 → length ids ≤ 65536
+few_ids rows ids are few = subst (λ n. n ≤ 65536) (sym (length_permutation (map (λ r. number_at r 0) rows) ids are.same ∙ length-map rows (λ r. number_at r 0))) few
 
 -- ---- elements
 
@@ -100,10 +103,10 @@ module _ (db : Database) (laid : IsLaidOut db.schema) (first : SaysFirst (db.tre
   networks : AreConsistentNetworks (db.trees 1) (db.trees 5)
   networks = (good_networks_are db laid database entries.apart tables.there.owners entries.ids).0 tables.there.apart
 
-  peers : ArePeers (db.trees 8) × AreAmong (map (λ p. p.network) (map peer_in (db.trees 8))) ids
+  peers : ArePeers (db.trees 8) × HaveStatuses (db.trees 8) × AreAmong (map (λ p. p.network) (map peer_in (db.trees 8))) ids
   peers = peers_are ids (db.trees 8) tables.peers
 
-  allowed : AreAllowed (db.trees 10) × AreAmong (map (λ a. a.network) (map allowed_in (db.trees 10))) ids
+  allowed : AreAllowed (db.trees 10) × HaveKinds (db.trees 10) × AreAmong (map (λ a. a.network) (map allowed_in (db.trees 10))) ids
   allowed = allowed_are ids (db.trees 10) tables.allowed
 
   pub register : IsRegister db
@@ -112,7 +115,7 @@ module _ (db : Database) (laid : IsLaidOut db.schema) (first : SaysFirst (db.tre
     schema_is = laid.schema_is;
     apart = laid.apart;
     sound = database;
-    written = record { meta = version_written (db.trees 0) first; tenants = tenants.written; tokens = tokens.written; networks = networks.written; peers = peers.0; allowed = allowed.0 };
+    written = record { meta = version_written (db.trees 0) first; tenants = tenants.written; tokens = tokens.written; networks = networks.written; peers = peers.0; allowed = allowed.0; statuses = peers.1; kinds = allowed.1 };
   }
 
   has_id : (w : NetworkRow) → Has t.networks w → Has ids w.id
@@ -143,8 +146,8 @@ module _ (db : Database) (laid : IsLaidOut db.schema) (first : SaysFirst (db.tre
       few = networks.few;
     };
     told = λ w here. at_has (TellsNetwork t) ids w.id told (has_id w here);
-    peers = λ p here. there p.network (at_has (λ owner. list_any (λ id. nat_eq owner id) ids ≡ true) (map (λ (x : PeerRow). x.network) t.peers) p.network peers.1 (has_map (λ (x : PeerRow). x.network) t.peers p here));
-    allowed = λ a here. there a.network (at_has (λ owner. list_any (λ id. nat_eq owner id) ids ≡ true) (map (λ (x : AllowedRow). x.network) t.allowed) a.network allowed.1 (has_map (λ (x : AllowedRow). x.network) t.allowed a here));
+    peers = λ p here. there p.network (at_has (λ owner. list_any (λ id. nat_eq owner id) ids ≡ true) (map (λ (x : PeerRow). x.network) t.peers) p.network peers.2 (has_map (λ (x : PeerRow). x.network) t.peers p here));
+    allowed = λ a here. there a.network (at_has (λ owner. list_any (λ id. nat_eq owner id) ids ≡ true) (map (λ (x : AllowedRow). x.network) t.allowed) a.network allowed.2 (has_map (λ (x : AllowedRow). x.network) t.allowed a here));
   }
 
   pub is_good : AllByRecursion (TellsNetwork t) ids → IsGood db

@@ -1,3 +1,5 @@
 pub mod ApartLemmas
 pub mod WholeLemmas
 pub mod JoinLemmas
+pub mod ConsistentLemmas
+pub mod GoodLemmas

@@ -18,7 +18,8 @@ use Rattle.wgr_model.proofs.OrderLemmas.{from_filter}
 use Rattle.wgr_model.proofs.SameLemmas.{at_has, eqb_sym, has_permutation}
 use Rattle.wgr_tables.specs.Told.{IsTold}
 use Rattle.wgr_tables.proofs.LoadLemmas.{network_is_read}
-use Rattle.wgr_whole.specs.Whole.{AreWhole, IsNamed, IsThere, WholeRowsAreConsistent}
+use Rattle.wgr_model.specs.RowLaws.{AreConsistent}
+use Rattle.wgr_whole.specs.Whole.{AreWhole, IsNamed, IsThere}
 use Rattle.wgr_whole.proofs.ApartLemmas.{by_parts, filter_both}
 
 -- ---- keys read the same both ways
@@ -228,5 +229,5 @@ module _ (t : Tables) (whole : AreWhole t) where
     keyed = keyed;
   }
 
-pub whole_is_consistent : WholeRowsAreConsistent
+pub whole_is_consistent : (t : Tables) → AreWhole t → AreConsistent t
 whole_is_consistent t whole = record { consistent = consistent t whole; rows = rows t whole }

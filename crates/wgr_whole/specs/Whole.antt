@@ -1,5 +1,5 @@
 -- Rows that are those of a consistent register, told table by table.
-use Rattle.std.specs.Prelude.{◌≡◌, ◌≤◌, ℕ, true, nat_eq, length, map}
+use Rattle.std.specs.Prelude.{◌≡◌, ◌≤◌, ◌↔◌, ℕ, true, nat_eq, length, map}
 use Rattle.std.specs.List.{AllByRecursion, IsDistinct}
 use Rattle.wgr_peers.specs.Host.{IsHost}
 use Rattle.wgr_core.specs.Network.{NetworkValue}
@@ -53,4 +53,4 @@ pub record AreWhole (t : Tables) : Type 0 where
   pub allowed : (a : AllowedRow) → Has t.allowed a → IsThere t a.network
 
 abbrev pub WholeRowsAreConsistent : Type 0
-WholeRowsAreConsistent = (t : Tables) → AreWhole t → AreConsistent t
+WholeRowsAreConsistent = (t : Tables) → AreWhole t ↔ AreConsistent t

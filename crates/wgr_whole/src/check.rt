@@ -4,7 +4,7 @@ ghost use Rattle.sqlite.specs.State.{HasCleanDisk};
 ghost use Rattle.sqlite.specs.Held.{state};
 ghost use Rattle.wgr_sql.specs.Calls.{IsKept};
 ghost use Rattle.wgr_store.specs.FirstVersion.{IsFirstVersion};
-ghost use Rattle.wgr_store.specs.declared.fault.RegisterFault.TheVariants.{NotARegister, NotEmpty};
+ghost use Rattle.wgr_store.specs.declared.fault.RegisterFault.TheVariants.{NotARegister, NotEmpty, NotGood};
 ghost use Rattle.wgr_tables.specs.Standing.{Stands};
 ghost use Rattle.wgr_whole.specs.Good.{IsGood};
 
@@ -21,6 +21,8 @@ fn rows_are_good<S: Alter>(alloc: Global, conn: &mut Connection<S>) -> Result<bo
     ensures idle { conn.new.in_transaction ≡ false }
     ensures good { HasCleanDisk (state S.Store conn.new) → (IsTrue (state S.Store conn.old).is_open → IsFirstVersion (state S.Store conn.old).now)
         → IfOk result (λ is. IsTrue is → IsTrue (state S.Store conn.old).is_open × IsGood (state S.Store conn.old).now × Stands S.Store conn.new (state S.Store conn.old).now []) }
+    ensures only { HasCleanDisk (state S.Store conn.new) → (IsTrue (state S.Store conn.old).is_open → IsFirstVersion (state S.Store conn.old).now)
+        → IfOk result (λ is. IsTrue (state S.Store conn.old).is_open × (IsGood (state S.Store conn.old).now → IsTrue is)) }
     ensures kept { (HasCleanDisk (state S.Store conn.new) → IsTrue (state S.Store conn.old).is_open → IsFirstVersion (state S.Store conn.old).now) → IsKept (state S.Store conn.old) (state S.Store conn.new) }
     ensures clean { HasCleanDisk (state S.Store conn.new) → HasCleanDisk (state S.Store conn.old) }
 {
@@ -33,8 +35,7 @@ fn rows_are_good<S: Alter>(alloc: Global, conn: &mut Connection<S>) -> Result<bo
 }
 
 /// Tells by `NotARegister` that the database lacks the register's tables or has those of another
-/// version, and by `NotGood` that its rows aren't shown to be those of a consistent register. It
-/// changes nothing.
+/// version, and by `NotGood` that its rows aren't those of a consistent register. It changes nothing.
 pub fn check_register<S: Alter>(
     alloc: Global,
     conn: &mut Connection<S>,
@@ -43,6 +44,7 @@ pub fn check_register<S: Alter>(
     ensures idle { conn.new.in_transaction ≡ false }
     ensures right { HasCleanDisk (state S.Store conn.new) → OnOk result (IsGood (state S.Store conn.old).now × Stands S.Store conn.new (state S.Store conn.old).now []) }
     ensures wrong { HasCleanDisk (state S.Store conn.new) → result ≡ Err NotARegister → IsFirstVersion (state S.Store conn.old).now → ⊥ }
+    ensures bad { HasCleanDisk (state S.Store conn.new) → result ≡ Err NotGood → IsGood (state S.Store conn.old).now → ⊥ }
     ensures full { result ≡ Err NotEmpty → ⊥ }
     ensures kept { IsKept (state S.Store conn.old) (state S.Store conn.new) }
 {

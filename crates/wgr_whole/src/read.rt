@@ -1,5 +1,5 @@
 //! The rows of all tables, read and tested table by table.
-ghost use Rattle.std.specs.Prelude.{◌≡◌, ◌↔◌, false, IsTrue, IfOk, IfSome};
+ghost use Rattle.std.specs.Prelude.{◌≡◌, ◌↔◌, false, IsTrue, IfOk, IfSome, IfNone};
 ghost use Rattle.std.specs.List.Sorted.{IsSorted};
 ghost use Rattle.std.specs.Ordering.{nat_cmp};
 ghost use Rattle.sqlite.specs.State.{HasCleanDisk, Survives};
@@ -8,7 +8,7 @@ ghost use Rattle.wgr_sql.specs.Calls.{IsKept};
 ghost use Rattle.wgr_audit.specs.Layouts.{Laid};
 ghost use Rattle.wgr_members.specs.AllowedRows.{AreWrittenAllowed};
 ghost use Rattle.wgr_members.specs.PeerRows.{AreWrittenPeers};
-ghost use Rattle.wgr_whole.specs.Good.{HasEntries, HasNetworks, HasTables};
+ghost use Rattle.wgr_whole.specs.Good.{HasEntries, HasNetworks, HasTables, IsGood};
 
 use sqlite::{Alter, Connection};
 use std::alloc::Global;
@@ -24,6 +24,7 @@ fn read_entries<S: Alter>(
     requires idle { conn.old.in_transaction ≡ false }
     ensures idle { conn.new.in_transaction ≡ false }
     ensures some { HasCleanDisk (state S.Store conn.new) → Laid (state S.Store conn.old) → IfOk result (λ found. IfSome found (λ ids. IsTrue (state S.Store conn.old).is_open × HasEntries (state S.Store conn.old).now.trees ids.items)) }
+    ensures none { HasCleanDisk (state S.Store conn.new) → Laid (state S.Store conn.old) → IfOk result (λ found. IfNone found (IsTrue (state S.Store conn.old).is_open × (IsGood (state S.Store conn.old).now → ⊥))) }
     ensures kept { (HasCleanDisk (state S.Store conn.new) → Laid (state S.Store conn.old)) → IsKept (state S.Store conn.old) (state S.Store conn.new) }
     ensures survives { Survives (state S.Store conn.old) (state S.Store conn.new) (λ _. ⊥) }
 {
@@ -47,6 +48,7 @@ fn read_holdings<S: Alter>(
     requires idle { conn.old.in_transaction ≡ false }
     ensures idle { conn.new.in_transaction ≡ false }
     ensures some { HasCleanDisk (state S.Store conn.new) → Laid (state S.Store conn.old) → IfOk result (λ found. IfSome found (λ ids. IsTrue (state S.Store conn.old).is_open × HasNetworks (state S.Store conn.old).now.trees ids.items)) }
+    ensures none { HasCleanDisk (state S.Store conn.new) → Laid (state S.Store conn.old) → IfOk result (λ found. IfNone found (IsTrue (state S.Store conn.old).is_open × (IsGood (state S.Store conn.old).now → ⊥))) }
     ensures kept { (HasCleanDisk (state S.Store conn.new) → Laid (state S.Store conn.old)) → IsKept (state S.Store conn.old) (state S.Store conn.new) }
     ensures survives { Survives (state S.Store conn.old) (state S.Store conn.new) (λ _. ⊥) }
 {
@@ -82,6 +84,7 @@ pub(crate) fn read_tables<S: Alter>(
     requires idle { conn.old.in_transaction ≡ false }
     ensures idle { conn.new.in_transaction ≡ false }
     ensures some { HasCleanDisk (state S.Store conn.new) → Laid (state S.Store conn.old) → IfOk result (λ found. IfSome found (λ ids. IsTrue (state S.Store conn.old).is_open × HasTables (state S.Store conn.old).now.trees ids.items)) }
+    ensures none { HasCleanDisk (state S.Store conn.new) → Laid (state S.Store conn.old) → IfOk result (λ found. IfNone found (IsTrue (state S.Store conn.old).is_open × (IsGood (state S.Store conn.old).now → ⊥))) }
     ensures kept { (HasCleanDisk (state S.Store conn.new) → Laid (state S.Store conn.old)) → IsKept (state S.Store conn.old) (state S.Store conn.new) }
     ensures survives { Survives (state S.Store conn.old) (state S.Store conn.new) (λ _. ⊥) }
 {

@@ -1,5 +1,5 @@
 //! The networks that rows tell.
-ghost use Rattle.std.specs.Prelude.{◌≡◌, false, IsTrue, IfOk, List};
+ghost use Rattle.std.specs.Prelude.{◌≡◌, ◌↔◌, false, IsTrue, IfOk, List};
 ghost use Rattle.std.specs.List.{AllByRecursion};
 ghost use Rattle.sqlite.specs.Effect.{Database};
 ghost use Rattle.sqlite.specs.State.{HasCleanDisk};
@@ -25,7 +25,7 @@ pub(crate) fn networks_are_told<S: Alter>(
     ensures stands { (db : Database) (pending : List Written) → Stands S.Store conn.old db pending → Stands S.Store conn.new db pending }
     ensures clean { HasCleanDisk (state S.Store conn.new) → HasCleanDisk (state S.Store conn.old) }
     ensures told { (db : Database) (pending : List Written) → Stands S.Store conn.old db pending → HasCleanDisk (state S.Store conn.new)
-        → IfOk result (λ is. IsTrue is → AllByRecursion (TellsNetwork (tables_of db)) networks.now) }
+        → IfOk result (λ is. IsTrue is ↔ AllByRecursion (TellsNetwork (tables_of db)) networks.now) }
 {
     for network in networks {
         let Some(_) = told_network(alloc, conn, *network)? else {

@@ -43,7 +43,7 @@ fn created(
 }
 
 // A register without entries.
-fn empty(rt: &(impl Abort + AllocGlobal)) -> Register<MemStore> {
+pub(super) fn empty(rt: &(impl Abort + AllocGlobal)) -> Register<MemStore> {
     let conn = Connection::open_in_memory(rt.alloc()).expect(rt, "memory");
     created(rt, conn).expect(rt, "a register")
 }
@@ -120,7 +120,7 @@ fn meant(
 }
 
 // Takes the events of the lines, each at its moment, in both registers.
-fn run(
+pub(super) fn run(
     rt: &(impl Abort + AllocGlobal),
     register: &mut Register<MemStore>,
     plain: &mut wgr_model::Register,
@@ -207,7 +207,7 @@ fn orders_are_answered(rt: HostRuntime) {
 }
 
 // Networks `office` and `kit` of acme's, whose token is of ones, and `office` and `lab` of bolt's.
-const NETWORKS: [Step<'static>; 8] = [
+pub(super) const NETWORKS: [Step<'static>; 8] = [
     (0, "tenant acme", "done"),
     (0, "tenant bolt", "done"),
     (0, "grant acme 1", "done"),

@@ -1,6 +1,6 @@
 use Rattle.std.proofs.Common.{rules, ◌≡◌, subst}
 use Rattle.wgr_peers.specs.Host.{IsHostText}
-use Rattle.wgr_audit.proofs.HostLemmas.{kept_once}
+use Rattle.wgr_tables.proofs.HostLemmas.{kept_once}
 use Rattle.wgr_audit.proofs.network_field.host_of.Goals as goal
 
 pub returns-then-ne-clause-none : goal.returns-then-ne-clause-none

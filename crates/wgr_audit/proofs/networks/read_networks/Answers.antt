@@ -15,6 +15,6 @@ pub returns-clause-none : goal.returns-clause-none
 returns-clause-none g c clean laid rise =
     let table = (state g.S.Store c.args.conn.now).now.trees 5 in
     let rows = c.in_ok-rows.rows.items in
-    let listed = (c.in_ok-rows.ensures.listed clean laid).1 in
-    if_ok c.good_ids.result _ _ (λ found. if_none found _ _ (λ none good. let back = good_back table rows listed c.args.tenants.now good in none rise (ids_sorted table rows listed c.args.tenants.now back) back))
+    let listed = c.in_ok-rows.ensures.listed clean laid in
+    if_ok c.good_ids.result _ _ (λ found. if_none found _ _ (λ none. (listed.0, λ good. let back = good_back table rows listed.1 c.args.tenants.now good in none rise (ids_sorted table rows listed.1 c.args.tenants.now back) back)))
     (rw c.as_slice.ensures.value at c.good_ids.ensures.none)

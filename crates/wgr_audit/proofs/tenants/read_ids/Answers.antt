@@ -8,22 +8,25 @@ use Rattle.wgr_audit.proofs.TenantLemmas.{own_ids, ids_are, ids_each, ids_apart}
 use Rattle.wgr_audit.proofs.tenants.read_ids.Goals as goal
 
 pub returns-in_default-clause-none : goal.returns-in_default-clause-none
-returns-in_default-clause-none g c clean laid own =
+returns-in_default-clause-none g c clean laid =
     let table = (state g.S.Store c.args.conn.now).now.trees 1 in
-    let listed = (c.in_ok-rows.ensures.listed clean laid).1 in
+    let listed = c.in_ok-rows.ensures.listed clean laid in
     let none : AllByRecursion IsTenantRow c.as_slice.result.now → ⊥ = search rules in
-    none (subst (AllByRecursion IsTenantRow) (sym c.as_slice.ensures.value) (ids_each table c.in_ok-rows.rows.items listed own))
+    (listed.0, λ own. none (subst (AllByRecursion IsTenantRow) (sym c.as_slice.ensures.value) (ids_each table c.in_ok-rows.rows.items listed.1 own)))
 
 pub returns-then-not-ids_differ-clause-none : goal.returns-then-not-ids_differ-clause-none
-returns-then-not-ids_differ-clause-none g c clean laid own =
+returns-then-not-ids_differ-clause-none g c clean laid =
     let table = (state g.S.Store c.args.conn.now).now.trees 1 in
     let rows = c.in_ok-rows.rows.items in
     let ids = c.in-Some.ids.items in
-    let listed = (c.in_ok-rows.ensures.listed clean laid).1 in
+    let listed = c.in_ok-rows.ensures.listed clean laid in
     let some = rw (c.in-Some.is, c.as_slice.ensures.value) at c.in_ok-ids.ensures.some in
-    let sorted : IsSorted nat_cmp c.as_slice-2.result.now = subst (IsSorted nat_cmp) (sym c.as_slice-2.ensures.value) (ids_are table rows listed ids some.0 some.1).sorted in
-    let apart : IsDistinct nat_eq c.as_slice-2.result.now = subst (IsDistinct nat_eq) (sym c.as_slice-2.ensures.value) (ids_apart table rows listed ids some.1 own) in
-    true≢false (sym (c.if-not-ids_differ.ensures.only sorted apart))
+    let sorted : IsSorted nat_cmp c.as_slice-2.result.now = subst (IsSorted nat_cmp) (sym c.as_slice-2.ensures.value) (ids_are table rows listed.1 ids some.0 some.1).sorted in (
+      listed.0,
+      λ own.
+          let apart : IsDistinct nat_eq c.as_slice-2.result.now = subst (IsDistinct nat_eq) (sym c.as_slice-2.ensures.value) (ids_apart table rows listed.1 ids some.1 own) in
+          true≢false (sym (c.if-not-ids_differ.ensures.only sorted apart)),
+    )
 
 pub returns-clause-some : goal.returns-clause-some
 returns-clause-some g c clean laid =

@@ -4,9 +4,11 @@ use Rattle.clap.specs.Words.{HasKind, Kinds, Text, kind_of}
 use Rattle.clap.specs.declared.error.Error.{Error}
 use Rattle.clap.specs.declared.error.kind.ErrorKind.{ErrorKind}
 use Rattle.clap.specs.declared.error.kind.ErrorKind.TheVariants.{OutOfMemory}
-use Rattle.wgr_prog.specs.declared.program.TheConstants.{DONE, FAULT}
-use Rattle.wgr_prog.specs.PlanFault.{Streams}
-use Rattle.wgr_prog.specs.Status.{ReadsNothing, ServesPool, TellsError, kind_status, streams}
+use Rattle.wgr_prog.specs.declared.messages.TheConstants.{DONE, FAULT}
+use Rattle.sqlite.specs.Store.{Ghosts}
+use Rattle.wgr_command_line.specs.Words.{Asked}
+use Rattle.wgr_plan.specs.PlanFault.{Streams}
+use Rattle.wgr_prog.specs.Status.{ReadsNothing, ServesAsked, TellsError, kind_status, streams}
 use Rattle.wgr_prog.proofs.program.program.Goals as goal
 
 -- how the status of an error goes with its kind
@@ -18,11 +20,11 @@ follows_memory kind status memory (inl fault) = fault
 follows_memory kind status memory (inr told) = told ∙ ap kind_status memory
 
 -- an error where a pool is asked for is want of memory
-lacks_memory : (asked : Option Text) (old new : Streams) (kind : ErrorKind) (status : ℕ)
+lacks_memory : {S : Type 0} (g : Ghosts S) (asked : Option Asked) (old new : Streams) (kind : ErrorKind) (status : ℕ)
     → (is_some asked ≡ true → kind ≡ OutOfMemory) → (kind_status kind ≢ DONE → new ≡ old) → Follows kind status
-    → IfSome asked (λ pool. ServesPool pool old new status)
-lacks_memory None old new kind status memory kept told = tt
-lacks_memory (Some pool) old new kind status memory kept told =
+    → IfSome asked (λ asked. ServesAsked g asked old new status)
+lacks_memory g None old new kind status memory kept told = tt
+lacks_memory g (Some asked) old new kind status memory kept told =
     let is : kind_status kind ≡ FAULT = ap kind_status (memory refl) in
     inl (kept (λ done. cc (is, done)), follows_memory kind status (memory refl) told)
 
@@ -46,7 +48,7 @@ tells_error kinds error old new status unread (inr among) (inr told) kept failed
   | inr other ↦ inr (inr (record { kind = kind_of error; among = among; told = told; unread = unread; sound = sound other; kept = kept }))
 ]
 
-if_none : {P : Type 0} (asked : Option Text) → P → IfNone asked P
+if_none : {P : Type 0} (asked : Option Asked) → P → IfNone asked P
 if_none None p = p
 if_none (Some pool) p = tt
 
@@ -62,7 +64,7 @@ pub returns-in-Err : goal.returns-in-Err
 returns-in-Err g c =
     let kept = kept_streams g.R.Read.remaining g.R.Read.failed g.W.Write.contents g.W.Write.failed c.args.input.now _ _ in
     record {
-      planned = lacks_memory _ _ _ _ _ c.in-Err.ensures.err (λ other. kept (c.no_request.ensures.kept other)) c.no_request.ensures.status;
+      served = lacks_memory _ _ _ _ _ _ c.in-Err.ensures.err (λ other. kept (c.no_request.ensures.kept other)) c.no_request.ensures.status;
       told = if_none _ (tells_error _ c.in-Err.answer _ _ _ (refl, refl) c.in-Err.ensures.kinds c.no_request.ensures.status
           (λ other. kept (c.no_request.ensures.kept other))
           (λ fault. left_of kept (c.no_request.ensures.fault fault))

@@ -1,4 +1,4 @@
-use Rattle.std.proofs.Common.{◌≡◌, ◌+◌, ◌-◌, ℕ, arith}
+use Rattle.std.proofs.Common.{◌≡◌, ◌+◌, ◌-◌, ℕ, refl, inl, arith}
 use Rattle.wgr_text.specs.Prefix.{block, width}
 use Rattle.wgr_text.specs.declared.addr.Family.{Family}
 use Rattle.wgr_text.specs.declared.addr.Family.TheVariants.{V4, V6}
@@ -23,7 +23,7 @@ returns-clause-step g c clean inside register =
     let low = fits_128 address.family address.number c.family-family.ensures.fits in (
       c.execute.ensures.kept clean inside,
       if_ok c.execute.result _ _ (λ count h. (
-        allowed_came address_kind insert_address_text insert_address_means old new (register h.1.was_open) c.args.network (full address) address.number c.args.peer.now.number count low low (last_itself address.family address.number)
+        allowed_came address_kind insert_address_text (inl refl) insert_address_means old new (register h.1.was_open) c.args.network (full address) address.number c.args.peer.now.number count low low (last_itself address.family address.number)
             (rw (c.bytes_of-bytes.ensures, c.number.ensures.value, c.number_value.ensures, c.family_value.ensures, c.peer_id_value.ensures, c.number_value-2.ensures, c.from.ensures, c.width.ensures, c.family-family.ensures.value) at h.0),
         h.1,
       )) (c.execute.ensures.ran clean inside),

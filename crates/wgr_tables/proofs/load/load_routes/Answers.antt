@@ -6,4 +6,4 @@ use Rattle.wgr_tables.proofs.load.load_routes.Goals as goal
 pub returns-clause-rows : goal.returns-clause-rows
 returns-clause-rows g c db pending stood clean =
     let rows = c.in_ok-rows.ensures.listed db pending stood clean in
-    if_ok c.routes_of.result _ _ (λ routes p. subst (IsPermutation (filter (λ a. a.is_route && nat_eq a.network c.args.network) (tables_of db).allowed)) (sym (p ∙ ap (map allowed_in) c.as_slice.ensures.value)) rows) c.routes_of.ensures
+    if_ok c.routes_of.result _ _ (λ routes p. subst (IsPermutation (filter (λ a. a.is_route && nat_eq a.network c.args.network) (tables_of db).allowed)) (sym (p ∙ ap (map allowed_in) c.as_slice.ensures.value)) rows) c.routes_of.ensures.value

@@ -14,4 +14,4 @@ returns-clause-read g c db pending stood keyed clean is =
     let rows = c.in_ok-peers.ensures.rows db pending stood (c.load_routes.ensures.clean clean) in
     let addresses = c.in_ok-peers.ensures.addresses db pending stood (c.load_routes.ensures.clean clean) in
     let led = c.in_ok-routes.ensures.rows db pending (c.load_peers.ensures.stands db pending stood) clean in
-    if_ok c.make_network.result _ _ (λ n made. network_is_read (tables_of db) (network_in c.args.row.now) c.args.network is keyed _ _ n made rows addresses led) c.make_network.ensures
+    if_ok c.make_network.result _ _ (λ n made. network_is_read (tables_of db) (network_in c.args.row.now) c.args.network is keyed _ _ n made rows addresses led) c.make_network.ensures.made

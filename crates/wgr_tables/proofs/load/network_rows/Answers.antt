@@ -1,9 +1,12 @@
 use Rattle.std.proofs.Common.{pos, [], ◌∷◌}
 use Rattle.sqlite.specs.declared.types.Value.TheVariants.{Int}
 use Rattle.wgr_sql.proofs.ResultLemmas.{if_ok}
+use Rattle.wgr_tables.specs.Decode.{network_in}
+use Rattle.wgr_tables.specs.Stored.{AreStored, stored_network}
 use Rattle.wgr_tables.specs.Loads.{ShowNetwork}
 use Rattle.wgr_tables.proofs.ListedLemmas.{network_listed}
 use Rattle.wgr_tables.proofs.Meanings.{network_text, network_asks}
+use Rattle.wgr_tables.proofs.StoredLemmas.{network_stored}
 use Rattle.wgr_tables.proofs.ReadLemmas.{stands_read, rows_read}
 use Rattle.wgr_tables.proofs.load.network_rows.Goals as goal
 
@@ -13,4 +16,9 @@ returns-clause-stands g c db pending stood = stands_read g.S.Store c.args.conn.n
 pub returns-clause-listed : goal.returns-clause-listed
 returns-clause-listed g c db pending stood clean =
     if_ok c.query.result _ _ (λ rows given. rows_read g.S.Store c.args.conn.now c.query.new.conn db pending stood network_text c.query.ensures.survives (ShowNetwork c.args.network) (Int (pos c.args.network) ∷ []) (λ a b register found. network_listed a b register c.args.network found) clean rows.items
+    (rw c.number_value.ensures at given)) (c.query.ensures.shown clean)
+
+pub returns-clause-stored : goal.returns-clause-stored
+returns-clause-stored g c db pending stood clean =
+    if_ok c.query.result _ _ (λ rows given. rows_read g.S.Store c.args.conn.now c.query.new.conn db pending stood network_text c.query.ensures.survives (λ t. AreStored stored_network network_in) (Int (pos c.args.network) ∷ []) (λ a b register found. network_stored a b register c.args.network found) clean rows.items
     (rw c.number_value.ensures at given)) (c.query.ensures.shown clean)

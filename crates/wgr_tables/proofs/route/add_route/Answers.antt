@@ -1,4 +1,4 @@
-use Rattle.std.proofs.Common.{◌≡◌, subst, arith}
+use Rattle.std.proofs.Common.{◌≡◌, subst, refl, inr, arith}
 use Rattle.wgr_text.specs.Prefix.{IsAddr}
 use Rattle.wgr_model.specs.Rows.{last_of}
 use Rattle.sqlite.specs.Held.{state}
@@ -18,7 +18,7 @@ returns-clause-step g c clean inside register =
     let last : c.span.result.hi.number ≡ (last_of c.args.prefix.now).number = omega (arith, c.span.ensures.ends.last) in (
       c.execute.ensures.kept clean inside,
       if_ok c.execute.result _ _ (λ count h.
-          let came = allowed_came route_kind insert_route_text insert_route_means old new (register h.1.was_open) c.args.network c.args.prefix.now c.span.result.hi.number c.args.number count low high last
+          let came = allowed_came route_kind insert_route_text (inr refl) insert_route_means old new (register h.1.was_open) c.args.network c.args.prefix.now c.span.result.hi.number c.args.number count low high last
           (rw (c.bytes_of-lo.ensures, c.number.ensures.value, c.number_value.ensures, c.family_value.ensures, c.family.ensures.value, c.bytes_of-hi.ensures, c.number-2.ensures.value, c.peer_id_value.ensures, c.number_value-2.ensures, c.from.ensures, c.length.ensures.value, c.address-address.ensures.value) at h.0) in
           (record { sound = came.sound; made = (real, came.made) }, h.1)) (c.execute.ensures.ran clean inside),
     )

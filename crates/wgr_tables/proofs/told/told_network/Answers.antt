@@ -1,9 +1,16 @@
-use Rattle.std.proofs.Common.{◌≡◌, Ok, IfOk, IfSome, map, filter, nat_eq, not, ◌&&◌, subst, IsPermutation}
-use Rattle.std.proofs.lemmas.List.Sorted.{IsPermutation-map, IsPermutation-trans}
+use Rattle.std.proofs.Common.{◌≡◌, Ok, Err, IfErr, IfOk, IfSome, IfNone, false, refl, sym, ap, ◌∙◌, true≢false, map, filter, nat_eq, not, ◌&&◌, subst, IsPermutation}
+use Rattle.std.proofs.lemmas.List.Sorted.{IsPermutation-map, IsPermutation-refl, IsPermutation-trans}
 use Rattle.wgr_model.specs.Laws.{Has}
-use Rattle.wgr_model.specs.Rows.{address_row, peer_row, route_row}
+use Rattle.wgr_core.specs.Network.{NetworkValue}
+use Rattle.wgr_model.specs.Rows.{NetworkRow, address_row, peer_row, route_row}
+use Rattle.wgr_model.proofs.GatherLemmas.{eqb_self}
+use Rattle.wgr_sql.specs.declared.fault.Fault.TheVariants.{Store}
 use Rattle.wgr_tables.specs.Decode.{tables_of, network_in, number_at}
-use Rattle.wgr_tables.specs.Loads.{IsMade}
+use Rattle.wgr_tables.specs.Loads.{IsMade, network_with}
+use Rattle.wgr_tables.specs.Stored.{AreSettings, stored_network}
+use Rattle.wgr_tables.specs.Told.{IsTold}
+use Rattle.wgr_tables.proofs.ArrangeLemmas.{same_routes}
+use Rattle.wgr_tables.proofs.ToldLemmas.{told_settings}
 use Rattle.wgr_tables.proofs.told.told_network.Goals as goal
 
 pub returns-in_err-peers-clause-stands : goal.returns-in_err-peers-clause-stands
@@ -38,16 +45,55 @@ returns-clause-some g c db pending stood clean =
     let rows = subst (λ o. IfSome o (λ peers. IsPermutation (filter (λ p. nat_eq p.network id) t.peers) (map (peer_row id) peers.items))) c.in-Some-2.is (c.in_ok-peers.ensures.rows db pending first before) in
     let addresses = subst (λ o. IfSome o (λ peers. IsPermutation (filter (λ a. nat_eq a.network id && not a.is_route) t.allowed) (map (address_row id) peers.items))) c.in-Some-2.is (c.in_ok-peers.ensures.addresses db pending first before) in
     let led = subst (λ o. IfSome o (λ routes. IsPermutation (filter (λ a. a.is_route && nat_eq a.network id) t.allowed) (map (route_row id) routes.items))) c.in-Some-3.is (c.in_ok-routes.ensures.rows db pending (c.told_peers.ensures.stands db pending first) clean) in
-    let given = subst (λ o. IfSome o (λ x. c.make_network.result ≡ Ok x)) c.in-Some-4.is c.in_ok-made.ensures in
-    let made = subst (λ r. IfOk r (λ x. IsMade (network_in c.in-Some.row) c.in-Some-2.peers.items c.in-Some-3.routes.items x)) given c.make_network.ensures in
+    let given = subst (λ o. IfSome o (λ x. c.make_network.result ≡ Ok x)) c.in-Some-4.is c.in_ok-made.ensures.some in
+    let made = subst (λ r. IfOk r (λ x. IsMade (network_in c.in-Some.row) c.in-Some-2.peers.items c.in-Some-3.routes.items x)) given c.make_network.ensures.made in
     record {
       row = network_in c.in-Some.row;
       there = row.0;
       id_is = row.1;
       value = made.value;
       rules = made.rules;
-      forms = c.tell_network.ensures;
+      forms = c.tell_network.ensures.forms;
+      host = c.tell_network.ensures.host;
       peers = IsPermutation-trans _ _ _ rows (IsPermutation-map (peer_row id) _ n.peers made.peers);
       addresses = IsPermutation-trans _ _ _ addresses (IsPermutation-map (address_row id) _ n.peers made.peers);
       routes = IsPermutation-trans _ _ _ led (IsPermutation-map (route_row id) _ n.routes made.routes);
     }
+
+pub returns-in_default-clause-none : goal.returns-in_default-clause-none
+returns-in_default-clause-none g c db pending stood clean n told =
+    let id = c.args.network in
+    let absent = subst (λ o. IfNone o ((w : NetworkRow) → Has (tables_of db).networks w → nat_eq w.id id ≡ false)) c.in_default.is (c.in_ok-row.ensures.none db pending stood clean) told.row told.there in
+    true≢false (sym (eqb_self id) ∙ sym (ap (λ i. nat_eq i id) told.id_is) ∙ absent)
+
+pub returns-in_default-2-clause-none : goal.returns-in_default-2-clause-none
+returns-in_default-2-clause-none g c db pending stood clean =
+    subst (λ o. IfNone o ((n : NetworkValue) → IsTold (tables_of db) c.args.network n → ⊥)) c.in_default-2.is (c.in_ok-peers.ensures.none db pending (c.network_row.ensures.stands db pending stood) clean)
+
+pub returns-in_default-3-clause-none : goal.returns-in_default-3-clause-none
+returns-in_default-3-clause-none g c db pending stood clean =
+    subst (λ o. IfNone o ((n : NetworkValue) → IsTold (tables_of db) c.args.network n → ⊥)) c.in_default-3.is (c.in_ok-routes.ensures.none db pending (c.told_peers.ensures.stands db pending (c.network_row.ensures.stands db pending stood)) clean)
+
+pub returns-in_default-4-clause-none : goal.returns-in_default-4-clause-none
+returns-in_default-4-clause-none g c db pending stood clean n told =
+    let id = c.args.network in
+    let t = tables_of db in
+    let row = c.in-Some.row in
+    let peers = c.in-Some-2.peers.items in
+    let routes = c.in-Some-3.routes.items in
+    let before = c.told_routes.ensures.clean clean in
+    let first = c.network_row.ensures.stands db pending stood in
+    let at = c.told_peers.ensures.clean before in
+    let once = subst (λ o. IfSome o (λ x. (w : NetworkRow) → Has t.networks w → w.id ≡ id → network_in x ≡ w)) c.in-Some.is (c.in_ok-row.ensures.once db pending stood at) told.row told.there told.id_is in
+    let stored = subst (λ o. IfSome o (λ x. x ≡ stored_network (network_in x))) c.in-Some.is (c.in_ok-row.ensures.stored db pending stood at) in
+    let own = subst (λ o. IfSome o (λ x. (m : NetworkValue) → IsTold t id m → x.items ≡ m.peers)) c.in-Some-2.is (c.in_ok-peers.ensures.own db pending first before) n told in
+    let led = subst (λ o. IfSome o (λ x. IsPermutation (filter (λ a. a.is_route && nat_eq a.network id) t.allowed) (map (route_row id) x.items))) c.in-Some-3.is (c.in_ok-routes.ensures.rows db pending (c.told_peers.ensures.stands db pending first) clean) in
+    let made : IsMade (network_in row) peers routes n = record {
+      value = told.value ∙ ap (λ w. network_with w n.peers n.routes) (sym once);
+      peers = subst (IsPermutation peers) own (IsPermutation-refl peers);
+      routes = same_routes id routes n.routes (filter (λ a. a.is_route && nat_eq a.network id) t.allowed) led told.routes;
+      rules = told.rules;
+    } in
+    let given = subst (λ o. IfNone o (c.make_network.result ≡ Err Store)) c.in_default-4.is c.in_ok-made.ensures.none in
+    let only = subst (λ r. IfErr r (λ e. e ≡ Store → (m : NetworkValue) → IsMade (network_in row) peers routes m → AreSettings (network_in row) → row ≡ stored_network (network_in row) → ⊥)) given c.make_network.ensures.only in
+    only refl n made (subst AreSettings (sym once) (told_settings t id n told)) stored

@@ -1,8 +1,13 @@
-use Rattle.std.proofs.Common.{map, filter, nat_eq, not, ◌&&◌, sym, ap, ◌∙◌, subst, IsPermutation}
-use Rattle.wgr_sql.proofs.ResultLemmas.{if_ok}
-use Rattle.wgr_model.specs.Rows.{address_row, peer_row}
+use Rattle.std.proofs.Common.{◌≡◌, refl, map, filter, nat_eq, not, ◌&&◌, sym, ap, ◌∙◌, subst, IsPermutation}
+use Rattle.wgr_sql.proofs.ResultLemmas.{if_ok, if_both}
+use Rattle.wgr_core.specs.Network.{NetworkValue}
+use Rattle.wgr_model.specs.Rows.{AllowedRow, PeerRow, address_row, peer_row}
+use Rattle.wgr_sql.specs.declared.fault.Fault.TheVariants.{Store}
 use Rattle.wgr_tables.specs.Decode.{tables_of, peer_in, allowed_in}
-use Rattle.wgr_tables.proofs.ToldLemmas.{told_as}
+use Rattle.wgr_tables.specs.Stored.{stored_allowed, stored_peer}
+use Rattle.wgr_tables.specs.Told.{IsTold}
+use Rattle.wgr_tables.proofs.ArrangeLemmas.{arranged_peers, kept_peers, peers_once}
+use Rattle.wgr_tables.proofs.ToldLemmas.{err_as, none_as, told_as}
 use Rattle.wgr_tables.proofs.told.told_peers.Goals as goal
 
 pub returns-in_err-addresses-clause-stands : goal.returns-in_err-addresses-clause-stands
@@ -16,11 +21,37 @@ returns-clause-rows g c db pending stood clean =
     let rows = c.in_ok-rows.ensures.listed db pending stood (c.address_rows.ensures.clean clean) in
     told_as c.peers_of.result c.told.result (λ peers. IsPermutation (filter (λ p. nat_eq p.network c.args.network) (tables_of db).peers) (map (peer_row c.args.network) peers.items))
     (if_ok c.peers_of.result _ _ (λ peers p. subst (IsPermutation (filter (λ r. nat_eq r.network c.args.network) (tables_of db).peers)) (sym (p ∙ ap (map peer_in) c.as_slice.ensures.value)) rows) c.peers_of.ensures.rows)
-    c.told.ensures
+    c.told.ensures.some
 
 pub returns-clause-addresses : goal.returns-clause-addresses
 returns-clause-addresses g c db pending stood clean =
     let addresses = c.in_ok-addresses.ensures.listed db pending (c.peer_rows.ensures.stands db pending stood) clean in
     told_as c.peers_of.result c.told.result (λ peers. IsPermutation (filter (λ a. nat_eq a.network c.args.network && not a.is_route) (tables_of db).allowed) (map (address_row c.args.network) peers.items))
     (if_ok c.peers_of.result _ _ (λ peers p. subst (IsPermutation (filter (λ a. nat_eq a.network c.args.network && not a.is_route) (tables_of db).allowed)) (sym (p ∙ ap (map allowed_in) c.as_slice-2.ensures.value)) addresses) c.peers_of.ensures.addresses)
-    c.told.ensures
+    c.told.ensures.some
+
+pub returns-clause-own : goal.returns-clause-own
+returns-clause-own g c db pending stood clean =
+    let id = c.args.network in
+    let t = tables_of db in
+    let before = c.address_rows.ensures.clean clean in
+    let next = c.peer_rows.ensures.stands db pending stood in
+    let typed = λ (n : NetworkValue) (told : IsTold t id n). arranged_peers id n told.rules (peer_row id) (λ (p : PeerRow). p.id) (λ p. refl) (map peer_in c.in_ok-rows.rows.items) (filter (λ p. nat_eq p.network id) t.peers) told.peers (c.in_ok-rows.ensures.listed db pending stood before) (c.in_ok-rows.ensures.rising db pending stood before) in
+    let owned = λ (n : NetworkValue) (told : IsTold t id n). arranged_peers id n told.rules (address_row id) (λ (a : AllowedRow). a.peer) (λ p. refl) (map allowed_in c.in_ok-addresses.addresses.items) (filter (λ a. nat_eq a.network id && not a.is_route) t.allowed) told.addresses (c.in_ok-addresses.ensures.listed db pending next clean) (c.in_ok-addresses.ensures.rising db pending next clean) in
+    told_as c.peers_of.result c.told.result (λ peers. (n : NetworkValue) → IsTold t id n → peers.items ≡ n.peers)
+    (if_both c.peers_of.result _ _ _ (λ peers p a n told. peers_once id peers.items n.peers (p ∙ ap (map peer_in) c.as_slice.ensures.value ∙ typed n told) (a ∙ ap (map allowed_in) c.as_slice-2.ensures.value ∙ owned n told)) c.peers_of.ensures.rows c.peers_of.ensures.addresses)
+    c.told.ensures.some
+
+pub returns-clause-none : goal.returns-clause-none
+returns-clause-none g c db pending stood clean =
+    let id = c.args.network in
+    let t = tables_of db in
+    let before = c.address_rows.ensures.clean clean in
+    let next = c.peer_rows.ensures.stands db pending stood in
+    let typed = λ (n : NetworkValue) (told : IsTold t id n). arranged_peers id n told.rules (peer_row id) (λ (p : PeerRow). p.id) (λ p. refl) (map peer_in c.in_ok-rows.rows.items) (filter (λ p. nat_eq p.network id) t.peers) told.peers (c.in_ok-rows.ensures.listed db pending stood before) (c.in_ok-rows.ensures.rising db pending stood before) in
+    let owned = λ (n : NetworkValue) (told : IsTold t id n). arranged_peers id n told.rules (address_row id) (λ (a : AllowedRow). a.peer) (λ p. refl) (map allowed_in c.in_ok-addresses.addresses.items) (filter (λ a. nat_eq a.network id && not a.is_route) t.allowed) told.addresses (c.in_ok-addresses.ensures.listed db pending next clean) (c.in_ok-addresses.ensures.rising db pending next clean) in
+    none_as c.peers_of.result c.told.result Store ((n : NetworkValue) → IsTold t id n → ⊥)
+    (err_as c.peers_of.result _ _ (λ e only is n told. only is n.peers (kept_peers n told.rules told.forms)
+    (c.as_slice.ensures.value ∙ c.in_ok-rows.ensures.stored db pending stood before ∙ ap (map stored_peer) (typed n told))
+    (c.as_slice-2.ensures.value ∙ c.in_ok-addresses.ensures.stored db pending next clean ∙ ap (map stored_allowed) (owned n told))) c.peers_of.ensures.only)
+    c.told.ensures.none

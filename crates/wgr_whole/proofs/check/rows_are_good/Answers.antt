@@ -1,10 +1,11 @@
-use Rattle.std.proofs.Common.{IfSome, IsTrue, [], not, ap, subst, ◌∙◌}
+use Rattle.std.proofs.Common.{IfSome, IfNone, IsTrue, [], not, sym, ap, subst, ◌∙◌}
 use Rattle.std.specs.List.{AllByRecursion}
 use Rattle.sqlite.specs.Held.{state}
 use Rattle.wgr_sql.proofs.ResultLemmas.{if_ok}
 use Rattle.wgr_tables.specs.Decode.{tables_of}
 use Rattle.wgr_audit.specs.Layouts.{Laid}
-use Rattle.wgr_whole.specs.Good.{HasTables, TellsNetwork}
+use Rattle.wgr_whole.specs.Good.{HasTables, IsGood, TellsNetwork}
+use Rattle.wgr_whole.proofs.GoodLemmas.{all_told}
 use Rattle.wgr_whole.proofs.JoinLemmas.{is_good, register, stands_read}
 use Rattle.wgr_whole.proofs.check.rows_are_good.Goals as goal
 
@@ -22,7 +23,7 @@ returns-clause-good g c clean first =
     (c.read_tables.ensures.kept (λ _. laid)) c.read_tables.ensures.survives in
     if_ok c.networks_are_told.result _ _ (λ is told so. (
       live,
-      is_good old.now (first live).0 (first live).1 sound ids found.1 (subst (AllByRecursion (TellsNetwork (tables_of old.now))) c.as_slice.ensures.value (told so)),
+      is_good old.now (first live).0 (first live).1 sound ids found.1 (subst (AllByRecursion (TellsNetwork (tables_of old.now))) c.as_slice.ensures.value (told.0 so)),
       c.networks_are_told.ensures.stands old.now [] stood,
     )) (c.networks_are_told.ensures.told old.now [] stood clean)
 
@@ -40,3 +41,27 @@ returns-clause-kept g c version clean shown =
     (c.is_autocommit-settled.ensures.settled (c.is_autocommit-settled.ensures.value ∙ ap not c.requires.idle)) (λ trees open_then may. g.met.S.Store.settled c.args.conn.now.store trees open_then may)
     (c.read_tables.ensures.kept (λ _. laid)) c.read_tables.ensures.survives in
     (live, (c.networks_are_told.ensures.stands old.now [] stood).shows clean shown)
+
+pub returns-in_default-clause-only : goal.returns-in_default-clause-only
+returns-in_default-clause-only g c clean first =
+    let old = state g.S.Store c.args.conn.now in
+    let laid : Laid old = λ live. (first live).0 in
+    let none = subst (λ o. IfNone o (IsTrue old.is_open × (IsGood old.now → ⊥))) c.in_default.is (c.in_ok-networks.ensures.none clean laid) in
+    (none.0, λ good. absurd (none.1 good))
+
+pub returns-clause-only : goal.returns-clause-only
+returns-clause-only g c clean first =
+    let old = state g.S.Store c.args.conn.now in
+    let before = c.networks_are_told.ensures.clean clean in
+    let laid : Laid old = λ live. (first live).0 in
+    let found = subst (λ o. IfSome o (λ x. IsTrue old.is_open × HasTables old.now.trees x.items)) c.in-Some.is (c.in_ok-networks.ensures.some before laid) in
+    let live = found.0 in
+    let sound = (c.schema-live.ensures.live live).0 in
+    let ids = c.in-Some.networks.items in
+    let stood = stands_read g.S.Store c.args.conn.now c.read_tables.new.conn c.requires.idle c.read_tables.ensures.idle live (register old.now (first live).0 (first live).1 sound ids found.1)
+    (c.is_autocommit-settled.ensures.settled (c.is_autocommit-settled.ensures.value ∙ ap not c.requires.idle)) (λ trees shown may. g.met.S.Store.settled c.args.conn.now.store trees shown may)
+    (c.read_tables.ensures.kept (λ _. laid)) c.read_tables.ensures.survives in
+    if_ok c.networks_are_told.result _ _ (λ is told. (
+      live,
+      λ good. told.1 (subst (AllByRecursion (TellsNetwork (tables_of old.now))) (sym c.as_slice.ensures.value) (all_told old.now good ids found.1.there.ids)),
+    )) (c.networks_are_told.ensures.told old.now [] stood clean)

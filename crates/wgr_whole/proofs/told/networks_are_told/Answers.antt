@@ -1,8 +1,9 @@
-use Rattle.std.proofs.Common.{IfSome, slice_index_or, sym, subst, inl, inr, arith}
+use Rattle.std.proofs.Common.{rules, IfSome, IfNone, slice_index_or, refl, sym, subst, inl, inr, arith}
 use Rattle.std.proofs.Math.Nat.{eq-or-lt_of_le}
+use Rattle.wgr_core.specs.Network.{NetworkValue}
 use Rattle.wgr_tables.specs.Decode.{tables_of}
 use Rattle.wgr_tables.specs.Told.{IsTold}
-use Rattle.wgr_audit.proofs.ListLemmas.{all_places}
+use Rattle.wgr_audit.proofs.ListLemmas.{all_places, at_place}
 use Rattle.wgr_whole.specs.Good.{TellsNetwork}
 use Rattle.wgr_whole.proofs.told.networks_are_told.Goals as goal
 
@@ -28,5 +29,16 @@ loop-network-preserved g c =
     )
 
 pub returns-clause-told : goal.returns-clause-told
-returns-clause-told g c db pending stood clean so =
-    all_places (TellsNetwork (tables_of db)) c.args.networks.now 0 (λ k low. c.loop-network.invariant.3 db pending stood clean k (omega (arith, low, c.loop-network-test.false)))
+returns-clause-told g c db pending stood clean = (
+  (λ so. all_places (TellsNetwork (tables_of db)) c.args.networks.now 0 (λ k low. c.loop-network.invariant.3 db pending stood clean k (omega (arith, low, c.loop-network-test.false)))),
+  (λ all. refl),
+)
+
+pub returns-in_default-clause-told : goal.returns-in_default-clause-told
+returns-in_default-clause-told g c db pending stood clean =
+    let at = c.loop-network.network-index in
+    let ids = c.args.networks.now in
+    let none = subst (λ o. IfNone o ((n : NetworkValue) → IsTold (tables_of db) (slice_index_or ids at 0) n → ⊥)) c.in_default.is (c.in_ok-told_network.ensures.none db pending (c.loop-network.invariant.1 db pending stood) clean) in (
+      (λ never. search rules),
+      (λ all. let here = at_place (TellsNetwork (tables_of db)) ids 0 all at c.loop-network-test.true in absurd (none here.0 here.1)),
+    )

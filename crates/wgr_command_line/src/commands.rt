@@ -1,0 +1,173 @@
+//! The commands and their words, as `clap` reads them.
+ghost use Rattle.std.specs.Prelude.{◌≡◌, true, IfErr, IfOk};
+ghost use Rattle.clap.specs.Words.{app_of, kind_of, with_subcommand};
+ghost use Rattle.wgr_command_line.specs.Words.{db_app, init_app, network_add_app, network_app, network_end_app, plan_app, tenant_add_app, token_end_app, token_grant_app, wgr_alone, wgr_app};
+
+use crate::help;
+use crate::values::{option, value};
+use clap::error::ErrorKind;
+use clap::{Command, Error};
+use std::alloc::Global;
+
+pub(crate) fn wgr_command<'a>(alloc: Global) -> Result<Command<'a>, Error>
+    ensures app { IfOk result (λ command. app_of command ≡ wgr_app) }
+    ensures memory { IfErr result (λ error. kind_of error ≡ ErrorKind.OutOfMemory) }
+{
+    let command = bare_command(alloc)?;
+    let command = with_command(command, plan_command(alloc)?)?;
+    let command = with_command(command, init_command(alloc)?)?;
+    let command = with_command(command, tenant_add_command(alloc)?)?;
+    let command = with_command(command, token_grant_command(alloc)?)?;
+    let command = with_command(command, token_end_command(alloc)?)?;
+    let command = with_command(command, network_add_command(alloc)?)?;
+    let command = with_command(command, network_end_command(alloc)?)?;
+    Ok(command)
+}
+
+/// `wgr` without a command.
+fn bare_command<'a>(alloc: Global) -> Result<Command<'a>, Error>
+    ensures app { IfOk result (λ command. app_of command ≡ wgr_alone) }
+    ensures memory { IfErr result (λ error. kind_of error ≡ ErrorKind.OutOfMemory) }
+{
+    let command = Command::new(alloc, "wgr")
+        .version("0.1.0")
+        .about("A register of WireGuard peers and their tunnel addresses")
+        .no_binary_name(true)
+        .subcommand_required(true)
+        .bin_name("wgr")?;
+    Ok(command)
+}
+
+fn with_command<'a>(command: Command<'a>, further: Command<'a>) -> Result<Command<'a>, Error>
+    requires { (app_of further).top.is_plain ≡ true }
+    ensures app { IfOk result (λ both. app_of both ≡ with_subcommand (app_of command.entry) (app_of further.entry).top) }
+    ensures memory { IfErr result (λ error. kind_of error ≡ ErrorKind.OutOfMemory) }
+{
+    Ok(command.subcommand(further)?)
+}
+
+fn plan_command<'a>(alloc: Global) -> Result<Command<'a>, Error>
+    ensures app { IfOk result (λ command. app_of command ≡ plan_app) }
+    ensures memory { IfErr result (λ error. kind_of error ≡ ErrorKind.OutOfMemory) }
+{
+    let pool = value(
+        alloc,
+        "pool",
+        "POOL",
+        "The network's addresses, such as 10.8.0.0/24 or fd00::/64",
+    );
+    let command = Command::new(alloc, "plan")
+        .about("Gives each public key an address of a pool")
+        .after_help(help::PLAN);
+    Ok(command.arg(pool)?)
+}
+
+/// A command on the register in a file.
+fn db_command<'a>(
+    alloc: Global,
+    name: &'a str,
+    about: &'a str,
+    after: &'a str,
+) -> Result<Command<'a>, Error>
+    ensures app { IfOk result (λ command. app_of command ≡ db_app name.now) }
+    ensures memory { IfErr result (λ error. kind_of error ≡ ErrorKind.OutOfMemory) }
+{
+    let command = Command::new(alloc, name).about(about).after_help(after);
+    Ok(command.arg(value(alloc, "db", "DB", "The register's file"))?)
+}
+
+/// A command on a network of a tenant's.
+fn network_command<'a>(
+    alloc: Global,
+    name: &'a str,
+    about: &'a str,
+    after: &'a str,
+) -> Result<Command<'a>, Error>
+    ensures app { IfOk result (λ command. app_of command ≡ network_app name.now) }
+    ensures memory { IfErr result (λ error. kind_of error ≡ ErrorKind.OutOfMemory) }
+{
+    let command = db_command(alloc, name, about, after)?;
+    let command = command.arg(value(alloc, "tenant", "TENANT", "The tenant's name"))?;
+    Ok(command.arg(value(alloc, "name", "NAME", "The network's name"))?)
+}
+
+fn init_command<'a>(alloc: Global) -> Result<Command<'a>, Error>
+    ensures app { IfOk result (λ command. app_of command ≡ init_app) }
+    ensures memory { IfErr result (λ error. kind_of error ≡ ErrorKind.OutOfMemory) }
+{
+    db_command(alloc, "init", "Makes a register in a file", help::INIT)
+}
+
+fn tenant_add_command<'a>(alloc: Global) -> Result<Command<'a>, Error>
+    ensures app { IfOk result (λ command. app_of command ≡ tenant_add_app) }
+    ensures memory { IfErr result (λ error. kind_of error ≡ ErrorKind.OutOfMemory) }
+{
+    let command = db_command(alloc, "tenant-add", "Adds a tenant", help::TENANT_ADD)?;
+    Ok(command.arg(value(alloc, "name", "NAME", "The tenant's name"))?)
+}
+
+fn token_grant_command<'a>(alloc: Global) -> Result<Command<'a>, Error>
+    ensures app { IfOk result (λ command. app_of command ≡ token_grant_app) }
+    ensures memory { IfErr result (λ error. kind_of error ≡ ErrorKind.OutOfMemory) }
+{
+    let command = db_command(
+        alloc,
+        "token-grant",
+        "Grants a tenant a token",
+        help::TOKEN_GRANT,
+    )?;
+    Ok(command.arg(value(alloc, "tenant", "TENANT", "The tenant's name"))?)
+}
+
+fn token_end_command<'a>(alloc: Global) -> Result<Command<'a>, Error>
+    ensures app { IfOk result (λ command. app_of command ≡ token_end_app) }
+    ensures memory { IfErr result (λ error. kind_of error ≡ ErrorKind.OutOfMemory) }
+{
+    db_command(alloc, "token-end", "Ends a token", help::TOKEN_END)
+}
+
+fn network_add_command<'a>(alloc: Global) -> Result<Command<'a>, Error>
+    ensures app { IfOk result (λ command. app_of command ≡ network_add_app) }
+    ensures memory { IfErr result (λ error. kind_of error ≡ ErrorKind.OutOfMemory) }
+{
+    let command = network_command(
+        alloc,
+        "network-add",
+        "Adds a network of a tenant",
+        help::NETWORK_ADD,
+    )?;
+    let pool = option(
+        alloc,
+        "pool",
+        "P",
+        "Its addresses, such as 10.8.0.0/24 or fd00::/64",
+    );
+    let host = option(
+        alloc,
+        "host",
+        "H",
+        "The host at which peers reach the server",
+    );
+    let port = option(alloc, "port", "N", "The server's UDP port, 1 to 65535");
+    let key = option(alloc, "key", "K", "The server's public key");
+    let capacity = option(
+        alloc,
+        "capacity",
+        "N",
+        "How many peers it may have, 1 to 4096",
+    );
+    let command = command.arg(pool)?.arg(host)?.arg(port)?;
+    Ok(command.arg(key)?.arg(capacity)?)
+}
+
+fn network_end_command<'a>(alloc: Global) -> Result<Command<'a>, Error>
+    ensures app { IfOk result (λ command. app_of command ≡ network_end_app) }
+    ensures memory { IfErr result (λ error. kind_of error ≡ ErrorKind.OutOfMemory) }
+{
+    network_command(
+        alloc,
+        "network-end",
+        "Ends a network, and its peers and routes with it",
+        help::NETWORK_END,
+    )
+}

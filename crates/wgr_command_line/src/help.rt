@@ -1,0 +1,178 @@
+//! What `wgr COMMAND --help` says behind the words.
+
+pub(crate) const PLAN: &str = "\
+Standard input has one public key a line, as `wg pubkey` prints it. Each key is given the
+lowest free address, and a line is printed for it: its number, the key and ADDRESS/LENGTH,
+separated by tabs. An empty line is no key, nor is one with a carriage return: strip both
+with `tr -d '\\r' | sed '/^$/d'`.
+
+A pool is an IPv4 prefix of length 8 to 30 or an IPv6 prefix of length 48 to 126, with all
+host bits zero. Its first address is never given and the second is the server's; the last
+address of an IPv4 pool is never given either. A pool serves 4096 keys.
+
+The first line that is refused ends the plan; the lines before it are printed.
+
+Messages on standard error, with the exit status, and what to do:
+  wgr: bad_field pool            2  POOL is no address and no prefix: mend it
+  wgr: bad_pool                  2  its length or a host bit is wrong: mend it
+  wgr: line N: bad_field key     2  the line is not the base64 of 32 bytes: mend it
+  wgr: line N: key_held NUMBER   2  an earlier line has the key: leave this one out
+  wgr: line N: server_key        2  the key is kept for the server: leave it out
+  wgr: line N: capacity_reached  2  4096 keys have an address: plan the others apart
+  wgr: line N: pool_full         2  no address is free: take a larger pool
+  wgr: device                    1  a stream failed, or the output was closed: look there
+  wgr: no_memory                 1  memory was refused: free some, and try again
+The status is 0 where all lines are printed, and 2 for a command line that does not read.
+
+Example:
+  $ printf '%s\\n' AAAAAAAAAAAAAAAAAAAAAAAAAAAAAAAAAAAAAAAAAAA= | wgr plan 10.8.0.0/24
+  1\tAAAAAAAAAAAAAAAAAAAAAAAAAAAAAAAAAAAAAAAAAAA=\t10.8.0.2/32";
+
+pub(crate) const INIT: &str = "\
+Makes the tables of a register without tenants in the SQLite database DB, and the file where
+it is missing, and prints `done`. The log DB-wal beside it belongs to the database.
+
+Messages on standard error, with the exit status, and what to do:
+  wgr: not_empty       1  DB has a register's tables already: take another file
+  wgr: not_a_register  1  DB has other tables: take another file
+  wgr: store           1  DB cannot be made, read or written, is no database, or another
+                          program has it open: look at the file and its folder
+  wgr: no_memory       1  memory was refused: free some, and try again
+  wgr: device          1  the register is made, but `done` could not be printed
+The status is 0 where `done` is printed, and 2 for a command line that does not read.
+
+Example:
+  $ wgr init register.db
+  done";
+
+pub(crate) const TENANT_ADD: &str = "\
+Prints `done` once the tenant stands in the register. A tenant has tokens (token-grant) and
+networks (network-add), and is never ended. NAME is 1 to 32 of a-z, 0-9 and `-`; behind the
+word `--` it may begin with `-`.
+
+Messages on standard error, with the exit status, and what to do:
+  wgr: bad_field name  2  NAME is not of the form: mend it
+  wgr: name_held       2  a tenant has the name: take another
+  wgr: register_full   2  65536 tenants stand, and no more may
+  wgr: not_a_register  1  DB is missing or has no register: make one with `wgr init`
+  wgr: not_good        1  DB has rows that break the register's rules: take the last good
+                          copy of the file
+  wgr: store           1  DB cannot be read or written, is no database, or another program
+                          has it open: look at the file and its folder
+  wgr: no_memory       1  memory was refused: free some, and try again
+  wgr: device          1  the tenant is added, but `done` could not be printed
+The status is 0 where `done` is printed, and 2 for a command line that does not read.
+
+Example:
+  $ wgr tenant-add register.db acme
+  done";
+
+pub(crate) const TOKEN_GRANT: &str = "\
+Standard input has the token in one line, whose newline may be missing: 1 to 128 printable
+ASCII characters without a blank. Whoever has it acts for the tenant. The register keeps its
+SHA-256 alone. A tenant may have several tokens. Prints `done` once the token is granted.
+
+Messages on standard error, with the exit status, and what to do:
+  wgr: bad_field tenant  2  TENANT is no name of a tenant: mend it
+  wgr: bad_field token   2  standard input is not one line with a token: mend it
+  wgr: no_such_tenant    2  no tenant has the name: add it with `wgr tenant-add`
+  wgr: digest_held       2  a tenant has the token: make another
+  wgr: register_full     2  65536 tokens stand: end one with `wgr token-end`
+  wgr: not_a_register    1  DB is missing or has no register: make one with `wgr init`
+  wgr: not_good          1  DB has rows that break the register's rules: take the last good
+                            copy of the file
+  wgr: store             1  DB cannot be read or written, is no database, or another program
+                            has it open: look at the file and its folder
+  wgr: no_memory         1  memory was refused: free some, and try again
+  wgr: device            1  standard input failed; or the token is granted, but `done` could
+                            not be printed
+The status is 0 where `done` is printed, and 2 for a command line that does not read. A name
+that begins with `-` is read behind the word `--`.
+
+Example:
+  $ openssl rand -hex 32 >token
+  $ wgr token-grant register.db acme <token
+  done";
+
+pub(crate) const TOKEN_END: &str = "\
+Standard input has the token in one line, whose newline may be missing: 1 to 128 printable
+ASCII characters without a blank. Prints `done` once no tenant has the token any more; the
+tenant's other tokens stay.
+
+Messages on standard error, with the exit status, and what to do:
+  wgr: bad_field token  2  standard input is not one line with a token: mend it
+  wgr: no_such_token    2  no tenant has the token: look for the right one
+  wgr: not_a_register   1  DB is missing or has no register: make one with `wgr init`
+  wgr: not_good         1  DB has rows that break the register's rules: take the last good
+                           copy of the file
+  wgr: store            1  DB cannot be read or written, is no database, or another program
+                           has it open: look at the file and its folder
+  wgr: no_memory        1  memory was refused: free some, and try again
+  wgr: device           1  standard input failed; or the token is ended, but `done` could
+                           not be printed
+The status is 0 where `done` is printed, and 2 for a command line that does not read.
+
+Example:
+  $ wgr token-end register.db <token
+  done";
+
+pub(crate) const NETWORK_ADD: &str = "\
+Prints `done` once the network stands in the register, without peers.
+
+TENANT and NAME are 1 to 32 of a-z, 0-9 and `-`; no two networks of a tenant have one name.
+The pool is an IPv4 prefix of length 8 to 30 or an IPv6 prefix of length 48 to 126, with all
+host bits zero, and has no address in common with the pool of another network. Its first
+address is never given and the second is the server's; the last address of an IPv4 pool is
+never given either. The host is a name, or an address without brackets: 1 to 253 letters,
+digits, `.` and `-`, or an IPv6 address. The key is as `wg pubkey` prints it.
+
+Numbers are 1 to 19 decimal digits. A value that begins with `-` is read behind the word `--`
+or as in `--host=-x`.
+
+Messages on standard error, with the exit status, and what to do:
+  wgr: bad_field FIELD   2  tenant, name, pool, host, port, key or capacity is not of its
+                            form, the first that is not: mend it
+  wgr: no_such_tenant    2  no tenant has the name: add it with `wgr tenant-add`
+  wgr: name_held         2  the tenant has a network of the name: take another
+  wgr: bad_pool          2  the pool's length or a host bit is wrong: mend it
+  wgr: pool_overlaps TENANT NAME
+                         2  this network of this tenant has an address of the pool: take
+                            another pool
+  wgr: port_held         2  a network has the host and the port: take another port
+  wgr: register_full     2  65536 networks stand: end one with `wgr network-end`
+  wgr: not_a_register    1  DB is missing or has no register: make one with `wgr init`
+  wgr: not_good          1  DB has rows that break the register's rules: take the last good
+                            copy of the file
+  wgr: store             1  DB cannot be read or written, is no database, or another program
+                            has it open: look at the file and its folder
+  wgr: no_memory         1  memory was refused: free some, and try again
+  wgr: device            1  the network is added, but `done` could not be printed
+The status is 0 where `done` is printed, and 2 for a command line that does not read.
+
+Example:
+  $ wgr network-add register.db acme office --pool 10.8.0.0/24 --host vpn.example.net \\
+      --port 51820 --key \"$(wg pubkey <server.key)\" --capacity 250
+  done";
+
+pub(crate) const NETWORK_END: &str = "\
+Prints `done` once the network is out of the register, with its peers and routes. Its name,
+its pool and its endpoint are free for another network then.
+
+Messages on standard error, with the exit status, and what to do:
+  wgr: bad_field tenant  2  TENANT is no name of a tenant: mend it
+  wgr: bad_field name    2  NAME is no name of a network: mend it
+  wgr: no_such_tenant    2  no tenant has the name: mend it
+  wgr: no_network        2  the tenant has no network of the name: mend it
+  wgr: not_a_register    1  DB is missing or has no register: make one with `wgr init`
+  wgr: not_good          1  DB has rows that break the register's rules: take the last good
+                            copy of the file
+  wgr: store             1  DB cannot be read or written, is no database, or another program
+                            has it open: look at the file and its folder
+  wgr: no_memory         1  memory was refused: free some, and try again
+  wgr: device            1  the network is ended, but `done` could not be printed
+The status is 0 where `done` is printed, and 2 for a command line that does not read. A name
+that begins with `-` is read behind the word `--`.
+
+Example:
+  $ wgr network-end register.db acme office
+  done";

@@ -1,0 +1,8 @@
+//! The plan of a text of keys: which address each would have in a new network.
+#![tactic(auto)]
+
+mod laws;
+mod planner;
+
+pub use laws::plans_are_unique;
+pub use planner::{PlanFault, plan};

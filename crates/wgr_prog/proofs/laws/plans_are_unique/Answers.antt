@@ -1,5 +1,0 @@
-use Rattle.wgr_prog.proofs.OnePlan.{one_plan}
-use Rattle.wgr_prog.proofs.laws.plans_are_unique.Goals as goal
-
-pub returns : goal.returns
-returns c = one_plan

@@ -1,7 +1,0 @@
-use Rattle.wgr_text.specs.Lines.{lines_of}
-use Rattle.wgr_prog.specs.Plan.{plan_network}
-use Rattle.wgr_prog.proofs.PlanLemmas.{PlannedTo}
-use Rattle.wgr_prog.proofs.plan.plan_text.Given as goal
-
-abbrev pub invariant-loop-line : goal.invariant-loop-line
-invariant-loop-line l = PlannedTo (plan_network l.pool) (lines_of l.text) l.network (lines_of l.line-iterator.rest.now) l.printed.items

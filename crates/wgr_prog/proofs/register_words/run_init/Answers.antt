@@ -1,0 +1,10 @@
+use Rattle.std.proofs.Common.{Ok, Err, refl}
+use Rattle.wgr_prog.specs.declared.register_words.Failure.TheVariants as failure
+use Rattle.wgr_prog.proofs.register_words.run_init.Goals as goal
+
+pub returns-in-Ok : goal.returns-in-Ok
+returns-in-Ok g c input failed = record { answer = Ok c.in-Ok.field-0; made = c.in-Ok.ensures; fault = tt; told = c.done.ensures; unread = (refl, refl) }
+
+pub returns-in-Err : goal.returns-in-Err
+returns-in-Err g c input failed =
+    record { answer = Err (failure.Register c.in-Err.why); made = tt; fault = refl; told = (c.failure.ensures.status, refl, refl); unread = (refl, refl) }

@@ -1,0 +1,99 @@
+//! Messages on standard error, and exit statuses.
+//!
+//! Where standard error fails there is nobody to tell, and the status stays.
+ghost use Rattle.std.specs.Prelude.{◌≡◌};
+ghost use Rattle.wgr_prog.specs.Status.{TellsDone, failure_status};
+
+use crate::register_words::Failure;
+use std::fmt;
+use std::fmt::Write as _;
+use wgr_io::{Write, write_all};
+use wgr_register::RegisterFault;
+
+/// All is done.
+pub(crate) const DONE: u8 = 0;
+/// Memory, a file or a stream failed.
+pub(crate) const FAULT: u8 = 1;
+/// A refusal, or a command line that does not read.
+pub(crate) const REFUSED: u8 = 2;
+
+pub(crate) fn fault<E: Write>(err: &mut E, text: &[u8]) -> u8
+    ensures status { result ≡ FAULT }
+{
+    let _ = write_all(err, text);
+    FAULT
+}
+
+pub(crate) fn refusal<E: Write>(err: &mut E, text: &[u8]) -> u8
+    ensures status { result ≡ REFUSED }
+{
+    let _ = write_all(err, text);
+    REFUSED
+}
+
+pub(crate) fn no_memory<E: Write>(err: &mut E) -> u8
+    ensures status { result ≡ FAULT }
+{
+    fault(err, b"wgr: no_memory\n")
+}
+
+pub(crate) fn device<E: Write>(err: &mut E) -> u8
+    ensures status { result ≡ FAULT }
+{
+    fault(err, b"wgr: device\n")
+}
+
+/// Prints that what was asked for is done.
+pub(crate) fn done<W: Write, E: Write>(out: &mut W, err: &mut E) -> u8
+    ensures { TellsDone (W.contents out.old) (W.contents out.new) (W.failed out.old) (W.failed out.new) result }
+{
+    match write_all(out, b"done\n") {
+        Ok(()) => DONE,
+        Err(_) => device(err),
+    }
+}
+
+/// Tells why what was asked for is not done.
+pub(crate) fn failure<E: Write>(why: &Failure, err: &mut E) -> u8
+    ensures status { result ≡ failure_status why.now }
+{
+    match why {
+        Failure::Field(field) => {
+            let _ = write!(Text { err }, "wgr: bad_field {field}\n");
+            REFUSED
+        }
+        Failure::Refused(why) => {
+            let _ = write!(Text { err }, "wgr: {why}\n");
+            REFUSED
+        }
+        Failure::Register(why) => register_fault(*why, err),
+        Failure::Device => device(err),
+    }
+}
+
+fn register_fault<E: Write>(why: RegisterFault, err: &mut E) -> u8
+    ensures status { result ≡ FAULT }
+{
+    match why {
+        RegisterFault::NoMemory => no_memory(err),
+        RegisterFault::Store => fault(err, b"wgr: store\n"),
+        RegisterFault::NotARegister => fault(err, b"wgr: not_a_register\n"),
+        RegisterFault::NotGood => fault(err, b"wgr: not_good\n"),
+        RegisterFault::NotEmpty => fault(err, b"wgr: not_empty\n"),
+    }
+}
+
+/// Standard error as a sink of text: what is told needs no memory.
+#[derive(Drop)]
+pub(crate) struct Text<'a, E> {
+    pub(crate) err: &'a mut E,
+}
+
+impl<E: Write> fmt::Write for Text<'_, E> {
+    fn write_str(&mut self, text: &str) -> fmt::Result {
+        match write_all(self.err, text.as_bytes()) {
+            Ok(()) => Ok(()),
+            Err(_) => Err(fmt::Error),
+        }
+    }
+}

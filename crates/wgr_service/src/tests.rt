@@ -1,0 +1,90 @@
+//! Clients and the service in one thread, over a register in memory.
+use super::serve_connections;
+use sqlite::{Connection, MemStore};
+use std::alloc::AllocGlobal;
+use std::io;
+use std::io::{Read as _, Write as _};
+use std::net::{Shutdown, TcpListener, TcpStream};
+use std::process::Abort;
+use wgr_io::Device;
+use wgr_model::Order;
+use wgr_office::{Event, Office};
+use wgr_peers::Name;
+use wgr_register::{OpenFault, Register};
+use wgr_request::token_digest;
+
+const LIST: &[u8] = b"GET /networks HTTP/1.1\r\nAuthorization: Bearer abc\r\n\r\n";
+
+const NETWORKS: &[u8] =
+    b"HTTP/1.1 200 OK\r\nContent-Type: application/json\r\nContent-Length: 15\r\nConnection: close\r\n\r\n{\"networks\":[]}";
+
+const TRUNCATED: &[u8] =
+    b"HTTP/1.1 400 Bad Request\r\nContent-Type: application/json\r\nContent-Length: 21\r\nConnection: close\r\n\r\n{\"error\":\"truncated\"}";
+
+/// An office over a register with the tenant `acme`, whose token is `abc`.
+fn office(rt: &(impl Abort + AllocGlobal)) -> Office<MemStore> {
+    let conn = Connection::open_in_memory(rt.alloc()).expect(rt, "memory");
+    assert!(rt; conn.is_autocommit());
+    let register = match Register::create(conn) {
+        Ok(register) => register,
+        Err(
+            OpenFault {
+                fault: _fault,
+                connection: _conn,
+            },
+        ) => panic!(rt; "no register"),
+    };
+    match Office::new(rt.alloc(), register) {
+        Ok(office) => office,
+        Err(register) => {
+            let _conn = register.into_connection();
+            panic!(rt; "no office")
+        }
+    }
+}
+
+fn acme(rt: &(impl Abort + AllocGlobal)) -> Name {
+    Name::read(rt.alloc(), b"acme")
+        .expect(rt, "memory")
+        .expect(rt, "a name")
+}
+
+fn add_acme(rt: &(impl Abort + AllocGlobal), office: &mut Office<MemStore>) {
+    let digest = token_digest(b"abc").expect(rt, "a token");
+    let mut orders = Vec::new(rt.alloc());
+    orders
+        .push(Event::Order(Order::AddTenant { name: acme(rt) }))
+        .expect(rt, "memory");
+    orders
+        .push(Event::Order(Order::Grant {
+            tenant: acme(rt),
+            digest,
+        }))
+        .expect(rt, "memory");
+    let _answers = office.run(rt.alloc(), &orders).expect(rt, "memory");
+}
+
+#[test]
+fn clients_are_served_in_turn(rt: HostRuntime) -> io::Result<()> {
+    let listener = TcpListener::bind(&rt, "127.0.0.1:0")?;
+    let address = listener.local_addr()?;
+    let mut first = TcpStream::connect(&rt, address)?;
+    let mut second = TcpStream::connect(&rt, address)?;
+    first.write_all(LIST)?;
+    second.shutdown(Shutdown::Write)?;
+    let mut office = office(&rt);
+    add_acme(&rt, &mut office);
+    let mut err = Device::new(Vec::new(rt.alloc()));
+    serve_connections(&rt, &mut office, &listener, 0, Some(7), &mut err);
+    serve_connections(&rt, &mut office, &listener, 1, None, &mut err);
+    serve_connections(&rt, &mut office, &listener, 1, Some(7), &mut err);
+    let _conn = office.into_register().into_connection();
+    assert!(rt; err.inner.is_empty());
+    let mut reply = Vec::new(rt.alloc());
+    first.read_to_end(&mut reply)?;
+    assert_eq!(rt; reply.as_slice(), NETWORKS);
+    reply.clear();
+    second.read_to_end(&mut reply)?;
+    assert_eq!(rt; reply.as_slice(), TRUNCATED);
+    Ok(())
+}
