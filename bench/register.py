@@ -1,4 +1,4 @@
-"""A register's file with one network of many peers, and requests to it, the same on each machine."""
+"""Registers' files with networks of many peers, and requests to these, the same on each machine."""
 
 import base64
 import hashlib
@@ -7,36 +7,38 @@ import sqlite3
 from ipaddress import ip_address, ip_network
 from pathlib import Path
 
-TOKEN = "abc"
-POOL = ip_network("10.0.0.0/16")
-# Where the routes lie: apart from the pool.
-ROUTES = ip_address("10.16.0.0")
+# Where the pools lie, one behind the other, and the routes apart from them.
+POOLS = ip_network("10.0.0.0/12")
+ROUTES = int(ip_address("10.16.0.0"))
+ROUTE_LENGTH = 24
 MAKING = Path(__file__).resolve().parent.parent / "crates/wgr_store/src/making.rt"
 
-# The network's id, and those of its peers' rows less their numbers.
-NETWORK = 1
-FIRST_ID = NETWORK << 20
+CAPACITY = 4096
+PORT = 51820
 
 
-def key(text):
+def digest(text):
     return hashlib.sha256(text.encode()).digest()
 
 
-def key_text(text):
-    return base64.b64encode(key(text)).decode()
+def key_text(key):
+    return base64.b64encode(key).decode()
 
 
-SERVER_KEY = key("server")
+SERVER_KEY = digest("server")
 
 
-def address(number):
-    """The address of the peer of this number; they lie one behind the other."""
-    return POOL[number + 1]
+def address_bytes(number):
+    return number.to_bytes(16, "big")
+
+
+def route_start(number, count):
+    """The first address of the prefix that leads to the peer of this number, of so many; they come in no order."""
+    return ROUTES + (number * 421 % count << 32 - ROUTE_LENGTH)
 
 
 def route(number, count):
-    """The prefix that leads to the peer of this number, of so many; they come in no order."""
-    return ip_network((int(ROUTES) + 256 * (number * 421 % count), 24))
+    return ip_network((route_start(number, count), ROUTE_LENGTH))
 
 
 def status(number):
@@ -44,45 +46,117 @@ def status(number):
     return (None, None, None) if number % 3 == 0 else (1_700_000_000 + number, 1024 * number, 2048 * number)
 
 
-def peer_row(number):
-    keepalive = 25 if number % 2 else 0
-    own = [FIRST_ID + number, NETWORK, key(f"peer {number}"), f"peer {number}", 0, keepalive]
-    return [*own, *status(number)]
+class Network:
+    """The network of this number, from 1 on, of so many, and requests of its tenant, who has no other."""
+
+    def __init__(self, number, networks=1):
+        self.number = number
+        self.length = POOLS.prefixlen + (networks - 1).bit_length()
+        self.low = int(POOLS[0]) + (number - 1 << 32 - self.length)
+        self.tenant = f"tenant-{number}"
+        self.token = f"token-{number}"
+
+    def address(self, number):
+        """The address of the peer of this number; they lie one behind the other."""
+        return self.low + number + 1
+
+    def key(self, number):
+        return digest(f"peer {self.number} {number}")
+
+    def row(self, peers):
+        place = [self.number, self.number, "office", 4, address_bytes(self.low), self.length]
+        return [*place, f"vpn-{self.number}.example.net", PORT, SERVER_KEY, CAPACITY, peers + 1]
+
+    def peer_row(self, number):
+        keepalive = 25 if number % 2 else 0
+        own = [self.row_id(number), self.number, self.key(number), f"peer {number}", 0, keepalive]
+        return [*own, *status(number)]
+
+    def row_id(self, number):
+        return (self.number << 20) + number
+
+    def allowed_row(self, number, start, length, kind):
+        last = start + (1 << 32 - length) - 1
+        return [self.number, 4, address_bytes(start), length, address_bytes(last), self.row_id(number), kind]
+
+    def allowed_rows(self, peers):
+        for number in range(1, peers + 1):
+            yield self.allowed_row(number, self.address(number), 32, "address")
+            yield self.allowed_row(number, route_start(number, peers), ROUTE_LENGTH, "route")
+
+    def request(self, method, path, body=None, token=None):
+        lines = [f"{method} {path} HTTP/1.1", "Host: wgr", f"Authorization: Bearer {token or self.token}"]
+        if body is not None:
+            lines.append(f"Content-Length: {len(body)}")
+        return "\r\n".join([*lines, "", body or ""]).encode()
+
+    def ask(self, method, path, body=None, name="office", **others):
+        return self.request(method, f"/networks/{name}/{path}", body, **others)
+
+    def listed_networks(self):
+        return self.request("GET", "/networks")
+
+    def listed(self, **others):
+        return self.ask("GET", "peers", **others)
+
+    def server_file(self):
+        return self.ask("GET", "server/quick")
+
+    def owner(self, number, peers):
+        """Who owns the peer's own address, or for each second one an address of its route."""
+        asked = self.address(number) if number % 2 else route_start(number, peers) + 7
+        return self.ask("GET", f"owner/{ip_address(asked)}")
+
+    def add(self, number):
+        return self.ask("POST", "peers", f'{{"key":"{key_text(self.key(number))}"}}')
+
+    def dump_line(self, number, count):
+        """A peer with its address, a route that it takes from the one before, and one of its own.
+
+        The first has none of its own, so that there are no more routes than peers.
+        """
+        allowed = [f"{ip_address(self.address(number))}/32", "0.0.0.0/0"]
+        if number > 1:
+            allowed.append(str(route(number, count)))
+        seen = f"{1_700_000_000 + number}\t{1024 * number}\t{2048 * number}"
+        return f"{key_text(self.key(number))}\t(none)\t198.51.100.7:40000\t{','.join(allowed)}\t{seen}\t25\n"
+
+    def adoption(self, numbers, count):
+        lines = [self.dump_line(number, count) for number in numbers]
+        return self.ask("POST", "dump", f"(none)\t{key_text(SERVER_KEY)}\t{PORT}\toff\n{''.join(lines)}")
 
 
-def allowed_row(number, prefix, kind):
-    first, last = (int(end).to_bytes(16, "big") for end in (prefix[0], prefix[-1]))
-    return [NETWORK, 4, first, prefix.prefixlen, last, FIRST_ID + number, kind]
-
-
-def allowed_rows(count):
-    for number in range(1, count + 1):
-        yield allowed_row(number, ip_network(address(number)), "address")
-        yield allowed_row(number, route(number, count), "route")
-
-
-def network_row(count):
-    low = int(POOL[0]).to_bytes(16, "big")
-    place = [NETWORK, 1, "office", 4, low, POOL.prefixlen, "vpn.example.net", 51820]
-    return [*place, SERVER_KEY, 4096, count + 1]
+def row_count(networks, peers):
+    """How many rows such a register has: of the version, of entries, of peers with an address and a route."""
+    return 1 + 3 * networks + 3 * networks * peers
 
 
 def insert(database, table, rows):
-    for row in rows:
-        database.execute(f"INSERT INTO {table} VALUES ({', '.join('?' * len(row))})", row)
+    rows = iter(rows)
+    first = next(rows, None)
+    if first is None:
+        return
+    statement = f"INSERT INTO {table} VALUES ({', '.join('?' * len(first))})"
+    database.execute(statement, first)
+    database.executemany(statement, rows)
 
 
-def make(path, count):
-    """Makes the register, with so many peers and a route to each, by the texts with which `wgr` makes one."""
+def make(path, networks, peers):
+    """Makes a register of so many networks, each of a tenant of its own and with so many peers.
+
+    Each peer has a route. The tables are made by the texts with which `wgr` makes them.
+    """
     database = sqlite3.connect(path)
     database.execute("PRAGMA journal_mode = WAL")
     for text in re.findall(r'"((?:CREATE|INSERT) [^"]*)"', MAKING.read_text(encoding="utf-8")):
         database.execute(text)
-    insert(database, "tenant", [[1, "acme"]])
-    insert(database, "token", [[key(TOKEN), 1]])
-    insert(database, "network", [network_row(count)])
-    insert(database, "peer", (peer_row(number) for number in range(1, count + 1)))
-    insert(database, "allowed", allowed_rows(count))
+    all_networks = [Network(number, networks) for number in range(1, networks + 1)]
+    numbers = range(1, peers + 1)
+    insert(database, "tenant", ([it.number, it.tenant] for it in all_networks))
+    insert(database, "token", ([digest(it.token), it.number] for it in all_networks))
+    insert(database, "network", (it.row(peers) for it in all_networks))
+    insert(database, "peer", (it.peer_row(number) for it in all_networks for number in numbers))
+    insert(database, "allowed", (row for it in all_networks for row in it.allowed_rows(peers)))
     database.commit()
     database.close()
 
@@ -94,46 +168,3 @@ def rows(path):
     found = [sorted(database.execute(f"SELECT * FROM {table}"), key=repr) for table in tables]
     database.close()
     return found
-
-
-def request(method, path, body=None, token=TOKEN):
-    lines = [f"{method} /networks/office/{path} HTTP/1.1", "Host: wgr", f"Authorization: Bearer {token}"]
-    if body is not None:
-        lines.append(f"Content-Length: {len(body)}")
-    return "\r\n".join([*lines, "", body or ""]).encode()
-
-
-def listed(token=TOKEN):
-    return request("GET", "peers", token=token)
-
-
-def server_file():
-    return request("GET", "server/quick")
-
-
-def owner(number, count):
-    """Who owns the peer's own address, or for each second one an address of its route."""
-    asked = address(number) if number % 2 else route(number, count)[7]
-    return request("GET", f"owner/{asked}")
-
-
-def add(number):
-    return request("POST", "peers", f'{{"key":"{key_text(f"peer {number}")}"}}')
-
-
-def dump_line(number, count):
-    """A peer with its address, a route that it takes from the one before, and one of its own.
-
-    The first has none of its own, so that there are no more routes than peers.
-    """
-    allowed = [f"{address(number)}/32", "0.0.0.0/0"]
-    if number > 1:
-        allowed.append(str(route(number, count)))
-    seen = f"{1_700_000_000 + number}\t{1024 * number}\t{2048 * number}"
-    return f"{key_text(f'peer {number}')}\t(none)\t198.51.100.7:40000\t{','.join(allowed)}\t{seen}\t25\n"
-
-
-def adoption(count):
-    server = base64.b64encode(SERVER_KEY).decode()
-    lines = [dump_line(number, count) for number in range(1, count + 1)]
-    return request("POST", "dump", f"(none)\t{server}\t51820\toff\n{''.join(lines)}")

@@ -1,13 +1,23 @@
 //! A network of the register: loaded from its rows, asked, and its changes committed.
 //!
-//! The statements are those of `wgr`, but for its columns of NULL. What the benchmark never asks for ends
-//! the program: a command that is to be refused, and a lease that ends.
+//! The statements are those of `wgr`, but for its columns of NULL. What the benchmarks never ask for ends
+//! the program: other refusals than those of `Refusal`, and rows that aren't good.
 
 use crate::prefix::{Family, Prefix};
 use crate::sqlite::{Connection, Row, Value};
 use std::collections::{BTreeMap, HashMap, HashSet};
 
-const MAX_ROUTES: usize = 4096;
+pub const MAX_ROUTES: usize = 4096;
+
+/// The query of networks, with what stands behind it.
+macro_rules! networks {
+    ($rest:literal) => {
+        concat!(
+            "SELECT id, tenant, name, family, lo, length, host, port, server, capacity, next FROM network",
+            $rest
+        )
+    };
+}
 
 /// What a running interface last showed of a peer.
 #[derive(Clone, Copy)]
@@ -17,6 +27,7 @@ pub struct Status {
     pub sent: i64,
 }
 
+#[derive(Clone)]
 pub struct Peer {
     pub number: u32,
     pub key: [u8; 32],
@@ -28,16 +39,27 @@ pub struct Peer {
 }
 
 pub struct Network {
-    id: u32,
+    pub id: u32,
+    pub tenant: u32,
+    pub name: String,
     pub pool: Prefix,
+    pub host: String,
     pub port: u32,
-    server: [u8; 32],
-    capacity: usize,
-    next: u32,
+    pub server: [u8; 32],
+    pub capacity: usize,
+    pub next: u32,
     /// By number.
     pub peers: Vec<Peer>,
     /// In order, each with its peer's number.
     pub routes: Vec<(Prefix, u32)>,
+}
+
+/// What a new peer asks for, beside an address.
+pub struct Wanted {
+    pub key: [u8; 32],
+    pub label: String,
+    pub until: i64,
+    pub keepalive: u32,
 }
 
 /// A peer as a line of a dump shows it.
@@ -48,36 +70,61 @@ pub struct Seen {
     pub keepalive: u32,
 }
 
-/// Peers that come, routes that come or lead elsewhere from now on, and the next number.
+/// Peers that go, and that come or take the place of the one of their number; routes that go, and that
+/// come or lead elsewhere from now on; and the next number.
 pub struct Change {
+    removed: Vec<u32>,
+    routes_gone: Vec<Prefix>,
     pub peers: Vec<Peer>,
     routes: Vec<(Prefix, u32)>,
     next: u32,
 }
 
-fn family_of(number: i64) -> Family {
-    if number == 4 { Family::V4 } else { Family::V6 }
+/// Why a command is refused.
+pub enum Refusal {
+    NoSuchPeer,
+    NoSuchRoute,
+    NobodysAddress,
+    KeyHeld(u32),
 }
 
-fn family_value(family: Family) -> Value<'static> {
+pub fn family_value(family: Family) -> Value<'static> {
     Value::Int(if family == Family::V4 { 4 } else { 6 })
+}
+
+fn family_of(number: i64) -> Family {
+    match number {
+        4 => Family::V4,
+        6 => Family::V6,
+        _ => panic!("no family"),
+    }
 }
 
 /// The prefix in three columns of a row.
 fn prefix_at(row: &Row, at: i32) -> Prefix {
-    Prefix {
+    let prefix = Prefix {
         family: family_of(row.int(at)),
         number: u128::from_be_bytes(row.array(at + 1)),
         length: row.int(at + 2) as u32,
-    }
+    };
+    assert!(prefix.length <= prefix.family.width() && prefix == prefix.masked(), "no prefix");
+    prefix
 }
 
 fn peer_id(network: u32, number: u32) -> Value<'static> {
     Value::Int((i64::from(network) << 20) + i64::from(number))
 }
 
-fn number_of(id: i64) -> u32 {
+fn number_of(id: i64, network: u32) -> u32 {
+    assert!(id >> 20 == i64::from(network), "a peer of another network");
     (id & 0xF_FFFF) as u32
+}
+
+/// An allowed prefix of a network, with its peer's number.
+fn allowed_at(row: &Row, network: u32) -> (Prefix, u32) {
+    let prefix = prefix_at(row, 1);
+    assert!(row.array(4) == prefix.last().to_be_bytes(), "another last address");
+    (prefix, number_of(row.int(5), network))
 }
 
 fn status_at(row: &Row, at: i32) -> Option<Status> {
@@ -85,15 +132,13 @@ fn status_at(row: &Row, at: i32) -> Option<Status> {
     (!row.is_null(at)).then_some(Status { handshake, received, sent })
 }
 
-fn peer_at(row: &Row) -> Peer {
-    let until = row.int(4);
-    assert!(until == 0, "a lease that ends");
+fn peer_at(row: &Row, network: u32) -> Peer {
     Peer {
-        number: number_of(row.int(0)),
+        number: number_of(row.int(0), network),
         key: row.array(2),
         label: row.text(3),
         address: Prefix::full(Family::V4, 0),
-        until,
+        until: row.int(4),
         keepalive: row.int(5) as u32,
         status: status_at(row, 6),
     }
@@ -104,12 +149,12 @@ fn load_peers(db: &mut Connection, network: u32) -> Vec<Peer> {
     let mut peers = db.rows(
         "SELECT id, network, key, label, until, keepalive, handshake, received, sent FROM peer WHERE network = ?1 ORDER BY id",
         &id,
-        peer_at,
+        |row| peer_at(row, network),
     );
     let addresses = db.rows(
         "SELECT network, family, lo, length, hi, peer, kind FROM allowed WHERE network = ?1 AND kind <> 'route' ORDER BY peer",
         &id,
-        |row| (prefix_at(row, 1), number_of(row.int(5))),
+        |row| allowed_at(row, network),
     );
     assert!(peers.len() == addresses.len(), "a peer has one address");
     for (peer, (address, number)) in peers.iter_mut().zip(addresses) {
@@ -123,40 +168,68 @@ fn load_routes(db: &mut Connection, network: u32) -> Vec<(Prefix, u32)> {
     db.rows(
         "SELECT network, family, lo, length, hi, peer, kind FROM allowed WHERE network = ?1 AND kind = 'route' ORDER BY family, lo, length",
         &[Value::Int(i64::from(network))],
-        |row| (prefix_at(row, 1), number_of(row.int(5))),
+        |row| allowed_at(row, network),
     )
 }
 
-pub fn tenant_of_token(db: &mut Connection, digest: &[u8; 32]) -> Option<i64> {
+/// The network of this row, without peers and routes.
+fn settled_at(row: &Row) -> Network {
+    Network {
+        id: row.int(0) as u32,
+        tenant: row.int(1) as u32,
+        name: row.text(2),
+        pool: prefix_at(row, 3),
+        host: row.text(6),
+        port: row.int(7) as u32,
+        server: row.array(8),
+        capacity: row.int(9) as usize,
+        next: row.int(10) as u32,
+        peers: Vec::new(),
+        routes: Vec::new(),
+    }
+}
+
+pub fn tenant_of_token(db: &mut Connection, digest: &[u8; 32]) -> Option<u32> {
     let sql = "SELECT digest, tenant FROM token WHERE digest = ?1";
-    db.rows(sql, &[Value::Blob(digest)], |row| row.int(1)).pop()
+    db.rows(sql, &[Value::Blob(digest)], |row| row.int(1) as u32).pop()
+}
+
+/// The id of the tenant's network of this name.
+pub fn network_id(db: &mut Connection, tenant: u32, name: &str) -> Option<u32> {
+    let values = [Value::Int(i64::from(tenant)), Value::Text(name)];
+    db.rows(networks!(" WHERE tenant = ?1 AND name = ?2"), &values, |row| row.int(0) as u32).pop()
+}
+
+/// The tenant's networks by name, without peers and routes.
+pub fn networks_of(db: &mut Connection, tenant: u32) -> Vec<Network> {
+    let tenant = [Value::Int(i64::from(tenant))];
+    let mut networks = db.rows(networks!(" WHERE tenant = ?1"), &tenant, settled_at);
+    networks.sort_by(|one, other| one.name.cmp(&other.name));
+    networks
+}
+
+/// All networks, without peers and routes.
+pub fn all_networks(db: &mut Connection) -> Vec<Network> {
+    db.rows(networks!(""), &[], settled_at)
+}
+
+/// The same, in the order of their ids.
+pub fn networks_by_id(db: &mut Connection) -> Vec<Network> {
+    db.rows(networks!(" ORDER BY id"), &[], settled_at)
+}
+
+impl Peer {
+    pub fn is_live(&self, now: i64) -> bool {
+        self.until == 0 || now < self.until
+    }
 }
 
 impl Network {
-    /// The tenant's network of this name, without peers and routes.
-    fn settled(db: &mut Connection, tenant: i64, name: &str) -> Option<Network> {
-        db.rows(
-            "SELECT id, tenant, name, family, lo, length, host, port, server, capacity, next FROM network WHERE tenant = ?1 AND name = ?2",
-            &[Value::Int(tenant), Value::Text(name)],
-            |row| Network {
-                id: row.int(0) as u32,
-                pool: prefix_at(row, 3),
-                port: row.int(7) as u32,
-                server: row.array(8),
-                capacity: row.int(9) as usize,
-                next: row.int(10) as u32,
-                peers: Vec::new(),
-                routes: Vec::new(),
-            },
-        )
-        .pop()
-    }
-
-    pub fn load(db: &mut Connection, tenant: i64, name: &str) -> Option<Network> {
-        let mut network = Network::settled(db, tenant, name)?;
-        network.peers = load_peers(db, network.id);
-        network.routes = load_routes(db, network.id);
-        Some(network)
+    pub fn load(db: &mut Connection, id: u32) -> Network {
+        let values = [Value::Int(i64::from(id))];
+        let settled = db.rows(networks!(" WHERE id = ?1"), &values, settled_at).pop();
+        let (peers, routes) = (load_peers(db, id), load_routes(db, id));
+        Network { peers, routes, ..settled.expect("a network of this id") }
     }
 
     /// The server's address, at full length.
@@ -172,15 +245,16 @@ impl Network {
         }
     }
 
-    fn gives(&self, prefix: &Prefix) -> bool {
+    pub fn gives(&self, prefix: &Prefix) -> bool {
         prefix.family == self.pool.family
             && prefix.length == prefix.family.width()
             && (self.pool.number + 2..=self.last_address()).contains(&prefix.number)
     }
 
-    /// The lowest address that neither a peer nor a route in the pool has.
-    fn lowest_free(&self) -> Option<Prefix> {
-        let own = self.peers.iter().map(|peer| (peer.address.number, peer.address.number));
+    /// The lowest address that neither a peer but the mover nor a route in the pool has.
+    fn lowest_free(&self, mover: Option<u32>) -> Option<Prefix> {
+        let others = self.peers.iter().filter(|peer| Some(peer.number) != mover);
+        let own = others.map(|peer| (peer.address.number, peer.address.number));
         let inner = self.routes.iter().filter(|route| self.pool.covers(&route.0));
         let mut held: Vec<_> = own.chain(inner.map(|route| (route.0.number, route.0.last()))).collect();
         held.sort_unstable();
@@ -194,28 +268,84 @@ impl Network {
         (free <= self.last_address()).then(|| Prefix::full(self.pool.family, free))
     }
 
-    pub fn add(&self, key: [u8; 32]) -> Change {
+    pub fn peer(&self, number: u32) -> Result<&Peer, Refusal> {
+        let place = self.peers.binary_search_by_key(&number, |peer| peer.number);
+        place.map(|place| &self.peers[place]).map_err(|_| Refusal::NoSuchPeer)
+    }
+
+    fn no_change(&self) -> Change {
+        Change {
+            removed: Vec::new(),
+            routes_gone: Vec::new(),
+            peers: Vec::new(),
+            routes: Vec::new(),
+            next: self.next,
+        }
+    }
+
+    pub fn add(&self, wanted: Wanted) -> Result<Change, Refusal> {
+        let Wanted { key, label, until, keepalive } = wanted;
         assert!(key != self.server, "a refusal");
-        assert!(!self.peers.iter().any(|peer| peer.key == key), "a refusal");
+        if let Some(holder) = self.peers.iter().find(|peer| peer.key == key) {
+            return Err(Refusal::KeyHeld(holder.number));
+        }
         assert!(self.peers.len() < self.capacity, "a refusal");
-        let peer = Peer {
-            number: self.next,
-            key,
-            label: String::new(),
-            address: self.lowest_free().expect("a refusal"),
-            until: 0,
-            keepalive: 0,
-            status: None,
-        };
-        Change { peers: vec![peer], routes: Vec::new(), next: self.next + 1 }
+        let address = self.lowest_free(None).expect("a refusal");
+        let peer = Peer { number: self.next, key, label, address, until, keepalive, status: None };
+        Ok(Change { peers: vec![peer], next: self.next + 1, ..self.no_change() })
+    }
+
+    /// The peer gets the lowest free address.
+    pub fn relocate(&self, number: u32) -> Result<Change, Refusal> {
+        let peer = self.peer(number)?.clone();
+        let address = self.lowest_free(Some(number)).expect("a refusal");
+        Ok(Change { peers: vec![Peer { address, ..peer }], ..self.no_change() })
+    }
+
+    pub fn renew(&self, number: u32, until: i64) -> Result<Change, Refusal> {
+        let peer = self.peer(number)?.clone();
+        Ok(Change { peers: vec![Peer { until, ..peer }], ..self.no_change() })
+    }
+
+    pub fn revoke(&self, number: u32) -> Result<Change, Refusal> {
+        self.peer(number)?;
+        Ok(Change { removed: vec![number], ..self.no_change() })
+    }
+
+    pub fn is_address(&self, prefix: &Prefix) -> bool {
+        *prefix == self.server_address() || self.peers.iter().any(|peer| peer.address == *prefix)
+    }
+
+    /// The peer to which this very prefix leads.
+    pub fn route(&self, prefix: &Prefix) -> Result<u32, Refusal> {
+        let place = self.routes.binary_search_by_key(prefix, |route| route.0);
+        place.map(|place| self.routes[place].1).map_err(|_| Refusal::NoSuchRoute)
+    }
+
+    pub fn lead(&self, prefix: Prefix, number: u32) -> Result<Change, Refusal> {
+        self.peer(number)?;
+        let has_room = self.route(&prefix).is_ok() || self.routes.len() < MAX_ROUTES;
+        assert!(!self.is_address(&prefix) && has_room, "a refusal");
+        Ok(Change { routes: vec![(prefix, number)], ..self.no_change() })
+    }
+
+    pub fn unroute(&self, prefix: Prefix) -> Result<Change, Refusal> {
+        self.route(&prefix)?;
+        Ok(Change { routes_gone: vec![prefix], ..self.no_change() })
     }
 
     /// The peer to which the longest prefix that has the address leads.
-    pub fn owner(&self, address: &Prefix) -> Option<u32> {
+    pub fn owner(&self, address: &Prefix) -> Result<u32, Refusal> {
         let own = self.peers.iter().map(|peer| (peer.address, peer.number));
         let allowed = own.chain(self.routes.iter().copied());
         let having = allowed.filter(|(prefix, _)| prefix.covers(address));
-        having.max_by_key(|(prefix, _)| prefix.length).map(|(_, number)| number)
+        let longest = having.max_by_key(|(prefix, _)| prefix.length);
+        longest.map(|(_, number)| number).ok_or(Refusal::NobodysAddress)
+    }
+
+    pub fn routes_to(&self, number: u32) -> Vec<Prefix> {
+        let own = self.routes.iter().filter(|route| route.1 == number);
+        own.map(|route| route.0).collect()
     }
 
     /// The routes of each peer.
@@ -233,7 +363,7 @@ impl Network {
         let mut keys: HashSet<_> = self.peers.iter().map(|peer| peer.key).collect();
         let mut addresses: HashSet<_> = self.peers.iter().map(|peer| peer.address).collect();
         let mut routes: BTreeMap<_, _> = self.routes.iter().copied().collect();
-        let mut change = Change { peers: Vec::new(), routes: Vec::new(), next: self.next };
+        let mut change = self.no_change();
         for line in lines {
             let named = line.allowed.iter().find(|prefix| self.gives(prefix));
             let address = *named.expect("a line that names no address");
@@ -255,19 +385,29 @@ impl Network {
 
     /// Writes the change in one commit.
     pub fn commit(&self, db: &mut Connection, change: &Change) {
-        db.run("BEGIN", &[]);
-        for peer in &change.peers {
-            drop_peer(db, self.id, peer.number);
-        }
-        for peer in &change.peers {
-            put_peer(db, self.id, peer);
-        }
-        for (prefix, number) in &change.routes {
-            put_route(db, self.id, prefix, *number);
-        }
-        let next = [Value::Int(i64::from(self.id)), Value::Int(i64::from(change.next))];
-        db.run("UPDATE network SET next = ?2 WHERE id = ?1", &next);
-        db.run("COMMIT", &[]);
+        db.commit(|db| {
+            for number in &change.removed {
+                drop_peer_row(db, self.id, *number);
+                drop_allowed(db, self.id, *number);
+            }
+            for prefix in &change.routes_gone {
+                drop_route(db, self.id, prefix);
+            }
+            // The rows of all go first, since two of them may have changed their addresses.
+            for peer in &change.peers {
+                drop_peer_row(db, self.id, peer.number);
+                drop_address(db, self.id, peer.number);
+            }
+            for peer in &change.peers {
+                put_peer(db, self.id, peer);
+            }
+            for (prefix, number) in &change.routes {
+                drop_route(db, self.id, prefix);
+                put_allowed(db, self.id, prefix, *number, "route");
+            }
+            let next = [Value::Int(i64::from(self.id)), Value::Int(i64::from(change.next))];
+            db.run("UPDATE network SET next = ?2 WHERE id = ?1", &next);
+        });
     }
 }
 
@@ -285,10 +425,31 @@ impl Seen {
     }
 }
 
-fn drop_peer(db: &mut Connection, network: u32, number: u32) {
+fn drop_peer_row(db: &mut Connection, network: u32, number: u32) {
     let values = [Value::Int(i64::from(network)), peer_id(network, number)];
     db.run("DELETE FROM peer WHERE network = ?1 AND id = ?2", &values);
+}
+
+fn drop_address(db: &mut Connection, network: u32, number: u32) {
+    let values = [Value::Int(i64::from(network)), peer_id(network, number)];
     db.run("DELETE FROM allowed WHERE network = ?1 AND peer = ?2 AND kind <> 'route'", &values);
+}
+
+fn drop_allowed(db: &mut Connection, network: u32, number: u32) {
+    let values = [Value::Int(i64::from(network)), peer_id(network, number)];
+    db.run("DELETE FROM allowed WHERE network = ?1 AND peer = ?2", &values);
+}
+
+fn drop_route(db: &mut Connection, network: u32, prefix: &Prefix) {
+    db.run(
+        "DELETE FROM allowed WHERE network = ?1 AND family = ?2 AND lo = ?3 AND length = ?4 AND kind = 'route'",
+        &[
+            Value::Int(i64::from(network)),
+            family_value(prefix.family),
+            Value::Blob(&prefix.number.to_be_bytes()),
+            Value::Int(i64::from(prefix.length)),
+        ],
+    );
 }
 
 fn put_peer(db: &mut Connection, network: u32, peer: &Peer) {
@@ -307,37 +468,20 @@ fn put_peer(db: &mut Connection, network: u32, peer: &Peer) {
             of_status(|status| status.sent),
         ],
     );
-    let bytes = peer.address.number.to_be_bytes();
-    db.run(
-        "INSERT INTO allowed (network, family, lo, length, hi, peer, kind) VALUES (?1, ?2, ?3, ?4, ?5, ?6, 'address')",
-        &[
-            Value::Int(i64::from(network)),
-            family_value(peer.address.family),
-            Value::Blob(&bytes),
-            Value::Int(i64::from(peer.address.length)),
-            Value::Blob(&bytes),
-            peer_id(network, peer.number),
-        ],
-    );
+    put_allowed(db, network, &peer.address, peer.number, "address");
 }
 
-fn put_route(db: &mut Connection, network: u32, prefix: &Prefix, number: u32) {
-    let (lo, hi) = (prefix.number.to_be_bytes(), prefix.last().to_be_bytes());
-    let id = i64::from(network);
-    let length = i64::from(prefix.length);
+fn put_allowed(db: &mut Connection, network: u32, prefix: &Prefix, number: u32, kind: &str) {
     db.run(
-        "DELETE FROM allowed WHERE network = ?1 AND family = ?2 AND lo = ?3 AND length = ?4 AND kind = 'route'",
-        &[Value::Int(id), family_value(prefix.family), Value::Blob(&lo), Value::Int(length)],
-    );
-    db.run(
-        "INSERT INTO allowed (network, family, lo, length, hi, peer, kind) VALUES (?1, ?2, ?3, ?4, ?5, ?6, 'route')",
+        "INSERT INTO allowed (network, family, lo, length, hi, peer, kind) VALUES (?1, ?2, ?3, ?4, ?5, ?6, ?7)",
         &[
-            Value::Int(id),
+            Value::Int(i64::from(network)),
             family_value(prefix.family),
-            Value::Blob(&lo),
-            Value::Int(length),
-            Value::Blob(&hi),
+            Value::Blob(&prefix.number.to_be_bytes()),
+            Value::Int(i64::from(prefix.length)),
+            Value::Blob(&prefix.last().to_be_bytes()),
             peer_id(network, number),
+            Value::Text(kind),
         ],
     );
 }

@@ -1,4 +1,4 @@
-//! The bodies of replies: JSON, and the server's file.
+//! The bodies of replies: JSON, and configuration files.
 
 use crate::key::write_key;
 use crate::network::{Network, Peer, Status};
@@ -55,10 +55,9 @@ fn put_peer(peer: &Peer, routes: &[Prefix], out: &mut Vec<u8>) {
     out.push(b'}');
 }
 
-/// A peer that has no routes yet.
-pub fn new_peer(peer: &Peer) -> Vec<u8> {
+pub fn peer(peer: &Peer, routes: &[Prefix]) -> Vec<u8> {
     let mut out = Vec::new();
-    put_peer(peer, &[], &mut out);
+    put_peer(peer, routes, &mut out);
     out
 }
 
@@ -75,8 +74,33 @@ pub fn list(network: &Network) -> Vec<u8> {
     out
 }
 
+fn put_network(network: &Network, out: &mut Vec<u8>) {
+    let Network { name, host, port, capacity, .. } = network;
+    put!(out, "{{\"capacity\":{capacity},\"endpoint\":\"{host}:{port}\",\"name\":\"{name}\",\"pool\":\"");
+    put_prefix(&network.pool, out);
+    put!(out, "\",\"server\":\"");
+    write_key(&network.server, out);
+    put!(out, "\"}}");
+}
+
+pub fn networks(networks: &[Network]) -> Vec<u8> {
+    let mut out = b"{\"networks\":[".to_vec();
+    for (at, network) in networks.iter().enumerate() {
+        if at > 0 {
+            out.push(b',');
+        }
+        put_network(network, &mut out);
+    }
+    out.extend_from_slice(b"]}");
+    out
+}
+
 pub fn owner(number: u32) -> Vec<u8> {
     format!("{{\"number\":{number}}}").into_bytes()
+}
+
+pub fn revoked(number: u32) -> Vec<u8> {
+    format!("{{\"revoked\":{number}}}").into_bytes()
 }
 
 /// What an adoption added; no line found its key held.
@@ -85,8 +109,32 @@ pub fn adopted(peers: &[Peer]) -> Vec<u8> {
     format!("{{\"added\":[{}],\"known\":0}}", numbers.join(",")).into_bytes()
 }
 
-pub fn error(name: &str) -> Vec<u8> {
-    format!("{{\"error\":\"{name}\"}}").into_bytes()
+/// Why a request is refused, and the number of the peer that it is about.
+pub fn error(name: &str, number: Option<u32>) -> Vec<u8> {
+    let fact = number.map_or(String::new(), |number| format!(",\"number\":{number}"));
+    format!("{{\"error\":\"{name}\"{fact}}}").into_bytes()
+}
+
+fn put_section(key: &[u8; 32], out: &mut Vec<u8>) {
+    put!(out, "\n[Peer]\nPublicKey = ");
+    write_key(key, out);
+    out.push(b'\n');
+}
+
+fn put_allowed<'a>(first: &Prefix, others: impl IntoIterator<Item = &'a Prefix>, out: &mut Vec<u8>) {
+    put!(out, "AllowedIPs = ");
+    put_prefix(first, out);
+    for prefix in others {
+        put!(out, ", ");
+        put_prefix(prefix, out);
+    }
+    out.push(b'\n');
+}
+
+fn put_keepalive(peer: &Peer, out: &mut Vec<u8>) {
+    if peer.keepalive != 0 {
+        put!(out, "PersistentKeepalive = {}\n", peer.keepalive);
+    }
 }
 
 pub fn server_file(network: &Network, is_quick: bool) -> Vec<u8> {
@@ -99,18 +147,25 @@ pub fn server_file(network: &Network, is_quick: bool) -> Vec<u8> {
     }
     put!(out, "ListenPort = {}\n", network.port);
     for peer in &network.peers {
-        put!(out, "\n[Peer]\nPublicKey = ");
-        write_key(&peer.key, &mut out);
-        put!(out, "\nAllowedIPs = ");
-        put_prefix(&peer.address, &mut out);
-        for route in routes.get(&peer.number).into_iter().flatten() {
-            put!(out, ", ");
-            put_prefix(route, &mut out);
-        }
-        out.push(b'\n');
-        if peer.keepalive != 0 {
-            put!(out, "PersistentKeepalive = {}\n", peer.keepalive);
-        }
+        put_section(&peer.key, &mut out);
+        put_allowed(&peer.address, routes.get(&peer.number).into_iter().flatten(), &mut out);
+        put_keepalive(peer, &mut out);
     }
+    out
+}
+
+/// The file of a peer, whose network's host is a name.
+pub fn peer_file(network: &Network, peer: &Peer, is_quick: bool) -> Vec<u8> {
+    let mut out = b"[Interface]\n".to_vec();
+    if is_quick {
+        put!(out, "Address = ");
+        put_prefix(&peer.address, &mut out);
+        out.push(b'\n');
+    }
+    put_section(&network.server, &mut out);
+    let others = network.routes.iter().filter(|route| route.1 != peer.number && !network.pool.covers(&route.0));
+    put_allowed(&network.pool, others.map(|route| &route.0), &mut out);
+    put!(out, "Endpoint = {}:{}\n", network.host, network.port);
+    put_keepalive(peer, &mut out);
     out
 }

@@ -99,12 +99,13 @@ impl Row {
 }
 
 impl Connection {
-    /// Opens a file that is there.
+    /// Opens a file that is there, as a program has it that nobody else writes, durable at each commit.
     pub fn open(path: &str) -> Connection {
         let path = CString::new(path).expect("a path with a zero");
         let mut made = Connection { db: ptr::null_mut(), statements: HashMap::new() };
         let code = unsafe { sqlite3_open_v2(path.as_ptr(), &mut made.db, READ_WRITE, ptr::null()) };
         made.expect(code, OK);
+        made.batch(c"PRAGMA locking_mode = EXCLUSIVE; PRAGMA journal_mode = WAL; PRAGMA synchronous = EXTRA");
         made
     }
 
@@ -116,7 +117,7 @@ impl Connection {
     }
 
     /// Runs statements that have no values.
-    pub fn batch(&self, sql: &CStr) {
+    fn batch(&self, sql: &CStr) {
         let none = ptr::null_mut();
         let code = unsafe { sqlite3_exec(self.db, sql.as_ptr(), None, none, ptr::null_mut()) };
         self.expect(code, OK);
@@ -172,6 +173,13 @@ impl Connection {
     /// Runs a statement that has no rows.
     pub fn run(&mut self, sql: &'static str, values: &[Value<'_>]) {
         self.rows(sql, values, |_| ());
+    }
+
+    /// Writes all of it in one commit.
+    pub fn commit(&mut self, write: impl FnOnce(&mut Connection)) {
+        self.run("BEGIN", &[]);
+        write(self);
+        self.run("COMMIT", &[]);
     }
 }
 

@@ -2,7 +2,7 @@
 use Rattle.std.proofs.Common.{◌≡◌, [], ◌∷◌, Some, None, codes, refl}
 use Rattle.clap.specs.declared.error.kind.ErrorKind.TheVariants as kind
 use Rattle.clap.proofs.OnLiterals.{clap_on_literals}
-use Rattle.wgr_command_line.specs.Words.{asked_by, wrong_with, NetworkAdd, Init, NetworkEnd, Operate, Plan, TenantAdd, TokenEnd, TokenGrant}
+use Rattle.wgr_command_line.specs.Words.{asked_by, wrong_with, Batch, Init, NetworkEnd, Operate, Plan, Serve, TenantAdd, TokenEnd, TokenGrant}
 
 plan : asked_by (codes "plan" ∷ codes "10.8.0.0/24" ∷ []) ≡ Some (Plan (codes "10.8.0.0/24"))
 unfolding clap_on_literals
@@ -55,6 +55,22 @@ token_end = refl
 network_end : asked_by (codes "network-end" ∷ codes "a.db" ∷ codes "acme" ∷ codes "lab" ∷ []) ≡ Some (Operate (codes "a.db") (NetworkEnd (codes "acme") (codes "lab")))
 unfolding clap_on_literals
 network_end = refl
+
+batch : asked_by (codes "batch" ∷ codes "a.db" ∷ codes "--now" ∷ codes "7" ∷ codes "b" ∷ codes "c" ∷ []) ≡ Some (Batch (codes "a.db") (codes "7") (codes "b" ∷ codes "c" ∷ []))
+unfolding clap_on_literals
+batch = refl
+
+batch_of_no_file : asked_by (codes "batch" ∷ codes "a.db" ∷ codes "--now" ∷ codes "7" ∷ []) ≡ None
+unfolding clap_on_literals
+batch_of_no_file = refl
+
+serve : asked_by (codes "serve" ∷ codes "a.db" ∷ codes "[::1]:80" ∷ codes "--count" ∷ codes "2" ∷ []) ≡ Some (Serve (codes "a.db") (codes "[::1]:80") (codes "2") None)
+unfolding clap_on_literals
+serve = refl
+
+serve_at_a_moment : asked_by (codes "serve" ∷ codes "a.db" ∷ codes "[::1]:80" ∷ codes "--now" ∷ codes "7" ∷ codes "--count" ∷ codes "2" ∷ []) ≡ Some (Serve (codes "a.db") (codes "[::1]:80") (codes "2") (Some (codes "7")))
+unfolding clap_on_literals
+serve_at_a_moment = refl
 
 -- what is wrong with them
 no_word_wrong : wrong_with [] ≡ kind.MissingSubcommand ∷ []

@@ -1,9 +1,10 @@
 -- The command line: what the words of `wgr` ask for, and what is wrong with them.
-use Rattle.std.specs.Prelude.{◌≡◌, ◌≢◌, true, List, [], ◌∷◌, Option, Some, None, codes, option_and_then, if◌then◌else◌, slice_get}
+use Rattle.std.specs.Prelude.{◌≡◌, ◌≢◌, true, List, [], ◌∷◌, Option, Some, None, codes, map, option_and_then, option_map, if◌then◌else◌, slice_get}
 use Rattle.std.specs.Str.{bytes_eq}
 use Rattle.clap.specs.Kinds.{or_else}
+use Rattle.clap.specs.Lexer.{usize_max}
 use Rattle.clap.specs.Simple.{new_shape}
-use Rattle.clap.specs.Words.{App, Kinds, Row, Rule, Text, fault_of, first_of, new_app, new_rule, subcommand_of, with_rule, with_subcommand}
+use Rattle.clap.specs.Words.{App, Kinds, Row, Rule, Text, fault_of, all_of, first_of, new_app, new_rule, subcommand_of, with_rule, with_subcommand}
 use Rattle.clap.specs.declared.error.kind.ErrorKind.TheVariants.{MissingSubcommand}
 use Rattle.wgr_command_line.specs.declared.request.NetworkWords.{NetworkWords}
 use Rattle.wgr_command_line.specs.declared.request.OrderWords.{OrderWords}
@@ -20,6 +21,14 @@ value_rule id = record (new_rule id) { value_names = 1; required = true }
 -- or behind its name, as `--port N`
 abbrev pub option_rule : Text → Rule
 option_rule id = record (value_rule id) { long = Some id }
+
+-- or, behind its name, may be missing
+abbrev pub choice_rule : Text → Rule
+choice_rule id = record (new_rule id) { value_names = 1; long = Some id }
+
+-- one value or more, by their places
+abbrev pub values_rule : Text → Rule
+values_rule id = record (value_rule id) { range = Some (record { start_inclusive = 1; end_inclusive = usize_max }) }
 
 abbrev pub with_value : Text → App → App
 with_value id app = with_rule app (value_rule id)
@@ -65,6 +74,14 @@ network_add_app =
 abbrev pub network_end_app : App
 network_end_app = network_app (codes "network-end")
 
+-- `batch DB --now N FILE..`
+abbrev pub batch_app : App
+batch_app = with_rule (with_option (codes "now") (db_app (codes "batch"))) (values_rule (codes "file"))
+
+-- `serve DB HOST:PORT --count N [--now N]`
+abbrev pub serve_app : App
+serve_app = with_rule (with_option (codes "count") (with_value (codes "place") (db_app (codes "serve")))) (choice_rule (codes "now"))
+
 -- `wgr` has a version and does nothing by itself; its own name is none of the words
 abbrev pub wgr_alone : App
 wgr_alone = record {
@@ -77,8 +94,8 @@ with_command command app = with_subcommand app command.top
 
 abbrev pub wgr_app : App
 wgr_app =
-    with_command network_end_app (with_command network_add_app (with_command token_end_app (with_command token_grant_app
-    (with_command tenant_add_app (with_command init_app (with_command plan_app wgr_alone))))))
+    with_command serve_app (with_command batch_app (with_command network_end_app (with_command network_add_app (with_command token_end_app (with_command token_grant_app
+    (with_command tenant_add_app (with_command init_app (with_command plan_app wgr_alone))))))))
 
 -- ---- what is asked for
 
@@ -100,11 +117,14 @@ pub data OrderAsked : Type 0 where
   NetworkAdd : (network : NetworkAsked) → OrderAsked
   NetworkEnd : (tenant name : Text) → OrderAsked
 
--- a plan of a pool, a new register in the file `db`, or an order on the register there
+-- A plan of a pool; a new register in the file `db`, or an order on the register there; the answers to the
+-- requests in files, or to connections, at a moment or by the clock.
 pub data Asked : Type 0 where
   Plan : (pool : Text) → Asked
   Init : (db : Text) → Asked
   Operate : (db : Text) (order : OrderAsked) → Asked
+  Batch : (db now : Text) (files : List Text) → Asked
+  Serve : (db place count : Text) (now : Option Text) → Asked
 
 -- what is made of the value under this name, which may not be missing
 abbrev pub with_first : Text → List Row → (Text → Option Asked) → Option Asked
@@ -150,9 +170,23 @@ network_end_in rows =
     with_first (codes "name") rows (λ name.
     Some (Operate db (NetworkEnd tenant name)))))
 
+abbrev pub batch_in : List Row → Option Asked
+batch_in rows =
+    with_first (codes "db") rows (λ db.
+    with_first (codes "now") rows (λ now.
+    option_map (Batch db now) (all_of (codes "file") rows)))
+
+abbrev pub serve_in : List Row → Option Asked
+serve_in rows =
+    with_first (codes "db") rows (λ db.
+    with_first (codes "place") rows (λ place.
+    with_first (codes "count") rows (λ count.
+    Some (Serve db place count (first_of (codes "now") rows)))))
+
 -- what a command asks for by its values
 abbrev pub asked_in : Text × List Row → Option Asked
 asked_in (name, rows) =
+    if bytes_eq name (codes "batch") then batch_in rows else
     if bytes_eq name (codes "plan") then plan_in rows else
     if bytes_eq name (codes "init") then init_in rows else
     if bytes_eq name (codes "tenant-add") then tenant_add_in rows else
@@ -160,6 +194,7 @@ asked_in (name, rows) =
     if bytes_eq name (codes "token-end") then token_end_in rows else
     if bytes_eq name (codes "network-add") then network_add_in rows else
     if bytes_eq name (codes "network-end") then network_end_in rows else
+    if bytes_eq name (codes "serve") then serve_in rows else
     None
 
 abbrev pub named_by : List Text → Option Asked
@@ -198,6 +233,8 @@ abbrev pub asked_of : Request → Asked
 asked_of (request.Plan pool) = Plan pool.now
 asked_of (request.Init db) = Init db.now
 asked_of (request.Operate db order) = Operate db.now (order_asked order)
+asked_of (request.Batch db now files) = Batch db.now now.now (map (λ file. file.now) files.items)
+asked_of (request.Serve db place count now) = Serve db.now place.now count.now (option_map (λ now. now.now) now)
 
 -- ---- a law
 

@@ -1,10 +1,10 @@
 //! The commands and their words, as `clap` reads them.
 ghost use Rattle.std.specs.Prelude.{◌≡◌, true, IfErr, IfOk};
 ghost use Rattle.clap.specs.Words.{app_of, kind_of, with_subcommand};
-ghost use Rattle.wgr_command_line.specs.Words.{db_app, init_app, network_add_app, network_app, network_end_app, plan_app, tenant_add_app, token_end_app, token_grant_app, wgr_alone, wgr_app};
+ghost use Rattle.wgr_command_line.specs.Words.{batch_app, db_app, init_app, network_add_app, network_app, network_end_app, plan_app, serve_app, tenant_add_app, token_end_app, token_grant_app, wgr_alone, wgr_app};
 
 use crate::help;
-use crate::values::{option, value};
+use crate::values::{choice, option, value, values};
 use clap::error::ErrorKind;
 use clap::{Command, Error};
 use std::alloc::Global;
@@ -21,6 +21,8 @@ pub(crate) fn wgr_command<'a>(alloc: Global) -> Result<Command<'a>, Error>
     let command = with_command(command, token_end_command(alloc)?)?;
     let command = with_command(command, network_add_command(alloc)?)?;
     let command = with_command(command, network_end_command(alloc)?)?;
+    let command = with_command(command, batch_command(alloc)?)?;
+    let command = with_command(command, serve_command(alloc)?)?;
     Ok(command)
 }
 
@@ -170,4 +172,40 @@ fn network_end_command<'a>(alloc: Global) -> Result<Command<'a>, Error>
         "Ends a network, and its peers and routes with it",
         help::NETWORK_END,
     )
+}
+
+fn batch_command<'a>(alloc: Global) -> Result<Command<'a>, Error>
+    ensures app { IfOk result (λ command. app_of command ≡ batch_app) }
+    ensures memory { IfErr result (λ error. kind_of error ≡ ErrorKind.OutOfMemory) }
+{
+    let command = db_command(alloc, "batch", "Answers requests from files", help::BATCH)?;
+    let now = option(
+        alloc,
+        "now",
+        "N",
+        "The moment of all requests, in seconds since 1970-01-01",
+    );
+    let file = values(alloc, "file", "FILE", "A request, as a client sends it");
+    Ok(command.arg(now)?.arg(file)?)
+}
+
+fn serve_command<'a>(alloc: Global) -> Result<Command<'a>, Error>
+    ensures app { IfOk result (λ command. app_of command ≡ serve_app) }
+    ensures memory { IfErr result (λ error. kind_of error ≡ ErrorKind.OutOfMemory) }
+{
+    let command = db_command(alloc, "serve", "Answers requests over HTTP", help::SERVE)?;
+    let place = value(
+        alloc,
+        "place",
+        "HOST:PORT",
+        "The address to listen on, such as 127.0.0.1:8080 or [::1]:8080",
+    );
+    let count = option(alloc, "count", "N", "How many connections are answered");
+    let now = choice(
+        alloc,
+        "now",
+        "N",
+        "The moment of all requests, in seconds since 1970-01-01; the clock's where it is left out",
+    );
+    Ok(command.arg(place)?.arg(count)?.arg(now)?)
 }

@@ -176,3 +176,49 @@ that begins with `-` is read behind the word `--`.
 Example:
   $ wgr network-end register.db acme office
   done";
+
+pub(crate) const BATCH: &str = "\
+Each FILE is one request, as a client sends it over HTTP. All files are read before DB is
+opened; then the requests are answered in turn, all at the moment N, and the replies are
+printed one after the other.
+
+Messages on standard error, with the exit status, and what to do:
+  wgr: bad_field now   2  N is no whole number up to 9223372036854775807: mend it
+  wgr: device          1  a file cannot be read, or the replies could not be printed
+  wgr: not_a_register  1  DB is missing or has no register: make one with `wgr init`
+  wgr: not_good        1  DB has rows that break the register's rules: take the last good
+                          copy of the file
+  wgr: store           1  DB cannot be read or written, is no database, or another program
+                          has it open: look at the file and its folder
+  wgr: no_memory       1  memory was refused: free some, and try again
+The status is 0 where all replies are printed and none of them is `unavailable`, else 1, and
+2 for a command line that does not read.
+
+Example:
+  $ printf 'GET /networks HTTP/1.1\\r\\nAuthorization: Bearer abc\\r\\n\\r\\n' > list
+  $ wgr batch register.db --now 1700000000 list";
+
+pub(crate) const SERVE: &str = "\
+Prints `listening` once the address is bound, and answers so many connections, one after the
+other, each with one request. HOST is an IPv4 address, or an IPv6 address in brackets. The
+moment of a request is N, or the clock's. A client that sends nothing holds those behind it:
+put a proxy before it, which also does TLS.
+
+Messages on standard error, with the exit status, and what to do:
+  wgr: connection           a connection failed; the next one is answered
+  wgr: bad_field host:port  2  HOST:PORT is not of the form: mend it
+  wgr: bad_field count      2  the count is no whole number up to 9223372036854775807
+  wgr: bad_field now        2  the moment is no such number
+  wgr: not_a_register       1  DB is missing or has no register: make one with `wgr init`
+  wgr: not_good             1  DB has rows that break the register's rules: take the last
+                               good copy of the file
+  wgr: store                1  DB cannot be read or written, is no database, or another
+                               program has it open: look at the file and its folder
+  wgr: no_memory            1  memory was refused: free some, and try again
+  wgr: device               1  the address cannot be bound, or `listening` not be printed
+The status is 0 once all connections are answered, and 2 for a command line that does not
+read.
+
+Example:
+  $ wgr serve register.db 127.0.0.1:8080 --count 1000000
+  listening";

@@ -12,18 +12,38 @@ use crate::commands::wgr_command;
 use crate::values;
 use clap::error::ErrorKind;
 use clap::{ArgMatches, Error};
-use std::alloc::Global;
+use std::alloc::{AllocError, Global};
 use std::convert::AsStr;
 
 /// What a command line asks for.
-#[derive(Clone, Copy)]
+#[derive(Drop)]
 pub enum Request<'a> {
     /// A plan of a pool.
-    Plan { pool: &'a str },
+    Plan {
+        pool: &'a str,
+    },
     /// A new register in a file.
-    Init { db: &'a str },
+    Init {
+        db: &'a str,
+    },
     /// An order on the register in a file.
-    Operate { db: &'a str, order: OrderWords<'a> },
+    Operate {
+        db: &'a str,
+        order: OrderWords<'a>,
+    },
+    /// The answers to the requests in files, at a moment.
+    Batch {
+        db: &'a str,
+        now: &'a str,
+        files: Vec<&'a str>,
+    },
+    /// The answers to so many connections, at a moment or by the clock.
+    Serve {
+        db: &'a str,
+        place: &'a str,
+        count: &'a str,
+        now: Option<&'a str>,
+    },
 }
 
 /// An order on a register. A token is none of the words.
@@ -48,18 +68,26 @@ pub struct NetworkWords<'a> {
     pub capacity: &'a str,
 }
 
-fn request_of<'a>(matches: &ArgMatches<'a>) -> Option<Request<'a>>
-    ensures { option_map asked_of result ≡ option_and_then asked_in (subcommand_rows_of matches.now) }
+fn request_of<'a>(
+    alloc: Global,
+    matches: &ArgMatches<'a>,
+) -> Result<Option<Request<'a>>, AllocError>
+    ensures { IfOk result (λ request. option_map asked_of request ≡ option_and_then asked_in (subcommand_rows_of matches.now)) }
 {
-    match matches.subcommand()? {
-        ("plan", found) => values::plan(found),
-        ("init", found) => values::init(found),
-        ("tenant-add", found) => values::tenant_add(found),
-        ("token-grant", found) => values::token_grant(found),
-        ("token-end", found) => values::token_end(found),
-        ("network-add", found) => values::network_add(found),
-        ("network-end", found) => values::network_end(found),
-        _ => None,
+    let Some(given) = matches.subcommand() else {
+        return Ok(None);
+    };
+    match given {
+        ("batch", found) => values::batch(alloc, found),
+        ("plan", found) => Ok(values::plan(found)),
+        ("init", found) => Ok(values::init(found)),
+        ("tenant-add", found) => Ok(values::tenant_add(found)),
+        ("token-grant", found) => Ok(values::token_grant(found)),
+        ("token-end", found) => Ok(values::token_end(found)),
+        ("network-add", found) => Ok(values::network_add(found)),
+        ("network-end", found) => Ok(values::network_end(found)),
+        ("serve", found) => Ok(values::serve(found)),
+        _ => Ok(None),
     }
 }
 
@@ -73,7 +101,8 @@ pub fn read_words<'a, S: AsStr>(alloc: Global, words: &'a [S]) -> Result<Request
 {
     let mut command = wgr_command(alloc)?;
     let matches = command.try_get_matches_from_mut(words)?;
-    match request_of(&matches) {
+    let asked = request_of(alloc, &matches)?;
+    match asked {
         Some(request) => Ok(request),
         None => Err(command.error(ErrorKind::MissingSubcommand, "a command is missing")?),
     }

@@ -1,11 +1,11 @@
 //! The values of a command's words, by their names.
-ghost use Rattle.std.specs.Prelude.{◌≡◌, false, option_map};
-ghost use Rattle.clap.specs.Words.{first_of, found_of, rows_of, rule_of};
-ghost use Rattle.wgr_command_line.specs.Words.{asked_of, init_in, network_add_in, network_end_in, option_rule, plan_in, tenant_add_in, token_end_in, token_grant_in, value_rule};
+ghost use Rattle.std.specs.Prelude.{◌≡◌, false, IfOk, map, option_map};
+ghost use Rattle.clap.specs.Words.{all_of, first_of, found_of, rows_of, rule_of};
+ghost use Rattle.wgr_command_line.specs.Words.{asked_of, batch_in, choice_rule, init_in, network_add_in, network_end_in, option_rule, plan_in, serve_in, tenant_add_in, token_end_in, token_grant_in, value_rule, values_rule};
 
 use crate::request::{NetworkWords, OrderWords, Request};
 use clap::{Arg, ArgMatches};
-use std::alloc::Global;
+use std::alloc::{AllocError, Global};
 
 /// A value that has to be there, by its place.
 pub(crate) fn value<'a>(alloc: Global, id: &'a str, shown: &'a str, help: &'a str) -> Arg<'a>
@@ -24,6 +24,22 @@ pub(crate) fn option<'a>(alloc: Global, id: &'a str, shown: &'a str, help: &'a s
     ensures local { result.global ≡ false }
 {
     value(alloc, id, shown, help).long(id)
+}
+
+/// A value that may be there, behind its name.
+pub(crate) fn choice<'a>(alloc: Global, id: &'a str, shown: &'a str, help: &'a str) -> Arg<'a>
+    ensures rule { rule_of result ≡ choice_rule id.now }
+    ensures local { result.global ≡ false }
+{
+    Arg::new(alloc, id).value_name(shown).help(help).long(id)
+}
+
+/// Values by their places, of which one has to be there.
+pub(crate) fn values<'a>(alloc: Global, id: &'a str, shown: &'a str, help: &'a str) -> Arg<'a>
+    ensures rule { rule_of result ≡ values_rule id.now }
+    ensures local { result.global ≡ false }
+{
+    value(alloc, id, shown, help).num_args(1..)
 }
 
 /// The first value under this name.
@@ -113,5 +129,54 @@ pub(crate) fn network_end<'a>(found: &ArgMatches<'a>) -> Option<Request<'a>>
     Some(Request::Operate {
         db,
         order: OrderWords::NetworkEnd { tenant, name },
+    })
+}
+
+/// All values under this name.
+fn all<'a>(
+    alloc: Global,
+    found: &ArgMatches<'a>,
+    id: &str,
+) -> Result<Option<Vec<&'a str>>, AllocError>
+    ensures { IfOk result (λ all. option_map (λ texts. map (λ text. text.now) texts.items) all ≡ all_of id.now (rows_of (found_of found.now))) }
+{
+    let Some(texts) = found.get_strs(id) else {
+        return Ok(None);
+    };
+    let mut all = Vec::new(alloc);
+    all.extend_from_slice(texts)?;
+    Ok(Some(all))
+}
+
+pub(crate) fn batch<'a>(
+    alloc: Global,
+    found: &ArgMatches<'a>,
+) -> Result<Option<Request<'a>>, AllocError>
+    ensures { IfOk result (λ request. option_map asked_of request ≡ batch_in (rows_of (found_of found.now))) }
+{
+    let Some(db) = first(found, "db") else {
+        return Ok(None);
+    };
+    let Some(now) = first(found, "now") else {
+        return Ok(None);
+    };
+    let Some(files) = all(alloc, found, "file")? else {
+        return Ok(None);
+    };
+    Ok(Some(Request::Batch { db, now, files }))
+}
+
+pub(crate) fn serve<'a>(found: &ArgMatches<'a>) -> Option<Request<'a>>
+    ensures { option_map asked_of result ≡ serve_in (rows_of (found_of found.now)) }
+{
+    let db = first(found, "db")?;
+    let place = first(found, "place")?;
+    let count = first(found, "count")?;
+    let now = first(found, "now");
+    Some(Request::Serve {
+        db,
+        place,
+        count,
+        now,
     })
 }

@@ -1,8 +1,9 @@
 //! The answers to events.
 ghost use Rattle.std.specs.Prelude.{◌≡◌};
 ghost use Rattle.wgr_office.specs.Pages.{IsEnd, IsMade};
+ghost use Rattle.wgr_office.specs.Serving.{reply_of};
 
-use crate::response::{Response, write_response};
+use crate::response::{Response, unavailable, write_response};
 use std::alloc::{AllocError, Global};
 use wgr_register::{AskFault, Done, OrderRefusal};
 use wgr_request::Fault;
@@ -16,6 +17,19 @@ pub enum Answer {
     Unavailable,
     /// The order is done or refused.
     Order(Result<Done, OrderRefusal>),
+}
+
+impl Answer {
+    /// The bytes that are written to a client: of the reply, or of [`unavailable`].
+    pub fn reply(&self) -> &[u8]
+        ensures { result.now ≡ reply_of self.now }
+    {
+        match self {
+            Answer::Bytes(bytes) => bytes.as_slice(),
+            Answer::Unavailable => unavailable(),
+            Answer::Order(_) => unavailable(),
+        }
+    }
 }
 
 // The answer of a reply that was made, or not for want of memory.

@@ -8,7 +8,6 @@ ghost use Rattle.wgr_office.specs.declared.answer.Answer as given;
 
 use crate::answer::Answer;
 use crate::office::Office;
-use crate::response::unavailable;
 use sqlite::Alter;
 use std::alloc::Global;
 use wgr_http::read_message;
@@ -44,20 +43,9 @@ pub(crate) fn serve_one<S: Alter, R: Read, W: Write>(
         Ok(answer) => answer,
         Err(_) => return Err(ServeFault::Read),
     };
-    match write_all(out, bytes_of(&answer)) {
+    match write_all(out, answer.reply()) {
         Ok(()) => Ok(()),
         Err(WriteFault { sent }) => Err(ServeFault::Write { sent }),
-    }
-}
-
-// The bytes to be written.
-fn bytes_of(answer: &Answer) -> &[u8]
-    ensures { result.now ≡ reply_of answer.now }
-{
-    match answer {
-        Answer::Bytes(bytes) => bytes.as_slice(),
-        Answer::Unavailable => unavailable(),
-        Answer::Order(_) => unavailable(),
     }
 }
 

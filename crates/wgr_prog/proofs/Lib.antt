@@ -1,2 +1,4 @@
+pub mod AnsweringLemmas
+pub mod EndpointLemmas
 pub mod OrderLemmas
 pub mod RegisterLemmas

@@ -1,3 +1,4 @@
+pub mod Answering
 pub mod OnRegister
 pub mod Order
 pub mod Status

@@ -7,7 +7,7 @@ use Rattle.clap.specs.Words.{IsAmong, Kinds, Text}
 use Rattle.clap.specs.declared.error.kind.ErrorKind.{ErrorKind}
 use Rattle.clap.specs.declared.error.kind.ErrorKind.TheVariants.{DisplayHelp, DisplayVersion, OutOfMemory}
 use Rattle.sqlite.specs.Store.{Ghosts}
-use Rattle.wgr_command_line.specs.Words.{Asked, Init, Operate, OrderAsked, Plan, asked_by, wrong_with}
+use Rattle.wgr_command_line.specs.Words.{Asked, Batch, Init, Operate, OrderAsked, Plan, Serve, asked_by, wrong_with}
 use Rattle.wgr_register.specs.declared.fault.Done.{Done}
 use Rattle.wgr_text.specs.Prefix.{PrefixValue}
 use Rattle.wgr_text.specs.PrefixText.{Spells}
@@ -16,6 +16,7 @@ use Rattle.wgr_plan.specs.declared.planner.PlanFault.{PlanFault}
 use Rattle.wgr_plan.specs.declared.planner.PlanFault.TheVariants.{Refused, NoMemory, Read, Write}
 use Rattle.wgr_prog.specs.declared.messages.TheConstants.{DONE, FAULT, REFUSED}
 use Rattle.wgr_plan.specs.PlanFault.{Answers, Streams}
+use Rattle.wgr_prog.specs.Answering.{EndsBatch, EndsServe, Output}
 use Rattle.wgr_prog.specs.OnRegister.{CarriesOut, IsMade}
 use Rattle.wgr_prog.specs.Order.{Input, wants_token}
 use Rattle.wgr_prog.specs.declared.register_words.Failure.{Failure}
@@ -98,6 +99,33 @@ pub record RunsOrder {S : Type 0} (g : Ghosts S) (asked : OrderAsked) (old new :
   pub told : Told old new answer status
   pub unread : wants_token asked ≡ false → ReadsNothing old new
 
+abbrev pub output_in : Streams → Output
+output_in s = record { written = s.written; failed = s.write_failed }
+
+-- all replies are those of the register, or one of them is Unavailable, which is a fault
+abbrev pub batch_status : Result Bool Failure → ℕ
+batch_status (Ok true) = DONE
+batch_status (Ok false) = FAULT
+batch_status (Err why) = failure_status why
+
+-- the requests in the files are answered
+pub record RunsBatch {S : Type 0} (g : Ghosts S) (now : Text) (files : List Text) (old new : Streams) (status : ℕ) : Type 0 where
+  pub answer : Result Bool Failure
+  pub ends : EndsBatch g now files (output_in old) (output_in new) answer
+  pub told : status ≡ batch_status answer
+  pub unread : ReadsNothing old new
+
+abbrev pub serve_status : Result (Unit {0}) Failure → ℕ
+serve_status (Ok done) = DONE
+serve_status (Err why) = failure_status why
+
+-- connections are served
+pub record RunsServe {S : Type 0} (g : Ghosts S) (place count : Text) (now : Option Text) (old new : Streams) (status : ℕ) : Type 0 where
+  pub answer : Result (Unit {0}) Failure
+  pub ends : EndsServe g place count now (output_in old) (output_in new) answer
+  pub told : status ≡ serve_status answer
+  pub unread : ReadsNothing old new
+
 -- ---- the command line
 
 -- memory is wanting, and nothing is read or printed
@@ -108,6 +136,8 @@ abbrev pub Runs : {S : Type 0} → Ghosts S → Asked → Streams → Streams �
 Runs g (Plan pool) old new status = RunsPlan pool old new status
 Runs g (Init db) old new status = RunsInit g old new status
 Runs g (Operate db order) old new status = RunsOrder g order old new status
+Runs g (Batch db now files) old new status = RunsBatch g now files old new status
+Runs g (Serve db place count now) old new status = RunsServe g place count now old new status
 
 -- the words ask for something
 abbrev pub ServesAsked : {S : Type 0} → Ghosts S → Asked → Streams → Streams → ℕ → Type 0

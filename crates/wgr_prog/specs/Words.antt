@@ -1,6 +1,9 @@
--- The fields of an order: what their texts spell.
-use Rattle.std.specs.Prelude.{ℕ, ◌≡◌, ◌-◌, true, List, [], ◌∷◌, cond, nat_eq, length, drop, take, codes, Some, Result, Ok, Err}
+-- The fields of the words: what their texts spell.
+use Rattle.std.specs.Prelude.{ℕ, ◌≡◌, ◌-◌, true, List, [], ◌∷◌, cond, nat_eq, length, drop, take, ◌++◌, codes, Some, Result, Ok, Err}
 use Rattle.std.specs.Cmp.Lexicographic.{pointwise}
+use Rattle.std.specs.Net.Grammar.{IsIpv4Text, IsIpv6Text}
+use Rattle.std.specs.declared.net.ip_addr.IpAddr.{IpAddr}
+use Rattle.std.specs.declared.net.ip_addr.IpAddr.TheVariants.{V4, V6}
 use Rattle.wgr_text.specs.Prefix.{AddrValue}
 use Rattle.wgr_text.specs.PrefixText.{Spells}
 use Rattle.wgr_peers.specs.Host.{IsHostText}
@@ -32,6 +35,19 @@ SpellsPort text n = SpellsWhole text n × IsPort n
 abbrev pub SpellsCapacity : List ℕ → ℕ → Type 0
 SpellsCapacity text n = SpellsWhole text n × IsCapacity n
 
+-- an IPv4 address, or an IPv6 address in brackets (RFC 3986, section 3.2.2)
+abbrev pub SpellsListener : List ℕ → IpAddr → Type 0
+SpellsListener text (V4 address) = IsIpv4Text text address
+SpellsListener text (V6 address) = (inner : List ℕ) × (text ≡ codes "[" ++ inner ++ codes "]") × IsIpv6Text inner address
+
+-- such an address, a colon and a port
+pub record SpellsEndpoint (text : List ℕ) (endpoint : IpAddr × ℕ) : Type 0 where
+  pub host : List ℕ
+  pub digits : List ℕ
+  pub parted : text ≡ host ++ codes ":" ++ digits
+  pub address : SpellsListener host endpoint.0
+  pub port : SpellsPort digits endpoint.1
+
 -- the text less its last byte where that is a newline
 abbrev pub line_of : List ℕ → List ℕ
 line_of text = cond (pointwise nat_eq (drop (length text - 1) text) (codes "\n")) (take (length text - 1) text) text
@@ -49,6 +65,9 @@ IsOf of.Host text = (host : List ℕ) × IsHostText text host
 IsOf of.Port text = (n : ℕ) × SpellsPort text n
 IsOf of.Key text = (key : Key) × SpellsKey text key
 IsOf of.Capacity text = (n : ℕ) × SpellsCapacity text n
+IsOf of.HostPort text = (endpoint : IpAddr × ℕ) × SpellsEndpoint text endpoint
+IsOf of.Count text = (n : ℕ) × SpellsWhole text n
+IsOf of.Now text = (n : ℕ) × SpellsWhole text n
 IsOf of.Token text = (digest : List ℕ) × SpellsToken text digest
 
 -- the value that a field's text spells, or the field where it spells none; want of memory says nothing

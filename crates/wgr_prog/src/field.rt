@@ -1,18 +1,20 @@
-//! The fields of an order, each by its form.
+//! The fields of the words, each by its form.
 ghost use Rattle.std.specs.Prelude.{ℕ, ◌<◌, slice_index};
 ghost use Rattle.wgr_dump.specs.Fields.{SpellsKey};
 ghost use Rattle.wgr_peers.specs.Host.{IsHostText};
-ghost use Rattle.wgr_prog.specs.Words.{IsRead, SpellsCapacity, SpellsName, SpellsPlace, SpellsPort, SpellsToken};
+ghost use Rattle.wgr_prog.specs.Words.{IsRead, SpellsCapacity, SpellsEndpoint, SpellsName, SpellsPlace, SpellsPort, SpellsToken, SpellsWhole};
 ghost use Rattle.wgr_prog.specs.declared.field.Field.TheVariants as of;
 
-use crate::numbers::{read_capacity, read_port};
+use crate::endpoint::read_endpoint;
+use crate::numbers::{read_capacity, read_port, read_whole};
 use std::alloc::{AllocError, Global};
 use std::fmt;
+use std::net::IpAddr;
 use wgr_core::{Capacity, Host, Name, Port};
 use wgr_request::token_digest;
 use wgr_text::{Addr, Key, read_loose};
 
-/// A field of an order.
+/// A field of the words.
 #[derive(Clone, Copy, Debug, PartialEq, Eq)]
 pub enum Field {
     Tenant,
@@ -22,6 +24,9 @@ pub enum Field {
     Port,
     Key,
     Capacity,
+    HostPort,
+    Count,
+    Now,
     Token,
 }
 
@@ -36,6 +41,9 @@ impl fmt::Display for Field {
             Field::Port => "port",
             Field::Key => "key",
             Field::Capacity => "capacity",
+            Field::HostPort => "host:port",
+            Field::Count => "count",
+            Field::Now => "now",
             Field::Token => "token",
         })
     }
@@ -124,6 +132,26 @@ pub(crate) fn read_capacity_field(text: &str) -> Result<Capacity, WordFault>
     match read_capacity(text) {
         Some(capacity) => Ok(capacity),
         None => Err(WordFault::Field(Field::Capacity)),
+    }
+}
+
+/// The address and the port at which to listen.
+pub(crate) fn read_endpoint_field(text: &str) -> Result<(IpAddr, Port), WordFault>
+    ensures { IsRead (SpellsEndpoint text.now) of.HostPort result }
+{
+    match read_endpoint(text.as_bytes()) {
+        Some(endpoint) => Ok(endpoint),
+        None => Err(WordFault::Field(Field::HostPort)),
+    }
+}
+
+/// The number of connections, or the moment, which is this field.
+pub(crate) fn read_whole_field(field: Field, text: &str) -> Result<u64, WordFault>
+    ensures { IsRead (SpellsWhole text.now) field result }
+{
+    match read_whole(text) {
+        Some(number) => Ok(number),
+        None => Err(WordFault::Field(field)),
     }
 }
 

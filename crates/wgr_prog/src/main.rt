@@ -2,12 +2,15 @@
 #![tactic(auto)]
 
 mod database;
+mod endpoint;
 mod field;
 mod messages;
 mod numbers;
 mod order;
 mod program;
 mod register_words;
+mod request_words;
+mod requests;
 
 use std::process::ExitCode;
 use std::{env, io};

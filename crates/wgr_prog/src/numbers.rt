@@ -41,6 +41,14 @@ fn read_short(text: &str) -> Option<u16>
     Some(number as u16)
 }
 
+/// A number of seconds or of connections.
+pub(crate) fn read_whole(text: &str) -> Option<u64>
+    ensures spelled { IfSome result (λ n. SpellsWhole text.now n) }
+    ensures none { IfNone result ((n : ℕ) → ¬ (SpellsWhole text.now n)) }
+{
+    Some(read_number(text)? as u64)
+}
+
 pub(crate) fn read_port(text: &str) -> Option<Port>
     ensures spelled { IfSome result (SpellsPort text.now) }
     ensures none { IfNone result ((n : ℕ) → ¬ (SpellsPort text.now n)) }

@@ -8,6 +8,7 @@ ghost use Rattle.wgr_prog.specs.declared.messages.TheConstants.{DONE, FAULT, REF
 
 use crate::messages::{DONE, REFUSED, Text, device, no_memory, refusal};
 use crate::register_words::{run_init, run_order};
+use crate::request_words::{run_batch, run_serve};
 use clap::error::ErrorKind;
 use sqlite::{File, FileStore};
 use sqlite_trees::store::Store;
@@ -66,6 +67,15 @@ fn program<T: AsStr, R: Read, W: Write, E: Write>(
         Ok(Request::Plan { pool }) => run_plan(alloc, pool, input, out, err),
         Ok(Request::Init { db }) => run_init(rt, db, out, err),
         Ok(Request::Operate { db, order }) => { run_order(rt, db, &order, input, out, err) }
+        Ok(Request::Batch { db, now, files }) => run_batch(rt, db, now, &files, out, err),
+        Ok(
+            Request::Serve {
+                db,
+                place,
+                count,
+                now,
+            },
+        ) => run_serve(rt, db, place, count, now, out, err),
         Err(answer) => no_request(alloc, &answer, out, err),
     }
 }

@@ -137,7 +137,10 @@ fn operate(rt: &HostRuntime, path: &str, order: &Order) -> Result<Done, Failure>
 }
 
 /// The register in the file at this path; none is one that is missing.
-fn open_register(rt: &HostRuntime, path: &str) -> Result<Register<FileStore<File>>, RegisterFault>
+pub(crate) fn open_register(
+    rt: &HostRuntime,
+    path: &str,
+) -> Result<Register<FileStore<File>>, RegisterFault>
     ensures { IfOk result (IsOpen ⟦<FileStore<File> as Store>⟧) }
 {
     let conn = match database::find(rt, path) {

@@ -25,13 +25,13 @@ use Rattle.wgr_service.specs.declared.connections.ConnectionFault.TheVariants as
 
 -- ---- what is written
 
-appends_more : (old mid new : Option Bytes) (xs ys : Bytes) → Appends old mid xs → Appends mid new ys → Appends old new (xs ++ ys)
+pub appends_more : (old mid new : Option Bytes) (xs ys : Bytes) → Appends old mid xs → Appends mid new ys → Appends old new (xs ++ ys)
 appends_more None mid new xs ys first next = tt
 appends_more (Some a) None new xs ys first next = absurd first
 appends_more (Some a) (Some b) None xs ys first next = absurd next
 appends_more (Some a) (Some b) (Some c) xs ys first next = next ∙ ap (λ (z : Bytes). z ++ ys) first ∙ append_assoc a xs ys
 
-appends_none : (old : Option Bytes) → Appends old old []
+pub appends_none : (old : Option Bytes) → Appends old old []
 appends_none None = tt
 appends_none (Some a) = sym (append-nil a)
 

@@ -1,10 +1,12 @@
-//! Serves connections by an office, one after the other.
+//! Serves connections, and lists of requests, by an office, one after the other.
 #![tactic(auto)]
 
+mod batch;
 mod connections;
 mod laws;
 #[cfg(test)]
 mod tests;
 
+pub use batch::{BatchFault, answer_all};
 pub use connections::serve_connections;
 pub use laws::connections_are_apart;

@@ -12,4 +12,6 @@ returns-clause-app c =
     let token_grant = c.in_ok-command-5.ensures.app ∙ ap₂ both tenant_add c.in_ok-token_grant_command.ensures.app in
     let token_end = c.in_ok-command-6.ensures.app ∙ ap₂ both token_grant c.in_ok-token_end_command.ensures.app in
     let network_add = c.in_ok-command-7.ensures.app ∙ ap₂ both token_end c.in_ok-network_add_command.ensures.app in
-    c.in_ok-command-8.ensures.app ∙ ap₂ both network_add c.in_ok-network_end_command.ensures.app
+    let network_end = c.in_ok-command-8.ensures.app ∙ ap₂ both network_add c.in_ok-network_end_command.ensures.app in
+    let batch = c.in_ok-command-9.ensures.app ∙ ap₂ both network_end c.in_ok-batch_command.ensures.app in
+    c.in_ok-command-10.ensures.app ∙ ap₂ both batch c.in_ok-serve_command.ensures.app

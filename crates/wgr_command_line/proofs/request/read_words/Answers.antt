@@ -1,11 +1,11 @@
-use Rattle.std.proofs.Common.{◌≡◌, ◌∙◌, true, List, [], ◌∷◌, Option, None, is_some, map, inl, inr, option_and_then, refl, sym, ap, ap₂, subst}
+use Rattle.std.proofs.Common.{◌≡◌, ◌∙◌, true, List, [], ◌∷◌, Option, None, is_some, map, inl, inr, option_and_then, option_map, refl, sym, ap, ap₂, subst}
 use Rattle.clap.specs.Words.{App, HasKind, Kinds, Text, fault_of, is_simple, is_simple_and_free, subcommand_of, kind_of}
 use Rattle.clap.specs.Kinds.{or_else}
 use Rattle.clap.specs.declared.error.Error.{Error}
 use Rattle.clap.specs.declared.error.kind.ErrorKind.TheVariants.{OutOfMemory}
 use Rattle.clap.proofs.OnLiterals.{clap_on_literals}
 use Rattle.clap.proofs.TakesLemmas.{passed_up}
-use Rattle.wgr_command_line.specs.Words.{Asked, asked_in, if_missing, named_by, unless_wrong, wgr_app}
+use Rattle.wgr_command_line.specs.Words.{Asked, asked_in, asked_of, if_missing, named_by, unless_wrong, wgr_app}
 use Rattle.wgr_command_line.proofs.request.read_words.Goals as goal
 
 simple : is_simple wgr_app ≡ true
@@ -55,7 +55,8 @@ returns-in-Some-clause-ok g c =
     let fault : fault_of wgr_app words ≡ [] = sym (ap (λ (a : App). fault_of a words) app) ∙ c.in_ok-matches.ensures.kinds (ap is_simple_and_free app ∙ simple_and_free) in
     let rows = (c.in_ok-matches.ensures.ok.2 (ap is_simple app ∙ simple)).1 in
     let named = ap (option_and_then asked_in) (rows ∙ ap (λ (a : App). subcommand_of a words) app) in
-    ap₂ unless_wrong fault (sym named) ∙ sym c.in-Some.ensures
+    let asked = sym (ap (option_map asked_of) c.in-Some.is) ∙ c.in_ok-asked.ensures in
+    ap₂ unless_wrong fault (sym named) ∙ sym asked
 
 pub returns-clause-err : goal.returns-clause-err
 returns-clause-err g c =
@@ -63,7 +64,7 @@ returns-clause-err g c =
     let app = c.in_ok-command.ensures.app in
     let fault : fault_of wgr_app words ≡ [] = sym (ap (λ (a : App). fault_of a words) app) ∙ c.in_ok-matches.ensures.kinds (ap is_simple_and_free app ∙ simple_and_free) in
     let rows = (c.in_ok-matches.ensures.ok.2 (ap is_simple app ∙ simple)).1 in
-    let named = c.in-None.ensures ∙ ap (option_and_then asked_in) (rows ∙ ap (λ (a : App). subcommand_of a words) app) in
+    let named = sym (ap (option_map asked_of) c.in-None.is) ∙ c.in_ok-asked.ensures ∙ ap (option_and_then asked_in) (rows ∙ ap (λ (a : App). subcommand_of a words) app) in
     none_asked _ (ap₂ unless_wrong fault (sym named))
 
 pub returns-clause-kinds : goal.returns-clause-kinds
@@ -72,6 +73,6 @@ returns-clause-kinds g c =
     let app = c.in_ok-command.ensures.app in
     let fault : fault_of wgr_app words ≡ [] = sym (ap (λ (a : App). fault_of a words) app) ∙ c.in_ok-matches.ensures.kinds (ap is_simple_and_free app ∙ simple_and_free) in
     let rows = (c.in_ok-matches.ensures.ok.2 (ap is_simple app ∙ simple)).1 in
-    let named = c.in-None.ensures ∙ ap (option_and_then asked_in) (rows ∙ ap (λ (a : App). subcommand_of a words) app) in
+    let named = sym (ap (option_map asked_of) c.in-None.is) ∙ c.in_ok-asked.ensures ∙ ap (option_and_then asked_in) (rows ∙ ap (λ (a : App). subcommand_of a words) app) in
     let kinds : Kinds → Option Asked → Kinds = λ kinds asked. or_else kinds (if_missing asked) in
     subst (λ (kinds : Kinds). HasKind kinds c.in_ok-error-in-None.field-0) (sym (ap₂ kinds fault (sym named))) (inr (inl c.in_ok-error-in-None.ensures.kind))

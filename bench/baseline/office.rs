@@ -1,0 +1,276 @@
+//! What tenants ask: the bytes of a request, and those of its reply.
+//!
+//! It answers what the benchmarks ask, and ends the program at all else.
+
+use crate::key::key_of;
+use crate::network::{network_id, networks_of, tenant_of_token, Change, Network, Refusal, Seen, Status, Wanted};
+use crate::pages;
+use crate::prefix::Prefix;
+use crate::sha256;
+use crate::sqlite::Connection;
+
+struct Request<'a> {
+    method: &'a str,
+    path: &'a str,
+    token: &'a str,
+    body: &'a str,
+}
+
+struct Reply {
+    status: &'static str,
+    kind: &'static str,
+    extra: &'static str,
+    body: Vec<u8>,
+}
+
+/// The reply of a command, and what it changes.
+type Outcome = Result<(Reply, Option<Change>), Refusal>;
+
+fn json(body: Vec<u8>) -> Reply {
+    Reply { status: "200 OK", kind: "application/json", extra: "", body }
+}
+
+fn file(body: Vec<u8>) -> Reply {
+    Reply { kind: "text/plain", ..json(body) }
+}
+
+fn unknown_token() -> Reply {
+    Reply {
+        status: "401 Unauthorized",
+        extra: "WWW-Authenticate: Bearer\r\n",
+        ..json(pages::error("unknown_token", None))
+    }
+}
+
+fn not_found(name: &str) -> Reply {
+    Reply { status: "404 Not Found", ..json(pages::error(name, None)) }
+}
+
+fn refused(why: Refusal) -> Reply {
+    match why {
+        Refusal::NoSuchPeer => not_found("no_such_peer"),
+        Refusal::NoSuchRoute => not_found("no_such_route"),
+        Refusal::NobodysAddress => not_found("nobodys_address"),
+        Refusal::KeyHeld(number) => {
+            Reply { status: "409 Conflict", ..json(pages::error("key_held", Some(number))) }
+        }
+    }
+}
+
+impl Reply {
+    fn bytes(&self) -> Vec<u8> {
+        let Reply { status, kind, extra, body } = self;
+        let length = body.len();
+        let head = format!(
+            "HTTP/1.1 {status}\r\nContent-Type: {kind}\r\nContent-Length: {length}\r\n{extra}Connection: close\r\n\r\n"
+        );
+        [head.as_bytes(), body].concat()
+    }
+}
+
+impl Request<'_> {
+    /// The request at the front of the bytes, once all of it is there.
+    fn read(message: &[u8]) -> Option<Request<'_>> {
+        let end = message.windows(4).position(|bytes| bytes == b"\r\n\r\n")? + 4;
+        let mut lines = str::from_utf8(&message[..end]).ok()?.split("\r\n");
+        let mut words = lines.next()?.split(' ');
+        let (method, path) = (words.next()?, words.next()?);
+        let (mut token, mut length) = ("", 0);
+        for (name, value) in lines.filter_map(|line| line.split_once(':')) {
+            let value = value.trim();
+            if name.eq_ignore_ascii_case("authorization") {
+                let (scheme, rest) = value.split_once(' ')?;
+                token = scheme.eq_ignore_ascii_case("bearer").then(|| rest.trim_start())?;
+            } else if name.eq_ignore_ascii_case("content-length") {
+                length = value.parse().ok()?;
+            }
+        }
+        let body = str::from_utf8(message.get(end..end + length)?).ok()?;
+        Some(Request { method, path, token, body })
+    }
+}
+
+/// What stands behind this name in a flat JSON object.
+fn member<'a>(body: &'a str, name: &str) -> Option<&'a str> {
+    let (_, rest) = body.split_once(&format!("\"{name}\""))?;
+    rest.trim_start().strip_prefix(':').map(str::trim_start)
+}
+
+/// The string of this name, which has no escapes.
+fn text<'a>(body: &'a str, name: &str) -> Option<&'a str> {
+    let (text, _) = member(body, name)?.strip_prefix('"')?.split_once('"')?;
+    Some(text)
+}
+
+/// The number of this name.
+fn number(body: &str, name: &str) -> Option<i64> {
+    member(body, name)?.split(|letter: char| !letter.is_ascii_digit()).next()?.parse().ok()
+}
+
+/// A key, or none where the field says so.
+fn optional_key(field: &str) -> Option<[u8; 32]> {
+    (field != "(none)").then(|| key_of(field.as_bytes()).expect("a key"))
+}
+
+fn prefix_of(text: &str) -> Prefix {
+    Prefix::read(text).expect("a prefix").masked()
+}
+
+fn prefixes_of(field: &str) -> Vec<Prefix> {
+    field.split(',').filter(|text| *text != "(none)").map(prefix_of).collect()
+}
+
+/// A count, of which more than 63 bits are not kept.
+fn count_of(field: &str) -> i64 {
+    field.parse::<u128>().expect("a count").min(i64::MAX as u128) as i64
+}
+
+fn seen(line: &str) -> Seen {
+    let fields: Vec<&str> = line.split('\t').collect();
+    let [key, _, _, allowed, handshake, received, sent, keepalive] = fields[..] else {
+        panic!("a line of eight fields");
+    };
+    Seen {
+        key: key_of(key.as_bytes()).expect("a key"),
+        allowed: prefixes_of(allowed),
+        status: Status {
+            handshake: count_of(handshake),
+            received: count_of(received),
+            sent: count_of(sent),
+        },
+        keepalive: if keepalive == "off" { 0 } else { keepalive.parse().expect("seconds") },
+    }
+}
+
+/// The interface's key, and its peers.
+fn dump_of(text: &str) -> (Option<[u8; 32]>, Vec<Seen>) {
+    let mut lines = text.lines();
+    let interface = lines.next().expect("the interface's line");
+    let key = interface.split('\t').nth(1).expect("a public key");
+    (optional_key(key), lines.map(seen).collect())
+}
+
+/// A moment at which a lease ends.
+fn end_of(number: i64, now: i64) -> i64 {
+    assert!(number == 0 || now < number, "a refusal");
+    number
+}
+
+/// The benchmarks have the register choose each address.
+fn expect_no_address(body: &str) {
+    assert!(member(body, "address").is_none(), "a named address");
+}
+
+fn wanted(body: &str, now: i64) -> Wanted {
+    expect_no_address(body);
+    Wanted {
+        key: text(body, "key").and_then(|text| key_of(text.as_bytes())).expect("a key"),
+        label: text(body, "label").unwrap_or("").to_owned(),
+        until: end_of(number(body, "end").unwrap_or(0), now),
+        keepalive: number(body, "keepalive").unwrap_or(0) as u32,
+    }
+}
+
+fn done(reply: Reply, change: Change) -> Outcome {
+    Ok((reply, Some(change)))
+}
+
+/// A change that leaves one peer of its number, whose routes stay.
+fn replaced(network: &Network, change: Change) -> Outcome {
+    let peer = &change.peers[0];
+    done(json(pages::peer(peer, &network.routes_to(peer.number))), change)
+}
+
+fn adopt(network: &Network, body: &str) -> Outcome {
+    let (server, lines) = dump_of(body);
+    let change = network.adopt(server, &lines);
+    done(json(pages::adopted(&change.peers)), change)
+}
+
+fn lead(network: &Network, number: u32, prefix: Prefix) -> Outcome {
+    let change = network.lead(prefix, number)?;
+    let mut routes = network.routes_to(number);
+    if let Err(place) = routes.binary_search(&prefix) {
+        routes.insert(place, prefix);
+    }
+    done(json(pages::peer(network.peer(number)?, &routes)), change)
+}
+
+fn unroute(network: &Network, prefix: Prefix) -> Outcome {
+    let change = network.unroute(prefix)?;
+    let number = network.route(&prefix)?;
+    let mut routes = network.routes_to(number);
+    routes.retain(|route| *route != prefix);
+    done(json(pages::peer(network.peer(number)?, &routes)), change)
+}
+
+fn act(network: &Network, now: i64, request: &Request, rest: &[&str]) -> Outcome {
+    let body = request.body;
+    let peer = |text: &str| text.parse().expect("a peer's number");
+    let prefix = || prefix_of(text(body, "prefix").expect("a prefix"));
+    match (request.method, rest) {
+        ("GET", ["peers"]) => Ok((json(pages::list(network)), None)),
+        ("GET", ["owner", address]) => Ok((json(pages::owner(network.owner(&prefix_of(address))?)), None)),
+        ("GET", ["server", form]) => Ok((file(pages::server_file(network, *form == "quick")), None)),
+        ("GET", ["peers", number, "file", form]) => {
+            let text = pages::peer_file(network, network.peer(peer(number))?, *form == "quick");
+            Ok((file(text), None))
+        }
+        ("POST", ["peers"]) => replaced(network, network.add(wanted(body, now))?),
+        ("POST", ["peers", number, "address"]) => {
+            expect_no_address(body);
+            replaced(network, network.relocate(peer(number))?)
+        }
+        ("POST", ["peers", at, "lease"]) => {
+            let end = end_of(number(body, "end").expect("an end"), now);
+            replaced(network, network.renew(peer(at), end)?)
+        }
+        ("POST", ["peers", number, "routes"]) => lead(network, peer(number), prefix()),
+        ("POST", ["unroute"]) => unroute(network, prefix()),
+        ("POST", ["dump"]) => adopt(network, body),
+        ("DELETE", ["peers", number]) => {
+            let change = network.revoke(peer(number))?;
+            done(json(pages::revoked(peer(number))), change)
+        }
+        _ => panic!("no such path"),
+    }
+}
+
+/// What the command answers on the network of this id; what it changes is committed.
+fn ask(db: &mut Connection, id: u32, now: i64, request: &Request, rest: &[&str]) -> Reply {
+    let network = Network::load(db, id);
+    assert!(network.peers.iter().all(|peer| peer.is_live(now)), "a lease that is over");
+    match act(&network, now, request, rest) {
+        Ok((reply, change)) => {
+            if let Some(change) = change {
+                network.commit(db, &change);
+            }
+            reply
+        }
+        Err(why) => refused(why),
+    }
+}
+
+fn respond(db: &mut Connection, now: i64, request: &Request) -> Reply {
+    let Some(tenant) = tenant_of_token(db, &sha256::digest_of(request.token.as_bytes())) else {
+        return unknown_token();
+    };
+    let parts: Vec<&str> = request.path.split('/').skip(1).collect();
+    match &parts[..] {
+        ["networks"] => json(pages::networks(&networks_of(db, tenant))),
+        ["networks", name, rest @ ..] => match network_id(db, tenant, name) {
+            Some(id) => ask(db, id, now, request, rest),
+            None => not_found("no_such_network"),
+        },
+        _ => panic!("no such path"),
+    }
+}
+
+pub fn is_whole(message: &[u8]) -> bool {
+    Request::read(message).is_some()
+}
+
+/// The bytes of the reply to a message, at this moment.
+pub fn answer(db: &mut Connection, now: i64, message: &[u8]) -> Vec<u8> {
+    respond(db, now, &Request::read(message).expect("a request")).bytes()
+}

@@ -1,0 +1,76 @@
+"""The programs that the benchmarks run: how they are found, built, run and timed."""
+
+import os
+import shutil
+import subprocess
+import sys
+import time
+from pathlib import Path
+from tempfile import TemporaryFile
+from typing import NamedTuple
+
+BENCH = Path(__file__).resolve().parent
+MADE = BENCH / "out"
+BUILT = BENCH.parent / "crates/wgr_prog/out/wgr_prog"
+
+
+class Left(NamedTuple):
+    """What a run leaves."""
+
+    status: int
+    out: bytes
+    err: bytes
+
+
+def find(words):
+    """The program that is timed, and the words that are left."""
+    given = words and "/" in words[0]
+    program = Path(words[0]).resolve() if given else BUILT
+    if not program.exists():
+        sys.exit(f"{program} is missing; ./wgr makes crates/wgr_prog/out/wgr_prog")
+    return program, words[1:] if given else words
+
+
+def build(name):
+    """A program of bench/baseline, built where it is older than a file there."""
+    program, folder = MADE / name, BENCH / "baseline"
+    newest = max(source.stat().st_mtime for source in folder.glob("*.rs"))
+    if not program.exists() or program.stat().st_mtime < newest:
+        MADE.mkdir(exist_ok=True)
+        subprocess.run(["rustc", "--edition", "2021", "-O", "-o", program, folder / f"{name}.rs"], check=True)
+    return program
+
+
+def copy(database, path):
+    """Copies a register to the disk, so that no program that is timed has to wait for that."""
+    for old in path.parent.glob(f"{path.name}*"):
+        old.unlink()
+    shutil.copyfile(database, path)
+    with open(path, "rb+") as file:
+        os.fsync(file.fileno())
+
+
+def run(words, text=b"", folder=None):
+    """What the program leaves on this standard input, and its wall clock in milliseconds."""
+    with TemporaryFile() as given, TemporaryFile() as out, TemporaryFile() as err:
+        given.write(text)
+        given.seek(0)
+        start = time.perf_counter()
+        # With a timeout it would look only now and then whether the program has ended.
+        status = subprocess.run(words, stdin=given, stdout=out, stderr=err, cwd=folder).returncode
+        spent = (time.perf_counter() - start) * 1000
+        out.seek(0)
+        err.seek(0)
+        return Left(status, out.read(), err.read()), spent
+
+
+def run_batch(program, database, now, requests, folder):
+    """What `batch` prints for these requests, which stand in files of this folder, and its time."""
+    # Short names, since the words of a program have to fit into some 2 MB.
+    names = [str(place) for place in range(len(requests))]
+    for name, request in zip(names, requests):
+        (folder / name).write_bytes(request)
+    left, spent = run([program, "batch", database, "--now", str(now), *names], folder=folder)
+    if left.status != 0:
+        sys.exit(f"{program} batch: status {left.status}, {left.err[:300]!r}")
+    return left.out, spent

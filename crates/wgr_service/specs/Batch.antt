@@ -1,0 +1,27 @@
+-- What a list of requests is answered and what is written of it.
+use Rattle.std.specs.Prelude.{◌≡◌, ◌++◌, Bool, true, false, List, length, Option}
+use Rattle.std.specs.Io.KnownBytes.{Appends}
+use Rattle.sqlite.specs.Effect.{Database}
+use Rattle.sqlite.specs.State.{HasCleanDisk}
+use Rattle.sqlite.specs.Store.{Ghosts}
+use Rattle.sqlite.specs.Held.{Held, state}
+use Rattle.wgr_model.specs.Register.{Bytes}
+use Rattle.wgr_model.specs.Steps.{Event}
+use Rattle.wgr_office.specs.Events.{HasRun}
+use Rattle.wgr_office.specs.declared.answer.Answer as given
+use Rattle.wgr_office.specs.declared.answer.Answer.TheVariants as givens
+use Rattle.wgr_office.specs.declared.run.Event as event
+use Rattle.wgr_register.specs.Standing.{StandsAt}
+
+abbrev pub is_available : given.Answer → Bool
+is_available (givens.Bytes bytes) = true
+is_available (givens.Order done) = true
+is_available givens.Unavailable = false
+
+-- one answer for each request, and a run of them wherever the register stood
+abbrev pub IsBatch : {S : Type 0} → Ghosts S → Held S → Held S → List event.Event → List given.Answer → Type 0
+IsBatch g old new asked answers = (length answers ≡ length asked) × ((db : Database) (late : List Event) → StandsAt g old db late → HasCleanDisk (state g new) → HasRun g new db late asked answers)
+
+-- a beginning of the bytes was written
+abbrev pub IsCut : Option Bytes → Option Bytes → Bytes → Type 0
+IsCut before after bytes = (beginning : Bytes) × (rest : Bytes) × (bytes ≡ beginning ++ rest) × Appends before after beginning

@@ -1,0 +1,171 @@
+"""A running `wgr serve`, requests to it, and the replies that are due."""
+
+import json
+import socket
+import subprocess
+from pathlib import Path
+
+import openapi
+import program
+from keys import key_text
+
+TOKEN = "abc"
+
+
+def key(byte):
+    """The text of the key of 32 such bytes."""
+    return key_text(bytes([byte]) * 32)
+
+
+SERVER_KEY = key(9)
+
+REASONS = {
+    200: "OK",
+    400: "Bad Request",
+    401: "Unauthorized",
+    404: "Not Found",
+    405: "Method Not Allowed",
+    409: "Conflict",
+    411: "Length Required",
+    413: "Content Too Large",
+    503: "Service Unavailable",
+}
+
+
+def order(*words, token=None):
+    """Runs an order of the operator, which has to be done."""
+    left = program.run(list(words), b"" if token is None else token.encode())
+    assert left == program.Left(0, b"done\n"), (words, left)
+
+
+def network_add(database, tenant, name, pool, port="51820", capacity="4096", host="vpn.example.net"):
+    order(
+        *["network-add", database, tenant, name, "--pool", pool, "--host", host],
+        *["--port", port, "--key", SERVER_KEY, "--capacity", capacity],
+    )
+
+
+def make_register(folder):
+    """A register with the tenant `acme`, whose token is TOKEN, and its network `office`."""
+    database = str(Path(folder) / "reg.db")
+    order("init", database)
+    order("tenant-add", database, "acme")
+    order("token-grant", database, "acme", token=TOKEN)
+    network_add(database, "acme", "office", "10.8.0.0/24")
+    return database
+
+
+def free_port(host="127.0.0.1"):
+    family = socket.AF_INET6 if ":" in host else socket.AF_INET
+    with socket.socket(family) as probe:
+        probe.bind((host, 0))
+        return probe.getsockname()[1]
+
+
+class Server:
+    """`wgr serve` on a port of its own, until the block ends or its connections are counted down."""
+
+    def __init__(self, database, count=100_000, now=None, host="127.0.0.1"):
+        self.host, self.port = host, free_port(host)
+        place = f"[{host}]:{self.port}" if ":" in host else f"{host}:{self.port}"
+        self.words = ["serve", database, place, "--count", str(count)]
+        if now is not None:
+            self.words += ["--now", str(now)]
+
+    def __enter__(self):
+        self.process = subprocess.Popen(
+            [program.path, *self.words], stdout=subprocess.PIPE, stderr=subprocess.PIPE
+        )
+        told = self.process.stdout.readline()
+        assert told == b"listening\n", (told, self.process.stderr.read())
+        return self
+
+    def __exit__(self, *_):
+        self.process.kill()
+        self.process.communicate()
+
+    def ended(self):
+        """What the program leaves once all its connections are served."""
+        out, err = self.process.communicate(timeout=program.LIMIT)
+        return program.Left(self.process.returncode, out, err)
+
+    def connect(self):
+        return socket.create_connection((self.host, self.port), timeout=program.LIMIT)
+
+    def send(self, *parts, close=True):
+        """All that is answered to these bytes, which are sent one part after the other."""
+        with self.connect() as link:
+            link.setsockopt(socket.IPPROTO_TCP, socket.TCP_NODELAY, 1)
+            for part in parts:
+                link.sendall(part)
+            if close:
+                link.shutdown(socket.SHUT_WR)
+            return read_all(link)
+
+    def ask(self, method, path, body=None, token=TOKEN):
+        """The reply to a request, which has to be one that docs/openapi.yaml tells."""
+        reply = self.send(request(method, path, body, token))
+        openapi.check(method, path, reply)
+        return reply
+
+
+def read_all(link):
+    whole = b""
+    while part := link.recv(65_536):
+        whole += part
+    return whole
+
+
+def request(method, path, body=None, token=TOKEN):
+    """A request's bytes; a body that is no bytes is sent as JSON."""
+    lines = [f"{method} {path} HTTP/1.1", "Host: wgr"]
+    if token is not None:
+        lines.append(f"Authorization: Bearer {token}")
+    if body is None:
+        body = b""
+    elif not isinstance(body, bytes):
+        body = json.dumps(body).encode()
+    if body or method == "POST":
+        lines.append(f"Content-Length: {len(body)}")
+    return "\r\n".join([*lines, "", ""]).encode() + body
+
+
+def reply(status, body, kind="application/json", extra=""):
+    """The bytes of a reply. A body that is no bytes is written as compact JSON, its members in order."""
+    if not isinstance(body, bytes):
+        body = json.dumps(body, sort_keys=True, separators=(",", ":")).encode()
+    head = (
+        f"HTTP/1.1 {status} {REASONS[status]}\r\nContent-Type: {kind}\r\n"
+        f"Content-Length: {len(body)}\r\n{extra}Connection: close\r\n\r\n"
+    )
+    return head.encode() + body
+
+
+def done(body):
+    return reply(200, body)
+
+
+def file_of(*lines):
+    return reply(200, "".join(line + "\n" for line in lines).encode(), "text/plain")
+
+
+def refused(status, name, **facts):
+    extra = "WWW-Authenticate: Bearer\r\n" if status == 401 else ""
+    return reply(status, {"error": name, **facts}, extra=extra)
+
+
+def wrong_method(allow):
+    return reply(405, {"error": "wrong_method"}, extra=f"Allow: {allow}\r\n")
+
+
+def peer(number, of, address, label="", end=0, keepalive=0, routes=(), status=None):
+    return {
+        "address": address,
+        "end": end,
+        "keepalive": keepalive,
+        "key": key(of),
+        "label": label,
+        "number": number,
+        "routes": list(routes),
+        "status": status,
+    }

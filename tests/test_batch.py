@@ -1,0 +1,126 @@
+"""`wgr batch`: requests from files; and that a tenant can't tell others' doings from their absence."""
+
+import tempfile
+import unittest
+from pathlib import Path
+
+from keys import key_text
+from program import Left, run
+from serving import (
+    done,
+    key,
+    make_register,
+    network_add,
+    order,
+    peer,
+    refused,
+    request,
+)
+
+PEERS = "/networks/office/peers"
+
+
+def batch(database, now, requests):
+    """Runs the program on files of these requests."""
+    with tempfile.TemporaryDirectory() as folder:
+        files = []
+        for place, message in enumerate(requests):
+            file = Path(folder) / str(place)
+            file.write_bytes(message)
+            files.append(str(file))
+        return run(["batch", database, "--now", str(now), *files])
+
+
+def replies(text):
+    """The replies that stand one after the other in a text."""
+    found = []
+    while text:
+        head, _, rest = text.partition(b"\r\n\r\n")
+        length = int(head.partition(b"Content-Length: ")[2].partition(b"\r\n")[0])
+        found.append(head + b"\r\n\r\n" + rest[:length])
+        text = rest[length:]
+    return found
+
+
+class Batch(unittest.TestCase):
+    maxDiff = None
+
+    def setUp(self):
+        folder = tempfile.TemporaryDirectory()
+        self.addCleanup(folder.cleanup)
+        self.folder = Path(folder.name)
+        self.database = make_register(folder.name)
+
+    def test_two_requests(self):
+        left = batch(
+            self.database, 7, [request("POST", PEERS, {"key": key(1)}), request("GET", PEERS)]
+        )
+        first = peer(1, 1, "10.8.0.2/32")
+        self.assertEqual(left, Left(0, done(first) + done({"peers": [first]})))
+
+    def test_the_moment_is_that_of_the_words(self):
+        add = request("POST", PEERS, {"key": key(1), "end": 100})
+        self.assertEqual(
+            batch(self.database, 100, [add]), Left(0, refused(409, "lease_over"))
+        )
+        self.assertEqual(
+            batch(self.database, 99, [add]), Left(0, done(peer(1, 1, "10.8.0.2/32", end=100)))
+        )
+        self.assertEqual(
+            batch(self.database, 100, [request("GET", PEERS)]), Left(0, done({"peers": []}))
+        )
+
+    def test_an_address_for_each_peer(self):
+        """The last addresses of a pool are given in turn, with strangers' requests between."""
+        asked, due = [], []
+        for byte in range(1, 255):
+            of = key_text(bytes(31 * [0xAA] + [byte]))
+            asked += [request("POST", PEERS, {"key": of}), request("GET", PEERS, token="zzz")]
+            made = peer(byte, 0, f"10.8.0.{byte + 1}/32") | {"key": of}
+            due += [done(made) if byte < 254 else refused(409, "pool_full")]
+            due += [refused(401, "unknown_token")]
+        left = batch(self.database, 0, asked)
+        self.assertEqual((left.status, replies(left.out)), (0, due))
+
+    def test_two_worlds(self):
+        """A tenant's replies are the same where another has a network of its name and many peers."""
+        shared = self.folder / "shared"
+        shared.mkdir()
+        other = make_register(shared)
+        order("tenant-add", other, "bolt")
+        order("token-grant", other, "bolt", token="xyz")
+        network_add(other, "bolt", "office", "10.9.0.0/24", port="51821")
+        theirs = [
+            request("POST", PEERS, {"key": key_text(bytes([byte] * 32))}, token="xyz")
+            for byte in range(1, 101)
+        ]
+        own = [
+            request("POST", PEERS, {"key": key(1)}),
+            request("POST", PEERS, {"key": key(2)}),
+            request("POST", f"{PEERS}/1/routes", {"prefix": "192.168.4.0/24"}),
+            request("DELETE", f"{PEERS}/2"),
+            request("GET", PEERS),
+        ]
+        mixed = []
+        for place, message in enumerate(own):
+            mixed += [*theirs[20 * place : 20 * place + 20], message]
+        alone, among = batch(self.database, 7, own), batch(other, 7, mixed)
+        self.assertEqual((alone.status, among.status), (0, 0))
+        self.assertEqual(replies(among.out)[20::21], replies(alone.out))
+
+    def test_files_that_are_not_there(self):
+        before = Path(self.database).read_bytes()
+        words = ["batch", self.database, "--now", "7", str(self.folder / "no")]
+        self.assertEqual(run(words), Left(1, b"", b"wgr: device\n"))
+        self.assertEqual(Path(self.database).read_bytes(), before)
+
+    def test_words_that_do_not_serve(self):
+        rows = [
+            ("now", ["batch", self.database, "--now", "x", "file"], b"wgr: bad_field now\n"),
+            ("now above the limit", ["batch", self.database, "--now", str(2**63), "file"], b"wgr: bad_field now\n"),
+        ]
+        for name, words, told in rows:
+            with self.subTest(name):
+                self.assertEqual(run(words), Left(2, b"", told))
+        with self.subTest("no file"):
+            self.assertEqual(run(["batch", self.database, "--now", "7"]).status, 2)
