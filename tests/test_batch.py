@@ -7,6 +7,7 @@ from pathlib import Path
 from keys import key_text
 from program import Left, run
 from serving import (
+    SERVER_KEY,
     done,
     key,
     make_register,
@@ -107,6 +108,14 @@ class Batch(unittest.TestCase):
         alone, among = batch(self.database, 7, own), batch(other, 7, mixed)
         self.assertEqual((alone.status, among.status), (0, 0))
         self.assertEqual(replies(among.out)[20::21], replies(alone.out))
+
+    @unittest.expectedFailure
+    def test_a_key_on_two_lines_of_a_dump(self):
+        """The peer should have the status of the line taken last; today the dump is answered Unavailable."""
+        lines = [f"{key(2)}\t(none)\t(none)\t10.8.0.{last}/32\t{last}\t1\t2\toff\n" for last in [2, 3]]
+        dump = f"(none)\t{SERVER_KEY}\t51820\toff\n" + "".join(lines)
+        left = batch(self.database, 7, [request("POST", "/networks/office/dump", dump.encode())])
+        self.assertEqual(left, Left(0, done({"added": [1], "known": 1})))
 
     def test_files_that_are_not_there(self):
         before = Path(self.database).read_bytes()

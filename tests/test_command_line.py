@@ -23,6 +23,8 @@ HELP = [
     ("token-end --help", ["token-end", "--help"], "token_end_help.txt"),
     ("network-add --help", ["network-add", "--help"], "network_add_help.txt"),
     ("network-end --help", ["network-end", "--help"], "network_end_help.txt"),
+    ("batch --help", ["batch", "--help"], "batch_help.txt"),
+    ("serve --help", ["serve", "--help"], "serve_help.txt"),
     ("help network-add", ["help", "network-add"], "network_add_help.txt"),
 ]
 

@@ -31,6 +31,8 @@ class Proxy(unittest.TestCase):
         folder = tempfile.TemporaryDirectory()
         self.addCleanup(folder.cleanup)
         self.folder = Path(folder.name)
+        # nginx's workers run as another user and keep large bodies in this folder.
+        self.folder.chmod(0o711)
         serving = Server(make_register(folder.name))
         serving.__enter__()
         self.addCleanup(serving.__exit__)

@@ -56,7 +56,8 @@ class Script:
         new = {"key": key(small(12))} | ({"address": self.address()} if small(3) == 0 else {})
         prefix = pick([f"{self.address()}/{24 + small(9)}", "192.168.0.0/16", "fd00:9::/64", "::/0"])
         dump = f"(none)\t{SERVER_KEY}\t51820\toff\n" + "".join(
-            f"{key(small(12))}\t(none)\t(none)\t{self.address()}/32\t{small(99)}\t1\t2\toff\n" for _ in range(small(3))
+            f"{key(of)}\t(none)\t(none)\t{self.address()}/32\t{small(99)}\t1\t2\toff\n"
+            for of in self.random.sample(range(12), small(3))
         )
         return pick(
             [
