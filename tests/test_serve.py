@@ -12,6 +12,7 @@ from serving import (
     Server,
     done,
     file_of,
+    free_port,
     key,
     make_register,
     network_add,
@@ -221,6 +222,14 @@ REFUSALS = [
 ADD = request("POST", PEERS, {"key": key(1)})
 
 
+def has_ipv6():
+    try:
+        free_port("::1")
+    except OSError:
+        return False
+    return True
+
+
 class Serve(unittest.TestCase):
     maxDiff = None
 
@@ -359,6 +368,7 @@ class Serve(unittest.TestCase):
             self.assertEqual([read_all(first), read_all(second)], [networks, networks])
         self.assertEqual(server.ended(), Left(0))
 
+    @unittest.skipUnless(has_ipv6(), "this machine has no ::1")
     def test_ipv6(self):
         server = self.serve(host="::1")
         self.assertEqual(server.ask("GET", "/networks"), done({"networks": [OFFICE]}))
