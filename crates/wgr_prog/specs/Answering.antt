@@ -73,7 +73,7 @@ pub record HasBrokenOff {S : Type 0} (g : Ghosts S) (now files : ℕ) (old new :
   pub cut : IsCut old.written new.written (flat_map reply_of answers)
   pub failed : new.failed ≡ true
 
--- How the requests in so many files end: where none is answered, nothing is written.
+-- How the requests in these files end: where they end by a fault, nothing is written, or a beginning of the replies.
 abbrev pub EndsBatch : {S : Type 0} → Ghosts S → List ℕ → List (List ℕ) → Output → Output → Result Bool Failure → Type 0
 EndsBatch g now files old new (Ok whole) = (moment : ℕ) × SpellsWhole now moment × HasReplied g moment (length files) old new whole
 EndsBatch g now files old new (Err (failure.Field field)) = (new ≡ old) × IsFirst field ((of.Now, now) ∷ [])
@@ -111,7 +111,7 @@ pub record HasServed {S : Type 0} (g : Ghosts S) (now : Option ℕ) (count : ℕ
   pub outcomes : List Outcome
   pub served : AreServed g register left now count outcomes
 
--- `listening` is written and so many connections are served, or nothing is done but that a write may have failed
+-- `listening` is written and so many connections are served, or nothing is written, unless a write has failed
 abbrev pub Listens : {S : Type 0} → Ghosts S → Held S → Held S → ℕ → Option ℕ → Output → Output → Result (Unit {0}) Failure → Type 0
 Listens g register left count now old new (Ok done) =
     (HasCleanDisk (state g left) → HasCleanDisk (state g register)) × ((outcomes : List Outcome) × AreServed g register left now count outcomes)
@@ -119,8 +119,8 @@ Listens g register left count now old new (Ok done) =
 Listens g register left count now old new (Err failure.Device) = (new ≡ old) ⊎ (new.failed ≡ true)
 Listens g register left count now old new (Err other) = ⊥
 
--- How serving ends: `listening` is written and so many connections are served, or nothing is done but that a write
--- may have failed.
+-- How serving ends: `listening` is written and so many connections are served, or nothing is written, unless a write
+-- has failed.
 abbrev pub EndsServe : {S : Type 0} → Ghosts S → List ℕ → List ℕ → Option (List ℕ) → Output → Output → Result (Unit {0}) Failure → Type 0
 EndsServe g place count now old new (Ok done) =
     (number : ℕ) × (moment : Option ℕ) × SpellsWhole count number × SpellsMoment now moment × HasServed g moment number
