@@ -1,8 +1,9 @@
 -- A network that is changed step by step, and what the steps of an adoption answer.
-use Rattle.std.specs.Prelude.{ℕ, ◌≡◌, Bool, true, false, not, List, [], Result, Ok, Err}
+use Rattle.std.specs.Prelude.{ℕ, ◌<◌, ◌≡◌, ◌≢◌, Bool, true, false, not, List, [], Result, Ok, Err, All, AllPairs}
 use Rattle.std.specs.List.{filter}
 use Rattle.wgr_text.specs.Prefix.{AddrValue, PrefixValue}
 use Rattle.wgr_peers.specs.declared.peer.Peer.{Peer}
+use Rattle.wgr_peers.specs.Peers.{put_peer}
 use Rattle.wgr_peers.specs.Routes.{Routes}
 use Rattle.wgr_core.specs.declared.change.Change.{Change}
 use Rattle.wgr_core.specs.declared.fault.ActFault.{ActFault}
@@ -13,7 +14,7 @@ use Rattle.wgr_core.specs.declared.refusal.Refusal.TheVariants.{InLine}
 use Rattle.wgr_core.specs.declared.refusal.LineRefusal.{LineRefusal}
 use Rattle.wgr_core.specs.declared.seen_peer.SeenPeer.{SeenPeer}
 use Rattle.wgr_core.specs.Network.{NetworkValue, IsNetwork}
-use Rattle.wgr_core.specs.Change.{changed}
+use Rattle.wgr_core.specs.Change.{changed, put_peers}
 use Rattle.wgr_core.specs.Adoption.{Adoption, and_then, unless_refused, line_refusal, line_place, named_address, names_address, numbered_from}
 
 -- the network as it was, and as it is now
@@ -25,10 +26,26 @@ pub record DraftValue : Type 0 where
 abbrev pub drafted : NetworkValue → List Peer → Routes → ℕ → NetworkValue
 drafted n peers routes next = record n { next = next; peers = peers; routes = routes }
 
--- the change leads from one network to another, which keeps the rules
+-- no number stands twice
+abbrev pub HaveOwnNumbers : List Peer → Type 0
+HaveOwnNumbers = AllPairs (λ p q. p.number ≢ q.number)
+
+-- each number is below this one
+abbrev pub AreBelow : List Peer → ℕ → Type 0
+AreBelow peers next = All (λ p. p.number < next) peers
+
+-- the change leads from one network to another, which keeps the rules, and puts no number twice
 pub record LeadsTo (c : Change) (start n : NetworkValue) : Type 0 where
   pub leads : changed c start ≡ n
   pub rules : IsNetwork n
+  pub below : AreBelow c.peers c.next
+  pub own : HaveOwnNumbers c.peers
+
+-- peers that are put, and with `p` also those that are put then
+pub record HasPut (puts after : List Peer) (p : Peer) : Type 0 where
+  pub leads : (start : List Peer) → put_peers start after ≡ put_peer (put_peers start puts) p
+  pub below : (next : ℕ) → p.number < next → AreBelow puts next → AreBelow after next
+  pub own : HaveOwnNumbers after
 
 -- an adoption of lines that began at a network
 pub record AdoptingValue : Type 0 where

@@ -1,11 +1,12 @@
 //! A network that is changed in place, together with the change that leads to it.
-ghost use Rattle.std.specs.Prelude.{◌≡◌, ◌≤◌, ◌+◌, ◌++◌, [], ◌∷◌, true, is_some, IfOk, OnOk, OnErr};
+ghost use Rattle.std.specs.Prelude.{◌≡◌, ◌≤◌, ◌+◌, ◌++◌, [], ◌∷◌, true, nat_eq, is_some, IfOk, OnOk, OnErr};
+ghost use Rattle.std.specs.List.{position};
 ghost use Rattle.wgr_peers.specs.Peers.{peer_of, put_peer};
 ghost use Rattle.wgr_peers.specs.PeerIndex.{IsAlikeAt};
 ghost use Rattle.wgr_peers.specs.Routes.{assign_route};
 ghost use Rattle.wgr_core.specs.Adoption.{give_all, give_refusal, other_prefixes, unless_refused};
 ghost use Rattle.wgr_core.specs.Change.{changed};
-ghost use Rattle.wgr_core.specs.Draft.{DraftValue, MeetsGiven, LeadsTo, drafted, left_by};
+ghost use Rattle.wgr_core.specs.Draft.{DraftValue, MeetsGiven, HasPut, HaveOwnNumbers, LeadsTo, drafted, left_by};
 ghost use Rattle.wgr_core.specs.Network.{IsNetwork};
 
 use crate::change::Change;
@@ -24,7 +25,8 @@ pub(crate) struct Draft<'a> {
     pub(crate) start: &'a Network,
     pub(crate) peers: PeerDraft,
     pub(crate) routes: RouteSlots,
-    // The change: peers that came or took another's place, routes that came, and the next number.
+    // The change: peers that came or took another's place, each number once, routes that came, and
+    // the next number.
     peers_put: Vec<Peer>,
     routes_put: Vec<(Prefix, u32)>,
     next: u32,
@@ -97,9 +99,9 @@ impl<'a> Draft<'a> {
         ensures ok { OnOk result (self.new ≡ record self.old { network = record self.old.network { peers = put_peer self.old.network.peers peer } }) }
         ensures err { OnErr result (self.new ≡ self.old) }
     {
-        self.peers_put.reserve(1)?;
-        self.peers.replace(place, peer.copy()?);
-        self.peers_put.push_reserved(peer);
+        let copy = peer.copy()?;
+        put_once(&mut self.peers_put, peer)?;
+        self.peers.replace(place, copy);
         Ok(())
     }
 
@@ -155,6 +157,7 @@ impl<'a> Draft<'a> {
     pub(crate) fn into_change(self, alloc: Global, removed: Items<u32>) -> Change
         ensures removed { result.removed ≡ removed }
         ensures leads { changed result self.entry.start ≡ self.entry.network }
+        ensures own { HaveOwnNumbers result.peers }
     {
         Change {
             removed,
@@ -164,4 +167,24 @@ impl<'a> Draft<'a> {
             next: self.next,
         }
     }
+}
+
+// Puts the peer in the place of the one that has its number, or at the end.
+fn put_once(puts: &mut Vec<Peer>, peer: Peer) -> Result<(), AllocError>
+    requires { HaveOwnNumbers puts.old.items }
+    ensures ok { OnOk result (HasPut puts.old.items puts.new.items peer) }
+    ensures err { OnErr result (puts.new.items ≡ puts.old.items) }
+{
+    match first_of(puts, peer.number) {
+        Some(at) => puts[at] = peer,
+        None => puts.push(peer)?,
+    }
+    Ok(())
+}
+
+// The place of the first peer that has the number.
+fn first_of(puts: &[Peer], number: u32) -> Option<usize>
+    ensures { result ≡ position (λ put. nat_eq put.number number) puts.now }
+{
+    puts.iter().position(|put| put.number == number)
 }

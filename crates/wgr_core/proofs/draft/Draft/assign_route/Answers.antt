@@ -27,4 +27,6 @@ invariant_of-self-2 c =
     record {
       leads = changed_route change start n p number c.push_reserved.new.self.items c.self.invariant.leads pushed ∙ sym put;
       rules = subst IsNetwork (sym (put ∙ ap (λ (m : NetworkValue). record m { routes = assign_route m.routes p number }) same)) c.requires;
+      below = c.self.invariant.below;
+      own = c.self.invariant.own;
     }

@@ -1,10 +1,12 @@
-use Rattle.std.proofs.Common.{◌≡◌, ℕ, [], List, sym, ap, subst, ◌∙◌}
+use Rattle.std.proofs.Common.{◌≡◌, ◌≢◌, ◌<◌, ℕ, [], List, sym, ap, subst, ◌∙◌}
+use Rattle.std.proofs.lemmas.List.Elements.{All-nil}
+use Rattle.wgr_pool.proofs.Lists.{AllPairs-nil}
 use Rattle.wgr_peers.specs.declared.peer.Peer.{Peer}
 use Rattle.wgr_peers.specs.Peers.{AreNumbered}
 use Rattle.wgr_peers.specs.Routes.{Routes}
 use Rattle.wgr_core.specs.declared.change.Change.{Change}
 use Rattle.wgr_core.specs.Change.{changed}
-use Rattle.wgr_core.specs.Draft.{drafted}
+use Rattle.wgr_core.specs.Draft.{AreBelow, HaveOwnNumbers, drafted}
 use Rattle.wgr_core.specs.Network.{IsNetwork}
 use Rattle.wgr_core.proofs.draft.Draft.begin.Goals as goal
 
@@ -29,4 +31,6 @@ invariant_of-result c =
           ∙ ap (λ (k : ℕ). changed (change [] [] k) n) c.next-next.ensures.value
           ∙ sym same;
       rules = subst IsNetwork (sym same) c.next-next.ensures.rules;
+      below = subst (λ (ps : List Peer). AreBelow ps next) (sym c.new-2.ensures.items) (All-nil (λ (p : Peer). p.number < next));
+      own = subst HaveOwnNumbers (sym c.new-2.ensures.items) (AllPairs-nil (λ (p q : Peer). p.number ≢ q.number));
     }

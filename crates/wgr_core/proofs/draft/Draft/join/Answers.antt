@@ -1,14 +1,16 @@
-use Rattle.std.proofs.Common.{◌≡◌, ℕ, ◌<◌, ◌+◌, ◌++◌, [], ◌∷◌, List, refl, sym, ap, subst, ◌∙◌}
+use Rattle.std.proofs.Common.{◌≡◌, ℕ, ◌<◌, ◌+◌, ◌++◌, [], ◌∷◌, List, refl, sym, ap, subst, ◌∙◌, arith}
 use Rattle.std.specs.List.{All}
+use Rattle.std.proofs.lemmas.List.Elements.{All-push, All-weaker}
 use Rattle.wgr_peers.specs.declared.peer.Peer.{Peer}
 use Rattle.wgr_peers.specs.Peers.{key_holder, IsNumberedBelow}
 use Rattle.wgr_pool.proofs.Lists.{AllPairs-before}
 use Rattle.wgr_peers.proofs.TableLemmas.{new_key}
 use Rattle.wgr_core.specs.declared.change.Change.{Change}
-use Rattle.wgr_core.specs.Draft.{DraftValue, LeadsTo, drafted}
+use Rattle.wgr_core.specs.Draft.{AreBelow, DraftValue, HaveOwnNumbers, LeadsTo, drafted}
 use Rattle.wgr_core.specs.Network.{NetworkValue, IsNetwork}
 use Rattle.wgr_core.proofs.CommandLemmas.{put_peer_above}
 use Rattle.wgr_core.proofs.DraftLemmas.{changed_peer, leads_alike, put_change}
+use Rattle.wgr_core.proofs.PutLemmas.{own_above}
 use Rattle.wgr_core.proofs.draft.Draft.join.Goals as goal
 
 pub push-requires-clause-new_key : goal.push-requires-clause-new_key
@@ -37,6 +39,7 @@ invariant_of-self-2 c =
     let n = drafted start c.self.inside.peers routes change.next in
     let next = p.number + 1 in
     let same : n ≡ c.args.self.now.network = ap (λ (d : DraftValue). d.network) c.self.view_is in
+    let is_next : p.number ≡ change.next = c.requires.next ∙ sym (ap (λ (m : NetworkValue). m.next) same) in
     let above : All (λ q. q.number < p.number) n.peers = subst (λ (n : NetworkValue). All (λ (q : Peer). q.number < p.number) n.peers) (sym same) (AllPairs-before IsNumberedBelow c.args.self.now.network.peers p [] c.requires.fits.numbered) in
     let pushed : c.push.new.self ≡ n.peers ++ p ∷ [] = c.in_ok-push.ensures.ok ∙ ap (λ (q : Peer). n.peers ++ q ∷ []) c.in_ok-copy.ensures in
     let joined : drafted start c.push.new.self routes next ≡ record n { next = next; peers = n.peers ++ p ∷ [] } = ap (λ (ps : List Peer). drafted start ps routes next) pushed in
@@ -50,4 +53,6 @@ invariant_of-self-2 c =
           ∙ ap (λ (ps : List Peer). record n { peers = ps; next = next }) (put_peer_above n.peers p above)
           ∙ sym joined;
       rules = subst IsNetwork (sym (joined ∙ asked)) c.requires.fits;
+      below = subst (λ (ps : List Peer). AreBelow ps next) (sym put) (All-push (λ (q : Peer). q.number < next) c.self.inside.peers_put.items p (All-weaker (λ (q : Peer). q.number < change.next) (λ q. q.number < next) (λ q l. omega (arith, l, is_next)) c.self.inside.peers_put.items c.self.invariant.below) (omega arith));
+      own = subst HaveOwnNumbers (sym put) (own_above c.self.inside.peers_put.items p (subst (AreBelow c.self.inside.peers_put.items) (sym is_next) c.self.invariant.below) c.self.invariant.own);
     }
