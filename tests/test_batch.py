@@ -109,13 +109,14 @@ class Batch(unittest.TestCase):
         self.assertEqual((alone.status, among.status), (0, 0))
         self.assertEqual(replies(among.out)[20::21], replies(alone.out))
 
-    @unittest.expectedFailure
     def test_a_key_on_two_lines_of_a_dump(self):
-        """The peer should have the status of the line taken last; today the dump is answered Unavailable."""
+        """It is one peer, with the address of the line taken first and the status of the line taken last."""
         lines = [f"{key(2)}\t(none)\t(none)\t10.8.0.{last}/32\t{last}\t1\t2\toff\n" for last in [2, 3]]
         dump = f"(none)\t{SERVER_KEY}\t51820\toff\n" + "".join(lines)
-        left = batch(self.database, 7, [request("POST", "/networks/office/dump", dump.encode())])
-        self.assertEqual(left, Left(0, done({"added": [1], "known": 1})))
+        asked = [request("POST", "/networks/office/dump", dump.encode()), request("GET", PEERS)]
+        taken = peer(1, 2, "10.8.0.2/32", status={"handshake": 3, "received": 1, "sent": 2})
+        left = batch(self.database, 7, asked)
+        self.assertEqual(left, Left(0, done({"added": [1], "known": 1}) + done({"peers": [taken]})))
 
     def test_files_that_are_not_there(self):
         before = Path(self.database).read_bytes()

@@ -1,95 +1,14 @@
 """The words on a register in a file: what they print, what they leave in the file, what they refuse."""
 
 import hashlib
-import ipaddress
 import os
 import sqlite3
-import stat
-import tempfile
-import unittest
 from contextlib import closing
 from pathlib import Path
 
-from keys import K0, K1, key_text
-from program import Left, run
-
-DONE = Left(0, b"done\n")
-S = key_text(bytes([200]) * 32)
-TOKEN = b"abc"
-# The SHA-256 of `abc` (FIPS 180-4 has it as an example).
-DIGEST = bytes.fromhex("ba7816bf8f01cfea414140de5dae2223b00361a396177a9cb410ff61f20015ad")
-
-# The options of a network, by their long names.
-OFFICE = {
-    "pool": "10.8.0.0/24",
-    "host": "vpn.example.net",
-    "port": "51820",
-    "key": S,
-    "capacity": "4096",
-}
-
-
-def refused(why):
-    return Left(2, b"", b"wgr: %s\n" % why.encode())
-
-
-def failed(why):
-    return Left(1, b"", b"wgr: %s\n" % why.encode())
-
-
-def options(**changed):
-    """The words of a network's options."""
-    return [word for name, value in {**OFFICE, **changed}.items() for word in (f"--{name}", value)]
-
-
-def address_bytes(text):
-    """An address as a column keeps it: 16 bytes, IPv4 in the last four."""
-    return ipaddress.ip_address(text).packed.rjust(16, b"\0")
-
-
-class Files(unittest.TestCase):
-    """A folder for each test, and a register in it."""
-
-    maxDiff = None
-
-    def setUp(self):
-        folder = tempfile.TemporaryDirectory()
-        self.addCleanup(folder.cleanup)
-        self.folder = Path(folder.name)
-        self.db = str(self.folder / "register.db")
-
-    def path(self, name):
-        return str(self.folder / name)
-
-    def init(self, *orders):
-        """Makes the register, and does these orders."""
-        self.assertEqual(run(["init", self.db]), DONE)
-        for words in orders:
-            self.assertEqual(self.order(*words), DONE)
-
-    def order(self, word, *words, text=b""):
-        return run([word, self.db, *words], text)
-
-    def grant(self, tenant, token=TOKEN):
-        self.assertEqual(self.order("token-grant", tenant, text=token), DONE)
-
-    def query(self, sql):
-        """The rows that Python's own SQLite reads."""
-        with closing(sqlite3.connect(self.db)) as conn:
-            return conn.execute(sql).fetchall()
-
-    def change(self, *statements):
-        """Changes the file by Python's own SQLite, which ends each commit in the file itself."""
-        with closing(sqlite3.connect(self.db)) as conn:
-            for sql in statements:
-                conn.execute(sql)
-            conn.commit()
-            conn.execute("PRAGMA wal_checkpoint(TRUNCATE)")
-
-    def rows(self):
-        """All rows of all tables."""
-        names = ["meta", "tenant", "token", "network", "peer", "allowed"]
-        return {name: sorted(self.query(f"SELECT * FROM {name}"), key=repr) for name in names}
+from keys import K0
+from program import run
+from register_file import ACME, BOLT, DIGEST, DONE, NETWORK, OFFICE, S, TOKEN, Files, address_bytes, failed, options, refused
 
 
 class Done(Files):
@@ -200,9 +119,6 @@ class Done(Files):
 
 
 # The orders that stand, the words, standard input, and the refusal.
-ACME = ("tenant-add", "acme")
-BOLT = ("tenant-add", "bolt")
-NETWORK = ("network-add", "acme", "office", *options())
 REFUSALS = [
     ("a tenant twice", [ACME], ["tenant-add", "acme"], b"", "name_held"),
     ("a token for nobody", [ACME], ["token-grant", "bolt"], TOKEN, "no_such_tenant"),
@@ -366,127 +282,3 @@ class Refused(Files):
         self.assertEqual(self.order("token-end", text=token), DONE)
         for path in self.folder.iterdir():
             self.assertNotIn(token, path.read_bytes())
-
-
-WORDS = [
-    ("tenant-add", ["acme"], b""),
-    ("token-grant", ["acme"], TOKEN),
-    ("token-end", [], TOKEN),
-    ("network-add", ["acme", "office", *options()], b""),
-    ("network-end", ["acme", "office"], b""),
-]
-
-# A change that makes rows of a register no good.
-BROKEN = [
-    ("a token of no tenant", "INSERT INTO token VALUES (zeroblob(32), 7)"),
-    ("a short digest", "UPDATE token SET digest = x'00'"),
-    ("a name that is none", "UPDATE tenant SET name = 'Acme'"),
-    ("an id beyond the last", "UPDATE tenant SET id = 65537"),
-    ("a network of no tenant", "UPDATE network SET tenant = 7"),
-    ("a pool with a host bit", "UPDATE network SET lo = x'0000000000000000000000000a080001'"),
-    ("a capacity of 4097", "UPDATE network SET capacity = 4097"),
-    ("a host in upper case", "UPDATE network SET host = 'VPN.example.net'"),
-    ("a peer of no network", "INSERT INTO peer VALUES (1048577, 2, zeroblob(32), '', 0, 0, NULL, NULL, NULL)"),
-]
-
-
-class Faults(Files):
-    def test_init_twice(self):
-        self.init(ACME)
-        before = self.rows()
-        self.assertEqual(run(["init", self.db]), failed("not_empty"))
-        self.assertEqual(self.rows(), before)
-
-    def test_init_beside_other_tables(self):
-        self.change("CREATE TABLE note (text TEXT)")
-        self.assertEqual(run(["init", self.db]), failed("not_a_register"))
-        self.assertEqual(self.query("SELECT name FROM sqlite_schema"), [("note",)])
-
-    def test_init_in_an_empty_database(self):
-        self.change("CREATE TABLE note (text TEXT)", "DROP TABLE note")
-        self.assertEqual(run(["init", self.db]), DONE)
-
-    def test_init_in_an_empty_file(self):
-        Path(self.db).touch()
-        self.assertEqual(run(["init", self.db]), DONE)
-        self.assertEqual(self.query("SELECT version FROM meta"), [(1,)])
-
-    def each_word(self, left):
-        for word, words, text in WORDS:
-            with self.subTest(word):
-                self.assertEqual(self.order(word, *words, text=text), left)
-
-    def test_a_missing_file_is_not_made(self):
-        self.each_word(failed("not_a_register"))
-        self.assertEqual(os.listdir(self.folder), [])
-
-    def test_an_empty_file(self):
-        Path(self.db).touch()
-        self.each_word(failed("not_a_register"))
-
-    def test_an_empty_database(self):
-        self.change("CREATE TABLE note (text TEXT)", "DROP TABLE note")
-        self.each_word(failed("not_a_register"))
-
-    def test_another_database(self):
-        self.change("CREATE TABLE note (text TEXT)", "INSERT INTO note VALUES ('mine')")
-        self.each_word(failed("not_a_register"))
-        self.assertEqual(self.query("SELECT text FROM note"), [("mine",)])
-
-    def test_another_version(self):
-        self.init(ACME)
-        self.change("UPDATE meta SET version = 2")
-        self.each_word(failed("not_a_register"))
-
-    def test_no_database(self):
-        text = b"not a database, but longer than a header of one hundred bytes" * 10
-        Path(self.db).write_bytes(text)
-        self.each_word(failed("store"))
-        self.assertEqual(run(["init", self.db]), failed("store"))
-        self.assertEqual(Path(self.db).read_bytes(), text)
-
-    def test_a_folder(self):
-        self.db = str(self.folder)
-        self.each_word(failed("store"))
-        self.assertEqual(run(["init", self.db]), failed("store"))
-
-    def test_a_folder_that_is_missing(self):
-        self.db = self.path("none/register.db")
-        self.assertEqual(run(["init", self.db]), failed("store"))
-        self.each_word(failed("not_a_register"))
-        self.assertEqual(os.listdir(self.folder), [])
-
-    def test_rows_that_are_not_good(self):
-        for name, sql in BROKEN:
-            with self.subTest(name):
-                self.setUp()
-                self.init(ACME, NETWORK)
-                self.grant("acme")
-                self.change(sql)
-                before = self.rows()
-                self.assertEqual(self.order("tenant-add", "bolt"), failed("not_good"))
-                self.assertEqual(self.rows(), before)
-
-    @unittest.skipIf(os.geteuid() == 0, "root may write everywhere")
-    def test_a_folder_that_is_not_written(self):
-        self.folder.chmod(stat.S_IRUSR | stat.S_IXUSR)
-        self.addCleanup(self.folder.chmod, stat.S_IRWXU)
-        self.assertEqual(run(["init", self.db]), failed("store"))
-
-    def test_a_database_in_use(self):
-        self.init(ACME)
-        with closing(sqlite3.connect(self.db, isolation_level=None)) as conn:
-            conn.execute("BEGIN EXCLUSIVE")
-            self.each_word(failed("store"))
-
-    def test_output_that_takes_nothing(self):
-        self.init()
-        with open("/dev/full", "wb") as full:
-            left = run(["tenant-add", self.db, "acme"], stdout=full)
-        self.assertEqual(left, failed("device"))
-        self.assertEqual(self.query("SELECT name FROM tenant"), [("acme",)])
-
-    def test_standard_error_that_takes_nothing_keeps_the_status(self):
-        with open("/dev/full", "wb") as full:
-            self.assertEqual(run(["tenant-add", self.db, "_"], stderr=full), Left(2))
-            self.assertEqual(run(["tenant-add", self.db, "acme"], stderr=full), Left(1))

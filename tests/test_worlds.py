@@ -57,7 +57,7 @@ class Script:
         prefix = pick([f"{self.address()}/{24 + small(9)}", "192.168.0.0/16", "fd00:9::/64", "::/0"])
         dump = f"(none)\t{SERVER_KEY}\t51820\toff\n" + "".join(
             f"{key(of)}\t(none)\t(none)\t{self.address()}/32\t{small(99)}\t1\t2\toff\n"
-            for of in self.random.sample(range(12), small(3))
+            for of in self.random.choices(range(12), k=small(3))
         )
         return pick(
             [

@@ -1,0 +1,94 @@
+"""A register's file, made by the program and read by Python's own SQLite."""
+
+import ipaddress
+import sqlite3
+import tempfile
+import unittest
+from contextlib import closing
+from pathlib import Path
+
+from keys import key_text
+from program import Left, run
+
+DONE = Left(0, b"done\n")
+S = key_text(bytes([200]) * 32)
+TOKEN = b"abc"
+# The SHA-256 of `abc` (FIPS 180-4 has it as an example).
+DIGEST = bytes.fromhex("ba7816bf8f01cfea414140de5dae2223b00361a396177a9cb410ff61f20015ad")
+
+# The options of a network, by their long names.
+OFFICE = {
+    "pool": "10.8.0.0/24",
+    "host": "vpn.example.net",
+    "port": "51820",
+    "key": S,
+    "capacity": "4096",
+}
+
+
+def refused(why):
+    return Left(2, b"", b"wgr: %s\n" % why.encode())
+
+
+def failed(why):
+    return Left(1, b"", b"wgr: %s\n" % why.encode())
+
+
+def options(**changed):
+    """The words of a network's options."""
+    return [word for name, value in {**OFFICE, **changed}.items() for word in (f"--{name}", value)]
+
+
+def address_bytes(text):
+    """An address as a column keeps it: 16 bytes, IPv4 in the last four."""
+    return ipaddress.ip_address(text).packed.rjust(16, b"\0")
+
+
+ACME = ("tenant-add", "acme")
+BOLT = ("tenant-add", "bolt")
+NETWORK = ("network-add", "acme", "office", *options())
+
+
+class Files(unittest.TestCase):
+    """A folder for each test, and a register in it."""
+
+    maxDiff = None
+
+    def setUp(self):
+        folder = tempfile.TemporaryDirectory()
+        self.addCleanup(folder.cleanup)
+        self.folder = Path(folder.name)
+        self.db = str(self.folder / "register.db")
+
+    def path(self, name):
+        return str(self.folder / name)
+
+    def init(self, *orders):
+        """Makes the register, and does these orders."""
+        self.assertEqual(run(["init", self.db]), DONE)
+        for words in orders:
+            self.assertEqual(self.order(*words), DONE)
+
+    def order(self, word, *words, text=b""):
+        return run([word, self.db, *words], text)
+
+    def grant(self, tenant, token=TOKEN):
+        self.assertEqual(self.order("token-grant", tenant, text=token), DONE)
+
+    def query(self, sql):
+        """The rows that Python's own SQLite reads."""
+        with closing(sqlite3.connect(self.db)) as conn:
+            return conn.execute(sql).fetchall()
+
+    def change(self, *statements):
+        """Changes the file by Python's own SQLite, which ends each commit in the file itself."""
+        with closing(sqlite3.connect(self.db)) as conn:
+            for sql in statements:
+                conn.execute(sql)
+            conn.commit()
+            conn.execute("PRAGMA wal_checkpoint(TRUNCATE)")
+
+    def rows(self):
+        """All rows of all tables."""
+        names = ["meta", "tenant", "token", "network", "peer", "allowed"]
+        return {name: sorted(self.query(f"SELECT * FROM {name}"), key=repr) for name in names}
