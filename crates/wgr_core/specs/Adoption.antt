@@ -8,6 +8,7 @@ use Rattle.wgr_pool.specs.Allot.{is_assignable}
 use Rattle.wgr_peers.specs.declared.peer.Peer.{Peer}
 use Rattle.wgr_peers.specs.Peers.{is_own, put_peer, same_key}
 use Rattle.wgr_peers.specs.Routes.{assign_route, route_of}
+use Rattle.wgr_peers.specs.Limits.{max_number, max_routes}
 use Rattle.wgr_core.specs.declared.refusal.LineRefusal.{LineRefusal}
 use Rattle.wgr_core.specs.declared.refusal.LineRefusal.TheVariants as why
 use Rattle.wgr_core.specs.declared.seen_peer.SeenPeer.{SeenPeer}
@@ -43,7 +44,7 @@ abbrev pub line_refusal : NetworkValue → Key → Option LineRefusal
 line_refusal n key =
     cond (same_key key n.server) (Some why.ServerKey)
     (cond (not (nat_lt (length n.peers) n.capacity)) (Some why.CapacityReached)
-    (cond (nat_lt 1000000 n.next) (Some why.NumbersSpent) None))
+    (cond (nat_lt max_number n.next) (Some why.NumbersSpent) None))
 
 abbrev pub or_pool_full : Option AddrValue → Result AddrValue LineRefusal
 or_pool_full None = Err why.PoolFull
@@ -65,7 +66,7 @@ with_line n line a = record n { next = n.next + 1; peers = n.peers ++ peer_of_li
 abbrev pub give_refusal : NetworkValue → PrefixValue → Option LineRefusal
 give_refusal n p =
     cond (is_address n p) (Some why.IsAddress)
-    (cond (not (is_some (route_of n.routes p)) && not (nat_lt (length n.routes) 4096)) (Some why.RoutesFull) None)
+    (cond (not (is_some (route_of n.routes p)) && not (nat_lt (length n.routes) max_routes)) (Some why.RoutesFull) None)
 
 -- the prefixes lead to the peer of the number, one after the other
 abbrev pub give_all : NetworkValue → ℕ → List PrefixValue → Result NetworkValue LineRefusal

@@ -8,7 +8,7 @@ use Rattle.wgr_peers.specs.declared.peer.Peer.{Peer}
 use Rattle.wgr_pool.specs.PrefixTests.{has, covers, same_prefix, full}
 use Rattle.wgr_pool.specs.Pool.{IsPool}
 use Rattle.wgr_pool.specs.Allot.{is_assignable, lowest_where}
-use Rattle.wgr_peers.specs.Limits.{IsPort, IsCapacity}
+use Rattle.wgr_peers.specs.Limits.{IsPort, IsCapacity, max_number, max_routes}
 use Rattle.wgr_peers.specs.Peers.{is_live, is_own, peer_of, same_key, AreNumbered, AreApart}
 use Rattle.wgr_peers.specs.Routes.{Routes, AreOrdered}
 
@@ -73,11 +73,11 @@ pub record IsNetwork (n : NetworkValue) : Type 0 where
   pub pool : IsPool n.pool
   pub port : IsPort n.port
   pub capacity : IsCapacity n.capacity
-  pub next : (1 ≤ n.next) × (n.next ≤ 1000001)
+  pub next : (1 ≤ n.next) × (n.next ≤ max_number + 1)
   pub room : length n.peers ≤ n.capacity
   pub members : All (IsMember n) n.peers
   pub numbered : AreNumbered n.peers
   pub apart : AreApart n.peers
-  pub few_routes : length n.routes ≤ 4096
+  pub few_routes : length n.routes ≤ max_routes
   pub routes : All (IsRoute n) n.routes
   pub ordered : AreOrdered n.routes

@@ -14,7 +14,7 @@ use Rattle.wgr_core.specs.declared.reply.Reply.TheVariants as reply
 use Rattle.wgr_core.specs.declared.reply.PeerView.{PeerView}
 use Rattle.wgr_pool.specs.PrefixTests.{full}
 use Rattle.wgr_pool.specs.Allot.{is_assignable}
-use Rattle.wgr_peers.specs.Limits.{is_over}
+use Rattle.wgr_peers.specs.Limits.{is_over, max_number, max_routes}
 use Rattle.wgr_peers.specs.Peers.{is_own, key_holder, peer_of, put_peer, same_key, without_peer}
 use Rattle.wgr_peers.specs.Routes.{Routes, assign_route, route_of, routes_to, without_route}
 use Rattle.wgr_core.specs.Network.{NetworkValue, is_address, live_at, lowest_free, without_peers}
@@ -72,7 +72,7 @@ join_refusal n now key until =
     (held_or (key_holder n.peers key)
     (cond (is_over now until) (Some LeaseOver)
     (cond (not (nat_lt (length n.peers) n.capacity)) (Some CapacityReached)
-    (cond (nat_lt 1000000 n.next) (Some NumbersSpent) None))))
+    (cond (nat_lt max_number n.next) (Some NumbersSpent) None))))
 
 abbrev pub at_place : Result AddrValue Refusal → (AddrValue → Outcome) → Outcome
 at_place (Err why) next = Err why
@@ -127,7 +127,7 @@ rerouted n p routes = Ok (reply.Peer (view_of routes p), record n { routes = rou
 abbrev pub route_refusal : NetworkValue → PrefixValue → Option Refusal
 route_refusal n prefix =
     cond (is_address n prefix) (Some IsAddress)
-    (cond (not (is_some (route_of n.routes prefix)) && not (nat_lt (length n.routes) 4096)) (Some RoutesFull) None)
+    (cond (not (is_some (route_of n.routes prefix)) && not (nat_lt (length n.routes) max_routes)) (Some RoutesFull) None)
 
 abbrev pub route : NetworkValue → ℕ → PrefixValue → Outcome
 route n number prefix =

@@ -8,6 +8,7 @@ ghost use Rattle.wgr_core.specs.Adoption.{give_all, give_refusal, other_prefixes
 ghost use Rattle.wgr_core.specs.Change.{changed};
 ghost use Rattle.wgr_core.specs.Draft.{DraftValue, MeetsGiven, HasPut, HaveOwnNumbers, LeadsTo, drafted, left_by};
 ghost use Rattle.wgr_core.specs.Network.{IsNetwork};
+ghost use Rattle.wgr_peers.specs.Limits.{max_number};
 
 use crate::change::Change;
 use crate::fault::LineFault;
@@ -80,7 +81,7 @@ impl<'a> Draft<'a> {
     // Puts in a peer of the next number.
     pub(crate) fn join(&mut self, peer: Peer) -> Result<(), AllocError>
         requires next { peer.number ≡ self.old.network.next }
-        requires left { self.old.network.next ≤ 1000000 }
+        requires left { self.old.network.next ≤ max_number }
         requires fits { IsNetwork (record self.old.network { next = self.old.network.next + 1; peers = self.old.network.peers ++ peer ∷ [] }) }
         ensures ok { OnOk result (self.new ≡ record self.old { network = record self.old.network { next = self.old.network.next + 1; peers = self.old.network.peers ++ peer ∷ [] } }) }
         ensures err { OnErr result (self.new ≡ self.old) }

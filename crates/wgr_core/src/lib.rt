@@ -10,15 +10,18 @@ mod draft;
 mod fault;
 mod form;
 mod forms;
+mod held;
 mod line;
 mod live;
 mod network;
+mod owner;
 mod parts;
 mod peers;
 mod refusal;
 mod reply;
 mod routes;
 mod seen_peer;
+mod views;
 
 pub use change::Change;
 pub use command::Command;

@@ -7,11 +7,11 @@ ghost use Rattle.wgr_peers.specs.declared.peer.Peer.{Peer};
 use crate::draft::Draft;
 use crate::fault::LineFault;
 use crate::refusal::LineRefusal;
-use crate::routes::{MAX_ROUTES, is_address};
+use crate::routes::is_address;
 use crate::seen_peer::SeenPeer;
 use std::alloc::{AllocError, Global};
-use wgr_peers::PeerDraft;
 use wgr_peers::order::peer_place;
+use wgr_peers::{MAX_NUMBER, MAX_ROUTES, PeerDraft};
 use wgr_pool::Pool;
 use wgr_text::{Addr, Key, Prefix};
 
@@ -92,7 +92,7 @@ impl Draft<'_> {
         if self.peers.len() >= usize::from(self.start.capacity().peers()) {
             return Some(LineRefusal::CapacityReached);
         }
-        if self.next() > 1_000_000 {
+        if self.next() > MAX_NUMBER {
             return Some(LineRefusal::NumbersSpent);
         }
         None

@@ -8,14 +8,15 @@ ghost use Rattle.wgr_peers.specs.Peers.{expired, is_own, key_holder, peer_of};
 ghost use Rattle.wgr_peers.specs.Routes.{route_of, routes_to};
 ghost use Rattle.wgr_core.specs.Live.{IsLive};
 ghost use Rattle.wgr_core.specs.Network.{NetworkValue, IsNetwork, live_at};
+ghost use Rattle.wgr_peers.specs.Limits.{max_routes};
 
 use crate::change::{Change, number_set};
 use crate::network::Network;
-use crate::routes::{MAX_ROUTES, prefixes_of};
+use crate::routes::prefixes_of;
 use std::alloc::{AllocError, Global};
 use std::collections::HashSet;
 use std::marker::Model;
-use wgr_peers::{Capacity, Items, Over, Peer};
+use wgr_peers::{Capacity, Items, MAX_ROUTES, Over, Peer};
 use wgr_pool::Pool;
 use wgr_text::{Addr, Key, Prefix};
 
@@ -144,7 +145,7 @@ impl Live<'_> {
 
     // Whether there are as many routes as a network may have.
     pub(crate) fn is_full(&self) -> bool
-        ensures { result ≡ not (nat_lt (length self.now.routes) 4096) }
+        ensures { result ≡ not (nat_lt (length self.now.routes) max_routes) }
     {
         self.network.routes().len() >= MAX_ROUTES && self.count_routes() >= MAX_ROUTES
     }

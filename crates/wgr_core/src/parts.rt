@@ -2,9 +2,10 @@
 ghost use Rattle.std.specs.Prelude.{◌≡◌, ◌≤◌, ◌↔◌, IsTrue, All, length};
 ghost use Rattle.wgr_core.specs.Network.{NetworkValue, IsMember, IsRoute};
 ghost use Rattle.wgr_core.specs.Parts.{network_of};
+ghost use Rattle.wgr_peers.specs.Limits.{max_number, max_routes};
 
-use crate::routes::{MAX_ROUTES, is_address};
-use wgr_peers::{Capacity, Host, Peer, PeerTable, Port};
+use crate::routes::is_address;
+use wgr_peers::{Capacity, Host, MAX_NUMBER, MAX_ROUTES, Peer, PeerTable, Port};
 use wgr_pool::Pool;
 use wgr_text::{Key, Prefix};
 
@@ -32,10 +33,10 @@ pub struct Parts {
 impl Parts {
     // Whether the next number can be one, and there is room for the peers and the routes.
     pub(crate) fn is_within_limits(&self) -> bool
-        ensures { IsTrue result ↔ ((1 ≤ self.now.next) × (self.now.next ≤ 1000001) × (length self.now.peers.items ≤ self.now.capacity) × (length self.now.routes.items ≤ 4096)) }
+        ensures { IsTrue result ↔ ((1 ≤ self.now.next) × (self.now.next ≤ max_number + 1) × (length self.now.peers.items ≤ self.now.capacity) × (length self.now.routes.items ≤ max_routes)) }
     {
         1 <= self.next
-            && self.next <= 1_000_001
+            && self.next <= MAX_NUMBER + 1
             && self.peers.len() <= usize::from(self.capacity.peers())
             && self.routes.len() <= MAX_ROUTES
     }

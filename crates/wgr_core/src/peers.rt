@@ -8,6 +8,7 @@ ghost use Rattle.wgr_core.specs.Change.{MeetsLive};
 ghost use Rattle.wgr_core.specs.Network.{IsNetwork, lowest_free};
 ghost use Rattle.wgr_peers.specs.Peers.{is_own, peer_of};
 ghost use Rattle.wgr_core.specs.Outcome.{address_refusal, join_refusal, joined, move, place, renew, replaced, revoke, vacated};
+ghost use Rattle.wgr_peers.specs.Limits.{max_number};
 
 use crate::change::Change;
 use crate::fault::ActFault;
@@ -17,7 +18,7 @@ use crate::refusal::Refusal;
 use crate::reply::{PeerView, Reply};
 use std::alloc::{AllocError, Global};
 use std::collections::HashSet;
-use wgr_peers::{Items, LeaseEnd, Peer};
+use wgr_peers::{Items, LeaseEnd, MAX_NUMBER, Peer};
 use wgr_pool::lowest_address;
 use wgr_text::{Addr, Key};
 
@@ -38,7 +39,7 @@ impl Live<'_> {
         if self.len() >= usize::from(self.capacity().peers()) {
             return Some(Refusal::CapacityReached);
         }
-        if self.next() > 1_000_000 {
+        if self.next() > MAX_NUMBER {
             return Some(Refusal::NumbersSpent);
         }
         None
@@ -131,7 +132,7 @@ impl Live<'_> {
         removed: Items<u32>,
     ) -> Result<(Reply, Option<Change>), ActFault>
         requires next { peer.number ≡ self.now.next }
-        requires left { self.now.next ≤ 1000000 }
+        requires left { self.now.next ≤ max_number }
         ensures { MeetsLive false None self.now removed result (joined self.now peer) }
     {
         let mut change = self.putting(alloc, &peer, removed)?;

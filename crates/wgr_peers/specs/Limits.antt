@@ -1,11 +1,23 @@
 -- The limits of numbers.
 use Rattle.std.specs.Prelude.{ℕ, ◌≤◌, Bool, not, ◌&&◌, nat_eq, nat_lt, cond}
 
+-- how many peers a network may have at a time
+abbrev pub max_peers : ℕ
+max_peers = 4096
+
+-- how many routes a network may have
+abbrev pub max_routes : ℕ
+max_routes = 4096
+
+-- the greatest number of a peer
+abbrev pub max_number : ℕ
+max_number = 1000000
+
 abbrev pub IsPort : ℕ → Type 0
 IsPort n = (1 ≤ n) × (n ≤ 65535)
 
 abbrev pub IsCapacity : ℕ → Type 0
-IsCapacity n = (1 ≤ n) × (n ≤ 4096)
+IsCapacity n = (1 ≤ n) × (n ≤ max_peers)
 
 -- 2 ^ 53 - 1 at most
 abbrev pub IsLeaseEnd : ℕ → Type 0

@@ -4,6 +4,12 @@ ghost use Rattle.wgr_peers.specs.Limits.{IsPort, IsCapacity, IsLeaseEnd, IsCount
 
 use std::marker::Model;
 
+/// The greatest number of a peer.
+pub const MAX_NUMBER: u32 = 1_000_000;
+
+/// How many routes a network may have.
+pub const MAX_ROUTES: usize = 4096;
+
 /// A UDP port: 1 to 65,535.
 #[derive(Clone, Copy, Debug, PartialEq, Eq)]
 pub struct Port {

@@ -16,6 +16,7 @@ use Rattle.wgr_request.specs.declared.target.Found.{Found}
 use Rattle.wgr_request.specs.declared.target.Parts.{Parts}
 use Rattle.wgr_request.specs.declared.target.Target.{Target}
 use Rattle.wgr_request.specs.declared.target.Target.TheVariants as target
+use Rattle.wgr_peers.specs.Limits.{max_number}
 
 pub data TargetValue : Type 0 where
   networks : TargetValue
@@ -77,7 +78,7 @@ parts_at path r = parts_in r.pattern r.text path r.names
 abbrev pub number_of : List ℕ → Option ℕ
 number_of text =
     let n = digits_value 10 text in
-    cond (nat_le 1 n && nat_le n 1000000 && bytes_eq text (decimal n)) (Some n) None
+    cond (nat_le 1 n && nat_le n max_number && bytes_eq text (decimal n)) (Some n) None
 
 abbrev pub form_of : List ℕ → Option Form
 form_of text = cond (bytes_eq text (codes "wg")) (Some Wg) (cond (bytes_eq text (codes "quick")) (Some Quick) None)

@@ -9,6 +9,7 @@ use crate::paths::{Paths, Place};
 use matchit::Params;
 use std::str;
 use wgr_core::Form;
+use wgr_peers::MAX_NUMBER;
 
 /// What a target names, by the parts of its path. The name of a network is any text without `/`;
 /// the number of a peer is 1 to 1,000,000.
@@ -151,7 +152,7 @@ fn number_of(text: &str) -> Option<u32>
     }
     match text.parse::<u32>() {
         Ok(number) => {
-            if number <= 1_000_000 {
+            if number <= MAX_NUMBER {
                 Some(number)
             } else {
                 None

@@ -5,7 +5,7 @@ use Rattle.wgr_peers.specs.declared.peer.Peer.{Peer}
 use Rattle.wgr_core.specs.Owner.{longest_match, own_prefixes}
 use Rattle.wgr_pool.proofs.Lists.{drop_next}
 use Rattle.wgr_core.proofs.OwnerLemmas.{own_here}
-use Rattle.wgr_core.proofs.routes.own_holder.Goals as goal
+use Rattle.wgr_core.proofs.owner.own_holder.Goals as goal
 
 pub returns-then-is_at : goal.returns-then-is_at
 returns-then-is_at c =

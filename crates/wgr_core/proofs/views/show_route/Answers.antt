@@ -2,7 +2,7 @@ use Rattle.std.proofs.Common.{subst, ◌∙◌}
 use Rattle.std.specs.Prelude.{Ok, Err}
 use Rattle.wgr_peers.specs.Peers.{AreNumbered}
 use Rattle.wgr_core.proofs.ViewLemmas.{ends_in_peers, peers_shown, shown_there, shown_nowhere}
-use Rattle.wgr_core.proofs.routes.show_route.Goals as goal
+use Rattle.wgr_core.proofs.views.show_route.Goals as goal
 
 pub returns-in_ok-push : goal.returns-in_ok-push
 returns-in_ok-push c = λ shown peers same.

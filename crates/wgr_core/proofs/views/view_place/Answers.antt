@@ -5,8 +5,8 @@ use Rattle.wgr_peers.specs.Peers.{IsNumberedBelow}
 use Rattle.wgr_peers.proofs.OrderedLemmas.{partitioned, place_is}
 use Rattle.wgr_peers.proofs.PlaceLemmas.{peers_down}
 use Rattle.wgr_core.proofs.ViewLemmas.{views_numbered, view_there, view_not_there}
-use Rattle.wgr_core.proofs.routes.view_place.Goals as goal
-use Rattle.wgr_core.proofs.routes.view_place.Goals.{else-place-views-via-then-place-views+else-views-place, else-place-views-via-else-place-views}
+use Rattle.wgr_core.proofs.views.view_place.Goals as goal
+use Rattle.wgr_core.proofs.views.view_place.Goals.{else-place-views-via-then-place-views+else-views-place, else-place-views-via-else-place-views}
 
 pub returns-then-views-place : goal.returns-then-views-place
 returns-then-views-place c =
