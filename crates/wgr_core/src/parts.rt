@@ -1,5 +1,5 @@
 //! The parts of a network, and whether they keep its rules.
-ghost use Rattle.std.specs.Prelude.{◌≡◌, ◌≤◌, ◌↔◌, IsTrue, All, length};
+ghost use Rattle.std.specs.Prelude.{◌≡◌, ◌+◌, ◌≤◌, ◌↔◌, IsTrue, All, length};
 ghost use Rattle.wgr_core.specs.Network.{NetworkValue, IsMember, IsRoute};
 ghost use Rattle.wgr_core.specs.Parts.{network_of};
 ghost use Rattle.wgr_peers.specs.Limits.{max_number, max_routes};
