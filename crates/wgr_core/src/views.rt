@@ -80,7 +80,11 @@ fn show_route(views: &mut Vec<PeerView>, route: &(Prefix, u32)) -> Result<(), Al
 }
 
 // The view of a peer to which these routes lead.
-pub(crate) fn view_with(alloc: Global, peer: &Peer, own: &[(Prefix, u32)]) -> Result<PeerView, AllocError>
+pub(crate) fn view_with(
+    alloc: Global,
+    peer: &Peer,
+    own: &[(Prefix, u32)],
+) -> Result<PeerView, AllocError>
     ensures { IfOk result (λ view. view ≡ record { peer = peer.now; routes = map (λ r. r.0) own.now }) }
 {
     let routes = prefixes_of(alloc, own)?;
