@@ -1,7 +1,9 @@
 """`wgr batch`: requests from files; and that a tenant can't tell others' doings from their absence."""
 
+import sqlite3
 import tempfile
 import unittest
+from contextlib import closing
 from pathlib import Path
 
 from keys import key_text
@@ -83,6 +85,21 @@ class Batch(unittest.TestCase):
             self.assertEqual(left, Left(0, first + refused(401, "unknown_token")))
             again = run(["tenant-add", self.database, "acme"])
             self.assertEqual(again, Left(2, b"", b"wgr: name_held\n"))
+
+    def test_a_network_at_its_limits(self):
+        """A number above 1,000,000 is never given, and a network has 4,096 routes at most."""
+        with closing(sqlite3.connect(self.database)) as rows, rows:
+            rows.execute("update network set next = 1000000")
+        many = ",".join(f"172.16.{place // 256}.{place % 256}/32" for place in range(4_096))
+        line = f"{key(1)}\t(none)\t(none)\t10.8.0.2/32,{many}\t0\t0\t0\toff\n"
+        asked = [
+            request("POST", "/networks/office/dump", f"(none)\t{SERVER_KEY}\t51820\toff\n{line}".encode()),
+            request("POST", f"{PEERS}/1000000/routes", {"prefix": "172.32.0.0/16"}),
+            request("POST", PEERS, {"key": key(2)}),
+        ]
+        due = [done({"added": [1_000_000], "known": 0})]
+        due += [refused(409, "routes_full"), refused(409, "numbers_spent")]
+        self.assertEqual(batch(self.database, 7, asked), Left(0, b"".join(due)))
 
     def test_another_tenants_network(self):
         """It is answered as one that nobody has, byte for byte."""
