@@ -1,13 +1,16 @@
 """`wgr batch`: requests from files; and that a tenant can't tell others' doings from their absence."""
 
+import sqlite3
 import tempfile
 import unittest
+from contextlib import closing
 from pathlib import Path
 
 from keys import key_text
 from program import Left, run
 from serving import (
     SERVER_KEY,
+    TOKEN,
     done,
     key,
     make_register,
@@ -72,16 +75,51 @@ class Batch(unittest.TestCase):
         )
 
     def test_an_address_for_each_peer(self):
-        """The last addresses of a pool are given in turn, with strangers' requests between."""
-        asked, due = [], []
+        """The last addresses of a pool are given in turn, with strangers' requests and orders between."""
         for byte in range(1, 255):
             of = key_text(bytes(31 * [0xAA] + [byte]))
-            asked += [request("POST", PEERS, {"key": of}), request("GET", PEERS, token="zzz")]
-            made = peer(byte, 0, f"10.8.0.{byte + 1}/32") | {"key": of}
-            due += [done(made) if byte < 254 else refused(409, "pool_full")]
-            due += [refused(401, "unknown_token")]
-        left = batch(self.database, 0, asked)
-        self.assertEqual((left.status, replies(left.out)), (0, due))
+            asked = [request("POST", PEERS, {"key": of}), request("GET", PEERS, token="zzz")]
+            made = done(peer(byte, 0, f"10.8.0.{byte + 1}/32") | {"key": of})
+            first = made if byte < 254 else refused(409, "pool_full")
+            left = batch(self.database, 0, asked)
+            self.assertEqual(left, Left(0, first + refused(401, "unknown_token")))
+            again = run(["tenant-add", self.database, "acme"])
+            self.assertEqual(again, Left(2, b"", b"wgr: name_held\n"))
+
+    def test_a_network_at_its_limits(self):
+        """A number above 1,000,000 is never given, and a network has 4,096 routes at most."""
+        with closing(sqlite3.connect(self.database)) as rows, rows:
+            rows.execute("update network set next = 1000000")
+        many = ",".join(f"172.16.{place // 256}.{place % 256}/32" for place in range(4_096))
+        line = f"{key(1)}\t(none)\t(none)\t10.8.0.2/32,{many}\t0\t0\t0\toff\n"
+        asked = [
+            request("POST", "/networks/office/dump", f"(none)\t{SERVER_KEY}\t51820\toff\n{line}".encode()),
+            request("POST", f"{PEERS}/1000000/routes", {"prefix": "172.32.0.0/16"}),
+            request("POST", PEERS, {"key": key(2)}),
+        ]
+        due = [done({"added": [1_000_000], "known": 0})]
+        due += [refused(409, "routes_full"), refused(409, "numbers_spent")]
+        self.assertEqual(batch(self.database, 7, asked), Left(0, b"".join(due)))
+
+    def test_another_tenants_network(self):
+        """It is answered as one that nobody has, byte for byte."""
+        asked = [request("GET", "/networks/lab/peers")]
+        nobodys = batch(self.database, 7, asked)
+        self.assertEqual(nobodys, Left(0, refused(404, "no_such_network")))
+        order("tenant-add", self.database, "bolt")
+        network_add(self.database, "bolt", "lab", "10.9.0.0/24", port="51821")
+        self.assertEqual(batch(self.database, 7, asked), nobodys)
+
+    def test_an_ended_token(self):
+        """Who asks with it is a stranger from then on, and no other token ends."""
+        order("tenant-add", self.database, "bolt")
+        order("token-grant", self.database, "bolt", token="xyz")
+        asked = [request("GET", PEERS), request("GET", "/networks", token="xyz")]
+        theirs = done({"networks": []})
+        self.assertEqual(batch(self.database, 7, asked), Left(0, done({"peers": []}) + theirs))
+        order("token-end", self.database, token=TOKEN)
+        left = batch(self.database, 7, asked)
+        self.assertEqual(left, Left(0, refused(401, "unknown_token") + theirs))
 
     def test_two_worlds(self):
         """A tenant's replies are the same where another has a network of its name and many peers."""

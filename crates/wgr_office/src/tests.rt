@@ -11,20 +11,52 @@ use wgr_request::{Fault, Field, Methods};
 use wgr_text::{Addr, Key, Prefix, read_loose};
 
 mod events;
+mod lines;
+mod many;
+mod messages;
 
-/// The text of a table: in it `@` stands for the key of 32 bytes 0x01.
+/// The text of the key for which this letter stands in tables.
+fn key_text(letter: u8) -> Option<&'static [u8]> {
+    match letter {
+        b'^' => Some(b"AAAAAAAAAAAAAAAAAAAAAAAAAAAAAAAAAAAAAAAAAAA="),
+        b'@' => Some(b"AQEBAQEBAQEBAQEBAQEBAQEBAQEBAQEBAQEBAQEBAQE="),
+        b'&' => Some(b"AgICAgICAgICAgICAgICAgICAgICAgICAgICAgICAgI="),
+        b'~' => Some(b"AwMDAwMDAwMDAwMDAwMDAwMDAwMDAwMDAwMDAwMDAwM="),
+        b'$' => Some(b"CQkJCQkJCQkJCQkJCQkJCQkJCQkJCQkJCQkJCQkJCQk="),
+        _ => None,
+    }
+}
+
+/// The text of a table: in it `^`, `@`, `&`, `~` and `$` stand for the keys of 32 bytes 0x00, 0x01, 0x02,
+/// 0x03 and 0x09.
 fn text_of(rt: &(impl Abort + AllocGlobal), row: &[u8]) -> Vec<u8> {
     let mut text = Vec::new(rt.alloc());
     for &byte in row {
         let one = [byte];
-        let part = if byte == b'@' {
-            b"AQEBAQEBAQEBAQEBAQEBAQEBAQEBAQEBAQEBAQEBAQE=".as_slice()
-        } else {
-            one.as_slice()
-        };
+        let part = key_text(byte).unwrap_or(one.as_slice());
         text.extend_from_slice(part).expect(rt, "memory");
     }
     text
+}
+
+/// A head, and the body behind it.
+fn joined(rt: &(impl Abort + AllocGlobal), head: &str, body: &[u8]) -> Vec<u8> {
+    let mut bytes = Vec::new(rt.alloc());
+    bytes
+        .extend_from_slice(head.as_bytes())
+        .expect(rt, "memory");
+    bytes.extend_from_slice(body).expect(rt, "memory");
+    bytes
+}
+
+/// The whole reply. `lines` stand between those of the length and of the connection.
+fn reply(rt: &(impl Abort + AllocGlobal), status: &str, lines: &str, body: &str) -> Vec<u8> {
+    let body = text_of(rt, body.as_bytes());
+    let length = body.len();
+    let head = format!(in rt.alloc();
+        "HTTP/1.1 {status}\r\nContent-Type: application/json\r\nContent-Length: {length}\r\n{lines}Connection: close\r\n\r\n"
+    ).expect(rt, "memory");
+    joined(rt, &head, &body)
 }
 
 fn address(rt: &(impl Abort + AllocGlobal), text: &str) -> Addr {
@@ -89,7 +121,7 @@ fn network(rt: &(impl Abort + AllocGlobal), name: &str, host: &str, pool: &str) 
     (name.expect(rt, "a name"), network)
 }
 
-/// Compares the whole reply. `lines` stand between those of the length and of the connection.
+/// Compares the whole reply.
 fn check(
     rt: &(impl Abort + AllocGlobal),
     response: Response<'_>,
@@ -98,14 +130,7 @@ fn check(
     body: &str,
 ) {
     let bytes = write_response(rt.alloc(), response).expect(rt, "memory");
-    let body = text_of(rt, body.as_bytes());
-    let length = body.len();
-    let wanted = format!(in rt.alloc();
-        "HTTP/1.1 {status}\r\nContent-Type: application/json\r\nContent-Length: {length}\r\n{lines}Connection: close\r\n\r\n"
-    ).expect(rt, "memory");
-    let (head, rest) = bytes.split_at(wanted.len().min(bytes.len()));
-    assert_eq!(rt; head, wanted.as_bytes());
-    assert_eq!(rt; rest, body.as_slice());
+    assert_eq!(rt; bytes.as_slice(), reply(rt, status, lines, body).as_slice());
 }
 
 #[test]
@@ -166,7 +191,11 @@ fn small_answers(rt: HostRuntime) {
     }
 }
 
+const FOUND: &str = "200 OK";
+
 const BAD: &str = "400 Bad Request";
+
+const NOBODY: &str = "401 Unauthorized";
 
 const NOT_FOUND: &str = "404 Not Found";
 
@@ -224,7 +253,7 @@ fn faults(rt: HostRuntime) {
     let rows: [(Fault, &str, &str, &str); 11] = [
         (
             Fault::UnknownToken,
-            "401 Unauthorized",
+            NOBODY,
             "WWW-Authenticate: Bearer\r\n",
             r#"{"error":"unknown_token"}"#,
         ),

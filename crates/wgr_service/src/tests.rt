@@ -1,5 +1,5 @@
 //! Clients and the service in one thread, over a register in memory.
-use super::serve_connections;
+use super::{answer_all, serve_connections};
 use sqlite::{Connection, MemStore};
 use std::alloc::AllocGlobal;
 use std::io;
@@ -87,4 +87,24 @@ fn clients_are_served_in_turn(rt: HostRuntime) -> io::Result<()> {
     second.read_to_end(&mut reply)?;
     assert_eq!(rt; reply.as_slice(), TRUNCATED);
     Ok(())
+}
+
+fn ask(rt: &(impl Abort + AllocGlobal), message: &[u8]) -> Event {
+    let mut bytes = Vec::new(rt.alloc());
+    bytes.extend_from_slice(message).expect(rt, "memory");
+    Event::Ask { now: 7, bytes }
+}
+
+#[test]
+fn requests_are_answered_in_turn(rt: HostRuntime) {
+    let mut office = office(&rt);
+    add_acme(&rt, &mut office);
+    let requests = [ask(&rt, LIST), ask(&rt, b"")];
+    let mut out = Device::new(Vec::new(rt.alloc()));
+    let whole = answer_all(rt.alloc(), &mut office, &requests, &mut out);
+    let _conn = office.into_register().into_connection();
+    assert!(rt; whole == Ok(true));
+    let (first, second) = out.inner.split_at(NETWORKS.len().min(out.inner.len()));
+    assert_eq!(rt; first, NETWORKS);
+    assert_eq!(rt; second, TRUNCATED);
 }

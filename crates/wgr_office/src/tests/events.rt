@@ -1,293 +1,229 @@
-//! Lists of orders and messages over a register in memory. An order is a line of words: `tenant NAME`,
-//! `grant TENANT TOKEN`, `end-token TOKEN`, `network TENANT NAME POOL HOST`, `end-network TENANT NAME`;
-//! a request is `METHOD TOKEN TARGET BODY`. `@` stands for the key of 32 bytes 0x01 wherever it stands.
-use super::text_of;
-use crate::{Answer, Event, Office};
-use sqlite::{Connection, MemStore};
-use std::alloc::AllocGlobal;
-use std::process::Abort;
-use std::str::Split;
-use wgr_core::{Capacity, Host, Name, Port};
-use wgr_io::Device;
-use wgr_model::{Order, Settings};
-use wgr_register::{OpenFault, Register};
-use wgr_request::token_digest;
-use wgr_text::{Key, read_loose};
+//! Lists of orders and requests, run in turn over a register in memory.
+use super::lines::{Row, check, empty, end, office};
+use super::{BAD, CONFLICT, FOUND, NOBODY, NOT_FOUND};
 
-/// A line, the status of the reply, which is empty for an order, and the body or what the order is told.
-type Row<'t> = (&'t str, &'t str, &'t str);
+const UNKNOWN: &str = r#"{"error":"unknown_token"}"#;
 
-fn word<'t>(words: &mut Split<'t, char>) -> &'t str {
-    words.next().unwrap_or("")
-}
-
-fn name(rt: &(impl Abort + AllocGlobal), text: &str) -> Name {
-    Name::read(rt.alloc(), text.as_bytes())
-        .expect(rt, "memory")
-        .expect(rt, "a name")
-}
-
-fn digest(rt: &impl Abort, token: &str) -> [u8; 32] {
-    token_digest(token.as_bytes()).expect(rt, "a token")
-}
-
-fn settings(rt: &(impl Abort + AllocGlobal), pool: &str, host: &str) -> Settings {
-    let (address, length) = read_loose(pool.as_bytes()).expect(rt, "a prefix");
-    let host = Host::read(rt.alloc(), host.as_bytes()).expect(rt, "memory");
-    Settings {
-        address,
-        length,
-        host: host.expect(rt, "a host"),
-        port: Port::new(51820).expect(rt, "a port"),
-        server: Key([9; 32]),
-        capacity: Capacity::new(4096).expect(rt, "a capacity"),
-    }
-}
-
-fn order(
-    rt: &(impl Abort + AllocGlobal),
-    kind: &str,
-    first: &str,
-    words: &mut Split<'_, char>,
-) -> Order {
-    match kind {
-        "tenant" => Order::AddTenant {
-            name: name(rt, first),
-        },
-        "grant" => Order::Grant {
-            tenant: name(rt, first),
-            digest: digest(rt, word(words)),
-        },
-        "end-token" => Order::EndToken {
-            digest: digest(rt, first),
-        },
-        "network" => Order::AddNetwork {
-            tenant: name(rt, first),
-            name: name(rt, word(words)),
-            settings: settings(rt, word(words), word(words)),
-        },
-        "end-network" => Order::EndNetwork {
-            tenant: name(rt, first),
-            name: name(rt, word(words)),
-        },
-        _ => panic!(rt; "no such order"),
-    }
-}
-
-fn message(
-    rt: &(impl Abort + AllocGlobal),
-    method: &str,
-    token: &str,
-    words: &mut Split<'_, char>,
-) -> Vec<u8> {
-    let target = word(words);
-    let body = text_of(rt, word(words).as_bytes());
-    let length = body.len();
-    let head = format!(in rt.alloc();
-        "{method} {target} HTTP/1.1\r\nAuthorization: Bearer {token}\r\nContent-Length: {length}\r\n\r\n"
-    ).expect(rt, "memory");
-    let mut bytes = Vec::new(rt.alloc());
-    bytes
-        .extend_from_slice(head.as_bytes())
-        .expect(rt, "memory");
-    bytes.extend_from_slice(&body).expect(rt, "memory");
-    bytes
-}
-
-fn event(rt: &(impl Abort + AllocGlobal), line: &str) -> Event {
-    let mut words = line.split(' ');
-    let kind = word(&mut words);
-    let first = word(&mut words);
-    match kind {
-        "GET" | "POST" => Event::Ask {
-            now: 7,
-            bytes: message(rt, kind, first, &mut words),
-        },
-        _ => Event::Order(order(rt, kind, first, &mut words)),
-    }
-}
-
-/// The whole reply of this status and body; that of an order is what it is told.
-fn wanted(rt: &(impl Abort + AllocGlobal), status: &str, body: &str) -> Vec<u8> {
-    let body = text_of(rt, body.as_bytes());
-    if status.is_empty() {
-        return body;
-    }
-    let length = body.len();
-    let more = if status == "401 Unauthorized" {
-        "WWW-Authenticate: Bearer\r\n"
-    } else {
-        ""
-    };
-    let head = format!(in rt.alloc();
-        "HTTP/1.1 {status}\r\nContent-Type: application/json\r\nContent-Length: {length}\r\n{more}Connection: close\r\n\r\n"
-    ).expect(rt, "memory");
-    let mut bytes = Vec::new(rt.alloc());
-    bytes
-        .extend_from_slice(head.as_bytes())
-        .expect(rt, "memory");
-    bytes.extend_from_slice(&body).expect(rt, "memory");
-    bytes
-}
-
-/// The bytes of an answer; those of an order's are `done` or the refusal.
-fn given(rt: &(impl Abort + AllocGlobal), answer: &Answer) -> Vec<u8> {
-    let mut text = Vec::new(rt.alloc());
-    match answer {
-        Answer::Bytes(bytes) => text.extend_from_slice(bytes).expect(rt, "memory"),
-        Answer::Order(Ok(_)) => text.extend_from_slice(b"done").expect(rt, "memory"),
-        Answer::Order(Err(why)) => {
-            let why = why.to_string(rt.alloc()).expect(rt, "memory");
-            text.extend_from_slice(why.as_bytes()).expect(rt, "memory");
-        }
-        Answer::Unavailable => panic!(rt; "unavailable"),
-    }
-    text
-}
-
-/// An office over a register without entries.
-fn empty(rt: &(impl Abort + AllocGlobal)) -> Office<MemStore> {
-    let conn = Connection::open_in_memory(rt.alloc()).expect(rt, "memory");
-    assert!(rt; conn.is_autocommit());
-    let register = match Register::create(conn) {
-        Ok(register) => register,
-        Err(
-            OpenFault {
-                fault: _fault,
-                connection: _conn,
-            },
-        ) => panic!(rt; "no register"),
-    };
-    match Office::new(rt.alloc(), register) {
-        Ok(office) => office,
-        Err(register) => {
-            let _conn = register.into_connection();
-            panic!(rt; "no office")
-        }
-    }
-}
-
-fn events(rt: &(impl Abort + AllocGlobal), rows: &[Row<'_>]) -> Vec<Event> {
-    let mut events = Vec::new(rt.alloc());
-    for row in rows {
-        events.push(event(rt, row.0)).expect(rt, "memory");
-    }
-    events
-}
-
-/// Runs the lines as one list.
-fn check(rt: &(impl Abort + AllocGlobal), office: &mut Office<MemStore>, rows: &[Row<'_>]) {
-    let events = events(rt, rows);
-    let answers = office.run(rt.alloc(), &events).expect(rt, "memory");
-    for at in 0..rows.len() {
-        let (line, status, body) = rows[at];
-        let answer = answers.get(at).expect(rt, "an answer");
-        assert_eq!(rt;
-            given(rt, answer).as_slice(),
-            wanted(rt, status, body).as_slice(),
-            "{line}"
-        );
-    }
-}
-
-fn end(office: Office<MemStore>) {
-    let _conn = office.into_register().into_connection();
-}
-
-const FOUND: &str = "200 OK";
-
-const NOT_FOUND: &str = "404 Not Found";
-
-const NOBODY: &str = "401 Unauthorized";
+const NOWHERE: &str = r#"{"error":"no_such_network"}"#;
 
 const PEER: &str =
     r#"{"address":"10.8.0.2/32","end":0,"keepalive":0,"key":"@","label":"","number":1,"routes":[],"status":null}"#;
 
+const PEERS: &str =
+    r#"{"peers":[{"address":"10.8.0.2/32","end":0,"keepalive":0,"key":"@","label":"","number":1,"routes":[],"status":null}]}"#;
+
+/// What is listed once the dump is adopted.
+const ADOPTED: &str =
+    r#"{"peers":[{"address":"10.8.0.2/32","end":0,"keepalive":25,"key":"&","label":"","number":1,"routes":["192.168.4.0/24"],"status":{"handshake":1700000000,"received":1024,"sent":2048}},{"address":"10.8.0.3/32","end":0,"keepalive":0,"key":"@","label":"","number":2,"routes":[],"status":{"handshake":0,"received":0,"sent":0}},{"address":"10.8.0.4/32","end":0,"keepalive":0,"key":"~","label":"","number":3,"routes":["fd00:9::/64"],"status":{"handshake":0,"received":0,"sent":0}}]}"#;
+
+/// Orders and requests of two tenants, from a register without entries.
+const FROM_NOTHING: &[Row<'static>] = &[
+    ("tenant acme", "", "done"),
+    ("tenant acme", "", "name_held"),
+    ("grant cato abc", "", "no_such_tenant"),
+    ("7 GET abc /networks", NOBODY, UNKNOWN),
+    ("grant acme abc", "", "done"),
+    ("tenant bolt", "", "done"),
+    ("grant bolt abc", "", "digest_held"),
+    ("grant bolt def", "", "done"),
+    (
+        "network acme office 10.8.0.0/24 vpn.example.net",
+        "",
+        "done",
+    ),
+    (
+        "network bolt lab 10.8.0.0/25 lab",
+        "",
+        "pool_overlaps acme office",
+    ),
+    (
+        "7 GET abc /networks",
+        FOUND,
+        r#"{"networks":[{"capacity":4096,"endpoint":"vpn.example.net:51820","name":"office","pool":"10.8.0.0/24","server":"$"}]}"#,
+    ),
+    ("7 GET def /networks", FOUND, r#"{"networks":[]}"#),
+    (
+        "7 POST abc /networks/office/peers {\"key\":\"@\"}",
+        FOUND,
+        PEER,
+    ),
+    ("7 GET def /networks/office/peers", NOT_FOUND, NOWHERE),
+    ("7 GET abc /networks/office/peers", FOUND, PEERS),
+    ("end-network acme office", "", "done"),
+    ("7 GET abc /networks/office/peers", NOT_FOUND, NOWHERE),
+];
+
+/// The end of a token is no end of another.
+const ENDED_TOKEN: &[Row<'static>] = &[
+    ("tenant bolt", "", "done"),
+    ("grant bolt def", "", "done"),
+    ("7 GET abc /networks/office/peers", FOUND, r#"{"peers":[]}"#),
+    ("end-token abc", "", "done"),
+    ("7 GET abc /networks/office/peers", NOBODY, UNKNOWN),
+    ("7 GET def /networks", FOUND, r#"{"networks":[]}"#),
+    ("end-token abc", "", "no_such_token"),
+];
+
+/// A name that nobody has, and one that another tenant has.
+const NAMES: &[Row<'static>] = &[
+    ("7 GET abc /networks/lab/peers", NOT_FOUND, NOWHERE),
+    ("tenant bolt", "", "done"),
+    ("grant bolt def", "", "done"),
+    ("network bolt lab 10.9.0.0/24 lab", "", "done"),
+    ("7 GET abc /networks/lab/peers", NOT_FOUND, NOWHERE),
+    ("7 GET def /networks/lab/peers", FOUND, r#"{"peers":[]}"#),
+    ("7 GET abc /networks/Office/peers", NOT_FOUND, NOWHERE),
+];
+
+/// What the bytes refuse, whoever asks; and what a network refuses.
+const REFUSED: &[Row<'static>] = &[
+    (
+        "7 POST abc /networks/office/peers {\"key\":\"@\",\"extra\":0}",
+        BAD,
+        r#"{"error":"bad_field","field":"body"}"#,
+    ),
+    (
+        "7 POST zzz /networks/office/peers {\"key\":\"@\",\"extra\":0}",
+        BAD,
+        r#"{"error":"bad_field","field":"body"}"#,
+    ),
+    (
+        "7 GET abc /networks/office/peers/01",
+        NOT_FOUND,
+        r#"{"error":"no_such_path"}"#,
+    ),
+    (
+        "7 GET abc /networks/",
+        NOT_FOUND,
+        r#"{"error":"no_such_path"}"#,
+    ),
+    (
+        "7 GET abc /networks/office/server/ini",
+        NOT_FOUND,
+        r#"{"error":"no_such_path"}"#,
+    ),
+    (
+        "7 POST abc /networks/office/peers {\"key\":\"@\"}",
+        FOUND,
+        PEER,
+    ),
+    (
+        "7 POST abc /networks/office/peers {\"key\":\"@\"}",
+        CONFLICT,
+        r#"{"error":"key_held","number":1}"#,
+    ),
+    (
+        "7 POST abc /networks/office/peers {\"key\":\"$\"}",
+        CONFLICT,
+        r#"{"error":"server_key"}"#,
+    ),
+    (
+        "100 POST abc /networks/office/peers {\"key\":\"&\",\"end\":100}",
+        CONFLICT,
+        r#"{"error":"lease_over"}"#,
+    ),
+    (
+        "7 POST abc /networks/office/peers {\"key\":\"&\",\"address\":\"10.8.0.255\"}",
+        CONFLICT,
+        r#"{"error":"outside_pool"}"#,
+    ),
+    ("7 GET abc /networks/office/peers", FOUND, PEERS),
+];
+
+/// Each request is answered at its own moment.
+const LEASE: &[Row<'static>] = &[
+    (
+        "7 POST abc /networks/office/peers {\"key\":\"@\",\"end\":100}",
+        FOUND,
+        r#"{"address":"10.8.0.2/32","end":100,"keepalive":0,"key":"@","label":"","number":1,"routes":[],"status":null}"#,
+    ),
+    (
+        "99 GET abc /networks/office/peers",
+        FOUND,
+        r#"{"peers":[{"address":"10.8.0.2/32","end":100,"keepalive":0,"key":"@","label":"","number":1,"routes":[],"status":null}]}"#,
+    ),
+    (
+        "100 GET abc /networks/office/peers",
+        FOUND,
+        r#"{"peers":[]}"#,
+    ),
+    (
+        "99 GET abc /networks/office/peers",
+        FOUND,
+        r#"{"peers":[{"address":"10.8.0.2/32","end":100,"keepalive":0,"key":"@","label":"","number":1,"routes":[],"status":null}]}"#,
+    ),
+    (
+        "100 POST abc /networks/office/peers {\"key\":\"&\"}",
+        FOUND,
+        r#"{"address":"10.8.0.2/32","end":0,"keepalive":0,"key":"&","label":"","number":2,"routes":[],"status":null}"#,
+    ),
+    (
+        "99 GET abc /networks/office/peers",
+        FOUND,
+        r#"{"peers":[{"address":"10.8.0.2/32","end":0,"keepalive":0,"key":"&","label":"","number":2,"routes":[],"status":null}]}"#,
+    ),
+];
+
+/// Dumps that are none, and one that is adopted twice; then the same without its last newline.
+const DUMPS: &[Row<'static>] = &[
+    (
+        "7 POST abc /networks/office/dump",
+        BAD,
+        r#"{"error":"bad_dump","field":1,"line":1}"#,
+    ),
+    (
+        "7 POST abc /networks/office/dump (none)\t$\t51820\toff\n@\t(none)\t(none)\t(none)\t0\t0\t0\toff\n&\t(none)\t198.51.100.7:40000\t10.8.0.2/32,192.168.4.0/24\t1700000000\t1024\t2048\t25\n~\t^\t[2001:db8::1]:51820\tfd00:9::/64\t0",
+        BAD,
+        r#"{"error":"bad_dump","field":6,"line":4}"#,
+    ),
+    (
+        "7 POST abc /networks/office/dump (none)\t$\t51820\toff\n@\t(none)\t(none)\t(none)\t0\t0\t0\toff\n&\t(none)\t198.51.100.7:40000\t10.8.0.2/32,192.168.4.0/24\t1700000000\t1024\t2048\t25\n~\t^\t[2001:db8::1]:51820\tfd00:9::/64\t0\t0\t0\toff\n",
+        FOUND,
+        r#"{"added":[1,2,3],"known":0}"#,
+    ),
+    ("7 GET abc /networks/office/peers", FOUND, ADOPTED),
+    (
+        "7 POST abc /networks/office/dump (none)\t$\t51820\toff\n@\t(none)\t(none)\t(none)\t0\t0\t0\toff\n&\t(none)\t198.51.100.7:40000\t10.8.0.2/32,192.168.4.0/24\t1700000000\t1024\t2048\t25\n~\t^\t[2001:db8::1]:51820\tfd00:9::/64\t0\t0\t0\toff\n",
+        FOUND,
+        r#"{"added":[],"known":3}"#,
+    ),
+    ("7 GET abc /networks/office/peers", FOUND, ADOPTED),
+    ("end-network acme office", "", "done"),
+    (
+        "network acme office 10.8.0.0/24 vpn.example.net",
+        "",
+        "done",
+    ),
+    (
+        "7 POST abc /networks/office/dump (none)\t$\t51820\toff\n@\t(none)\t(none)\t(none)\t0\t0\t0\toff\n&\t(none)\t198.51.100.7:40000\t10.8.0.2/32,192.168.4.0/24\t1700000000\t1024\t2048\t25\n~\t^\t[2001:db8::1]:51820\tfd00:9::/64\t0\t0\t0\toff",
+        FOUND,
+        r#"{"added":[1,2,3],"known":0}"#,
+    ),
+    ("7 GET abc /networks/office/peers", FOUND, ADOPTED),
+    (
+        "7 POST abc /networks/office/dump (none)\t$\t51820\toff\n@\t(none)\t(none)\t(none)\t0\t0\t0\toff\n&\t(none)\t198.51.100.7:40000\t10.8.0.2/32,192.168.4.0/24\t1700000000\t1024\t2048\t25\n~\t^\t[2001:db8::1]:51820\tfd00:9::/64\t0\t0\t0\toff",
+        FOUND,
+        r#"{"added":[],"known":3}"#,
+    ),
+];
+
+/// Each is run where the tenant `acme` has the network `office`.
+const LISTS: &[&[Row<'static>]] = &[ENDED_TOKEN, NAMES, REFUSED, LEASE, DUMPS];
+
 #[test]
 fn lists_of_events(rt: HostRuntime) {
+    for rows in LISTS {
+        let mut office = office(&rt);
+        check(&rt, &mut office, rows);
+        end(office);
+    }
+}
+
+#[test]
+fn a_list_from_nothing(rt: HostRuntime) {
     let mut office = empty(&rt);
     check(&rt, &mut office, &[]);
-    check(
-        &rt,
-        &mut office,
-        &[
-            ("tenant acme", "", "done"),
-            ("tenant acme", "", "name_held"),
-            ("grant cato abc", "", "no_such_tenant"),
-            ("GET abc /networks", NOBODY, r#"{"error":"unknown_token"}"#),
-            ("grant acme abc", "", "done"),
-            ("tenant bolt", "", "done"),
-            ("grant bolt abc", "", "digest_held"),
-            ("grant bolt def", "", "done"),
-            (
-                "network acme office 10.8.0.0/24 vpn.example.net",
-                "",
-                "done",
-            ),
-            (
-                "network bolt lab 10.8.0.0/25 lab",
-                "",
-                "pool_overlaps acme office",
-            ),
-            (
-                "GET abc /networks",
-                FOUND,
-                r#"{"networks":[{"capacity":4096,"endpoint":"vpn.example.net:51820","name":"office","pool":"10.8.0.0/24","server":"CQkJCQkJCQkJCQkJCQkJCQkJCQkJCQkJCQkJCQkJCQk="}]}"#,
-            ),
-            ("GET def /networks", FOUND, r#"{"networks":[]}"#),
-            (
-                "POST abc /networks/office/peers {\"key\":\"@\"}",
-                FOUND,
-                PEER,
-            ),
-            (
-                "POST abc /networks/office/peers {\"key\":\"@\"}",
-                "409 Conflict",
-                r#"{"error":"key_held","number":1}"#,
-            ),
-            (
-                "GET def /networks/office/peers",
-                NOT_FOUND,
-                r#"{"error":"no_such_network"}"#,
-            ),
-            (
-                "GET def /networks/none/peers",
-                NOT_FOUND,
-                r#"{"error":"no_such_network"}"#,
-            ),
-            (
-                "GET abc /networks/office/peers",
-                FOUND,
-                r#"{"peers":[{"address":"10.8.0.2/32","end":0,"keepalive":0,"key":"@","label":"","number":1,"routes":[],"status":null}]}"#,
-            ),
-            ("end-token abc", "", "done"),
-            ("GET abc /networks", NOBODY, r#"{"error":"unknown_token"}"#),
-            ("end-network acme office", "", "done"),
-        ],
-    );
-    end(office);
-}
-
-#[test]
-fn a_message_is_answered(rt: HostRuntime) {
-    let mut office = empty(&rt);
-    let answer = office.answer(rt.alloc(), 7, b"GET /networks HTTP/1.1\r\n\r\n");
-    assert_eq!(rt;
-        given(&rt, &answer).as_slice(),
-        wanted(&rt, NOBODY, r#"{"error":"unknown_token"}"#).as_slice()
-    );
-    end(office);
-}
-
-#[test]
-fn a_connection_is_served(rt: HostRuntime) {
-    let mut office = empty(&rt);
-    let mut input = Device::new(b"GET /networks HTTP/1.1\r\n\r\nmore".as_slice());
-    let mut out = Device::new(Vec::new(rt.alloc()));
-    assert!(rt; office.serve_one(rt.alloc(), 7, &mut input, &mut out) == Ok(()));
-    assert_eq!(rt;
-        out.inner.as_slice(),
-        wanted(&rt, NOBODY, r#"{"error":"unknown_token"}"#).as_slice()
-    );
+    check(&rt, &mut office, FROM_NOTHING);
+    check(&rt, &mut office, &[]);
     end(office);
 }
