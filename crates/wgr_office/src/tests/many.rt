@@ -42,17 +42,22 @@ fn rounds(rt: &(impl Abort + AllocGlobal)) -> Vec<Event> {
     events
 }
 
-/// The reply to a new peer of a round: the last finds no address left.
-fn added(rt: &(impl Abort + AllocGlobal), round: u8) -> Vec<u8> {
-    if round == 254 {
-        return wanted(rt, CONFLICT, r#"{"error":"pool_full"}"#);
-    }
+/// The body of the reply to a new peer of a round.
+fn new_peer(rt: &(impl Abort + AllocGlobal), round: u8) -> String {
     let key = round_key(rt, round);
     let last = u16::from(round) + 1;
-    let body = format!(in rt.alloc();
+    format!(in rt.alloc();
         "{{\"address\":\"10.8.0.{last}/32\",\"end\":0,\"keepalive\":0,\"key\":\"{key}\",\"label\":\"\",\"number\":{round},\"routes\":[],\"status\":null}}"
-    ).expect(rt, "memory");
-    wanted(rt, FOUND, &body)
+    ).expect(rt, "memory")
+}
+
+/// The reply to the first request of a round: the last round finds no address left.
+fn added(rt: &(impl Abort + AllocGlobal), round: u8) -> Vec<u8> {
+    if round == 254 {
+        wanted(rt, CONFLICT, r#"{"error":"pool_full"}"#)
+    } else {
+        wanted(rt, FOUND, &new_peer(rt, round))
+    }
 }
 
 fn is_given(rt: &(impl Abort + AllocGlobal), answer: Option<&Answer>, wanted: &[u8]) {
@@ -118,8 +123,8 @@ fn mixed(rt: &(impl Abort + AllocGlobal)) -> Vec<Event> {
         let key = key_text(rt, [theirs + 1; 32]);
         events.push(add(rt, "def", &key)).expect(rt, "memory");
         if theirs % 20 == 19 {
-            let own = OWN[usize::from(theirs) / 20].0;
-            events.push(event(rt, own)).expect(rt, "memory");
+            let own = OWN.get(usize::from(theirs / 20)).expect(rt, "a row");
+            events.push(event(rt, own.0)).expect(rt, "memory");
         }
     }
     events
@@ -133,10 +138,9 @@ fn two_worlds(rt: HostRuntime) {
     let mut among = office(&rt);
     check(&rt, &mut among, BOLT);
     let answers = among.run(rt.alloc(), &mixed(&rt)).expect(&rt, "memory");
-    for place in 0..OWN.len() {
-        let (_, status, body) = OWN[place];
-        let due = wanted(&rt, status, body);
-        is_given(&rt, answers.get(21 * place + 20), &due);
+    let mut answers = answers.iter();
+    for &(_, status, body) in OWN {
+        is_given(&rt, answers.nth(20), &wanted(&rt, status, body));
     }
     end(among);
 }

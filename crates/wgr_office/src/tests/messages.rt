@@ -101,7 +101,7 @@ fn long_head(rt: &(impl Abort + AllocGlobal), length: usize) -> Vec<u8> {
         rt,
         b"GET /networks HTTP/1.1\r\nAuthorization: Bearer abc\r\nX: ",
     );
-    while bytes.len() + 4 < length {
+    for _ in 0..length.saturating_sub(bytes.len() + 4) {
         bytes.push(b'x').expect(rt, "memory");
     }
     bytes.extend_from_slice(b"\r\n\r\n").expect(rt, "memory");
