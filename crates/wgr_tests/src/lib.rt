@@ -8,6 +8,8 @@
 #[cfg(test)]
 mod conf;
 #[cfg(test)]
+mod disks;
+#[cfg(test)]
 mod dumps;
 #[cfg(test)]
 mod fields;
@@ -21,6 +23,8 @@ mod order;
 mod pool;
 #[cfg(test)]
 mod register;
+#[cfg(test)]
+mod rows;
 #[cfg(test)]
 mod shown;
 #[cfg(test)]

@@ -9,8 +9,10 @@
 //!
 //! where `TOKEN` is the byte that a digest repeats. Answers are written as `shown.rt` says, and
 //! networks are answered by their names.
+mod answered;
 mod opened;
 mod orders;
+mod random;
 mod stored;
 mod worlds;
 
@@ -116,10 +118,10 @@ fn event(rt: &(impl Abort + AllocGlobal), now: u64, line: &str) -> Event {
         "networks" => Event::Networks {
             digest: digest(rt, rest),
         },
-        "list" | "add" | "route" | "revoke" | "owner" | "server" | "file" => {
-            ask(rt, now, kind, rest)
+        "tenant" | "grant" | "end-token" | "network" | "end-network" => {
+            Event::Order(order(rt, kind, rest))
         }
-        _ => Event::Order(order(rt, kind, rest)),
+        _ => ask(rt, now, kind, rest),
     }
 }
 

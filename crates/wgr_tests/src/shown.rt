@@ -30,9 +30,11 @@ impl<'a, R: Abort + AllocGlobal> Shown<'a, R> {
     }
 
     pub(crate) fn put(&mut self, text: &str) {
-        self.text
-            .extend_from_slice(text.as_bytes())
-            .expect(self.rt, "memory");
+        self.put_bytes(text.as_bytes());
+    }
+
+    pub(crate) fn put_bytes(&mut self, bytes: &[u8]) {
+        self.text.extend_from_slice(bytes).expect(self.rt, "memory");
     }
 
     pub(crate) fn put_number(&mut self, number: u64) {
@@ -47,7 +49,7 @@ impl<'a, R: Abort + AllocGlobal> Shown<'a, R> {
         }
     }
 
-    fn put_prefix(&mut self, prefix: &Prefix) {
+    pub(crate) fn put_prefix(&mut self, prefix: &Prefix) {
         self.put(" ");
         write_prefix(prefix, &mut self.text).expect(self.rt, "memory");
     }

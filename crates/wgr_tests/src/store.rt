@@ -1,6 +1,6 @@
 //! The register's tables in a database: made, told from others, and found again.
-use sqlite::{Alter, Connection, FileStore, MemStore, Options};
-use sqlite_disk::{Disk, Files, Fuse, Memory};
+use crate::disks::{in_files, in_memory, in_new_files};
+use sqlite::{Alter, Connection, MemStore};
 use std::alloc::AllocGlobal;
 use std::process::Abort;
 use wgr_audit::{read_networks, read_tenants};
@@ -22,7 +22,7 @@ fn checked<S: Alter>(rt: &impl Abort, conn: &mut Connection<S>) -> Result<(), Re
 
 // A database in which these statements were run.
 fn database(rt: &(impl Abort + AllocGlobal), statements: &str) -> Connection<MemStore> {
-    let mut conn = Connection::open_in_memory(rt.alloc()).expect(rt, "memory");
+    let mut conn = in_memory(rt);
     run(rt, &mut conn, statements);
     conn
 }
@@ -104,28 +104,12 @@ fn changed_tables_are_no_register(rt: HostRuntime) {
     }
 }
 
-fn opened(
-    rt: &(impl Abort + AllocGlobal),
-    files: Files<Fuse<Memory>>,
-) -> Connection<FileStore<Fuse<Memory>>> {
-    assert!(rt; files.log.may_be_used());
-    assert!(rt; files.db.may_be_used());
-    match Connection::open_files(rt.alloc(), files, Options::new(7)) {
-        Ok(conn) => conn,
-        Err(_) => panic!(rt; "files"),
-    }
-}
-
 #[test]
 fn a_register_is_found_again(rt: HostRuntime) {
-    let files = Files {
-        log: Fuse::new(Memory::new(rt.alloc()), u64::MAX),
-        db: Fuse::new(Memory::new(rt.alloc()), u64::MAX),
-    };
-    let mut conn = opened(&rt, files);
+    let mut conn = in_new_files(&rt);
     made(&rt, &mut conn).expect(&rt, "a register");
     run(&rt, &mut conn, "CREATE TABLE note (id INTEGER PRIMARY KEY)");
-    let mut again = opened(&rt, conn.into_store().close());
+    let mut again = in_files(&rt, conn.into_store().close());
     assert!(rt; checked(&rt, &mut again) == Ok(()));
 }
 

@@ -1,16 +1,13 @@
-//! A network in the tables of a database: the rows after each change, and what is loaded of rows.
-//!
-//! Rows are shown as the values that a query selects, separated by blanks, and by `; ` from the next
-//! row: numbers and texts as they are, NULL as `-`, and a blob as the count of its bytes, then `*`
-//! and one of them where all are the same, or else `:` and those after the leading zeros.
+//! A network in the tables of a database: the rows after each change, and what is loaded of rows. Rows
+//! are shown as `rows.rt` says.
 mod statements;
 
 use self::statements::{ALLOWED, NETWORKS, NEXT, OTHERS, PEER, PEERS, TABLES};
+use crate::disks::in_memory;
 use crate::fixtures::{add_route, capacity, empty, end, join, network, prefix};
 use crate::network::{command, is_same, make};
-use crate::shown::Shown;
-use sqlite::types::ValueRef;
-use sqlite::{Connection, MemStore, Row};
+use crate::rows::rows;
+use sqlite::{Connection, MemStore};
 use std::alloc::AllocGlobal;
 use std::process::Abort;
 use wgr_core::{Change, Count, Label, Network, Parts, Status};
@@ -94,65 +91,10 @@ fn do_all(rt: &(impl Abort + AllocGlobal), conn: &mut Connection<MemStore>, text
 }
 
 fn database(rt: &(impl Abort + AllocGlobal)) -> Connection<MemStore> {
-    let mut conn = Connection::open_in_memory(rt.alloc()).expect(rt, "memory");
+    let mut conn = in_memory(rt);
     do_all(rt, &mut conn, TABLES);
     do_all(rt, &mut conn, NETWORKS);
     conn
-}
-
-fn put_blob(bytes: &[u8], text: &mut Shown<'_, impl Abort + AllocGlobal>) {
-    text.put_number(bytes.len() as u64);
-    let first = bytes.first().copied().unwrap_or(0);
-    if bytes.iter().all(|byte| *byte == first) {
-        text.put("*");
-        text.put_number(u64::from(first));
-        return;
-    }
-    text.put(":");
-    for (at, byte) in bytes.iter().skip_while(|byte| **byte == 0).enumerate() {
-        if at > 0 {
-            text.put(".");
-        }
-        text.put_number(u64::from(*byte));
-    }
-}
-
-fn put_value(
-    rt: &(impl Abort + AllocGlobal),
-    value: ValueRef<'_>,
-    text: &mut Shown<'_, impl Abort + AllocGlobal>,
-) {
-    match value {
-        ValueRef::Null => text.put("-"),
-        ValueRef::Int(number) => text.put_number(u64::try_from(number).expect(rt, "a number")),
-        ValueRef::Text(bytes) => text.put(str::from_utf8(bytes).expect(rt, "a text")),
-        ValueRef::Blob(bytes) => put_blob(bytes, text),
-        ValueRef::Real(_) => panic!(rt; "no column has such values"),
-    }
-}
-
-fn put_row(
-    rt: &(impl Abort + AllocGlobal),
-    row: &Row,
-    text: &mut Shown<'_, impl Abort + AllocGlobal>,
-) {
-    text.separate("; ");
-    for at in 0..row.column_count() {
-        if at > 0 {
-            text.put(" ");
-        }
-        put_value(rt, row.get_ref(at).expect(rt, "a column"), text);
-    }
-}
-
-// The rows that the query shows.
-fn rows(rt: &(impl Abort + AllocGlobal), conn: &mut Connection<MemStore>, query: &str) -> Vec<u8> {
-    let rows = conn.query_all(query, &[]).expect(rt, "a query");
-    let mut text = Shown::new(rt);
-    for row in &rows {
-        put_row(rt, row, &mut text);
-    }
-    text.into_text()
 }
 
 fn load(

@@ -1,13 +1,11 @@
-//! Orders and their refusals.
-use super::check;
-use wgr_model::Register;
+//! Orders and their refusals, of the plain register and of those in memory and in files.
+use super::stored::check;
 
 #[test]
 fn orders_are_checked(rt: HostRuntime) {
     check(
         &rt,
-        &mut Register::new(rt.alloc()),
-        &[
+        &[&[
             (0, "tenant acme", "done"),
             (0, "tenant acme", "name_held"),
             (0, "grant nobody 1", "no_such_tenant"),
@@ -75,7 +73,7 @@ fn orders_are_checked(rt: HostRuntime) {
             (0, "networks 2", "lab office"),
             (0, "grant bolt 1", "done"),
             (0, "networks 1", "lab office"),
-        ],
+        ]],
     );
 }
 
@@ -83,8 +81,7 @@ fn orders_are_checked(rt: HostRuntime) {
 fn pools_are_disjoint(rt: HostRuntime) {
     check(
         &rt,
-        &mut Register::new(rt.alloc()),
-        &[
+        &[&[
             (0, "tenant cato", "done"),
             (0, "tenant bolt", "done"),
             (0, "tenant acme", "done"),
@@ -103,7 +100,7 @@ fn pools_are_disjoint(rt: HostRuntime) {
             (0, "network cato a 10.0.0.0/8 h 9", "pool_overlaps acme kit"),
             (0, "network cato a fd00::/64 h 10", "done"),
             (0, "network cato e fd00::/112 h 11", "pool_overlaps cato a"),
-        ],
+        ]],
     );
 }
 
@@ -111,8 +108,7 @@ fn pools_are_disjoint(rt: HostRuntime) {
 fn a_network_goes_with_its_peers(rt: HostRuntime) {
     check(
         &rt,
-        &mut Register::new(rt.alloc()),
-        &[
+        &[&[
             (0, "tenant acme", "done"),
             (0, "grant acme 1", "done"),
             (0, "network acme office 10.8.0.0/24 h 1", "done"),
@@ -133,7 +129,7 @@ fn a_network_goes_with_its_peers(rt: HostRuntime) {
             (0, "list 1 office", ""),
             (0, "add 1 office 2", "1 10.8.0.2/32"),
             (0, "list 1 lab", "1 10.9.0.2/32"),
-        ],
+        ]],
     );
 }
 
@@ -141,14 +137,13 @@ fn a_network_goes_with_its_peers(rt: HostRuntime) {
 fn a_network_has_its_settings(rt: HostRuntime) {
     check(
         &rt,
-        &mut Register::new(rt.alloc()),
-        &[
+        &[&[
             (0, "tenant acme", "done"),
             (0, "grant acme 1", "done"),
             (0, "network acme kit 10.7.0.0/24 h 1 1", "done"),
             (0, "add 1 kit 9", "server_key"),
             (0, "add 1 kit 1", "1 10.7.0.2/32"),
             (0, "add 1 kit 2", "capacity_reached"),
-        ],
+        ]],
     );
 }

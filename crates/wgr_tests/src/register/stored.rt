@@ -1,35 +1,246 @@
-//! The register in a database, and the plain one beside it: each line of a script is answered alike
-//! by both. A command that is accepted is answered by `done`, whatever it replies.
-use super::{event, put_refused, put_shown};
+//! The register in a database, and the plain one beside it. Each event is answered alike by both, and
+//! what an accepted request gives is the same.
+use super::{event, put_refused, put_shown, shown};
+use crate::disks::{in_memory, in_new_files};
 use crate::network::Step;
 use crate::shown::Shown;
-use sqlite::{Connection, MemStore};
+use sqlite::{Alter, Connection};
 use std::alloc::{AllocError, AllocGlobal, Global};
 use std::process::Abort;
-use wgr_core::{Command, Name};
+use wgr_conf::{peer_file, server_file};
+use wgr_core::{Command, Name, Network, Reply};
 use wgr_model::{Answer, Event, Order};
 use wgr_register::{AskFault, Given, OpenFault, OrderFault, Register, RegisterFault, Render};
 
-// Gives the same text for every reply and every file.
-struct Blind;
+/// What an event is answered by the plain register.
+#[derive(Drop)]
+pub(super) struct Meant {
+    /// The answer, as `shown.rt` writes it.
+    pub(super) shown: Vec<u8>,
+    // What is given, where a request is accepted.
+    given: Option<Vec<u8>>,
+}
 
-impl Render for Blind {
+impl Meant {
+    /// What the register in a database tells: of an accepted request, that it gave a text.
+    pub(super) fn told(&self) -> &[u8] {
+        match &self.given {
+            Some(_) => b"done",
+            None => self.shown.as_slice(),
+        }
+    }
+}
+
+// The networks with their pools, endpoints and capacities.
+fn put_networks(networks: &[(Name, Network)], text: &mut Shown<'_, impl Abort + AllocGlobal>) {
+    for entry in networks {
+        text.separate("; ");
+        text.put(entry.0.as_str());
+        text.put_prefix(&entry.1.pool().prefix());
+        text.put(" ");
+        text.put(entry.1.host().as_str());
+        text.put(" ");
+        text.put_number(u64::from(entry.1.port().number()));
+        text.put(" ");
+        text.put_number(u64::from(entry.1.capacity().peers()));
+    }
+}
+
+// What a command's reply gives: a file where it allows one.
+fn given_reply(
+    rt: &(impl Abort + AllocGlobal),
+    reply: &Reply,
+    network: &Network,
+    now: u64,
+) -> Vec<u8> {
+    match reply {
+        Reply::Server(form) => { server_file(rt.alloc(), network, now, *form).expect(rt, "memory") }
+        Reply::File { number, form } => peer_file(rt.alloc(), network, now, *number, *form)
+            .expect(rt, "memory")
+            .expect(rt, "a peer"),
+        _ => {
+            let mut text = Shown::new(rt);
+            text.put_reply(reply);
+            text.into_text()
+        }
+    }
+}
+
+fn given_by(rt: &(impl Abort + AllocGlobal), answer: &Answer, now: u64) -> Option<Vec<u8>> {
+    match answer {
+        Answer::Replied(reply, network) => Some(given_reply(rt, reply, network, now)),
+        Answer::Listed(networks) => {
+            let mut text = Shown::new(rt);
+            put_networks(networks.as_slice(), &mut text);
+            Some(text.into_text())
+        }
+        _ => None,
+    }
+}
+
+fn moment(event: &Event) -> u64 {
+    match event {
+        Event::Ask { now, .. } => *now,
+        _ => 0,
+    }
+}
+
+/// What the event is answered by the plain register.
+pub(super) fn meant(
+    rt: &(impl Abort + AllocGlobal),
+    plain: &mut wgr_model::Register,
+    event: &Event,
+) -> Meant {
+    let answer = plain.answer(rt.alloc(), event).expect(rt, "memory");
+    Meant {
+        shown: shown(rt, &answer),
+        given: given_by(rt, &answer, moment(event)),
+    }
+}
+
+// Ends the test unless what is given is what the plain register gives.
+#[derive(Drop)]
+struct Wanted<'a, R> {
+    rt: &'a R,
+    meant: &'a Meant,
+}
+
+impl<'a, R: Abort + AllocGlobal> Render for Wanted<'a, R> {
     ghost use Rattle.std.specs.Prelude.{codes};
 
     ghost shown = { λ _. codes "done" };
 
-    fn given(&self, alloc: Global, _given: Given<'_>) -> Result<Vec<u8>, AllocError> {
+    fn given(&self, alloc: Global, given: Given<'_>) -> Result<Vec<u8>, AllocError> {
+        check_given(self.rt, self.meant, given);
         let mut text = Vec::new(alloc);
         text.extend_from_slice(b"done")?;
         Ok(text)
     }
 }
 
-// Makes a register of the connection, or tells why none was made.
-fn created(
+fn check_given(rt: &(impl Abort + AllocGlobal), meant: &Meant, given: Given<'_>) {
+    let mut text = Shown::new(rt);
+    match given {
+        Given::Reply(reply) => text.put_reply(reply),
+        Given::File(file) => text.put_bytes(file),
+        Given::Networks(networks) => put_networks(networks, &mut text),
+    }
+    match &meant.given {
+        Some(want) => assert_eq!(rt; text.into_text().as_slice(), want.as_slice()),
+        None => panic!(rt; "an accepted request"),
+    }
+}
+
+fn put_order<S: Alter + Drop>(
+    rt: &(impl Abort + AllocGlobal),
+    register: &mut Register<S>,
+    order: &Order,
+    text: &mut Shown<'_, impl Abort + AllocGlobal>,
+) {
+    match register.operate(rt.alloc(), order) {
+        Ok(_) => text.put("done"),
+        Err(OrderFault::Refused(why)) => put_refused(rt, &why, text),
+        Err(OrderFault::Fault(_)) => text.put("fault"),
+    }
+}
+
+fn put_asked(
     rt: &impl Abort,
-    conn: Connection<MemStore>,
-) -> Result<Register<MemStore>, RegisterFault> {
+    asked: &Result<Vec<u8>, AskFault>,
+    text: &mut Shown<'_, impl Abort + AllocGlobal>,
+) {
+    match asked {
+        Ok(given) => text.put_bytes(given.as_slice()),
+        Err(AskFault::Refused(why)) => text.put_refusal(why),
+        Err(AskFault::UnknownToken) => text.put("unknown_token"),
+        Err(AskFault::NoSuchNetwork) => text.put("no_such_network"),
+        Err(AskFault::Fault(_)) => text.put("fault"),
+    }
+}
+
+fn put_ask<S: Alter, R: Render>(
+    rt: &(impl Abort + AllocGlobal),
+    register: &mut Register<S>,
+    digest: &[u8; 32],
+    name: &Name,
+    now: u64,
+    command: &Command,
+    render: &R,
+    text: &mut Shown<'_, impl Abort + AllocGlobal>,
+) {
+    let asked = register.ask(rt.alloc(), digest, name.as_bytes(), now, command, render);
+    put_asked(rt, &asked, text);
+}
+
+fn put_list<S: Alter, R: Render>(
+    rt: &(impl Abort + AllocGlobal),
+    register: &mut Register<S>,
+    digest: &[u8; 32],
+    render: &R,
+    text: &mut Shown<'_, impl Abort + AllocGlobal>,
+) {
+    let asked = register.networks(rt.alloc(), digest, render);
+    put_asked(rt, &asked, text);
+}
+
+/// What the event is answered by the register in a database: `fault` where memory or the store fails.
+/// What is given ends the test unless it is as meant.
+pub(super) fn told<S: Alter + Drop>(
+    rt: &(impl Abort + AllocGlobal),
+    register: &mut Register<S>,
+    event: &Event,
+    meant: &Meant,
+) -> Vec<u8> {
+    let render = Wanted { rt, meant };
+    let mut text = Shown::new(rt);
+    match event {
+        Event::Order(order) => put_order(rt, register, order, &mut text),
+        Event::Ask {
+            digest,
+            name,
+            now,
+            command,
+        } => put_ask(
+            rt, register, digest, name, *now, command, &render, &mut text,
+        ),
+        Event::Networks { digest } => put_list(rt, register, digest, &render, &mut text),
+    }
+    text.into_text()
+}
+
+/// Takes the event in both registers, and gives what it is answered.
+pub(super) fn take<S: Alter + Drop>(
+    rt: &(impl Abort + AllocGlobal),
+    register: &mut Register<S>,
+    plain: &mut wgr_model::Register,
+    now: u64,
+    line: &str,
+) -> Vec<u8> {
+    let event = event(rt, now, line);
+    let meant = meant(rt, plain, &event);
+    let told = told(rt, register, &event, &meant);
+    assert_eq!(rt; told.as_slice(), meant.told(), "{line}");
+    meant.shown
+}
+
+/// Takes the events of the lines, each at its moment, in both registers.
+pub(super) fn run<S: Alter + Drop>(
+    rt: &(impl Abort + AllocGlobal),
+    register: &mut Register<S>,
+    plain: &mut wgr_model::Register,
+    script: &[Step<'_>],
+) {
+    for (now, line, want) in script {
+        let shown = take(rt, register, plain, *now, line);
+        assert_eq!(rt; shown.as_slice(), want.as_bytes(), "{line}");
+    }
+}
+
+/// Makes a register of the connection, or tells why none was made.
+pub(super) fn created<S: Alter + Drop>(
+    rt: &impl Abort,
+    conn: Connection<S>,
+) -> Result<Register<S>, RegisterFault> {
     assert!(rt; conn.is_autocommit());
     match Register::create(conn) {
         Ok(register) => Ok(register),
@@ -42,171 +253,48 @@ fn created(
     }
 }
 
-// A register without entries.
-pub(super) fn empty(rt: &(impl Abort + AllocGlobal)) -> Register<MemStore> {
-    let conn = Connection::open_in_memory(rt.alloc()).expect(rt, "memory");
+/// Opens the register of the connection, or tells why there is none.
+pub(super) fn opened<S: Alter + Drop>(
+    rt: &(impl Abort + AllocGlobal),
+    conn: Connection<S>,
+) -> Result<Register<S>, RegisterFault> {
+    assert!(rt; conn.is_autocommit());
+    match Register::open(rt.alloc(), conn) {
+        Ok(register) => Ok(register),
+        Err(
+            OpenFault {
+                fault,
+                connection: _conn,
+            },
+        ) => Err(fault),
+    }
+}
+
+/// A register without entries.
+pub(super) fn empty<S: Alter + Drop>(rt: &impl Abort, conn: Connection<S>) -> Register<S> {
     created(rt, conn).expect(rt, "a register")
 }
 
-fn put_order(
+fn check_on<S: Alter + Drop>(
     rt: &(impl Abort + AllocGlobal),
-    register: &mut Register<MemStore>,
-    order: &Order,
-    text: &mut Shown<'_, impl Abort + AllocGlobal>,
+    conn: Connection<S>,
+    scripts: &[&[Step<'_>]],
 ) {
-    match register.operate(rt.alloc(), order) {
-        Ok(_) => text.put("done"),
-        Err(OrderFault::Refused(why)) => put_refused(rt, &why, text),
-        Err(OrderFault::Fault(_)) => panic!(rt; "a fault"),
-    }
-}
-
-fn put_declined(rt: &impl Abort, why: &AskFault, text: &mut Shown<'_, impl Abort + AllocGlobal>) {
-    match why {
-        AskFault::Refused(why) => text.put_refusal(why),
-        AskFault::UnknownToken => text.put("unknown_token"),
-        AskFault::NoSuchNetwork => text.put("no_such_network"),
-        AskFault::Fault(_) => panic!(rt; "a fault"),
-    }
-}
-
-fn put_ask(
-    rt: &(impl Abort + AllocGlobal),
-    register: &mut Register<MemStore>,
-    digest: &[u8; 32],
-    name: &Name,
-    now: u64,
-    command: &Command,
-    text: &mut Shown<'_, impl Abort + AllocGlobal>,
-) {
-    match register.ask(rt.alloc(), digest, name.as_bytes(), now, command, &Blind) {
-        Ok(given) => text.put(str::from_utf8(&given).expect(rt, "a text")),
-        Err(why) => put_declined(rt, &why, text),
-    }
-}
-
-// What the event is answered by the register in a database.
-fn told(
-    rt: &(impl Abort + AllocGlobal),
-    register: &mut Register<MemStore>,
-    event: &Event,
-) -> Vec<u8> {
-    let mut text = Shown::new(rt);
-    match event {
-        Event::Order(order) => put_order(rt, register, order, &mut text),
-        Event::Ask {
-            digest,
-            name,
-            now,
-            command,
-        } => put_ask(rt, register, digest, name, *now, command, &mut text),
-        _ => panic!(rt; "no such call"),
-    }
-    text.into_text()
-}
-
-// What the event is answered by the plain register.
-fn meant(
-    rt: &(impl Abort + AllocGlobal),
-    plain: &mut wgr_model::Register,
-    event: &Event,
-) -> Vec<u8> {
-    let mut text = Shown::new(rt);
-    match plain.answer(rt.alloc(), event).expect(rt, "memory") {
-        Answer::Replied(..) => text.put("done"),
-        answer => put_shown(rt, &answer, &mut text),
-    }
-    text.into_text()
-}
-
-// Takes the events of the lines, each at its moment, in both registers.
-pub(super) fn run(
-    rt: &(impl Abort + AllocGlobal),
-    register: &mut Register<MemStore>,
-    plain: &mut wgr_model::Register,
-    script: &[Step<'_>],
-) {
-    for (now, line, want) in script {
-        let event = event(rt, *now, line);
-        assert_eq!(rt;
-            told(rt, register, &event).as_slice(),
-            want.as_bytes(),
-            "{line}"
-        );
-        assert_eq!(rt;
-            meant(rt, plain, &event).as_slice(),
-            want.as_bytes(),
-            "{line}"
-        );
-    }
-}
-
-// Takes the lines in registers without entries.
-fn check(rt: &(impl Abort + AllocGlobal), script: &[Step<'_>]) {
-    let mut register = empty(rt);
+    let mut register = empty(rt, conn);
     let mut plain = wgr_model::Register::new(rt.alloc());
-    run(rt, &mut register, &mut plain, script);
+    for script in scripts {
+        run(rt, &mut register, &mut plain, script);
+    }
     let _conn = register.into_connection();
 }
 
-// Why no register is made of the connection.
-fn refused(rt: &impl Abort, conn: Connection<MemStore>) -> RegisterFault {
-    match created(rt, conn) {
-        Ok(register) => {
-            let _conn = register.into_connection();
-            panic!(rt; "a register")
-        }
-        Err(fault) => fault,
-    }
+/// Takes the scripts, one after the other, in registers without entries: plain, in memory and in files.
+pub(super) fn check(rt: &(impl Abort + AllocGlobal), scripts: &[&[Step<'_>]]) {
+    check_on(rt, in_memory(rt), scripts);
+    check_on(rt, in_new_files(rt), scripts);
 }
 
-#[test]
-fn a_register_is_created_once(rt: HostRuntime) {
-    let conn = empty(&rt).into_connection();
-    assert!(rt; refused(&rt, conn) == RegisterFault::NotEmpty);
-}
-
-#[test]
-fn orders_are_answered(rt: HostRuntime) {
-    check(
-        &rt,
-        &[
-            (0, "grant acme 1", "no_such_tenant"),
-            (0, "tenant acme", "done"),
-            (0, "tenant acme", "name_held"),
-            (0, "tenant bolt", "done"),
-            (0, "grant acme 1", "done"),
-            (0, "grant bolt 1", "digest_held"),
-            (0, "grant bolt 2", "done"),
-            (0, "end-token 3", "no_such_token"),
-            (0, "network nobody a 10.8.0.0/24 h 1", "no_such_tenant"),
-            (0, "network bolt a 10.8.0.128/25 h 1", "done"),
-            (0, "network acme a 10.8.0.0/24 h 2", "pool_overlaps bolt a"),
-            (0, "network acme a 10.8.1.0/24 h 2", "done"),
-            (0, "network acme a 10.8.0.1/24 h 1", "name_held"),
-            (0, "network acme b 10.8.0.1/24 h 3", "bad_pool"),
-            (0, "network acme b 10.8.1.0/31 h 3", "bad_pool"),
-            (0, "network acme b 10.0.0.0/8 h 1", "pool_overlaps acme a"),
-            (0, "network acme b 10.9.0.0/24 H 1", "port_held"),
-            (0, "network acme b 10.9.0.0/24 i 1", "done"),
-            (0, "network acme c fd00::/64 h 3", "done"),
-            (0, "network bolt c fd00::/112 h 4", "pool_overlaps acme c"),
-            (0, "end-network acme d", "no_network"),
-            (0, "end-network cato a", "no_such_tenant"),
-            (0, "end-network acme a", "done"),
-            (0, "end-network acme a", "no_network"),
-            (0, "network bolt b 10.0.0.0/8 h 2", "pool_overlaps acme b"),
-            (0, "network bolt b 10.8.1.0/24 h 2", "done"),
-            (0, "end-token 1", "done"),
-            (0, "list 1 b", "unknown_token"),
-            (0, "grant bolt 1", "done"),
-            (0, "list 1 b", "done"),
-            (0, "tenant cato", "done"),
-        ],
-    );
-}
-
-// Networks `office` and `kit` of acme's, whose token is of ones, and `office` and `lab` of bolt's.
+/// Networks `office` and `kit` of acme's, whose token is of ones, and `office` and `lab` of bolt's.
 pub(super) const NETWORKS: [Step<'static>; 8] = [
     (0, "tenant acme", "done"),
     (0, "tenant bolt", "done"),
@@ -217,74 +305,3 @@ pub(super) const NETWORKS: [Step<'static>; 8] = [
     (0, "network bolt lab 10.10.0.0/24 h 3", "done"),
     (0, "network acme kit 10.11.0.0/24 h 4", "done"),
 ];
-
-// Takes the lines once those networks are there.
-fn check_networks(rt: &(impl Abort + AllocGlobal), script: &[Step<'_>]) {
-    let mut register = empty(rt);
-    let mut plain = wgr_model::Register::new(rt.alloc());
-    run(rt, &mut register, &mut plain, &NETWORKS);
-    run(rt, &mut register, &mut plain, script);
-    let _conn = register.into_connection();
-}
-
-#[test]
-fn commands_are_answered(rt: HostRuntime) {
-    let scripts: [&[Step<'_>]; 3] = [
-        // another tenant's network is one that nobody has, and keys stand in one network
-        &[
-            (0, "list 3 office", "unknown_token"),
-            (0, "list 1 lab", "no_such_network"),
-            (0, "list 1 none", "no_such_network"),
-            (0, "list 2 kit", "no_such_network"),
-            (0, "list 2 lab", "done"),
-            (0, "add 1 office 1", "done"),
-            (0, "add 1 office 1", "key_held 1"),
-            (0, "add 1 office 9", "server_key"),
-            (0, "add 2 office 2", "done"),
-            (0, "add 2 office 1", "done"),
-            (0, "add 2 office 1", "key_held 2"),
-            (0, "add 1 kit 1", "done"),
-            (0, "owner 1 office 10.8.0.2", "done"),
-            (0, "owner 1 office 10.9.0.2", "nobodys_address"),
-            (0, "route 1 office 1 10.9.0.0/24", "done"),
-            (0, "owner 1 office 10.9.0.2", "done"),
-            (0, "owner 1 kit 10.9.0.2", "nobodys_address"),
-            (0, "file 1 office 2 wg", "no_such_peer"),
-            (0, "file 1 office 1 wg", "done"),
-            (0, "server 2 office quick", "done"),
-        ],
-        // a network goes with its peers, and begins anew
-        &[
-            (0, "add 1 office 1", "done"),
-            (0, "add 1 office 2", "done"),
-            (0, "route 1 office 1 192.168.4.0/24", "done"),
-            (0, "add 1 kit 7", "done"),
-            (0, "end-network acme office", "done"),
-            (0, "list 1 office", "no_such_network"),
-            (0, "network acme office 10.8.0.0/24 h 1", "done"),
-            (0, "file 1 office 1 wg", "no_such_peer"),
-            (0, "owner 1 office 192.168.4.1", "nobodys_address"),
-            (0, "add 1 office 2", "done"),
-            (0, "add 1 office 2", "key_held 1"),
-            (0, "add 1 kit 7", "key_held 1"),
-        ],
-        // who is over stands until the next change
-        &[
-            (10, "add 1 office 1 - 100", "done"),
-            (20, "add 2 office 1 - 100", "done"),
-            (99, "file 1 office 1 wg", "done"),
-            (100, "file 1 office 1 wg", "no_such_peer"),
-            (100, "list 1 office", "done"),
-            (100, "revoke 1 office 1", "no_such_peer"),
-            (99, "add 1 office 1", "key_held 1"),
-            (100, "add 1 office 2", "done"),
-            (99, "file 1 office 1 wg", "no_such_peer"),
-            (99, "add 1 office 1", "done"),
-            (99, "add 1 office 1", "key_held 3"),
-            (99, "add 2 office 1", "key_held 1"),
-        ],
-    ];
-    for script in scripts {
-        check_networks(&rt, script);
-    }
-}

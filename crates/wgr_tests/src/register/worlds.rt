@@ -1,9 +1,12 @@
 //! Tenants beside each other, and lists of events.
+use super::stored::{self, take};
 use super::{check, event, name, put_shown, shown};
+use crate::disks::{in_memory, in_new_files};
 use crate::fixtures::crowd;
 use crate::network::Step;
 use crate::shown::Shown;
 use crate::size::adoption;
+use sqlite::{Alter, Connection};
 use std::alloc::AllocGlobal;
 use std::process::Abort;
 use wgr_core::{Command, Label, LeaseEnd};
@@ -21,25 +24,36 @@ const OFFICE: [Step<'static>; 3] = [
     ),
 ];
 
+// The same of bolt's, whose token is of twos.
+const BOLT: [Step<'static>; 3] = [
+    (0, "tenant bolt", "done"),
+    (0, "grant bolt 2", "done"),
+    (
+        0,
+        "network bolt office 10.9.0.0/24 vpn.example.net 51821",
+        "done",
+    ),
+];
+
 #[test]
 fn another_tenants_network_is_unknown(rt: HostRuntime) {
-    let mut register = Register::new(rt.alloc());
-    check(&rt, &mut register, &OFFICE);
-    check(
+    stored::check(
         &rt,
-        &mut register,
         &[
-            (0, "list 1 lab", "no_such_network"),
-            (0, "tenant bolt", "done"),
-            (0, "grant bolt 2", "done"),
-            (
-                0,
-                "network bolt lab 10.9.0.0/24 vpn.example.net 51821",
-                "done",
-            ),
-            (0, "list 1 lab", "no_such_network"),
-            (0, "list 2 lab", ""),
-            (0, "list 3 lab", "unknown_token"),
+            &OFFICE,
+            &[
+                (0, "list 1 lab", "no_such_network"),
+                (0, "tenant bolt", "done"),
+                (0, "grant bolt 2", "done"),
+                (
+                    0,
+                    "network bolt lab 10.9.0.0/24 vpn.example.net 51821",
+                    "done",
+                ),
+                (0, "list 1 lab", "no_such_network"),
+                (0, "list 2 lab", ""),
+                (0, "list 3 lab", "unknown_token"),
+            ],
         ],
     );
 }
@@ -85,45 +99,57 @@ fn ask(
     shown(rt, &answer)
 }
 
-#[test]
-fn two_worlds_are_alike(rt: HostRuntime) {
-    let mut alone = Register::new(rt.alloc());
-    check(&rt, &mut alone, &OFFICE);
-    let mut beside = Register::new(rt.alloc());
-    check(
-        &rt,
-        &mut beside,
-        &[
-            (0, "tenant bolt", "done"),
-            (0, "grant bolt 2", "done"),
-            (
-                0,
-                "network bolt office 10.9.0.0/24 vpn.example.net 51821",
-                "done",
-            ),
-        ],
-    );
-    for key in 1..=100u8 {
-        add(&rt, &mut beside, 2, [key; 32]);
-    }
-    check(&rt, &mut beside, &OFFICE);
-    for step in ASKED {
-        check(&rt, &mut alone, &[step]);
-        check(
-            &rt,
-            &mut beside,
-            &[
-                step,
-                (1000, "list 2 lab", "no_such_network"),
-                (1000, "add 2 office 1", "key_held 1"),
-                (
-                    1000,
-                    "route 2 office 1 10.8.0.0/24",
-                    "1 10.9.0.2/32 10.8.0.0/24",
-                ),
-            ],
+// Lets 100 peers join the network `office` of bolt's, but for the one that has the server's key.
+fn crowd_office<S: Alter + Drop>(
+    rt: &(impl Abort + AllocGlobal),
+    stored: &mut wgr_register::Register<S>,
+    plain: &mut Register,
+) {
+    for key in 1..=101u8 {
+        let mut line = Shown::new(rt);
+        line.put("add 2 office ");
+        line.put_number(u64::from(key));
+        let line = line.into_text();
+        take(
+            rt,
+            stored,
+            plain,
+            0,
+            str::from_utf8(line.as_slice()).expect(rt, "a text"),
         );
     }
+}
+
+// What bolt asks beside each request of acme's.
+const BESIDE: [Step<'static>; 3] = [
+    (1000, "list 2 lab", "no_such_network"),
+    (1000, "add 2 office 1", "key_held 1"),
+    (
+        1000,
+        "route 2 office 1 10.8.0.0/24",
+        "1 10.9.0.2/32 10.8.0.0/24",
+    ),
+];
+
+// Acme is told the same beside bolt, who has a network of the same name, with the same keys.
+fn check_beside<S: Alter + Drop>(rt: &(impl Abort + AllocGlobal), conn: Connection<S>) {
+    let mut stored = stored::empty(rt, conn);
+    let mut plain = Register::new(rt.alloc());
+    stored::run(rt, &mut stored, &mut plain, &BOLT);
+    crowd_office(rt, &mut stored, &mut plain);
+    stored::run(rt, &mut stored, &mut plain, &OFFICE);
+    for step in ASKED {
+        stored::run(rt, &mut stored, &mut plain, &[step]);
+        stored::run(rt, &mut stored, &mut plain, &BESIDE);
+    }
+    let _conn = stored.into_connection();
+}
+
+#[test]
+fn two_worlds_are_alike(rt: HostRuntime) {
+    stored::check(&rt, &[&OFFICE, &ASKED]);
+    check_beside(&rt, in_memory(&rt));
+    check_beside(&rt, in_new_files(&rt));
 }
 
 // Office gives the addresses from 10.8.0.2 to 10.8.0.254, and then refuses.
