@@ -69,8 +69,8 @@ class Files(unittest.TestCase):
         for words in orders:
             self.assertEqual(self.order(*words), DONE)
 
-    def order(self, word, *words, text=b""):
-        return run([word, self.db, *words], text)
+    def order(self, word, *words, text=b"", prepare=None):
+        return run([word, self.db, *words], text, prepare=prepare)
 
     def grant(self, tenant, token=TOKEN):
         self.assertEqual(self.order("token-grant", tenant, text=token), DONE)

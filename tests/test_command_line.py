@@ -35,7 +35,7 @@ NETWORK += ["--port", "1", "--key", "k", "--capacity", "1"]
 MISTAKES = [
     ("no word", [], b"requires a subcommand"),
     ("an unknown command", ["plane"], b"unrecognized subcommand 'plane'"),
-    ("a command that is near another", ["tenant-ad", "a.db", "acme"], b"tip: a similar subcommand exists: 'tenant-add'"),
+    ("a command that is near another", ["bach", "a.db"], b"tip: a similar subcommand exists: 'batch'"),
     ("an option that is near another", [*NETWORK, "--capasity", "1"], b"tip: a similar argument exists: '--capacity'"),
     ("no pool", ["plan"], b"  <POOL>\n\nUsage: wgr plan <POOL>\n"),
     ("a word too many", ["plan", "10.8.0.0/24", "more"], b"unexpected argument 'more' found"),

@@ -61,7 +61,7 @@ class Examples(unittest.TestCase):
                     self.assertEqual(told[-1].stdout.rstrip("\n"), printed)
                 else:
                     # Its token is nobody's, so the reply is one of the refusals.
-                    self.assertEqual(told[-1].stdout.split("\r\n")[0], "HTTP/1.1 401 Unauthorized")
+                    self.assertEqual(told[-1].stdout.splitlines()[0], "HTTP/1.1 401 Unauthorized")
 
     def test_serve(self):
         self.shell("wgr init register.db")

@@ -11,8 +11,24 @@ from program import run
 from register_file import ACME, BOLT, DIGEST, DONE, NETWORK, OFFICE, S, TOKEN, Files, address_bytes, failed, options, refused
 
 
+# Each table's columns, with the kinds that SQLite keeps in them.
+COLUMNS = {
+    "meta": "version INTEGER",
+    "tenant": "id INTEGER, name TEXT",
+    "token": "digest BLOB, tenant INTEGER",
+    "network": "id INTEGER, tenant INTEGER, name TEXT, family INTEGER, lo BLOB, length INTEGER, host TEXT, "
+    "port INTEGER, server BLOB, capacity INTEGER, next INTEGER",
+    "peer": "id INTEGER, network INTEGER, key BLOB, label TEXT, until INTEGER, keepalive INTEGER, "
+    "handshake INTEGER, received INTEGER, sent INTEGER",
+    "allowed": "network INTEGER, family INTEGER, lo BLOB, length INTEGER, hi BLOB, peer INTEGER, kind TEXT",
+}
+
+
 class Done(Files):
     """Each word once, and the rows that it leaves."""
+
+    def tearDown(self):
+        self.assertEqual(self.query("PRAGMA integrity_check"), [("ok",)])
 
     def test_init(self):
         self.assertEqual(run(["init", self.db]), DONE)
@@ -22,7 +38,14 @@ class Done(Files):
         )
         empty = {name: [] for name in ["tenant", "token", "network", "peer", "allowed"]}
         self.assertEqual(self.rows(), {"meta": [(1,)], **empty})
-        self.assertEqual(self.query("PRAGMA integrity_check"), [("ok",)])
+
+    def test_the_columns(self):
+        self.init()
+        for name, columns in COLUMNS.items():
+            with self.subTest(name):
+                told = self.query(f"SELECT name || ' ' || type FROM pragma_table_info('{name}')")
+                self.assertEqual(", ".join(column for (column,) in told), columns)
+                self.assertEqual(self.query(f"SELECT strict FROM pragma_table_list('{name}')"), [(1,)])
 
     def test_the_file_alone_has_all(self):
         self.init(("tenant-add", "acme"))

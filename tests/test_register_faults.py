@@ -95,6 +95,26 @@ class Faults(Files):
         self.assertEqual(run(["init", self.db]), failed("store"))
         self.assertEqual(Path(self.db).read_bytes(), text)
 
+    def test_a_register_that_is_cut(self):
+        self.init(ACME, NETWORK)
+        whole = Path(self.db).read_bytes()
+        for length in [len(whole) // 2, len(whole) - 1, 4096, 512, 99]:
+            with self.subTest(length):
+                Path(self.db).write_bytes(whole[:length])
+                self.each_word(failed("store"))
+                self.assertEqual(Path(self.db).read_bytes(), whole[:length])
+
+    def test_a_file_that_may_not_be_read_or_written(self):
+        self.init(ACME)
+        before = Path(self.db).read_bytes()
+        for mode in [0, stat.S_IRUSR, stat.S_IWUSR]:
+            with self.subTest(oct(mode)):
+                Path(self.db).chmod(mode)
+                for word, words, text in WORDS:
+                    self.assertEqual(self.order(word, *words, text=text, prepare=bound_by_modes), failed("store"))
+        Path(self.db).chmod(stat.S_IRUSR | stat.S_IWUSR)
+        self.assertEqual(Path(self.db).read_bytes(), before)
+
     def test_a_folder(self):
         self.db = str(self.folder)
         self.each_word(failed("store"))
