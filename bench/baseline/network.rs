@@ -380,6 +380,10 @@ impl Network {
             change.peers.push(line.peer(number, address));
             change.next += 1;
         }
+        // A line may take a route from the one before; where there was none, each is put once.
+        if self.routes.is_empty() {
+            change.routes = routes.into_iter().collect();
+        }
         change
     }
 

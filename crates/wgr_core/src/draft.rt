@@ -3,9 +3,9 @@ ghost use Rattle.std.specs.Prelude.{◌≡◌, ◌≤◌, ◌+◌, ◌++◌, [],
 ghost use Rattle.std.specs.List.{position};
 ghost use Rattle.wgr_peers.specs.Peers.{peer_of, put_peer};
 ghost use Rattle.wgr_peers.specs.PeerIndex.{IsAlikeAt};
-ghost use Rattle.wgr_peers.specs.Routes.{assign_route};
+ghost use Rattle.wgr_peers.specs.Routes.{AreOrdered, assign_route};
 ghost use Rattle.wgr_core.specs.Adoption.{give_all, give_refusal, other_prefixes, unless_refused};
-ghost use Rattle.wgr_core.specs.Change.{changed};
+ghost use Rattle.wgr_core.specs.Change.{assign_routes, changed};
 ghost use Rattle.wgr_core.specs.Draft.{DraftValue, MeetsGiven, HasPut, HaveOwnNumbers, LeadsTo, drafted, left_by};
 ghost use Rattle.wgr_core.specs.Network.{IsNetwork};
 ghost use Rattle.wgr_peers.specs.Limits.{max_number};
@@ -160,13 +160,33 @@ impl<'a> Draft<'a> {
         ensures leads { changed result self.entry.start ≡ self.entry.network }
         ensures own { HaveOwnNumbers result.peers }
     {
+        let start = self.start.routes();
+        let routes_put = each_once(start, self.routes, self.routes_put);
         Change {
             removed,
             peers: Items::of(self.peers_put),
-            routes_put: Items::of(self.routes_put),
+            routes_put: Items::of(routes_put),
             routes_gone: Items::new(alloc),
             next: self.next,
         }
+    }
+}
+
+// Of routes that were put one after the other, those that make the difference. A prefix may have
+// been led to one peer after another; where there was no route before, each is put once.
+fn each_once(
+    start: &[(Prefix, u32)],
+    routes: RouteSlots,
+    puts: Vec<(Prefix, u32)>,
+) -> Vec<(Prefix, u32)>
+    requires leads { assign_routes start.now puts.items ≡ routes }
+    requires ordered { AreOrdered routes }
+    ensures { assign_routes start.now result.items ≡ routes }
+{
+    if start.is_empty() {
+        routes.into_routes()
+    } else {
+        puts
     }
 }
 
