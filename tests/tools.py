@@ -14,6 +14,7 @@ PACKAGES = {
     "wireguard-go": "wireguard-go",
     "ip": "iproute2",
     "ping": "iputils-ping",
+    "sqlite3": "sqlite3",
     "systemd-analyze": "systemd",
 }
 

@@ -1,0 +1,130 @@
+"""The first ten minutes of README.md, word for word: three machines, each a network namespace, with a shell in each."""
+
+import os
+import queue
+import re
+import subprocess
+import tempfile
+import threading
+import time
+import unittest
+from pathlib import Path
+
+import program
+from tools import needs
+
+PAGE = Path(__file__).resolve().parent.parent / "README.md"
+END = "-- end of a command --"
+# The name of the server, which the page has, and its address on the cable to each client.
+NAME = "vpn.example.net"
+CABLES = {"laptop": ("192.0.2.1", "192.0.2.2"), "desk": ("192.0.2.5", "192.0.2.6")}
+
+
+def blocks():
+    """Each block of the section, as commands with what is printed below them."""
+    section = PAGE.read_text().partition("\n## The first ten minutes\n")[2].partition("\n## ")[0]
+    return [commands_of(block) for place, block in enumerate(section.split("```\n")) if place % 2]
+
+
+def commands_of(block):
+    found = []
+    for part in re.split(r"^[$#] ", block, flags=re.MULTILINE)[1:]:
+        line, _, printed = part.partition("\n")
+        found.append((line, printed))
+    return found
+
+
+def is_printed(printed, told):
+    """Whether this was told, where `..` stands for anything."""
+    return re.fullmatch(".*".join(map(re.escape, printed.split(".."))), told, flags=re.DOTALL) is not None
+
+
+class Machine:
+    """A network namespace, and a shell in it that sees files of its own in place of some of the system's."""
+
+    def __init__(self, name, folder):
+        self.space = f"wgr-{name}-{os.getpid() % 10_000:04}"
+        subprocess.run(["ip", "netns", "add", self.space], check=True)
+        known = os.environ | {"WG_QUICK_USERSPACE_IMPLEMENTATION": "wireguard-go"}
+        self.shell = subprocess.Popen(
+            ["ip", "netns", "exec", self.space, "bash"],
+            cwd=folder,
+            env=known,
+            stdin=subprocess.PIPE,
+            stdout=subprocess.PIPE,
+            stderr=subprocess.STDOUT,
+            text=True,
+            bufsize=1,
+        )
+        self.lines = queue.Queue()
+        threading.Thread(target=self.listen, daemon=True).start()
+        self.run("ip link set lo up; mkdir -p /run/wireguard; mount -t tmpfs tmpfs /run/wireguard")
+
+    def listen(self):
+        for line in self.shell.stdout:
+            self.lines.put(line)
+
+    def run(self, command):
+        """Runs a command, and gives what is told until it ends."""
+        self.shell.stdin.write(f"{command}\necho '{END}'\n")
+        told = self.told(lambda lines: lines and lines[-1].endswith(f"{END}\n")).removesuffix(f"{END}\n")
+        # A reply has no newline at its end.
+        return told + "\n" if told and told[-1] != "\n" else told
+
+    def told(self, is_enough):
+        """What is told from now on until that is enough."""
+        lines, end = [], time.monotonic() + program.LIMIT
+        while not is_enough(lines):
+            lines.append(self.lines.get(timeout=max(0.1, end - time.monotonic())))
+        return "".join(lines)
+
+    def end(self):
+        self.shell.stdin.close()
+        self.shell.wait(program.LIMIT)
+        left = subprocess.run(["ip", "netns", "pids", self.space], capture_output=True, text=True).stdout.split()
+        subprocess.run(["kill", *left] if left else ["true"], check=False)
+        subprocess.run(["ip", "netns", "del", self.space], check=True)
+
+
+@needs("ip", "wg", "wg-quick", "wireguard-go", "ping", "curl", "sqlite3", root=True)
+class FirstTenMinutes(unittest.TestCase):
+    maxDiff = None
+
+    def machine(self, name):
+        made = Machine(name, self.folder)
+        self.addCleanup(made.end)
+        return made
+
+    def setUp(self):
+        folder = tempfile.TemporaryDirectory()
+        self.addCleanup(folder.cleanup)
+        self.folder = Path(folder.name)
+        os.symlink(program.path, self.folder / "wgr")
+        self.server = self.machine("server")
+        self.clients = {name: self.machine(name) for name in CABLES}
+        for name, (here, there) in CABLES.items():
+            client = self.clients[name]
+            self.server.run(f"ip link add {name} type veth peer name eth0 netns {client.space}")
+            self.server.run(f"ip address add {here}/30 dev {name}; ip link set {name} up")
+            client.run(f"ip address add {there}/30 dev eth0; ip link set eth0 up")
+            client.run(f"echo {here} {NAME} > {name}.hosts; mount --bind {name}.hosts /etc/hosts")
+
+    def follow(self, machine, commands):
+        for command, printed in commands:
+            with self.subTest(command):
+                told = machine.run(command)
+                if command.endswith("&") and not told:
+                    # What runs on tells it once it is ready.
+                    told = machine.told(lambda lines: "".join(lines) == printed)
+                self.assertTrue(is_printed(printed, told), (printed, told))
+
+    def test_the_page(self):
+        *of_server, of_laptop, plan = blocks()
+        for commands in [*of_server, plan]:
+            self.follow(self.server, commands)
+        for name, client in self.clients.items():
+            client.run(f"wg-quick up ./{name}.conf")
+        # Each client tells the server where it is by its first keepalive.
+        time.sleep(2)
+        self.follow(self.clients["laptop"], of_laptop)
+        self.server.run("kill %1; wait")
