@@ -3,3 +3,4 @@ pub mod OfficeLemmas
 pub mod RunLemmas
 pub mod WorldLemmas
 pub mod ServeLemmas
+pub mod SecretLemmas

@@ -4,3 +4,4 @@ pub mod Pages
 pub mod Events
 pub mod Worlds
 pub mod Serving
+pub mod Secrets

@@ -1,8 +1,15 @@
-//! What follows of the definitions. The function does nothing: its contract is the law.
+//! What follows of the definitions. Each function does nothing: its contract is the law.
+ghost use Rattle.wgr_office.specs.Secrets.{SecretsAreUnanswered};
 ghost use Rattle.wgr_office.specs.Worlds.{WorldsAreAlike};
 
 /// Two registers, each with others' rows and requests of its own, that agree on what one tenant has
 /// and asks and on the accepted orders about it: it is given the same replies, byte for byte.
 pub fn worlds_are_alike()
     ensures { WorldsAreAlike }
+{}
+
+/// Two messages with a dump for one network, whose private and preshared keys alone differ: on the
+/// rows of a register the replies are equal, byte for byte, and the rows then show each tenant the same.
+pub fn secrets_are_unanswered()
+    ensures { SecretsAreUnanswered }
 {}

@@ -16,7 +16,7 @@ mod serve;
 mod tests;
 
 pub use answer::Answer;
-pub use laws::worlds_are_alike;
+pub use laws::{secrets_are_unanswered, worlds_are_alike};
 pub use office::Office;
 pub use response::{Response, unavailable, write_response};
 pub use run::Event;
