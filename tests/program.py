@@ -1,5 +1,7 @@
 """The program under test, and what a run of it leaves."""
 
+import resource
+import signal
 import subprocess
 from typing import NamedTuple
 
@@ -33,3 +35,9 @@ def run(words, text=b"", stdin=None, stdout=subprocess.PIPE, stderr=subprocess.P
         **given,
     )
     return Left(done.returncode, done.stdout or b"", done.stderr or b"")
+
+
+def without_room():
+    """Lets a program write to no file past its first 4,096 bytes, in place of `prepare`."""
+    signal.signal(signal.SIGXFSZ, signal.SIG_IGN)
+    resource.setrlimit(resource.RLIMIT_FSIZE, (4096, 4096))

@@ -7,7 +7,7 @@ from contextlib import closing
 from pathlib import Path
 
 from keys import key_text
-from program import Left, run
+from program import Left, run, without_room
 from serving import (
     SERVER_KEY,
     TOKEN,
@@ -24,7 +24,7 @@ from serving import (
 PEERS = "/networks/office/peers"
 
 
-def batch(database, now, requests):
+def batch(database, now, requests, prepare=None):
     """Runs the program on files of these requests."""
     with tempfile.TemporaryDirectory() as folder:
         files = []
@@ -32,7 +32,7 @@ def batch(database, now, requests):
             file = Path(folder) / str(place)
             file.write_bytes(message)
             files.append(str(file))
-        return run(["batch", database, "--now", str(now), *files])
+        return run(["batch", database, "--now", str(now), *files], prepare=prepare)
 
 
 def replies(text):
@@ -157,6 +157,14 @@ class Batch(unittest.TestCase):
         taken = peer(1, 2, "10.8.0.2/32", status={"handshake": 3, "received": 1, "sent": 2})
         left = batch(self.database, 7, asked)
         self.assertEqual(left, Left(0, done({"added": [1], "known": 1}) + done({"peers": [taken]})))
+
+    def test_a_log_that_takes_nothing(self):
+        """A change that can't be written is answered Unavailable and leaves the rows; the status tells of it."""
+        listed, none = request("GET", PEERS), done({"peers": []})
+        asked = [listed, request("POST", PEERS, {"key": key(1)}), listed]
+        left = batch(self.database, 7, asked, prepare=without_room)
+        self.assertEqual(left, Left(1, none + refused(503, "unavailable") + none))
+        self.assertEqual(batch(self.database, 7, [listed]), Left(0, none))
 
     def test_files_that_are_not_there(self):
         before = Path(self.database).read_bytes()

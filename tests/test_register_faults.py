@@ -7,7 +7,7 @@ import stat
 from contextlib import closing
 from pathlib import Path
 
-from program import Left, run
+from program import Left, run, without_room
 from register_file import ACME, DONE, NETWORK, TOKEN, Files, failed, options
 
 WORDS = [
@@ -141,6 +141,14 @@ class Faults(Files):
         self.folder.chmod(stat.S_IRUSR | stat.S_IXUSR)
         self.addCleanup(self.folder.chmod, stat.S_IRWXU)
         self.assertEqual(run(["init", self.db], prepare=bound_by_modes), failed("store"))
+
+    def test_a_log_that_takes_nothing(self):
+        self.init(ACME)
+        before = self.rows()
+        for words in [("tenant-add", "bolt"), NETWORK]:
+            with self.subTest(words[0]):
+                self.assertEqual(self.order(*words, prepare=without_room), failed("store"))
+                self.assertEqual(self.rows(), before)
 
     def test_a_database_in_use(self):
         self.init(ACME)
