@@ -118,13 +118,19 @@ class FirstTenMinutes(unittest.TestCase):
                     told = machine.told(lambda lines: "".join(lines) == printed)
                 self.assertTrue(is_printed(printed, told), (printed, told))
 
+    def wait_for_handshakes(self):
+        """Waits until each client has told the server where it is, by its first keepalive."""
+        end = time.monotonic() + program.LIMIT
+        while re.search(r"\t0$", self.server.run("wg show wg0 latest-handshakes"), re.MULTILINE):
+            self.assertLess(time.monotonic(), end)
+            time.sleep(0.1)
+
     def test_the_page(self):
         *of_server, of_laptop, plan = blocks()
         for commands in [*of_server, plan]:
             self.follow(self.server, commands)
         for name, client in self.clients.items():
             client.run(f"wg-quick up ./{name}.conf")
-        # Each client tells the server where it is by its first keepalive.
-        time.sleep(2)
+        self.wait_for_handshakes()
         self.follow(self.clients["laptop"], of_laptop)
         self.server.run("kill %1; wait")

@@ -86,7 +86,7 @@ fn moment(event: &Event) -> u64 {
 }
 
 /// What the event is answered by the plain register.
-pub(super) fn meant(
+pub(super) fn answer_meant(
     rt: &(impl Abort + AllocGlobal),
     plain: &mut wgr_model::Register,
     event: &Event,
@@ -217,7 +217,7 @@ pub(super) fn take<S: Alter + Drop>(
     line: &str,
 ) -> Vec<u8> {
     let event = event(rt, now, line);
-    let meant = meant(rt, plain, &event);
+    let meant = answer_meant(rt, plain, &event);
     let told = told(rt, register, &event, &meant);
     assert_eq!(rt; told.as_slice(), meant.told(), "{line}");
     meant.shown
