@@ -48,7 +48,7 @@ fn text_of(
     write_line(b"[Interface]", &mut out)?;
     let own = Prefix::full(peer.address);
     write_address(form, &peer.address, own.length(), &mut out)?;
-    write_section_head(&network.server(), &mut out)?;
+    write_section_head(&network.server_key(), &mut out)?;
     let routes = routes_beside(alloc, network, now, peer.number)?;
     write_allowed(&network.pool().prefix(), &routes, &mut out)?;
     write_endpoint(network.host(), network.port(), &mut out)?;
@@ -61,7 +61,7 @@ fn live_peer(network: &Network, now: u64, number: u32) -> Option<&Peer>
     ensures { option_copied result ≡ peer_of (live_at network.now now).peers number }
 {
     // The peers stand in the order of their numbers.
-    let _rules = network.pool();
+    network.tell_rules();
     match network.peer(number) {
         Some(peer) if peer.is_live(now) => Some(peer),
         _ => None,

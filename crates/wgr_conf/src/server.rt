@@ -25,7 +25,7 @@ pub fn server_file(
     ensures { IfOk result (λ file. file.items ≡ server_config network.now now form) }
 {
     // The peers stand in the order of their numbers.
-    let _rules = network.pool();
+    network.tell_rules();
     let mut out = Vec::new(alloc);
     write_interface(network, form, &mut out)?;
     let views = network.views(alloc)?;

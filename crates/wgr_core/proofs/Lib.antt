@@ -21,7 +21,7 @@ pub mod LeaveLemmas
 pub mod LiveLooks
 pub mod FreedLemmas
 pub mod DraftLemmas
-pub mod PutLemmas
+pub mod AlteredLemmas
 pub mod LineAsks
 pub mod WalkLemmas
 pub mod AdoptingLemmas

@@ -1,11 +1,10 @@
 -- A network that is changed step by step, and what the steps of an adoption answer.
-use Rattle.std.specs.Prelude.{ℕ, ◌<◌, ◌≡◌, ◌≢◌, Bool, true, false, not, List, [], Result, Ok, Err, All, AllPairs}
+use Rattle.std.specs.Prelude.{ℕ, zero, suc, ◌≡◌, Bool, true, false, not, cond, ◌&&◌, nat_eq, List, [], ◌∷◌, Option, Some, None, Result, Ok, Err}
 use Rattle.std.specs.List.{filter}
 use Rattle.wgr_text.specs.Prefix.{AddrValue, PrefixValue}
 use Rattle.wgr_peers.specs.declared.peer.Peer.{Peer}
-use Rattle.wgr_peers.specs.Peers.{put_peer}
+use Rattle.wgr_peers.specs.declared.peer.Status.{Status}
 use Rattle.wgr_peers.specs.Routes.{Routes}
-use Rattle.wgr_core.specs.declared.change.Change.{Change}
 use Rattle.wgr_core.specs.declared.fault.ActFault.{ActFault}
 use Rattle.wgr_core.specs.declared.fault.ActFault.TheVariants as fault
 use Rattle.wgr_core.specs.declared.fault.LineFault.{LineFault}
@@ -14,7 +13,7 @@ use Rattle.wgr_core.specs.declared.refusal.Refusal.TheVariants.{InLine}
 use Rattle.wgr_core.specs.declared.refusal.LineRefusal.{LineRefusal}
 use Rattle.wgr_core.specs.declared.seen_peer.SeenPeer.{SeenPeer}
 use Rattle.wgr_core.specs.Network.{NetworkValue, IsNetwork}
-use Rattle.wgr_core.specs.Change.{changed, put_peers}
+use Rattle.wgr_core.specs.Change.{assign_routes}
 use Rattle.wgr_core.specs.Adoption.{Adoption, and_then, unless_refused, line_refusal, line_place, named_address, names_address, numbered_from}
 
 -- the network as it was, and as it is now
@@ -26,26 +25,37 @@ pub record DraftValue : Type 0 where
 abbrev pub drafted : NetworkValue → List Peer → Routes → ℕ → NetworkValue
 drafted n peers routes next = record n { next = next; peers = peers; routes = routes }
 
--- no number stands twice
-abbrev pub HaveOwnNumbers : List Peer → Type 0
-HaveOwnNumbers = AllPairs (λ p q. p.number ≢ q.number)
+-- whether two statuses show the same, or both nothing
+abbrev pub same_status : Option Status → Option Status → Bool
+same_status None None = true
+same_status None (Some b) = false
+same_status (Some a) None = false
+same_status (Some a) (Some b) = nat_eq a.handshake b.handshake && (nat_eq a.received b.received && nat_eq a.sent b.sent)
 
--- each number is below this one
-abbrev pub AreBelow : List Peer → ℕ → Type 0
-AreBelow peers next = All (λ p. p.number < next) peers
+-- whether there is a peer at the place, with the status of this one
+abbrev pub was_there : List Peer → ℕ → Peer → Bool
+was_there [] at p = false
+was_there (q ∷ start) zero p = same_status q.status p.status
+was_there (q ∷ start) (suc at) p = was_there start at p
 
--- the change leads from one network to another, which keeps the rules, and puts no number twice
-pub record LeadsTo (c : Change) (start n : NetworkValue) : Type 0 where
-  pub leads : changed c start ≡ n
+-- those of the peers whose status isn't that of the peer at their place of `start`, and those after them
+abbrev pub altered : List Peer → List Peer → List Peer
+altered start [] = []
+altered [] (p ∷ peers) = p ∷ peers
+altered (q ∷ start) (p ∷ peers) = cond (same_status q.status p.status) (altered start peers) (p ∷ altered start peers)
+
+-- each peer of `start` stands at its place, where it may have another status
+abbrev pub AreNoted : List Peer → List Peer → Type 0
+AreNoted [] peers = Unit {0}
+AreNoted (q ∷ start) [] = ⊥
+AreNoted (q ∷ start) (p ∷ peers) = (p ≡ record q { status = p.status }) × AreNoted start peers
+
+-- a network that has come of another: its peers got statuses, others came after them, and these
+-- routes were put
+pub record IsGrown (start n : NetworkValue) (routes_put : Routes) : Type 0 where
   pub rules : IsNetwork n
-  pub below : AreBelow c.peers c.next
-  pub own : HaveOwnNumbers c.peers
-
--- peers that are put, and with `p` also those that are put then
-pub record HasPut (puts after : List Peer) (p : Peer) : Type 0 where
-  pub leads : (start : List Peer) → put_peers start after ≡ put_peer (put_peers start puts) p
-  pub below : (next : ℕ) → p.number < next → AreBelow puts next → AreBelow after next
-  pub own : HaveOwnNumbers after
+  pub noted : AreNoted start.peers n.peers
+  pub routed : assign_routes start.routes routes_put ≡ n.routes
 
 -- an adoption of lines that began at a network
 pub record AdoptingValue : Type 0 where

@@ -36,7 +36,7 @@ impl Network {
             return Err(ActFault::Refused(why));
         }
         let done = self.adopt(alloc, lines)?;
-        Ok(done.answer(alloc, removed))
+        Ok(done.answer(alloc, removed)?)
     }
 
     // The network with all these lines.
@@ -55,7 +55,7 @@ impl Network {
         ensures { result ≡ server_refusal self.now server }
     {
         match server {
-            Some(key) if key != self.server() => Some(Refusal::WrongServer),
+            Some(key) if key != self.server_key() => Some(Refusal::WrongServer),
             _ => None,
         }
     }
@@ -143,10 +143,7 @@ impl<'a> Adopting<'a> {
         let Some(known) = self.known.checked_add(1) else {
             return Err(LineFault::NoMemory);
         };
-        let _next = self.draft.next();
-        let mut peer = self.draft.peers().as_slice()[place].copy()?;
-        peer.status = Some(line.status);
-        self.draft.replace(place, peer)?;
+        self.draft.note(place, line.status)?;
         self.known = known;
         Ok(())
     }
@@ -175,19 +172,21 @@ impl<'a> Adopting<'a> {
 
     // What the adoption answers, and the change by which the network, from which `removed` had gone,
     // comes to it.
-    fn answer(self, alloc: Global, removed: Items<u32>) -> (Reply, Option<Change>)
-        ensures reply { result.0 ≡ reply.Adopted self.entry.so_far.added self.entry.so_far.known }
-        ensures change { GivesChange false None self.entry.start removed result.1 self.entry.so_far.network }
+    fn answer(
+        self,
+        alloc: Global,
+        removed: Items<u32>,
+    ) -> Result<(Reply, Option<Change>), AllocError>
+        ensures reply { IfOk result (λ given. given.0 ≡ reply.Adopted self.entry.so_far.added self.entry.so_far.known) }
+        ensures change { IfOk result (λ given. GivesChange false None self.entry.start removed given.1 self.entry.so_far.network) }
     {
         let Adopting {
             draft,
             added,
             known,
         } = self;
-        (
-            Reply::Adopted { added, known },
-            Some(draft.into_change(alloc, removed)),
-        )
+        let change = draft.into_change(alloc, removed)?;
+        Ok((Reply::Adopted { added, known }, Some(change)))
     }
 }
 

@@ -52,7 +52,7 @@ impl Change {
         ensures { IfOk result (λ peers. peers.items ≡ (applied self.now network.now).peers) }
     {
         let mut peers = peers_outside(alloc, network.peers(), removed)?;
-        let _next = network.next();
+        network.tell_rules();
         for peer in self.peers.as_slice() {
             put_peer(&mut peers, peer.copy()?)?;
         }
@@ -101,7 +101,7 @@ impl Change {
         ensures masked { IfOk result (λ routes. All HasAddr routes.items) }
     {
         let mut routes = routes_outside(alloc, network.routes(), removed)?;
-        let _next = network.next();
+        network.tell_rules();
         for prefix in self.routes_gone.as_slice() {
             drop_route(&mut routes, prefix);
         }

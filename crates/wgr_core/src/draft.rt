@@ -1,22 +1,22 @@
 //! A network that is changed in place, together with the change that leads to it.
-ghost use Rattle.std.specs.Prelude.{◌≡◌, ◌≤◌, ◌+◌, ◌++◌, [], ◌∷◌, true, nat_eq, is_some, IfOk, OnOk, OnErr};
-ghost use Rattle.std.specs.List.{position};
-ghost use Rattle.wgr_peers.specs.Peers.{peer_of, put_peer};
-ghost use Rattle.wgr_peers.specs.PeerIndex.{IsAlikeAt};
+ghost use Rattle.std.specs.Prelude.{◌≡◌, ◌<◌, ◌≤◌, ◌+◌, ◌++◌, [], ◌∷◌, true, is_some, length, slice_index_or, Some, IfOk, OnOk, OnErr};
+ghost use Rattle.wgr_peers.specs.Peers.{AreNumbered, peer_of, put_peer};
+ghost use Rattle.wgr_peers.specs.declared.peer.Peer.{Peer};
 ghost use Rattle.wgr_peers.specs.Routes.{AreOrdered, assign_route};
 ghost use Rattle.wgr_core.specs.Adoption.{give_all, give_refusal, other_prefixes, unless_refused};
 ghost use Rattle.wgr_core.specs.Change.{assign_routes, changed};
-ghost use Rattle.wgr_core.specs.Draft.{DraftValue, MeetsGiven, HasPut, HaveOwnNumbers, LeadsTo, drafted, left_by};
+ghost use Rattle.wgr_core.specs.Draft.{DraftValue, IsGrown, MeetsGiven, altered, drafted, left_by, same_status, was_there};
 ghost use Rattle.wgr_core.specs.Network.{IsNetwork};
 ghost use Rattle.wgr_peers.specs.Limits.{max_number};
 
 use crate::change::Change;
 use crate::fault::LineFault;
+use crate::forms::tell_prefix;
 use crate::network::Network;
 use std::alloc::{AllocError, Global};
 use std::marker::Model;
 use wgr_peers::order::is_same;
-use wgr_peers::{Items, Peer, PeerDraft, RouteSlots};
+use wgr_peers::{Items, Peer, PeerDraft, RouteSlots, Status};
 use wgr_text::{Addr, Prefix};
 
 /// A copy of what a network has of peers and routes, and the change by which it has come about. For
@@ -24,11 +24,10 @@ use wgr_text::{Addr, Prefix};
 #[derive(Drop)]
 pub(crate) struct Draft<'a> {
     pub(crate) start: &'a Network,
+    // Those of the start at their places, and after them those that came.
     pub(crate) peers: PeerDraft,
     pub(crate) routes: RouteSlots,
-    // The change: peers that came or took another's place, each number once, routes that came, and
-    // the next number.
-    peers_put: Vec<Peer>,
+    // The routes that came, one after the other.
     routes_put: Vec<(Prefix, u32)>,
     next: u32,
 }
@@ -38,7 +37,7 @@ impl<'a> Model for Draft<'a> {
 
     ghost view = { λ d. record { start = d.start.now; network = drafted d.start.now d.peers d.routes d.next } };
 
-    ghost invariant = { λ d. LeadsTo (record { removed = []; peers = d.peers_put.items; routes_put = d.routes_put.items; routes_gone = []; next = d.next }) d.start.now (drafted d.start.now d.peers d.routes d.next) };
+    ghost invariant = { λ d. IsGrown d.start.now (drafted d.start.now d.peers d.routes d.next) d.routes_put.items };
 }
 
 impl<'a> Draft<'a> {
@@ -57,10 +56,16 @@ impl<'a> Draft<'a> {
             start,
             peers,
             routes,
-            peers_put: Vec::new(alloc),
             routes_put: Vec::new(alloc),
             next,
         })
+    }
+
+    // Does nothing. Its contract says that the network as it is now keeps the rules of a network.
+    fn tell_rules(&self)
+        ensures { IsNetwork self.now.network }
+    {
+        let _next = self.next;
     }
 
     // The peers as they are now.
@@ -86,23 +91,22 @@ impl<'a> Draft<'a> {
         ensures ok { OnOk result (self.new ≡ record self.old { network = record self.old.network { next = self.old.network.next + 1; peers = self.old.network.peers ++ peer ∷ [] } }) }
         ensures err { OnErr result (self.new ≡ self.old) }
     {
-        self.peers_put.reserve(1)?;
-        self.peers.push(peer.copy()?)?;
-        self.next = peer.number + 1;
-        self.peers_put.push_reserved(peer);
+        let next = peer.number + 1;
+        self.peers.push(peer)?;
+        self.next = next;
         Ok(())
     }
 
-    // Puts a peer in the place of one that has its number, key and address.
-    pub(crate) fn replace(&mut self, place: usize, peer: Peer) -> Result<(), AllocError>
-        requires alike { IsAlikeAt self.old.network.peers peer place }
-        requires fits { IsNetwork (record self.old.network { peers = put_peer self.old.network.peers peer }) }
-        ensures ok { OnOk result (self.new ≡ record self.old { network = record self.old.network { peers = put_peer self.old.network.peers peer } }) }
+    // The peer at the place gets this status, and nothing else.
+    pub(crate) fn note(&mut self, place: usize, status: Status) -> Result<(), AllocError>
+        requires within { place < length self.old.network.peers }
+        ensures ok { OnOk result ((d : Peer) → self.new ≡ record self.old { network = record self.old.network { peers = put_peer self.old.network.peers (record (slice_index_or self.old.network.peers place d) { status = Some status }) } }) }
         ensures err { OnErr result (self.new ≡ self.old) }
     {
-        let copy = peer.copy()?;
-        put_once(&mut self.peers_put, peer)?;
-        self.peers.replace(place, copy);
+        self.tell_rules();
+        let mut peer = self.peers.as_slice()[place].copy()?;
+        peer.status = Some(status);
+        self.peers.replace(place, peer);
         Ok(())
     }
 
@@ -123,12 +127,11 @@ impl<'a> Draft<'a> {
         requires { is_some (peer_of self.old.network.peers number) ≡ true }
         ensures { MeetsGiven self.old (left_by result self.new) (unless_refused (give_refusal self.old.network prefix) (record self.old.network { routes = assign_route self.old.network.routes prefix number })) }
     {
-        let _next = self.next();
+        self.tell_rules();
         if let Some(why) = self.give_refusal(&prefix) {
             return Err(LineFault::Refused(why));
         }
-        let _address = prefix.address();
-        let _length = prefix.length();
+        tell_prefix(&prefix);
         self.assign_route(prefix, number)?;
         Ok(())
     }
@@ -154,22 +157,54 @@ impl<'a> Draft<'a> {
     }
 
     // The change that leads from the network as it was, from which `removed` had gone, to what it is
-    // now.
-    pub(crate) fn into_change(self, alloc: Global, removed: Items<u32>) -> Change
-        ensures removed { result.removed ≡ removed }
-        ensures leads { changed result self.entry.start ≡ self.entry.network }
-        ensures own { HaveOwnNumbers result.peers }
+    // now. It puts the peers that aren't as they were, by number, and no others.
+    pub(crate) fn into_change(
+        self,
+        alloc: Global,
+        removed: Items<u32>,
+    ) -> Result<Change, AllocError>
+        ensures removed { IfOk result (λ change. change.removed ≡ removed) }
+        ensures leads { IfOk result (λ change. changed change self.entry.start ≡ self.entry.network) }
+        ensures altered { IfOk result (λ change. change.peers ≡ altered self.entry.start.peers self.entry.network.peers) }
+        ensures rising { IfOk result (λ change. AreNumbered change.peers) }
     {
-        let start = self.start.routes();
-        let routes_put = each_once(start, self.routes, self.routes_put);
-        Change {
+        let peers = altered(alloc, self.start.peers(), self.peers.as_slice())?;
+        let routes_put = each_once(self.start.routes(), self.routes, self.routes_put);
+        Ok(Change {
             removed,
-            peers: Items::of(self.peers_put),
+            peers: Items::of(peers),
             routes_put: Items::of(routes_put),
             routes_gone: Items::new(alloc),
             next: self.next,
+        })
+    }
+}
+
+// Those of the peers that aren't as they were at the start, where each had the same place.
+fn altered(alloc: Global, start: &[Peer], peers: &[Peer]) -> Result<Vec<Peer>, AllocError>
+    ensures { IfOk result (λ those. those.items ≡ altered start.now peers.now) }
+{
+    let mut those = Vec::new(alloc);
+    for (place, peer) in peers.iter().enumerate() {
+        if !was_there(start, place, peer) {
+            those.push(peer.copy()?)?;
         }
     }
+    Ok(those)
+}
+
+// Whether the peer had its status at this place of the start.
+fn was_there(start: &[Peer], place: usize, peer: &Peer) -> bool
+    ensures { result ≡ was_there start.now place peer.now }
+{
+    place < start.len() && is_same_status(&start[place].status, &peer.status)
+}
+
+// Whether both show the same, or nothing.
+fn is_same_status(one: &Option<Status>, other: &Option<Status>) -> bool
+    ensures { result ≡ same_status one.now other.now }
+{
+    one == other
 }
 
 // Of routes that were put one after the other, those that make the difference. A prefix may have
@@ -188,24 +223,4 @@ fn each_once(
     } else {
         puts
     }
-}
-
-// Puts the peer in the place of the one that has its number, or at the end.
-fn put_once(puts: &mut Vec<Peer>, peer: Peer) -> Result<(), AllocError>
-    requires { HaveOwnNumbers puts.old.items }
-    ensures ok { OnOk result (HasPut puts.old.items puts.new.items peer) }
-    ensures err { OnErr result (puts.new.items ≡ puts.old.items) }
-{
-    match first_of(puts, peer.number) {
-        Some(at) => puts[at] = peer,
-        None => puts.push(peer)?,
-    }
-    Ok(())
-}
-
-// The place of the first peer that has the number.
-fn first_of(puts: &[Peer], number: u32) -> Option<usize>
-    ensures { result ≡ position (λ put. nat_eq put.number number) puts.now }
-{
-    puts.iter().position(|put| put.number == number)
 }

@@ -97,7 +97,7 @@ fn tell_prefixes(allowed: &[Prefix])
     }
 }
 
-fn tell_prefix(prefix: &Prefix)
+pub(crate) fn tell_prefix(prefix: &Prefix)
     ensures { IsPrefixAsked prefix.now }
 {
     let _address = prefix.address();

@@ -86,7 +86,7 @@ impl Draft<'_> {
     fn line_refusal(&self, key: &Key) -> Option<LineRefusal>
         ensures { result ≡ line_refusal self.now.network key.now }
     {
-        if *key == self.start.server() {
+        if *key == self.start.server_key() {
             return Some(LineRefusal::ServerKey);
         }
         if self.peers.len() >= usize::from(self.start.capacity().peers()) {

@@ -63,6 +63,13 @@ impl<'a> Live<'a> {
 }
 
 impl Live<'_> {
+    // Does nothing. Its contract says that what is live keeps the rules of a network.
+    pub(crate) fn tell_rules(&self)
+        ensures { IsNetwork self.now }
+    {
+        self.network.tell_rules();
+    }
+
     pub(crate) fn pool(&self) -> Pool
         ensures value { result ≡ self.now.pool }
         ensures rules { IsNetwork self.now }
@@ -70,10 +77,10 @@ impl Live<'_> {
         self.network.pool()
     }
 
-    pub(crate) fn server(&self) -> Key
+    pub(crate) fn server_key(&self) -> Key
         ensures { result ≡ self.now.server }
     {
-        self.network.server()
+        self.network.server_key()
     }
 
     pub(crate) fn capacity(&self) -> Capacity

@@ -110,6 +110,13 @@ impl Network {
         }))
     }
 
+    /// Does nothing. Its contract says that the network keeps the rules of a network.
+    pub fn tell_rules(&self)
+        ensures { IsNetwork self.now }
+    {
+        let _pool = self.pool;
+    }
+
     /// The pool from which addresses are given.
     pub fn pool(&self) -> Pool
         ensures value { result ≡ self.now.pool }
@@ -133,7 +140,7 @@ impl Network {
     }
 
     /// The server's public key.
-    pub fn server(&self) -> Key
+    pub fn server_key(&self) -> Key
         ensures { result ≡ self.now.server }
     {
         self.server

@@ -3,7 +3,6 @@ ghost use Rattle.std.specs.Prelude.{◌≡◌, Some, option_map};
 ghost use Rattle.wgr_core.specs.Owner.{longest_match, longer, owner_of, own_prefixes};
 
 use crate::live::Live;
-use crate::network::Network;
 use wgr_peers::Peer;
 use wgr_text::{Addr, Prefix};
 
@@ -34,20 +33,6 @@ impl Live<'_> {
     }
 }
 
-impl Network {
-    /// The peer to which the longest allowed prefix with the address leads.
-    pub fn owner(&self, address: &Addr) -> Option<u32>
-        ensures { result ≡ owner_of self.now address.now }
-    {
-        // No route is longer than a peer's own address, and of equals the peer's comes first.
-        if self.peers.owns(address) {
-            return own_holder(self.peers(), address);
-        }
-        let (_, number) = longest_route(&self.routes, address)?;
-        Some(number)
-    }
-}
-
 // The number of the peer that has the address as its own.
 fn own_holder(peers: &[Peer], address: &Addr) -> Option<u32>
     ensures { result ≡ option_map (λ r. r.1) (longest_match (own_prefixes peers.now) address.now) }
@@ -58,19 +43,6 @@ fn own_holder(peers: &[Peer], address: &Addr) -> Option<u32>
         }
     }
     None
-}
-
-// The longest of the routes that has the address.
-fn longest_route(routes: &[(Prefix, u32)], address: &Addr) -> Option<(Prefix, u32)>
-    ensures { result ≡ longest_match routes.now address.now }
-{
-    let mut longest = None;
-    for route in routes {
-        if route.0.contains(address) {
-            longest = longer(longest, *route);
-        }
-    }
-    longest
 }
 
 // The longer of what is found and one more route; of two of one length the first.

@@ -27,7 +27,7 @@ impl Live<'_> {
     pub(crate) fn join_refusal(&self, now: u64, key: &Key, until: LeaseEnd) -> Option<Refusal>
         ensures { result ≡ join_refusal self.now now key.now until }
     {
-        if *key == self.server() {
+        if *key == self.server_key() {
             return Some(Refusal::ServerKey);
         }
         if let Some(number) = self.key_holder(key) {
@@ -53,7 +53,7 @@ impl Live<'_> {
         let Some(peer) = mover else {
             return self.owns(address);
         };
-        let _rules = self.pool();
+        self.tell_rules();
         !peer.is_at(address) && self.owns(address)
     }
 
@@ -80,7 +80,7 @@ impl Live<'_> {
         for address in self.addresses.as_slice() {
             lowest = self.or_freed(lowest, address);
         }
-        let _whole = self.network.next();
+        self.network.tell_rules();
         lowest
     }
 

@@ -54,7 +54,7 @@ impl Live<'_> {
         if let Some(why) = self.route_refusal(&prefix) {
             return Err(ActFault::Refused(why));
         }
-        let _rules = self.pool();
+        self.tell_rules();
         let mut own = self.own_routes(alloc, number)?;
         put_route(&mut own, prefix, number)?;
         Ok(view_with(alloc, peer, &own)?)
@@ -92,7 +92,7 @@ impl Live<'_> {
         let Some(peer) = self.peer(number) else {
             return Err(ActFault::Refused(Refusal::NoSuchPeer));
         };
-        let _rules = self.pool();
+        self.tell_rules();
         let mut own = self.own_routes(alloc, number)?;
         drop_route(&mut own, prefix);
         Ok(view_with(alloc, peer, &own)?)

@@ -28,7 +28,7 @@ impl ToJson for (Name, Network) {
         send_text("endpoint", endpoint.as_str(), out)?;
         send_text("name", self.0.as_str(), out)?;
         send_member(alloc, "pool", &network.pool().prefix(), out)?;
-        send_member(alloc, "server", &network.server(), out)?;
+        send_member(alloc, "server", &network.server_key(), out)?;
         out.end_map()
     }
 }

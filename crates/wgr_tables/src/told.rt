@@ -76,7 +76,7 @@ fn tell_network(network: &Network)
     ensures host { IsHost network.now.host }
 {
     let _host = network.host().as_str();
-    let server = network.server();
+    let server = network.server_key();
     tell_key(&server);
     tell_peers(network.peers());
 }

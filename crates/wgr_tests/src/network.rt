@@ -171,7 +171,7 @@ fn has_settings_of(one: &Network, other: &Network) -> bool {
     one.pool().prefix() == other.pool().prefix()
         && one.host().as_str() == other.host().as_str()
         && one.port() == other.port()
-        && one.server() == other.server()
+        && one.server_key() == other.server_key()
         && one.capacity() == other.capacity()
 }
 

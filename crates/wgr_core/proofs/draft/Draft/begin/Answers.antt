@@ -1,13 +1,11 @@
-use Rattle.std.proofs.Common.{◌≡◌, ◌≢◌, ◌<◌, ℕ, [], List, sym, ap, subst, ◌∙◌}
-use Rattle.std.proofs.lemmas.List.Elements.{All-nil}
-use Rattle.wgr_pool.proofs.Lists.{AllPairs-nil}
+use Rattle.std.proofs.Common.{◌≡◌, ℕ, List, sym, ap, subst, ◌∙◌}
 use Rattle.wgr_peers.specs.declared.peer.Peer.{Peer}
 use Rattle.wgr_peers.specs.Peers.{AreNumbered}
 use Rattle.wgr_peers.specs.Routes.{Routes}
-use Rattle.wgr_core.specs.declared.change.Change.{Change}
-use Rattle.wgr_core.specs.Change.{changed}
-use Rattle.wgr_core.specs.Draft.{AreBelow, HaveOwnNumbers, drafted}
+use Rattle.wgr_core.specs.Change.{assign_routes}
+use Rattle.wgr_core.specs.Draft.{AreNoted, drafted}
 use Rattle.wgr_core.specs.Network.{IsNetwork}
+use Rattle.wgr_core.proofs.AlteredLemmas.{noted_self}
 use Rattle.wgr_core.proofs.draft.Draft.begin.Goals as goal
 
 pub from_slice-requires-clause-numbered : goal.from_slice-requires-clause-numbered
@@ -19,18 +17,14 @@ invariant_of-result c =
     let peers = c.in_ok-peers.peers in
     let routes = c.in_ok-routes.routes in
     let next = c.next-next.result in
+    let peers_are : peers ≡ n.peers = c.in_ok-peers.ensures ∙ c.peers.ensures in
+    let routes_are : routes ≡ n.routes = c.in_ok-routes.ensures ∙ c.routes.ensures in
     let same : drafted n peers routes next ≡ n =
-    ap (λ (ps : List Peer). drafted n ps routes next) (c.in_ok-peers.ensures ∙ c.peers.ensures)
-    ∙ ap (λ (rs : Routes). drafted n n.peers rs next) (c.in_ok-routes.ensures ∙ c.routes.ensures)
+    ap (λ (ps : List Peer). drafted n ps routes next) peers_are
+    ∙ ap (λ (rs : Routes). drafted n n.peers rs next) routes_are
     ∙ ap (λ (k : ℕ). drafted n n.peers n.routes k) c.next-next.ensures.value in
-    let change : List Peer → Routes → ℕ → Change = λ peers routes next. record { removed = []; peers = peers; routes_put = routes; routes_gone = []; next = next } in
     record {
-      leads =
-          ap (λ (ps : List Peer). changed (change ps c.new-3.result.items next) n) c.new-2.ensures.items
-          ∙ ap (λ (rs : Routes). changed (change [] rs next) n) c.new-3.ensures.items
-          ∙ ap (λ (k : ℕ). changed (change [] [] k) n) c.next-next.ensures.value
-          ∙ sym same;
       rules = subst IsNetwork (sym same) c.next-next.ensures.rules;
-      below = subst (λ (ps : List Peer). AreBelow ps next) (sym c.new-2.ensures.items) (All-nil (λ (p : Peer). p.number < next));
-      own = subst HaveOwnNumbers (sym c.new-2.ensures.items) (AllPairs-nil (λ (p q : Peer). p.number ≢ q.number));
+      noted = subst (AreNoted n.peers) (sym peers_are) (noted_self n.peers);
+      routed = ap (assign_routes n.routes) c.new-2.ensures.items ∙ sym routes_are;
     }

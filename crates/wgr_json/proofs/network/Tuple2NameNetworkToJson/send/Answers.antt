@@ -41,7 +41,7 @@ returns g c =
                 server.0,
                 w c.send_member-2.new.out,
                 server.1,
-                subst (λ k. SendsValue (key_data k) server.0 (w c.send_member-2.new.out)) c.server.ensures server.2,
+                subst (λ k. SendsValue (key_data k) server.0 (w c.send_member-2.new.out)) c.server_key.ensures server.2,
                 e,
               ),
             ),
