@@ -44,6 +44,7 @@ impl<'a> Model for PeerLine<'a> {
 
 impl<'a> PeerLine<'a> {
     /// The line, or the number of its least bad field, counted from 1.
+    // A table: the fields in their order, each with its number.
     pub(crate) fn read(line: &'a [u8]) -> Result<PeerLine<'a>, u8>
         ensures ok { IfOk result (IsPeerLine line.entry.now) }
         ensures err { IfErr result (λ field. (n : ℕ) × (field ≡ n + 1) × IsBadField peer_forms (fields_of line.entry.now) n) }
