@@ -37,7 +37,7 @@ fn seen_peer(alloc: Global, line: &PeerLine<'_>) -> Result<SeenPeer, AllocError>
 }
 
 // The count, which is within its limit already.
-fn kept(count: &wgr_dump::Count<'_>) -> Count
+fn kept(count: &wgr_dump::WrittenCount<'_>) -> Count
     ensures { result ≡ count.now.value }
 {
     Count::new(count.value())

@@ -6,11 +6,11 @@ use Rattle.clap.specs.Lexer.{usize_max}
 use Rattle.clap.specs.Simple.{new_shape}
 use Rattle.clap.specs.Words.{App, Kinds, Row, Rule, Text, fault_of, all_of, first_of, new_app, new_rule, subcommand_of, with_rule, with_subcommand}
 use Rattle.clap.specs.declared.error.kind.ErrorKind.TheVariants.{MissingSubcommand}
-use Rattle.wgr_command_line.specs.declared.request.NetworkWords.{NetworkWords}
-use Rattle.wgr_command_line.specs.declared.request.OrderWords.{OrderWords}
-use Rattle.wgr_command_line.specs.declared.request.OrderWords.TheVariants as order
-use Rattle.wgr_command_line.specs.declared.request.Request.{Request}
-use Rattle.wgr_command_line.specs.declared.request.Request.TheVariants as request
+use Rattle.wgr_command_line.specs.declared.invocation.NetworkWords.{NetworkWords}
+use Rattle.wgr_command_line.specs.declared.invocation.OrderWords.{OrderWords}
+use Rattle.wgr_command_line.specs.declared.invocation.OrderWords.TheVariants as order
+use Rattle.wgr_command_line.specs.declared.invocation.Invocation.{Invocation}
+use Rattle.wgr_command_line.specs.declared.invocation.Invocation.TheVariants as invocation
 
 -- ---- the commands
 
@@ -229,12 +229,12 @@ order_asked order.TokenEnd = TokenEnd
 order_asked (order.NetworkAdd network) = NetworkAdd (network_asked network)
 order_asked (order.NetworkEnd tenant name) = NetworkEnd tenant.now name.now
 
-abbrev pub asked_of : Request → Asked
-asked_of (request.Plan pool) = Plan pool.now
-asked_of (request.Init db) = Init db.now
-asked_of (request.Operate db order) = Operate db.now (order_asked order)
-asked_of (request.Batch db now files) = Batch db.now now.now (map (λ file. file.now) files.items)
-asked_of (request.Serve db place count now) = Serve db.now place.now count.now (option_map (λ now. now.now) now)
+abbrev pub asked_of : Invocation → Asked
+asked_of (invocation.Plan pool) = Plan pool.now
+asked_of (invocation.Init db) = Init db.now
+asked_of (invocation.Operate db order) = Operate db.now (order_asked order)
+asked_of (invocation.Batch db now files) = Batch db.now now.now (map (λ file. file.now) files.items)
+asked_of (invocation.Serve db place count now) = Serve db.now place.now count.now (option_map (λ now. now.now) now)
 
 -- ---- a law
 

@@ -3,8 +3,8 @@
 
 mod commands;
 mod help;
+mod invocation;
 mod laws;
-mod request;
 mod values;
 
-pub use request::{NetworkWords, OrderWords, Request, read_words};
+pub use invocation::{Invocation, NetworkWords, OrderWords, read_words};

@@ -3,7 +3,7 @@ ghost use Rattle.std.specs.Prelude.{◌≡◌, false, IfOk, map, option_map};
 ghost use Rattle.clap.specs.Words.{all_of, first_of, found_of, rows_of, rule_of};
 ghost use Rattle.wgr_command_line.specs.Words.{asked_of, batch_in, choice_rule, init_in, network_add_in, network_end_in, option_rule, plan_in, serve_in, tenant_add_in, token_end_in, token_grant_in, value_rule, values_rule};
 
-use crate::request::{NetworkWords, OrderWords, Request};
+use crate::invocation::{Invocation, NetworkWords, OrderWords};
 use clap::{Arg, ArgMatches};
 use std::alloc::{AllocError, Global};
 
@@ -49,53 +49,53 @@ fn first<'a>(found: &ArgMatches<'a>, id: &str) -> Option<&'a str>
     found.get_str(id)
 }
 
-pub(crate) fn plan<'a>(found: &ArgMatches<'a>) -> Option<Request<'a>>
+pub(crate) fn plan<'a>(found: &ArgMatches<'a>) -> Option<Invocation<'a>>
     ensures { option_map asked_of result ≡ plan_in (rows_of (found_of found.now)) }
 {
     let pool = first(found, "pool")?;
-    Some(Request::Plan { pool })
+    Some(Invocation::Plan { pool })
 }
 
-pub(crate) fn init<'a>(found: &ArgMatches<'a>) -> Option<Request<'a>>
+pub(crate) fn init<'a>(found: &ArgMatches<'a>) -> Option<Invocation<'a>>
     ensures { option_map asked_of result ≡ init_in (rows_of (found_of found.now)) }
 {
     let db = first(found, "db")?;
-    Some(Request::Init { db })
+    Some(Invocation::Init { db })
 }
 
-pub(crate) fn tenant_add<'a>(found: &ArgMatches<'a>) -> Option<Request<'a>>
+pub(crate) fn tenant_add<'a>(found: &ArgMatches<'a>) -> Option<Invocation<'a>>
     ensures { option_map asked_of result ≡ tenant_add_in (rows_of (found_of found.now)) }
 {
     let db = first(found, "db")?;
     let name = first(found, "name")?;
-    Some(Request::Operate {
+    Some(Invocation::Operate {
         db,
         order: OrderWords::TenantAdd { name },
     })
 }
 
-pub(crate) fn token_grant<'a>(found: &ArgMatches<'a>) -> Option<Request<'a>>
+pub(crate) fn token_grant<'a>(found: &ArgMatches<'a>) -> Option<Invocation<'a>>
     ensures { option_map asked_of result ≡ token_grant_in (rows_of (found_of found.now)) }
 {
     let db = first(found, "db")?;
     let tenant = first(found, "tenant")?;
-    Some(Request::Operate {
+    Some(Invocation::Operate {
         db,
         order: OrderWords::TokenGrant { tenant },
     })
 }
 
-pub(crate) fn token_end<'a>(found: &ArgMatches<'a>) -> Option<Request<'a>>
+pub(crate) fn token_end<'a>(found: &ArgMatches<'a>) -> Option<Invocation<'a>>
     ensures { option_map asked_of result ≡ token_end_in (rows_of (found_of found.now)) }
 {
     let db = first(found, "db")?;
-    Some(Request::Operate {
+    Some(Invocation::Operate {
         db,
         order: OrderWords::TokenEnd,
     })
 }
 
-pub(crate) fn network_add<'a>(found: &ArgMatches<'a>) -> Option<Request<'a>>
+pub(crate) fn network_add<'a>(found: &ArgMatches<'a>) -> Option<Invocation<'a>>
     ensures { option_map asked_of result ≡ network_add_in (rows_of (found_of found.now)) }
 {
     let db = first(found, "db")?;
@@ -106,7 +106,7 @@ pub(crate) fn network_add<'a>(found: &ArgMatches<'a>) -> Option<Request<'a>>
     let port = first(found, "port")?;
     let key = first(found, "key")?;
     let capacity = first(found, "capacity")?;
-    Some(Request::Operate {
+    Some(Invocation::Operate {
         db,
         order: OrderWords::NetworkAdd(NetworkWords {
             tenant,
@@ -120,13 +120,13 @@ pub(crate) fn network_add<'a>(found: &ArgMatches<'a>) -> Option<Request<'a>>
     })
 }
 
-pub(crate) fn network_end<'a>(found: &ArgMatches<'a>) -> Option<Request<'a>>
+pub(crate) fn network_end<'a>(found: &ArgMatches<'a>) -> Option<Invocation<'a>>
     ensures { option_map asked_of result ≡ network_end_in (rows_of (found_of found.now)) }
 {
     let db = first(found, "db")?;
     let tenant = first(found, "tenant")?;
     let name = first(found, "name")?;
-    Some(Request::Operate {
+    Some(Invocation::Operate {
         db,
         order: OrderWords::NetworkEnd { tenant, name },
     })
@@ -151,8 +151,8 @@ fn all<'a>(
 pub(crate) fn batch<'a>(
     alloc: Global,
     found: &ArgMatches<'a>,
-) -> Result<Option<Request<'a>>, AllocError>
-    ensures { IfOk result (λ request. option_map asked_of request ≡ batch_in (rows_of (found_of found.now))) }
+) -> Result<Option<Invocation<'a>>, AllocError>
+    ensures { IfOk result (λ invocation. option_map asked_of invocation ≡ batch_in (rows_of (found_of found.now))) }
 {
     let Some(db) = first(found, "db") else {
         return Ok(None);
@@ -163,17 +163,17 @@ pub(crate) fn batch<'a>(
     let Some(files) = all(alloc, found, "file")? else {
         return Ok(None);
     };
-    Ok(Some(Request::Batch { db, now, files }))
+    Ok(Some(Invocation::Batch { db, now, files }))
 }
 
-pub(crate) fn serve<'a>(found: &ArgMatches<'a>) -> Option<Request<'a>>
+pub(crate) fn serve<'a>(found: &ArgMatches<'a>) -> Option<Invocation<'a>>
     ensures { option_map asked_of result ≡ serve_in (rows_of (found_of found.now)) }
 {
     let db = first(found, "db")?;
     let place = first(found, "place")?;
     let count = first(found, "count")?;
     let now = first(found, "now");
-    Some(Request::Serve {
+    Some(Invocation::Serve {
         db,
         place,
         count,

@@ -1,12 +1,12 @@
 -- The parts of a text that are still to come.
 use Rattle.std.specs.Prelude.{ℕ, List, [], Option, Some, None}
 use Rattle.std.specs.Borrow.{Bor}
-use Rattle.wgr_dump.specs.declared.parts.Parts.{Parts}
+use Rattle.wgr_dump.specs.declared.remaining_parts.RemainingParts.{RemainingParts}
 use Rattle.wgr_dump.specs.Fields.{parts_at}
 
 abbrev pub parts_of_rest : ℕ → Option (Bor (List ℕ)) → List (List ℕ)
 parts_of_rest separator None = []
 parts_of_rest separator (Some rest) = parts_at separator rest.now
 
-abbrev pub left : Parts → List (List ℕ)
+abbrev pub left : RemainingParts → List (List ℕ)
 left p = parts_of_rest p.separator p.rest

@@ -7,14 +7,14 @@ ghost use Rattle.wgr_dump.specs.Fields.{Each, SpellsMasked, SpellsAllowed};
 ghost use Rattle.wgr_dump.specs.PartsLeft.{left};
 ghost use Rattle.wgr_dump.specs.AllowedTold.{AllowedTold, AllowedTold-prop};
 
-use crate::parts::Parts;
+use crate::remaining_parts::RemainingParts;
 use std::marker::Model;
 use wgr_text::{Prefix, read_loose};
 
 /// The prefixes of a peer that are still to come, each with its host bits zero.
 #[derive(Drop)]
 pub struct Allowed<'a> {
-    pub(crate) items: Parts<'a>,
+    pub(crate) items: RemainingParts<'a>,
     ghost known: { AllowedTold (left items) } by { AllowedTold-prop (left items) },
 }
 
@@ -53,14 +53,14 @@ fn read_masked(item: &[u8]) -> Option<Prefix>
 }
 
 /// The items of the field, where it is `(none)` or prefixes.
-pub(crate) fn read_allowed<'a>(field: &'a [u8]) -> Option<Parts<'a>>
+pub(crate) fn read_allowed<'a>(field: &'a [u8]) -> Option<RemainingParts<'a>>
     ensures spelled { IfSome result (λ items. (ps : List PrefixValue) × SpellsAllowed field.entry.now ps × Each SpellsMasked (left items) ps) }
     ensures none { IfNone result ((ps : List PrefixValue) → ¬ (SpellsAllowed field.entry.now ps)) }
 {
     if field == b"(none)".as_slice() {
-        return Some(Parts::none());
+        return Some(RemainingParts::none());
     }
-    let items = Parts::new(field, b',');
+    let items = RemainingParts::new(field, b',');
     if !are_prefixes(items) {
         return None;
     }
@@ -68,7 +68,7 @@ pub(crate) fn read_allowed<'a>(field: &'a [u8]) -> Option<Parts<'a>>
 }
 
 /// Whether each item spells a prefix.
-fn are_prefixes(items: Parts<'_>) -> bool
+fn are_prefixes(items: RemainingParts<'_>) -> bool
     ensures { MatchBool result ((ps : List PrefixValue) × Each SpellsMasked (left items.entry) ps) ((ps : List PrefixValue) → ¬ (Each SpellsMasked (left items.entry) ps)) }
 {
     let mut rest = items;

@@ -5,7 +5,7 @@ ghost use Rattle.wgr_dump.specs.Fields.{SpellsKey, fields_of, interface_forms};
 ghost use Rattle.wgr_dump.specs.Dump.{IsInterfaceLine};
 ghost use Rattle.wgr_dump.specs.Fault.{IsBadField};
 
-use crate::parts::Parts;
+use crate::remaining_parts::RemainingParts;
 use crate::taking::{take_optional_key, take_port, take_word};
 use std::marker::Model;
 use wgr_text::Key;
@@ -35,7 +35,7 @@ impl<'a> InterfaceLine<'a> {
         ensures ok { IfOk result (IsInterfaceLine line.entry.now) }
         ensures err { IfErr result (λ field. (n : ℕ) × (field ≡ n + 1) × IsBadField interface_forms (fields_of line.entry.now) n) }
     {
-        let mut fields = Parts::new(line, b'\t');
+        let mut fields = RemainingParts::new(line, b'\t');
         let Some(_private_key) = take_optional_key(&mut fields) else {
             return Err(1);
         };

@@ -6,23 +6,23 @@
 #![tactic(auto)]
 
 mod allowed;
-mod count;
 mod dump;
 mod fields;
 mod interface;
 pub mod laws;
 mod lines;
 mod numbers;
-mod parts;
 mod peer_line;
+mod remaining_parts;
 mod taking;
+mod written_count;
 
 pub use allowed::Allowed;
-pub use count::Count;
 pub use dump::{BadDump, Dump};
 pub use interface::InterfaceLine;
 pub use lines::Lines;
 pub use peer_line::PeerLine;
+pub use written_count::WrittenCount;
 
 #[cfg(test)]
 mod tests;

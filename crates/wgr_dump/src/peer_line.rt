@@ -8,11 +8,11 @@ ghost use Rattle.wgr_dump.specs.PartsLeft.{left};
 ghost use Rattle.wgr_dump.specs.AllowedTold.{AllowedTold, AllowedTold-prop};
 
 use crate::allowed::Allowed;
-use crate::count::Count;
-use crate::parts::Parts;
+use crate::remaining_parts::RemainingParts;
 use crate::taking::{
     take_allowed, take_count, take_keepalive, take_key, take_optional_key, take_word,
 };
+use crate::written_count::WrittenCount;
 use std::marker::Model;
 use wgr_text::Key;
 
@@ -21,10 +21,10 @@ use wgr_text::Key;
 pub struct PeerLine<'a> {
     key_text: &'a [u8],
     key: Key,
-    items: Parts<'a>,
-    handshake: Count<'a>,
-    received: Count<'a>,
-    sent: Count<'a>,
+    items: RemainingParts<'a>,
+    handshake: WrittenCount<'a>,
+    received: WrittenCount<'a>,
+    sent: WrittenCount<'a>,
     keepalive: u16,
     ghost known: { AllowedTold (left items) } by { AllowedTold-prop (left items) },
 }
@@ -44,11 +44,12 @@ impl<'a> Model for PeerLine<'a> {
 
 impl<'a> PeerLine<'a> {
     /// The line, or the number of its least bad field, counted from 1.
+    // A table: the fields in their order, each with its number.
     pub(crate) fn read(line: &'a [u8]) -> Result<PeerLine<'a>, u8>
         ensures ok { IfOk result (IsPeerLine line.entry.now) }
         ensures err { IfErr result (λ field. (n : ℕ) × (field ≡ n + 1) × IsBadField peer_forms (fields_of line.entry.now) n) }
     {
-        let mut fields = Parts::new(line, b'\t');
+        let mut fields = RemainingParts::new(line, b'\t');
         let Some((key_text, key)) = take_key(&mut fields) else {
             return Err(1);
         };
@@ -109,21 +110,21 @@ impl<'a> PeerLine<'a> {
     }
 
     /// When the last handshake was, in seconds since 1970, or 0 if there was none.
-    pub fn handshake(&self) -> &Count<'a>
+    pub fn handshake(&self) -> &WrittenCount<'a>
         ensures { result.now ≡ self.now.handshake }
     {
         &self.handshake
     }
 
     /// How many bytes came from the peer.
-    pub fn received(&self) -> &Count<'a>
+    pub fn received(&self) -> &WrittenCount<'a>
         ensures { result.now ≡ self.now.received }
     {
         &self.received
     }
 
     /// How many bytes were sent to the peer.
-    pub fn sent(&self) -> &Count<'a>
+    pub fn sent(&self) -> &WrittenCount<'a>
         ensures { result.now ≡ self.now.sent }
     {
         &self.sent

@@ -6,14 +6,14 @@ ghost use Rattle.wgr_dump.specs.Taking.{IsBadHead, Takes};
 ghost use Rattle.wgr_dump.specs.PartsLeft.{left};
 
 use crate::allowed::read_allowed;
-use crate::count::Count;
 use crate::fields::{is_word, read_key, read_optional_key};
 use crate::numbers::{read_keepalive, read_port};
-use crate::parts::Parts;
+use crate::remaining_parts::RemainingParts;
+use crate::written_count::WrittenCount;
 use wgr_text::Key;
 
 /// A key, and how it is written.
-pub(crate) fn take_key<'a>(fields: &mut Parts<'a>) -> Option<(&'a [u8], Key)>
+pub(crate) fn take_key<'a>(fields: &mut RemainingParts<'a>) -> Option<(&'a [u8], Key)>
     ensures { MatchOption result (IsBadHead a_key (left fields.old)) (λ taken. (left fields.old ≡ taken.0.now ∷ left fields.new) × SpellsKey taken.0.now taken.1) }
 {
     let field = fields.next()?;
@@ -21,7 +21,9 @@ pub(crate) fn take_key<'a>(fields: &mut Parts<'a>) -> Option<(&'a [u8], Key)>
 }
 
 /// A key or `(none)`, and how it is written.
-pub(crate) fn take_optional_key<'a>(fields: &mut Parts<'a>) -> Option<(&'a [u8], Option<Key>)>
+pub(crate) fn take_optional_key<'a>(
+    fields: &mut RemainingParts<'a>,
+) -> Option<(&'a [u8], Option<Key>)>
     ensures { MatchOption result (IsBadHead a_key_or_none (left fields.old)) (λ taken. (left fields.old ≡ taken.0.now ∷ left fields.new) × SpellsOptionalKey taken.0.now taken.1) }
 {
     let field = fields.next()?;
@@ -29,7 +31,7 @@ pub(crate) fn take_optional_key<'a>(fields: &mut Parts<'a>) -> Option<(&'a [u8],
 }
 
 /// A field that is read past.
-pub(crate) fn take_word(fields: &mut Parts<'_>) -> Option<()>
+pub(crate) fn take_word(fields: &mut RemainingParts<'_>) -> Option<()>
     ensures { MatchOption result (IsBadHead a_word (left fields.old)) (λ taken. Takes IsWord (left fields.old) (left fields.new)) }
 {
     let field = fields.next()?;
@@ -40,7 +42,7 @@ pub(crate) fn take_word(fields: &mut Parts<'_>) -> Option<()>
 }
 
 /// A UDP port or 0.
-pub(crate) fn take_port(fields: &mut Parts<'_>) -> Option<u16>
+pub(crate) fn take_port(fields: &mut RemainingParts<'_>) -> Option<u16>
     ensures { MatchOption result (IsBadHead a_port (left fields.old)) (λ port. Takes (λ field. SpellsPort field port) (left fields.old) (left fields.new)) }
 {
     let field = fields.next()?;
@@ -48,7 +50,7 @@ pub(crate) fn take_port(fields: &mut Parts<'_>) -> Option<u16>
 }
 
 /// The items of prefixes.
-pub(crate) fn take_allowed<'a>(fields: &mut Parts<'a>) -> Option<Parts<'a>>
+pub(crate) fn take_allowed<'a>(fields: &mut RemainingParts<'a>) -> Option<RemainingParts<'a>>
     ensures { MatchOption result (IsBadHead prefixes (left fields.old)) (λ items. (ps : List PrefixValue) × Each SpellsMasked (left items) ps × Takes (λ field. SpellsAllowed field ps) (left fields.old) (left fields.new)) }
 {
     let field = fields.next()?;
@@ -56,15 +58,15 @@ pub(crate) fn take_allowed<'a>(fields: &mut Parts<'a>) -> Option<Parts<'a>>
 }
 
 /// A count.
-pub(crate) fn take_count<'a>(fields: &mut Parts<'a>) -> Option<Count<'a>>
+pub(crate) fn take_count<'a>(fields: &mut RemainingParts<'a>) -> Option<WrittenCount<'a>>
     ensures { MatchOption result (IsBadHead a_count (left fields.old)) (λ count. Takes (λ field. SpellsCount field count) (left fields.old) (left fields.new)) }
 {
     let field = fields.next()?;
-    Count::read(field)
+    WrittenCount::read(field)
 }
 
 /// Seconds between keepalives, or 0.
-pub(crate) fn take_keepalive(fields: &mut Parts<'_>) -> Option<u16>
+pub(crate) fn take_keepalive(fields: &mut RemainingParts<'_>) -> Option<u16>
     ensures { MatchOption result (IsBadHead a_keepalive (left fields.old)) (λ seconds. Takes (λ field. SpellsKeepalive field seconds) (left fields.old) (left fields.new)) }
 {
     let field = fields.next()?;

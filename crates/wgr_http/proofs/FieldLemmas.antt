@@ -7,8 +7,8 @@ use Rattle.httparse.specs.declared.spans.HeaderSpan.{HeaderSpan}
 use Rattle.httparse.specs.Spans.{header_bytes}
 use Rattle.std.specs.Borrow.{Bor}
 use Rattle.wgr_http.specs.Field.{IsField, values, value_if, occurrence, field_view}
-use Rattle.wgr_http.specs.declared.field.Field.{Field}
-use Rattle.wgr_http.specs.declared.field.Field.TheVariants.{Absent, Once, Repeated}
+use Rattle.wgr_http.specs.declared.field_lines.FieldLines.{FieldLines}
+use Rattle.wgr_http.specs.declared.field_lines.FieldLines.TheVariants.{Absent, Once, Repeated}
 
 values_at : (name buf : List ℕ) (hs : List HeaderSpan) (i : ℕ) (d : HeaderSpan) → i < length hs
     → values name (map (header_bytes buf) (take (i + 1) hs)) ≡ values name (map (header_bytes buf) (take i hs)) ++ values name (header_bytes buf (get_or hs i d) ∷ [])
@@ -35,7 +35,7 @@ values_front name buf hs i =
     ∙ filter_map-append (value_if name) (map (header_bytes buf) (take i hs)) (map (header_bytes buf) (drop i hs))
 
 -- a second value
-pub second : (found : Field) (vs rest : List (List ℕ)) (v : List ℕ) → (found ≡ Absent → ⊥) → IsField found vs → IsField Repeated ((vs ++ v ∷ []) ++ rest)
+pub second : (found : FieldLines) (vs rest : List (List ℕ)) (v : List ℕ) → (found ≡ Absent → ⊥) → IsField found vs → IsField Repeated ((vs ++ v ∷ []) ++ rest)
 second Absent vs rest v ne h = absurd (ne refl)
 second (Once w) vs rest v ne h = rw h tt
 second Repeated [] rest v ne h = absurd h
@@ -43,7 +43,7 @@ second Repeated (x ∷ []) rest v ne h = absurd h
 second Repeated (x ∷ y ∷ vs) rest v ne h = tt
 
 -- the header of a name, seen as none, one or more
-pub field_occurs : (found : Field) (vs : List (List ℕ)) → IsField found vs → field_view found ≡ occurrence vs
+pub field_occurs : (found : FieldLines) (vs : List (List ℕ)) → IsField found vs → field_view found ≡ occurrence vs
 field_occurs Absent vs h = rw h refl
 field_occurs (Once v) vs h = rw h refl
 field_occurs Repeated [] h = absurd h

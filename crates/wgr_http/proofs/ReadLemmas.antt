@@ -7,12 +7,12 @@ use Rattle.httparse.specs.Spans.{header_bytes, name_and_value}
 use Rattle.wgr_http.specs.Field.{Occurrence, IsField, values, occurrence, in_head, field_view}
 use Rattle.wgr_http.specs.Head.{HasHead}
 use Rattle.wgr_http.specs.Message.{judged, message_of, Answers, headed, MessageView}
-use Rattle.wgr_http.specs.declared.field.Field.{Field}
+use Rattle.wgr_http.specs.declared.field_lines.FieldLines.{FieldLines}
 use Rattle.wgr_http.specs.declared.message.MessageFault.{MessageFault}
 use Rattle.wgr_http.proofs.FieldLemmas.{field_occurs}
 
 -- a line of the spans is one of the head's fields
-pub field_in_head : (name front : List ℕ) (found : Field) (hs : List HeaderSpan) (h : RequestHead)
+pub field_in_head : (name front : List ℕ) (found : FieldLines) (hs : List HeaderSpan) (h : RequestHead)
     → map (header_bytes front) hs ≡ map name_and_value h.fields
     → IsField found (values name (map (header_bytes front) hs)) → field_view found ≡ in_head name h
 field_in_head name front found hs h is field =

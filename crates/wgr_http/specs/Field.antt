@@ -4,8 +4,8 @@ use Rattle.std.specs.List.{filter_map}
 use Rattle.std.specs.Str.{str_eq_ignore_ascii_case}
 use Rattle.httparse.specs.Grammar.{RequestHead}
 use Rattle.httparse.specs.Spans.{name_and_value}
-use Rattle.wgr_http.specs.declared.field.Field.{Field}
-use Rattle.wgr_http.specs.declared.field.Field.TheVariants.{Absent, Once, Repeated}
+use Rattle.wgr_http.specs.declared.field_lines.FieldLines.{FieldLines}
+use Rattle.wgr_http.specs.declared.field_lines.FieldLines.TheVariants.{Absent, Once, Repeated}
 
 -- the value of a field, if it has the name, without regard to case
 abbrev pub value_if : List ℕ → List ℕ × List ℕ → Option (List ℕ)
@@ -30,13 +30,13 @@ occurrence (v ∷ w ∷ vs) = repeated
 abbrev pub in_head : List ℕ → RequestHead → Occurrence
 in_head name h = occurrence (values name (map name_and_value h.fields))
 
-abbrev pub field_view : Field → Occurrence
+abbrev pub field_view : FieldLines → Occurrence
 field_view Absent = absent
 field_view (Once v) = once v.now
 field_view Repeated = repeated
 
 -- what is answered for the values of a name
-abbrev pub IsField : Field → List (List ℕ) → Type 0
+abbrev pub IsField : FieldLines → List (List ℕ) → Type 0
 IsField Absent vs = vs ≡ []
 IsField (Once v) vs = vs ≡ v.now ∷ []
 IsField Repeated [] = ⊥

@@ -6,7 +6,7 @@ ghost use Rattle.wgr_http.specs.Head.{HasHead, HasNoHead};
 ghost use Rattle.wgr_http.specs.Extent.{IsHeadOf, HasExtent, wanted};
 ghost use Rattle.wgr_http.specs.Field.{field_view};
 
-use crate::field::{Field, field_of};
+use crate::field_lines::{FieldLines, field_of};
 use crate::length::{MAX_BODY, length_of};
 use httparse::Status;
 use httparse::spans::{EMPTY_HEADER_SPAN, HeaderSpan, RequestSpans, parse_request};
@@ -24,9 +24,9 @@ pub(crate) struct Head<'a> {
     pub len: usize,
     pub method: &'a [u8],
     pub target: &'a [u8],
-    pub authorization: Field<'a>,
-    pub content_length: Field<'a>,
-    pub transfer_encoding: Field<'a>,
+    pub authorization: FieldLines<'a>,
+    pub content_length: FieldLines<'a>,
+    pub transfer_encoding: FieldLines<'a>,
 }
 
 impl<'a> Head<'a> {
@@ -69,24 +69,28 @@ pub(crate) fn extent_of(bytes: &[u8]) -> Option<usize>
 }
 
 /// How many bytes of a body decide the message: none where its head does.
-fn wanted_of(authorization: Field, content_length: Field, transfer_encoding: Field) -> usize
+fn wanted_of(
+    authorization: FieldLines,
+    content_length: FieldLines,
+    transfer_encoding: FieldLines,
+) -> usize
     ensures value { result ≡ wanted (field_view authorization.entry) (field_view content_length.entry) (field_view transfer_encoding.entry) }
     ensures most { result ≤ 2097152 }
 {
     match authorization {
-        Field::Repeated => return 0,
-        Field::Absent => {}
-        Field::Once(_) => {}
+        FieldLines::Repeated => return 0,
+        FieldLines::Absent => {}
+        FieldLines::Once(_) => {}
     }
     match transfer_encoding {
-        Field::Absent => {}
-        Field::Once(_) => return 0,
-        Field::Repeated => return 0,
+        FieldLines::Absent => {}
+        FieldLines::Once(_) => return 0,
+        FieldLines::Repeated => return 0,
     }
     let value = match content_length {
-        Field::Absent => return 0,
-        Field::Repeated => return 0,
-        Field::Once(value) => value,
+        FieldLines::Absent => return 0,
+        FieldLines::Repeated => return 0,
+        FieldLines::Once(value) => value,
     };
     match length_of(value) {
         Some(length) => {

@@ -5,7 +5,7 @@
 //! bytes of a reply. What the targets and bodies mean is left to the crates above.
 #![tactic(auto)]
 
-mod field;
+mod field_lines;
 mod head;
 pub mod laws;
 mod length;

@@ -5,7 +5,7 @@ ghost use Rattle.wgr_http.specs.Length.{length_value};
 ghost use Rattle.wgr_http.specs.Message.{Answers, body_view, fault_status, headless, judged, sized_by, view_result};
 
 use crate::StatusCode;
-use crate::field::Field;
+use crate::field_lines::FieldLines;
 use crate::head::{Head, MAX_HEAD};
 use crate::length::{MAX_BODY, length_of};
 use crate::token::token_of;
@@ -85,27 +85,27 @@ impl<'a> Message<'a> {
 fn judge<'a>(
     method: &'a [u8],
     target: &'a [u8],
-    authorization: Field<'a>,
-    content_length: Field<'a>,
-    transfer_encoding: Field<'a>,
+    authorization: FieldLines<'a>,
+    content_length: FieldLines<'a>,
+    transfer_encoding: FieldLines<'a>,
     rest: &'a [u8],
 ) -> Result<Message<'a>, MessageFault>
     ensures { view_result result ≡ judged method.now target.now (field_view authorization.entry)
         (field_view content_length.entry) (field_view transfer_encoding.entry) rest.now }
 {
     let token = match authorization {
-        Field::Repeated => return Err(MessageFault::BadHead),
-        Field::Absent => None,
-        Field::Once(credentials) => token_of(credentials),
+        FieldLines::Repeated => return Err(MessageFault::BadHead),
+        FieldLines::Absent => None,
+        FieldLines::Once(credentials) => token_of(credentials),
     };
     let length = match content_length {
-        Field::Repeated => return Err(MessageFault::BadHead),
-        Field::Absent => None,
-        Field::Once(value) => Some(value),
+        FieldLines::Repeated => return Err(MessageFault::BadHead),
+        FieldLines::Absent => None,
+        FieldLines::Once(value) => Some(value),
     };
     match transfer_encoding {
-        Field::Absent => {}
-        Field::Once(_) | Field::Repeated => return Err(MessageFault::LengthRequired),
+        FieldLines::Absent => {}
+        FieldLines::Once(_) | FieldLines::Repeated => return Err(MessageFault::LengthRequired),
     }
     let body = match length {
         Some(value) => body_of(value, rest)?,

@@ -3,7 +3,7 @@ ghost use Rattle.std.specs.Prelude.{◌≡◌, ◌&&◌, nat_le, option_map};
 ghost use Rattle.std.specs.List.{list_all};
 ghost use Rattle.wgr_http.specs.Token.{skip_spaces, token_test, token_in};
 
-use crate::field::same_name;
+use crate::field_lines::same_name;
 
 /// Whether bytes are a token: 1 to 128 of them, each visible ASCII (0x21 to 0x7E).
 pub fn is_token(text: &[u8]) -> bool

@@ -29,16 +29,16 @@ impl ToJson for PeerView {
         send_text("label", peer.label.as_str(), out)?;
         send_number("number", u64::from(peer.number), out)?;
         send_member(alloc, "routes", &List(self.routes.as_slice()), out)?;
-        send_member(alloc, "status", &Shown(peer.status), out)?;
+        send_member(alloc, "status", &SeenStatus(peer.status), out)?;
         out.end_map()
     }
 }
 
 // What an interface showed, if it did.
 #[derive(Clone, Copy)]
-struct Shown(Option<Status>);
+struct SeenStatus(Option<Status>);
 
-impl ToJson for Shown {
+impl ToJson for SeenStatus {
     ghost shown = { λ s. status_data s.0 };
 
     ghost whole = { λ s. status_whole s.0 };

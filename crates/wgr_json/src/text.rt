@@ -22,7 +22,7 @@ pub(crate) fn bytes_of_prefix(alloc: Global, prefix: &Prefix) -> Result<Vec<u8>,
     ensures bytes { IfOk result (λ v. v.items ≡ canonical_text prefix.now) }
     ensures utf8 { IfOk result (λ v. IsUtf8 v.items) }
 {
-    let _length = prefix.length();
+    prefix.tell_rules();
     let mut text = Vec::new(alloc);
     write_prefix(prefix, &mut text)?;
     Ok(text)

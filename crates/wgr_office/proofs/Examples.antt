@@ -9,8 +9,8 @@ use Rattle.wgr_http.specs.Reply.{first_lines, last_lines}
 use Rattle.wgr_http.specs.declared.message.MessageFault.TheVariants.{LengthRequired}
 use Rattle.wgr_office.specs.Refused.{refusal_facts, refusal_name, refusal_status}
 use Rattle.wgr_office.specs.Response.{fault_shown, problem, shown_bytes}
-use Rattle.wgr_request.specs.declared.fault.Fault.TheVariants.{Message, WrongMethod, UnknownToken, BadField, BadDump}
-use Rattle.wgr_request.specs.declared.fault.Field.TheVariants.{Body}
+use Rattle.wgr_request.specs.declared.fault.RequestFault.TheVariants.{Message, WrongMethod, UnknownToken, BadField, BadDump}
+use Rattle.wgr_request.specs.declared.fault.RequestField.TheVariants.{Body}
 use Rattle.wgr_request.specs.declared.paths.Methods.TheVariants.{GetOrPost, Delete}
 
 wrong_method : shown_bytes (fault_shown (WrongMethod GetOrPost))

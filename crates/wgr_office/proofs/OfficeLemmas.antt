@@ -22,7 +22,7 @@ use Rattle.wgr_register.specs.declared.fault.AskFault.TheVariants as ask_fault
 use Rattle.wgr_register.proofs.AskLemmas.{still}
 use Rattle.wgr_register.proofs.StandLemmas.{at_more}
 use Rattle.wgr_request.specs.Request.{RequestView, refused}
-use Rattle.wgr_request.specs.declared.fault.Fault.{Fault}
+use Rattle.wgr_request.specs.declared.fault.RequestFault.{RequestFault}
 use Rattle.wgr_tables.specs.Decode.{tables_of}
 
 page_of : (o : Option GivenValue) (text : Bytes) → option_map page o ≡ Some text → text ≡ page_if o
@@ -54,7 +54,7 @@ module _ {S : Type 0} (g : Ghosts S) (conn : Held S) (db : Database) (late : Lis
   responds r (Err (ask_fault.Fault why)) answer is ends = subst (Responds g conn db late now r) (sym is) ends
 
   -- a request that its bytes decide
-  pub decides : (why : Fault) (digest : Option Bytes) (reply : Result (Vec ℕ Global) AllocError) (answer : given.Answer) → IsMade reply answer → IfOk reply (λ bytes. bytes.items ≡ fault_page why) → StandsAt g conn db late
+  pub decides : (why : RequestFault) (digest : Option Bytes) (reply : Result (Vec ℕ Global) AllocError) (answer : given.Answer) → IsMade reply answer → IfOk reply (λ bytes. bytes.items ≡ fault_page why) → StandsAt g conn db late
       → Responds g conn db late now (refused why digest) answer
   decides why digest (Ok bytes) answer is made at =
       let event = Decided digest (fault_page why) in

@@ -23,8 +23,8 @@ use Rattle.wgr_register.specs.Standing.{StandsAt}
 use Rattle.wgr_register.specs.declared.fault.AskFault.{AskFault}
 use Rattle.wgr_register.specs.declared.fault.AskFault.TheVariants as ask_fault
 use Rattle.wgr_request.specs.Request.{RequestView, Requests, ask, networks, refused}
-use Rattle.wgr_request.specs.declared.fault.Fault.{Fault}
-use Rattle.wgr_request.specs.declared.fault.Fault.TheVariants as fault
+use Rattle.wgr_request.specs.declared.fault.RequestFault.{RequestFault}
+use Rattle.wgr_request.specs.declared.fault.RequestFault.TheVariants as fault
 
 -- what is given, as a reply; where a reply allows a file, the file is given
 abbrev pub given_shown : GivenValue → Shown
@@ -41,7 +41,7 @@ given_shown (OfNetworks listed) = done (json (networks_data listed))
 abbrev pub page : GivenValue → Bytes
 page given = shown_bytes (given_shown given)
 
-abbrev pub fault_page : Fault → Bytes
+abbrev pub fault_page : RequestFault → Bytes
 fault_page why = shown_bytes (fault_shown why)
 
 -- ---- the event of a request, and the bytes of its answer

@@ -15,8 +15,8 @@ use Rattle.wgr_json.specs.Shown.{count, peer_data}
 use Rattle.wgr_request.specs.Fault.{field_name}
 use Rattle.wgr_request.specs.Paths.{allow_text}
 use Rattle.wgr_office.specs.Refused.{refusal_facts, refusal_name, refusal_status}
-use Rattle.wgr_request.specs.declared.fault.Fault.{Fault}
-use Rattle.wgr_request.specs.declared.fault.Fault.TheVariants as fault
+use Rattle.wgr_request.specs.declared.fault.RequestFault.{RequestFault}
+use Rattle.wgr_request.specs.declared.fault.RequestFault.TheVariants as fault
 use Rattle.wgr_office.specs.declared.response.Response.{Response}
 use Rattle.wgr_office.specs.declared.response.Response.TheVariants as response
 
@@ -60,7 +60,7 @@ message_fault_name message.TooLarge = codes "too_large"
 message_fault_name message.LengthRequired = codes "length_required"
 message_fault_name message.Truncated = codes "truncated"
 
-abbrev pub fault_shown : Fault → Shown
+abbrev pub fault_shown : RequestFault → Shown
 fault_shown (fault.Message why) = plain (fault_status why) (message_fault_name why)
 fault_shown fault.NoSuchPath = plain status.NotFound (codes "no_such_path")
 fault_shown (fault.WrongMethod methods) = problem status.MethodNotAllowed (allow_text methods) (codes "wrong_method") no_members

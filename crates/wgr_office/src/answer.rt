@@ -6,7 +6,7 @@ ghost use Rattle.wgr_office.specs.Serving.{reply_of};
 use crate::response::{Response, unavailable, write_response};
 use std::alloc::{AllocError, Global};
 use wgr_register::{AskFault, Done, OrderRefusal};
-use wgr_request::Fault;
+use wgr_request::RequestFault;
 
 /// What an event is answered.
 #[derive(Drop)]
@@ -50,7 +50,7 @@ pub(crate) fn ended(alloc: Global, asked: Result<Vec<u8>, AskFault>) -> Answer
         Ok(bytes) => Answer::Bytes(bytes),
         Err(AskFault::Refused(why)) => made(write_response(alloc, Response::Refused(why))),
         Err(AskFault::UnknownToken) => {
-            made(write_response(alloc, Response::Fault(Fault::UnknownToken)))
+            made(write_response(alloc, Response::Fault(RequestFault::UnknownToken)))
         }
         Err(AskFault::NoSuchNetwork) => made(write_response(alloc, Response::NoSuchNetwork)),
         Err(AskFault::Fault(_)) => Answer::Unavailable,

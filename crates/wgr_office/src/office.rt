@@ -54,11 +54,11 @@ impl<S: Alter> Office<S> {
         }
     }
 
-    /// Tells the prover at what the register stands; it does nothing.
-    pub fn tell_rest(&self)
+    /// Does nothing. Every register is at rest: while its disk is clean, there are rows at which it stands.
+    pub fn tell_rules(&self)
         ensures { IsAtRest S.Store self.now }
     {
-        self.register.tell_rest();
+        self.register.tell_rules();
     }
 
     /// The register, as it stands.
@@ -104,7 +104,7 @@ impl<S: Alter> Office<S> {
         ensures isolated { IfOk result (λ answers. HasCleanDisk (state S.Store self.new) → (db : Database) × (late : List Event) × StandsAt S.Store self.old db late × HasRun S.Store self.new db late events.now answers.items) }
         ensures undone { OnErr result (self.new ≡ self.old) }
     {
-        self.register.tell_rest();
+        self.register.tell_rules();
         run::run(alloc, self, events)
     }
 

@@ -11,7 +11,7 @@ use std::alloc::{AllocError, Global};
 use wgr_core::{Name, Network, PeerView, Refusal};
 use wgr_http::{Kind, MessageFault, StatusCode, write_reply};
 use wgr_json::{Adopted, Fact, Networks, Owner, Peers, Problem, Revoked, ToJson, to_json};
-use wgr_request::Fault;
+use wgr_request::RequestFault;
 
 /// What a request is answered.
 #[derive(Clone, Copy)]
@@ -35,7 +35,7 @@ pub enum Response<'a> {
     /// The tenant has no network of the name.
     NoSuchNetwork,
     /// The request is refused by its bytes, or no tenant has its token.
-    Fault(Fault),
+    Fault(RequestFault),
 }
 
 /// The bytes of the reply.
@@ -96,13 +96,13 @@ fn write_plain(alloc: Global, status: StatusCode, name: &str) -> Result<Vec<u8>,
 }
 
 // The reply that tells a fault of a request.
-fn write_fault(alloc: Global, fault: Fault) -> Result<Vec<u8>, AllocError>
+fn write_fault(alloc: Global, fault: RequestFault) -> Result<Vec<u8>, AllocError>
     ensures { IfOk result (λ bytes. bytes.items ≡ shown_bytes (fault_shown fault)) }
 {
     match fault {
-        Fault::Message(fault) => write_plain(alloc, fault.status(), name_of_message(fault)),
-        Fault::NoSuchPath => write_plain(alloc, StatusCode::NotFound, "no_such_path"),
-        Fault::WrongMethod(methods) => {
+        RequestFault::Message(fault) => write_plain(alloc, fault.status(), name_of_message(fault)),
+        RequestFault::NoSuchPath => write_plain(alloc, StatusCode::NotFound, "no_such_path"),
+        RequestFault::WrongMethod(methods) => {
             let allow = methods.text().as_bytes();
             write_problem(
                 alloc,
@@ -112,12 +112,12 @@ fn write_fault(alloc: Global, fault: Fault) -> Result<Vec<u8>, AllocError>
                 Fact::None,
             )
         }
-        Fault::UnknownToken => write_plain(alloc, StatusCode::Unauthorized, "unknown_token"),
-        Fault::BadField(field) => {
+        RequestFault::UnknownToken => write_plain(alloc, StatusCode::Unauthorized, "unknown_token"),
+        RequestFault::BadField(field) => {
             let fact = Fact::Field(field.name());
             write_problem(alloc, StatusCode::BadRequest, b"", "bad_field", fact)
         }
-        Fault::BadDump { line, field } => {
+        RequestFault::BadDump { line, field } => {
             let fact = Fact::Place { field, line };
             write_problem(alloc, StatusCode::BadRequest, b"", "bad_dump", fact)
         }

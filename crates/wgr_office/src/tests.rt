@@ -7,7 +7,7 @@ use wgr_core::{
     Pool, Port, Refusal, Status,
 };
 use wgr_http::MessageFault;
-use wgr_request::{Fault, Field, Methods};
+use wgr_request::{Methods, RequestFault, RequestField};
 use wgr_text::{Addr, Key, Prefix, read_loose};
 
 mod events;
@@ -250,69 +250,69 @@ fn refusals(rt: HostRuntime) {
 
 #[test]
 fn faults(rt: HostRuntime) {
-    let rows: [(Fault, &str, &str, &str); 11] = [
+    let rows: [(RequestFault, &str, &str, &str); 11] = [
         (
-            Fault::UnknownToken,
+            RequestFault::UnknownToken,
             NOBODY,
             "WWW-Authenticate: Bearer\r\n",
             r#"{"error":"unknown_token"}"#,
         ),
         (
-            Fault::NoSuchPath,
+            RequestFault::NoSuchPath,
             NOT_FOUND,
             "",
             r#"{"error":"no_such_path"}"#,
         ),
         (
-            Fault::WrongMethod(Methods::Get),
+            RequestFault::WrongMethod(Methods::Get),
             NO_METHOD,
             "Allow: GET\r\n",
             r#"{"error":"wrong_method"}"#,
         ),
         (
-            Fault::WrongMethod(Methods::Post),
+            RequestFault::WrongMethod(Methods::Post),
             NO_METHOD,
             "Allow: POST\r\n",
             r#"{"error":"wrong_method"}"#,
         ),
         (
-            Fault::WrongMethod(Methods::Delete),
+            RequestFault::WrongMethod(Methods::Delete),
             NO_METHOD,
             "Allow: DELETE\r\n",
             r#"{"error":"wrong_method"}"#,
         ),
         (
-            Fault::BadField(Field::Keepalive),
+            RequestFault::BadField(RequestField::Keepalive),
             BAD,
             "",
             r#"{"error":"bad_field","field":"keepalive"}"#,
         ),
         (
-            Fault::BadDump { line: 3, field: 8 },
+            RequestFault::BadDump { line: 3, field: 8 },
             BAD,
             "",
             r#"{"error":"bad_dump","field":8,"line":3}"#,
         ),
         (
-            Fault::Message(MessageFault::BadHead),
+            RequestFault::Message(MessageFault::BadHead),
             BAD,
             "",
             r#"{"error":"bad_head"}"#,
         ),
         (
-            Fault::Message(MessageFault::TooLarge),
+            RequestFault::Message(MessageFault::TooLarge),
             "413 Content Too Large",
             "",
             r#"{"error":"too_large"}"#,
         ),
         (
-            Fault::Message(MessageFault::LengthRequired),
+            RequestFault::Message(MessageFault::LengthRequired),
             "411 Length Required",
             "",
             r#"{"error":"length_required"}"#,
         ),
         (
-            Fault::Message(MessageFault::Truncated),
+            RequestFault::Message(MessageFault::Truncated),
             BAD,
             "",
             r#"{"error":"truncated"}"#,
@@ -331,11 +331,11 @@ fn whole_replies(rt: HostRuntime) {
             b"HTTP/1.1 404 Not Found\r\nContent-Type: application/json\r\nContent-Length: 27\r\nConnection: close\r\n\r\n{\"error\":\"no_such_network\"}",
         ),
         (
-            Response::Fault(Fault::WrongMethod(Methods::GetOrPost)),
+            Response::Fault(RequestFault::WrongMethod(Methods::GetOrPost)),
             b"HTTP/1.1 405 Method Not Allowed\r\nContent-Type: application/json\r\nContent-Length: 24\r\nAllow: GET, POST\r\nConnection: close\r\n\r\n{\"error\":\"wrong_method\"}",
         ),
         (
-            Response::Fault(Fault::BadField(Field::Body)),
+            Response::Fault(RequestFault::BadField(RequestField::Body)),
             b"HTTP/1.1 400 Bad Request\r\nContent-Type: application/json\r\nContent-Length: 36\r\nConnection: close\r\n\r\n{\"error\":\"bad_field\",\"field\":\"body\"}",
         ),
         (

@@ -73,7 +73,7 @@ pub fn route_place(routes: &[(Prefix, u32)], prefix: &Prefix) -> Result<usize, u
     ensures found { EndsAt (λ r. is_before r.0 prefix.now) (λ r. same_prefix r.0 prefix.now) routes.now result }
     ensures masked { IsAddr prefix.now.address }
 {
-    let _address = prefix.address();
+    prefix.tell_rules();
     let place = routes.partition_point(|route| comes_before(&route.0, prefix));
     if place < routes.len() && is_same(&routes[place].0, prefix) {
         Ok(place)

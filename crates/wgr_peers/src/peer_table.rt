@@ -103,7 +103,7 @@ impl PeerTable {
     pub fn owns(&self, address: &Addr) -> bool
         ensures { result ≡ is_own self.now address.now }
     {
-        let _number = address.number();
+        address.tell_rules();
         self.addresses.contains(address)
     }
 
@@ -156,7 +156,7 @@ impl PeerTable {
         let (address, until) = (peer.address, peer.until);
         if !self.peers[place].is_at(&address) {
             let left = self.peers[place].address;
-            let _number = left.number();
+            left.tell_rules();
             self.addresses.replace(&left, address);
         }
         self.peers[place] = peer;

@@ -107,7 +107,7 @@ impl AddressSet {
     pub fn remove(&mut self, address: &Addr)
         ensures { (b : AddrValue) → IsAddr b → IsHeld self.new b ↔ ((same_address address.now b ≡ false) × IsHeld self.old b) }
     {
-        let _number = address.number();
+        address.tell_rules();
         let place = place_above(&self.runs, address);
         if is_in_last(&self.runs, place, address) {
             part(&mut self.runs, place - 1, address);
@@ -120,7 +120,7 @@ impl AddressSet {
         requires { IsHeld self.old address.now }
         ensures { (b : AddrValue) → IsAddr b → IsHeld self.new b ↔ ((same_address by b ≡ true) ⊎ ((same_address address.now b ≡ false) × IsHeld self.old b)) }
     {
-        let _number = address.number();
+        address.tell_rules();
         let place = place_above(&self.runs, address);
         if !is_in_last(&self.runs, place, address) {
             unreachable!();
@@ -227,7 +227,7 @@ fn before(address: &Addr, other: &Addr) -> Addr
     ensures below { rank result < rank address.now }
     ensures last { (b : AddrValue) → IsAddr b → rank b < rank address.now → rank b ≤ rank result }
 {
-    let _number = other.number();
+    other.tell_rules();
     let number = address.number();
     let (family, last) = if number == 0 {
         (Family::V4, u128::from(u32::MAX))
@@ -247,7 +247,7 @@ fn after(address: &Addr, other: &Addr) -> Addr
     ensures to { rank result ≤ rank other.now }
     ensures first { (b : AddrValue) → IsAddr b → rank address.now < rank b → rank result ≤ rank b }
 {
-    let _number = other.number();
+    other.tell_rules();
     let number = address.number();
     let (family, first) = if address.family() == Family::V4 && number == u128::from(u32::MAX) {
         (Family::V6, 0)
@@ -295,7 +295,7 @@ fn follows_last(runs: &[Span], place: usize, address: &Addr) -> bool
     ensures next { IsTrue result → (0 < place) × ((d : SpanValue) → rank address.now ≡ rank (slice_index_or runs.now (place - 1) d).hi + 1) }
     ensures fits { IsAddr address.now }
 {
-    let _number = address.number();
+    address.tell_rules();
     place > 0 && is_next(&runs[place - 1].hi, address)
 }
 

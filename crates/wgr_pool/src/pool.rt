@@ -52,6 +52,13 @@ impl Pool {
         self.prefix
     }
 
+    // Does nothing. Every pool is of a length that a pool may have.
+    fn tell_rules(&self)
+        ensures { IsPool self.now }
+    {
+        let _prefix = self.prefix;
+    }
+
     /// The server's address: the pool's second.
     pub fn server(&self) -> Addr
         ensures value { result ≡ record { family = self.now.address.family; number = self.now.address.number + 1 } }
@@ -65,7 +72,7 @@ impl Pool {
     pub fn gives(&self, address: &Addr) -> bool
         ensures { result ≡ is_assignable self.now address.now }
     {
-        let _pool = self.prefix();
+        self.tell_rules();
         let Span { lo, hi } = self.assignable();
         is_between(address, &lo, &hi)
     }
@@ -112,6 +119,6 @@ fn is_between(address: &Addr, lo: &Addr, hi: &Addr) -> bool
     ensures within { IsTrue result ↔ ((rank lo.now ≤ rank address.now) × (rank address.now ≤ rank hi.now)) }
     ensures fits { IsAddr address.now }
 {
-    let _number = address.number();
+    address.tell_rules();
     lo.is_at_most(address) && address.is_at_most(hi)
 }

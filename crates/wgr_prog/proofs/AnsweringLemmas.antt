@@ -10,7 +10,7 @@ use Rattle.wgr_office.specs.declared.answer.Answer as given
 use Rattle.wgr_office.specs.declared.run.Event as event
 use Rattle.wgr_office.specs.Serving.{reply_of}
 use Rattle.wgr_service.specs.Batch.{IsBatch, IsCut, is_available}
-use Rattle.wgr_prog.specs.declared.field.Field.TheVariants as of
+use Rattle.wgr_prog.specs.declared.field.WordField.TheVariants as of
 use Rattle.wgr_prog.specs.declared.field.WordFault.{WordFault}
 use Rattle.wgr_prog.specs.declared.field.WordFault.TheVariants as fault
 use Rattle.wgr_prog.specs.declared.register_words.Failure.{Failure}

@@ -3,11 +3,11 @@ use Rattle.std.proofs.Common.{◌≡◌, ℕ, List, [], ◌∷◌, Result, Ok, E
 use Rattle.std.specs.Prelude.{IsErrAnd}
 use Rattle.wgr_command_line.specs.Words.{NetworkAsked, OrderAsked, NetworkAdd, NetworkEnd, TenantAdd, TokenEnd, TokenGrant}
 use Rattle.wgr_model.specs.declared.order.Order.{Order}
-use Rattle.wgr_prog.specs.declared.field.Field.{Field}
-use Rattle.wgr_prog.specs.declared.field.Field.TheVariants as of
+use Rattle.wgr_prog.specs.declared.field.WordField.{WordField}
+use Rattle.wgr_prog.specs.declared.field.WordField.TheVariants as of
 use Rattle.wgr_prog.specs.declared.field.WordFault.{WordFault}
 use Rattle.wgr_prog.specs.declared.field.WordFault.TheVariants as fault
-use Rattle.wgr_prog.specs.declared.order.Draft.TheVariants as draft
+use Rattle.wgr_prog.specs.declared.order.OrderDraft.TheVariants as draft
 use Rattle.wgr_prog.specs.Words.{IsOf, IsRead}
 use Rattle.wgr_prog.specs.Order.{Input, IsDraftFault, IsDraftOf, IsFirst, OrdersBy, TakesDigest, fields_of}
 
@@ -17,42 +17,42 @@ passed (Ok x) why P is p = tt
 passed (Err e) why P is p = subst P (sym is) p
 
 -- the first of these fields that is not of its form is told, or memory is wanting
-abbrev pub IsFaultIn : List (Field × List ℕ) → WordFault → Type 0
+abbrev pub IsFaultIn : List (WordField × List ℕ) → WordFault → Type 0
 IsFaultIn fields (fault.Field field) = IsFirst field fields
 IsFaultIn fields fault.NoMemory = Unit {0}
 IsFaultIn fields fault.Device = ⊥
 
 -- it is this one
-pub here : {A : Type 0} (P : A → Type 0) (field : Field) (text : List ℕ) (more : List (Field × List ℕ)) (why : WordFault)
+pub here : {A : Type 0} (P : A → Type 0) (field : WordField) (text : List ℕ) (more : List (WordField × List ℕ)) (why : WordFault)
     → (IsOf field text → (a : A) × P a) → IsRead P field (Err why) → IsFaultIn ((field, text) ∷ more) why
 here P field text more (fault.Field f) is told = inl (told.0, λ of. let value = is of in told.1 value.0 value.1)
 here P field text more fault.NoMemory is told = tt
 here P field text more fault.Device is told = told
 
 -- this one is of its form
-pub later : (field : Field) (text : List ℕ) (more : List (Field × List ℕ)) (why : WordFault)
+pub later : (field : WordField) (text : List ℕ) (more : List (WordField × List ℕ)) (why : WordFault)
     → IsOf field text → IsFaultIn more why → IsFaultIn ((field, text) ∷ more) why
 later field text more (fault.Field f) is told = inr (is, told)
 later field text more fault.NoMemory is told = tt
 later field text more fault.Device is told = told
 
 -- the fields of a network from one on
-abbrev pub from_capacity : NetworkAsked → List (Field × List ℕ)
+abbrev pub from_capacity : NetworkAsked → List (WordField × List ℕ)
 from_capacity w = (of.Capacity, w.capacity) ∷ []
 
-abbrev pub from_key : NetworkAsked → List (Field × List ℕ)
+abbrev pub from_key : NetworkAsked → List (WordField × List ℕ)
 from_key w = (of.Key, w.key) ∷ from_capacity w
 
-abbrev pub from_port : NetworkAsked → List (Field × List ℕ)
+abbrev pub from_port : NetworkAsked → List (WordField × List ℕ)
 from_port w = (of.Port, w.port) ∷ from_key w
 
-abbrev pub from_host : NetworkAsked → List (Field × List ℕ)
+abbrev pub from_host : NetworkAsked → List (WordField × List ℕ)
 from_host w = (of.Host, w.host) ∷ from_port w
 
-abbrev pub from_pool : NetworkAsked → List (Field × List ℕ)
+abbrev pub from_pool : NetworkAsked → List (WordField × List ℕ)
 from_pool w = (of.Pool, w.pool) ∷ from_host w
 
-abbrev pub from_name : NetworkAsked → List (Field × List ℕ)
+abbrev pub from_name : NetworkAsked → List (WordField × List ℕ)
 from_name w = (of.Name, w.name) ∷ from_pool w
 
 pub draft_fault : (asked : OrderAsked) (why : WordFault) → ((token : List ℕ) → IsFaultIn (fields_of asked token) why) → IsDraftFault asked why

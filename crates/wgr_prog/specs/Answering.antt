@@ -14,8 +14,8 @@ use Rattle.wgr_office.specs.declared.run.Event.TheVariants as events
 use Rattle.wgr_service.specs.Batch.{IsCut, is_available}
 use Rattle.wgr_service.specs.Connections.{AreServed, Outcome}
 use Rattle.wgr_whole.specs.Good.{IsGood}
-use Rattle.wgr_prog.specs.declared.field.Field.{Field}
-use Rattle.wgr_prog.specs.declared.field.Field.TheVariants as of
+use Rattle.wgr_prog.specs.declared.field.WordField.{WordField}
+use Rattle.wgr_prog.specs.declared.field.WordField.TheVariants as of
 use Rattle.wgr_prog.specs.declared.field.WordFault.{WordFault}
 use Rattle.wgr_prog.specs.declared.field.WordFault.TheVariants as word_fault
 use Rattle.wgr_prog.specs.declared.register_words.Failure.{Failure}
@@ -95,11 +95,11 @@ IsChoice (Some text) (Ok moment) = SpellsMoment (Some text) moment
 IsChoice (Some text) (Err why) = IsRead (SpellsWhole text) of.Now (Err why)
 
 -- the words in their order
-abbrev pub choice_fields : Option (List ℕ) → List (Field × List ℕ)
+abbrev pub choice_fields : Option (List ℕ) → List (WordField × List ℕ)
 choice_fields None = []
 choice_fields (Some now) = (of.Now, now) ∷ []
 
-abbrev pub serve_fields : List ℕ → List ℕ → Option (List ℕ) → List (Field × List ℕ)
+abbrev pub serve_fields : List ℕ → List ℕ → Option (List ℕ) → List (WordField × List ℕ)
 serve_fields place count now = (of.HostPort, place) ∷ (of.Count, count) ∷ choice_fields now
 
 -- so many connections were served, by a register whose rows were all good

@@ -8,12 +8,12 @@ use Rattle.wgr_model.specs.Steps.{Settings}
 use Rattle.wgr_model.specs.declared.order.Order.{Order}
 use Rattle.wgr_model.specs.declared.order.Order.TheVariants as order
 use Rattle.wgr_command_line.specs.Words.{NetworkAsked, OrderAsked, NetworkAdd, NetworkEnd, TenantAdd, TokenEnd, TokenGrant}
-use Rattle.wgr_prog.specs.declared.field.Field.{Field}
-use Rattle.wgr_prog.specs.declared.field.Field.TheVariants as of
+use Rattle.wgr_prog.specs.declared.field.WordField.{WordField}
+use Rattle.wgr_prog.specs.declared.field.WordField.TheVariants as of
 use Rattle.wgr_prog.specs.declared.field.WordFault.{WordFault}
 use Rattle.wgr_prog.specs.declared.field.WordFault.TheVariants as fault
-use Rattle.wgr_prog.specs.declared.order.Draft.{Draft}
-use Rattle.wgr_prog.specs.declared.order.Draft.TheVariants as draft
+use Rattle.wgr_prog.specs.declared.order.OrderDraft.{OrderDraft}
+use Rattle.wgr_prog.specs.declared.order.OrderDraft.TheVariants as draft
 use Rattle.wgr_prog.specs.Words.{IsOf, SpellsCapacity, SpellsName, SpellsPort, SpellsToken}
 
 -- ---- the order
@@ -40,7 +40,7 @@ MakesOrder asked token other = ⊥
 -- ---- the first field that is not of its form
 
 -- the fields and their texts, in the order of the words, and the token after them
-abbrev pub fields_of : OrderAsked → List ℕ → List (Field × List ℕ)
+abbrev pub fields_of : OrderAsked → List ℕ → List (WordField × List ℕ)
 fields_of (TenantAdd name) token = (of.Name, name) ∷ []
 fields_of (TokenGrant tenant) token = (of.Tenant, tenant) ∷ (of.Token, token) ∷ []
 fields_of TokenEnd token = (of.Token, token) ∷ []
@@ -49,7 +49,7 @@ fields_of (NetworkAdd w) token =
 fields_of (NetworkEnd tenant name) token = (of.Tenant, tenant) ∷ (of.Name, name) ∷ []
 
 -- all fields before this one are of their forms, and this one is not
-abbrev pub IsFirst : Field → List (Field × List ℕ) → Type 0
+abbrev pub IsFirst : WordField → List (WordField × List ℕ) → Type 0
 IsFirst field [] = ⊥
 IsFirst field ((first, text) ∷ more) = ((field ≡ first) × ¬ (IsOf first text)) ⊎ (IsOf first text × IsFirst field more)
 
@@ -61,7 +61,7 @@ wants_token TokenEnd = true
 wants_token other = false
 
 -- what the words spell by themselves
-abbrev pub IsDraftOf : OrderAsked → Draft → Type 0
+abbrev pub IsDraftOf : OrderAsked → OrderDraft → Type 0
 IsDraftOf asked (draft.Whole order) = (wants_token asked ≡ false) × ((token : List ℕ) → MakesOrder asked token order)
 IsDraftOf (TokenGrant text) (draft.Grant tenant) = SpellsName text tenant
 IsDraftOf TokenEnd draft.EndToken = Unit {0}
@@ -101,7 +101,7 @@ abbrev pub TakesToken : OrderAsked → Input → Input → List ℕ → Type 0
 TakesToken asked old new token = MatchBool (wants_token asked) (IsTaken old new token) (new ≡ old)
 
 -- a field of the words is not of its form, and nothing is read; or they are, and the token is not
-abbrev pub TellsField : OrderAsked → Input → Input → Field → Type 0
+abbrev pub TellsField : OrderAsked → Input → Input → WordField → Type 0
 TellsField asked old new field =
     ((new ≡ old) × ((token : List ℕ) → IsFirst field (fields_of asked token)))
     ⊎ ((token : List ℕ) × TakesToken asked old new token × IsFirst field (fields_of asked token))

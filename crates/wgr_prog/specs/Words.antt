@@ -12,8 +12,8 @@ use Rattle.wgr_peers.specs.Name.{is_name}
 use Rattle.wgr_dump.specs.Fields.{SpellsKey, SpellsNumber}
 use Rattle.wgr_request.specs.Digest.{digest_of}
 use Rattle.wgr_text.specs.declared.key.Key.{Key}
-use Rattle.wgr_prog.specs.declared.field.Field.{Field}
-use Rattle.wgr_prog.specs.declared.field.Field.TheVariants as of
+use Rattle.wgr_prog.specs.declared.field.WordField.{WordField}
+use Rattle.wgr_prog.specs.declared.field.WordField.TheVariants as of
 use Rattle.wgr_prog.specs.declared.field.WordFault.{WordFault}
 use Rattle.wgr_prog.specs.declared.field.WordFault.TheVariants as fault
 
@@ -57,7 +57,7 @@ abbrev pub SpellsToken : List ℕ → List ℕ → Type 0
 SpellsToken text digest = digest_of (line_of text) ≡ Some digest
 
 -- the text is of the field's form
-abbrev pub IsOf : Field → List ℕ → Type 0
+abbrev pub IsOf : WordField → List ℕ → Type 0
 IsOf of.Tenant text = (name : List ℕ) × SpellsName text name
 IsOf of.Name text = (name : List ℕ) × SpellsName text name
 IsOf of.Pool text = (place : AddrValue × ℕ) × SpellsPlace text place
@@ -71,7 +71,7 @@ IsOf of.Now text = (n : ℕ) × SpellsWhole text n
 IsOf of.Token text = (digest : List ℕ) × SpellsToken text digest
 
 -- the value that a field's text spells, or the field where it spells none; want of memory says nothing
-abbrev pub IsRead : {A : Type 0} → (A → Type 0) → Field → Result A WordFault → Type 0
+abbrev pub IsRead : {A : Type 0} → (A → Type 0) → WordField → Result A WordFault → Type 0
 IsRead Spelled field (Ok value) = Spelled value
 IsRead {A} Spelled field (Err (fault.Field other)) = (other ≡ field) × ((value : A) → ¬ (Spelled value))
 IsRead Spelled field (Err fault.NoMemory) = Unit {0}

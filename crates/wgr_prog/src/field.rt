@@ -3,7 +3,7 @@ ghost use Rattle.std.specs.Prelude.{ℕ, ◌<◌, slice_index};
 ghost use Rattle.wgr_dump.specs.Fields.{SpellsKey};
 ghost use Rattle.wgr_peers.specs.Host.{IsHostText};
 ghost use Rattle.wgr_prog.specs.Words.{IsRead, SpellsCapacity, SpellsEndpoint, SpellsName, SpellsPlace, SpellsPort, SpellsToken, SpellsWhole};
-ghost use Rattle.wgr_prog.specs.declared.field.Field.TheVariants as of;
+ghost use Rattle.wgr_prog.specs.declared.field.WordField.TheVariants as of;
 
 use crate::endpoint::read_endpoint;
 use crate::numbers::{read_capacity, read_port, read_whole};
@@ -16,7 +16,7 @@ use wgr_text::{Addr, Key, read_loose};
 
 /// A field of the words.
 #[derive(Clone, Copy, Debug, PartialEq, Eq)]
-pub enum Field {
+pub enum WordField {
     Tenant,
     Name,
     Pool,
@@ -30,21 +30,21 @@ pub enum Field {
     Token,
 }
 
-impl fmt::Display for Field {
+impl fmt::Display for WordField {
     /// The field's name in lower case.
     fn fmt<W: fmt::Write>(&self, f: &mut fmt::Formatter<W>) -> fmt::Result {
         f.write_str(match self {
-            Field::Tenant => "tenant",
-            Field::Name => "name",
-            Field::Pool => "pool",
-            Field::Host => "host",
-            Field::Port => "port",
-            Field::Key => "key",
-            Field::Capacity => "capacity",
-            Field::HostPort => "host:port",
-            Field::Count => "count",
-            Field::Now => "now",
-            Field::Token => "token",
+            WordField::Tenant => "tenant",
+            WordField::Name => "name",
+            WordField::Pool => "pool",
+            WordField::Host => "host",
+            WordField::Port => "port",
+            WordField::Key => "key",
+            WordField::Capacity => "capacity",
+            WordField::HostPort => "host:port",
+            WordField::Count => "count",
+            WordField::Now => "now",
+            WordField::Token => "token",
         })
     }
 }
@@ -53,7 +53,7 @@ impl fmt::Display for Field {
 #[derive(Clone, Copy, Debug, PartialEq, Eq)]
 pub enum WordFault {
     /// The first field that is not of its form.
-    Field(Field),
+    Field(WordField),
     /// Memory was refused.
     NoMemory,
     /// Standard input failed.
@@ -72,7 +72,7 @@ impl From<AllocError> for WordFault {
 }
 
 /// The name of a tenant or of a network, which is this field.
-pub(crate) fn read_name(alloc: Global, field: Field, text: &str) -> Result<Name, WordFault>
+pub(crate) fn read_name(alloc: Global, field: WordField, text: &str) -> Result<Name, WordFault>
     ensures { IsRead (SpellsName text.now) field result }
 {
     match Name::read(alloc, text.as_bytes())? {
@@ -87,7 +87,7 @@ pub(crate) fn read_pool(text: &str) -> Result<(Addr, u8), WordFault>
 {
     match read_loose(text.as_bytes()) {
         Some(pool) => Ok(pool),
-        None => Err(WordFault::Field(Field::Pool)),
+        None => Err(WordFault::Field(WordField::Pool)),
     }
 }
 
@@ -96,7 +96,7 @@ pub(crate) fn read_host(alloc: Global, text: &str) -> Result<Host, WordFault>
 {
     match Host::read(alloc, text.as_bytes())? {
         Some(host) => Ok(host),
-        None => Err(WordFault::Field(Field::Host)),
+        None => Err(WordFault::Field(WordField::Host)),
     }
 }
 
@@ -105,7 +105,7 @@ pub(crate) fn read_port_field(text: &str) -> Result<Port, WordFault>
 {
     match read_port(text) {
         Some(port) => Ok(port),
-        None => Err(WordFault::Field(Field::Port)),
+        None => Err(WordFault::Field(WordField::Port)),
     }
 }
 
@@ -117,7 +117,7 @@ pub(crate) fn read_key(text: &str) -> Result<Key, WordFault>
             are_bytes(&key.0);
             Ok(key)
         }
-        None => Err(WordFault::Field(Field::Key)),
+        None => Err(WordFault::Field(WordField::Key)),
     }
 }
 
@@ -131,7 +131,7 @@ pub(crate) fn read_capacity_field(text: &str) -> Result<Capacity, WordFault>
 {
     match read_capacity(text) {
         Some(capacity) => Ok(capacity),
-        None => Err(WordFault::Field(Field::Capacity)),
+        None => Err(WordFault::Field(WordField::Capacity)),
     }
 }
 
@@ -141,12 +141,12 @@ pub(crate) fn read_endpoint_field(text: &str) -> Result<(IpAddr, Port), WordFaul
 {
     match read_endpoint(text.as_bytes()) {
         Some(endpoint) => Ok(endpoint),
-        None => Err(WordFault::Field(Field::HostPort)),
+        None => Err(WordFault::Field(WordField::HostPort)),
     }
 }
 
 /// The number of connections, or the moment, which is this field.
-pub(crate) fn read_whole_field(field: Field, text: &str) -> Result<u64, WordFault>
+pub(crate) fn read_whole_field(field: WordField, text: &str) -> Result<u64, WordFault>
     ensures { IsRead (SpellsWhole text.now) field result }
 {
     match read_whole(text) {
@@ -165,6 +165,6 @@ pub(crate) fn read_token(text: &[u8]) -> Result<[u8; 32], WordFault>
     };
     match token_digest(line) {
         Some(digest) => Ok(digest),
-        None => Err(WordFault::Field(Field::Token)),
+        None => Err(WordFault::Field(WordField::Token)),
     }
 }

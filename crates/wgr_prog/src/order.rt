@@ -4,7 +4,7 @@ ghost use Rattle.wgr_command_line.specs.Words.{NetworkAdd, network_asked, order_
 ghost use Rattle.wgr_prog.specs.Order.{IsDraftFault, IsDraftOf, MakesOrder, OrdersBy, TakesDigest, input_of, wants_token};
 
 use crate::field::{
-    Field, WordFault, read_capacity_field, read_host, read_key, read_name, read_pool,
+    WordFault, WordField, read_capacity_field, read_host, read_key, read_name, read_pool,
     read_port_field, read_token,
 };
 use std::alloc::Global;
@@ -15,7 +15,7 @@ use wgr_model::{Order, Settings};
 
 /// An order whose token, if it has one, is still to come.
 #[derive(Drop)]
-pub(crate) enum Draft {
+pub(crate) enum OrderDraft {
     Whole(Order),
     Grant { tenant: Name },
     EndToken,
@@ -34,12 +34,12 @@ pub(crate) fn order_of<R: Read>(
     ensures unread { wants_token (order_asked words.now) ≡ false → input.new ≡ input.old }
 {
     match draft_of(alloc, words)? {
-        Draft::Whole(order) => Ok(order),
-        Draft::Grant { tenant } => {
+        OrderDraft::Whole(order) => Ok(order),
+        OrderDraft::Grant { tenant } => {
             let digest = take_token(alloc, input)?;
             Ok(Order::Grant { tenant, digest })
         }
-        Draft::EndToken => {
+        OrderDraft::EndToken => {
             let digest = take_token(alloc, input)?;
             Ok(Order::EndToken { digest })
         }
@@ -58,25 +58,25 @@ fn take_token<R: Read>(alloc: Global, input: &mut R) -> Result<[u8; 32], WordFau
 }
 
 /// What the words spell by themselves.
-fn draft_of(alloc: Global, words: &OrderWords<'_>) -> Result<Draft, WordFault>
+fn draft_of(alloc: Global, words: &OrderWords<'_>) -> Result<OrderDraft, WordFault>
     ensures ok { IfOk result (IsDraftOf (order_asked words.now)) }
     ensures err { IfErr result (IsDraftFault (order_asked words.now)) }
 {
     match words {
         OrderWords::TenantAdd { name } => {
-            let name = read_name(alloc, Field::Name, name)?;
-            Ok(Draft::Whole(Order::AddTenant { name }))
+            let name = read_name(alloc, WordField::Name, name)?;
+            Ok(OrderDraft::Whole(Order::AddTenant { name }))
         }
         OrderWords::TokenGrant { tenant } => {
-            let tenant = read_name(alloc, Field::Tenant, tenant)?;
-            Ok(Draft::Grant { tenant })
+            let tenant = read_name(alloc, WordField::Tenant, tenant)?;
+            Ok(OrderDraft::Grant { tenant })
         }
-        OrderWords::TokenEnd => Ok(Draft::EndToken),
-        OrderWords::NetworkAdd(words) => Ok(Draft::Whole(new_network(alloc, words)?)),
+        OrderWords::TokenEnd => Ok(OrderDraft::EndToken),
+        OrderWords::NetworkAdd(words) => Ok(OrderDraft::Whole(new_network(alloc, words)?)),
         OrderWords::NetworkEnd { tenant, name } => {
-            let tenant = read_name(alloc, Field::Tenant, tenant)?;
-            let name = read_name(alloc, Field::Name, name)?;
-            Ok(Draft::Whole(Order::EndNetwork { tenant, name }))
+            let tenant = read_name(alloc, WordField::Tenant, tenant)?;
+            let name = read_name(alloc, WordField::Name, name)?;
+            Ok(OrderDraft::Whole(Order::EndNetwork { tenant, name }))
         }
     }
 }
@@ -85,8 +85,8 @@ fn new_network(alloc: Global, words: &NetworkWords<'_>) -> Result<Order, WordFau
     ensures ok { IfOk result (λ order. (token : List ℕ) → MakesOrder (NetworkAdd (network_asked words.now)) token order) }
     ensures err { IfErr result (IsDraftFault (NetworkAdd (network_asked words.now))) }
 {
-    let tenant = read_name(alloc, Field::Tenant, words.tenant)?;
-    let name = read_name(alloc, Field::Name, words.name)?;
+    let tenant = read_name(alloc, WordField::Tenant, words.tenant)?;
+    let name = read_name(alloc, WordField::Name, words.name)?;
     let (address, length) = read_pool(words.pool)?;
     let host = read_host(alloc, words.host)?;
     let port = read_port_field(words.port)?;

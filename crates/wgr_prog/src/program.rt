@@ -16,7 +16,7 @@ use std::alloc::Global;
 use std::convert::AsStr;
 use std::fmt::Write as _;
 use std::io;
-use wgr_command_line::{Request, read_words};
+use wgr_command_line::{Invocation, read_words};
 use wgr_core::Pool;
 use wgr_io::{Read, Write, write_all};
 use wgr_plan::{PlanFault, plan};
@@ -64,19 +64,19 @@ fn program<T: AsStr, R: Read, W: Write, E: Write>(
 {
     let alloc = rt.alloc();
     match read_words(alloc, words) {
-        Ok(Request::Plan { pool }) => run_plan(alloc, pool, input, out, err),
-        Ok(Request::Init { db }) => run_init(rt, db, out, err),
-        Ok(Request::Operate { db, order }) => { run_order(rt, db, &order, input, out, err) }
-        Ok(Request::Batch { db, now, files }) => run_batch(rt, db, now, &files, out, err),
+        Ok(Invocation::Plan { pool }) => run_plan(alloc, pool, input, out, err),
+        Ok(Invocation::Init { db }) => run_init(rt, db, out, err),
+        Ok(Invocation::Operate { db, order }) => { run_order(rt, db, &order, input, out, err) }
+        Ok(Invocation::Batch { db, now, files }) => run_batch(rt, db, now, &files, out, err),
         Ok(
-            Request::Serve {
+            Invocation::Serve {
                 db,
                 place,
                 count,
                 now,
             },
         ) => run_serve(rt, db, place, count, now, out, err),
-        Err(answer) => no_request(alloc, &answer, out, err),
+        Err(answer) => no_invocation(alloc, &answer, out, err),
     }
 }
 
@@ -93,7 +93,7 @@ fn no_words<E: Write>(error: &io::Error, err: &mut E) -> u8
 }
 
 /// Prints the help or the version, or says what is wrong with the command line.
-fn no_request<W: Write, E: Write>(
+fn no_invocation<W: Write, E: Write>(
     alloc: Global,
     answer: &clap::Error,
     out: &mut W,

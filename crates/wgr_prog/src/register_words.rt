@@ -5,7 +5,7 @@ ghost use Rattle.wgr_prog.specs.Order.{input_of, wants_token};
 ghost use Rattle.wgr_prog.specs.OnRegister.{CarriesOut, EndsAs, IsMade, IsOpen, is_of};
 ghost use Rattle.wgr_prog.specs.Status.{RunsInit, RunsOrder, streams};
 
-use crate::field::{Field, WordFault};
+use crate::field::{WordFault, WordField};
 use crate::order::order_of;
 use crate::{database, messages};
 use sqlite::{File, FileStore};
@@ -19,7 +19,7 @@ use wgr_register::{Done, Fault, OpenFault, OrderFault, Register, RegisterFault};
 #[derive(Drop)]
 pub(crate) enum Failure {
     /// The first field that is not of its form.
-    Field(Field),
+    Field(WordField),
     /// The register refuses the order.
     Refused(OrderRefusal),
     /// Memory, the store, or what the database holds.

@@ -4,7 +4,7 @@ ghost use Rattle.wgr_prog.specs.Answering.{EndsBatch, EndsServe, IsChoice, Liste
 ghost use Rattle.wgr_prog.specs.OnRegister.{IsOpen};
 ghost use Rattle.wgr_prog.specs.Status.{RunsBatch, RunsServe};
 
-use crate::field::{Field, WordFault, read_endpoint_field, read_whole_field};
+use crate::field::{WordFault, WordField, read_endpoint_field, read_whole_field};
 use crate::messages::{DONE, FAULT};
 use crate::register_words::{Failure, open_register};
 use crate::requests::read_requests;
@@ -50,7 +50,7 @@ fn answer_files<W: Write>(
 ) -> Result<bool, Failure>
     ensures { EndsBatch ⟦<FileStore<File> as Store>⟧ now.now (map (λ file. file.now) files.now) (output_of W.contents W.failed out.old) (output_of W.contents W.failed out.new) result }
 {
-    let moment = read_whole_field(Field::Now, now)?;
+    let moment = read_whole_field(WordField::Now, now)?;
     let requests = read_requests(rt, moment, files)?;
     let mut office = open_office(rt, path)?;
     let answered = answer_all(rt.alloc(), &mut office, &requests, out);
@@ -96,7 +96,7 @@ fn serve<W: Write, E: Write>(
     ensures { EndsServe ⟦<FileStore<File> as Store>⟧ place.now count.now (option_map (λ now. now.now) now.entry) (output_of W.contents W.failed out.old) (output_of W.contents W.failed out.new) result }
 {
     let endpoint = read_endpoint_field(place)?;
-    let count = read_whole_field(Field::Count, count)?;
+    let count = read_whole_field(WordField::Count, count)?;
     let now = read_choice(now)?;
     let mut office = open_office(rt, path)?;
     let served = listen(rt, &mut office, endpoint, count, now, out, err);
@@ -110,7 +110,7 @@ fn read_choice(now: Option<&str>) -> Result<Option<u64>, WordFault>
 {
     match now {
         None => Ok(None),
-        Some(text) => match read_whole_field(Field::Now, text) {
+        Some(text) => match read_whole_field(WordField::Now, text) {
             Ok(moment) => Ok(Some(moment)),
             Err(why) => Err(why),
         },

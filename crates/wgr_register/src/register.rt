@@ -91,8 +91,8 @@ impl<S: Alter> Register<S> {
         }
     }
 
-    /// Tells the prover at what the register stands; it does nothing.
-    pub fn tell_rest(&self)
+    /// Does nothing. Every register is at rest: while its disk is clean, there are rows at which it stands.
+    pub fn tell_rules(&self)
         ensures { IsAtRest S.Store self.now }
     {
         let _rest = &self.conn;

@@ -6,7 +6,7 @@ use Rattle.wgr_request.specs.Laws.{OnePathListsNetworks, TokensAreKept, digest_o
 use Rattle.wgr_request.specs.Request.{RequestView, Asks, Follows, digest_given, networks, on_network}
 use Rattle.wgr_request.specs.Target.{TargetValue, resolved}
 use Rattle.wgr_request.specs.Target as target
-use Rattle.wgr_request.specs.declared.fault.Fault.{Fault}
+use Rattle.wgr_request.specs.declared.fault.RequestFault.{RequestFault}
 use Rattle.wgr_request.proofs.Places.{by_its_method, is_get}
 
 -- what is asked is the list of networks, or comes of an outcome on a network
@@ -36,7 +36,7 @@ asked_listed t m digest d asks = elim (some_outcome t m d (networks digest) asks
   | inr on ↦ absurd (not_listed digest d on.0 on.1 on.2)
 ]
 
-follows_listed : (x : Result TargetValue Fault) (given : Option (List ℕ)) (m : MessageView) (digest : List ℕ) → Follows x given m (networks digest)
+follows_listed : (x : Result TargetValue RequestFault) (given : Option (List ℕ)) (m : MessageView) (digest : List ℕ) → Follows x given m (networks digest)
     → (x ≡ Ok target.networks) × (given ≡ Some digest)
 follows_listed (Err why) given m digest e = cc e
 follows_listed (Ok t) None m digest e = cc e
@@ -60,7 +60,7 @@ asked_kept t m d r asks = elim (some_outcome t m d r asks) [
   | inr on ↦ ap digest_of_request on.2 ∙ kept_on d on.0 on.1
 ]
 
-follows_kept : (x : Result TargetValue Fault) (given : Option (List ℕ)) (m : MessageView) (r : RequestView) → Follows x given m r → digest_of_request r ≡ given
+follows_kept : (x : Result TargetValue RequestFault) (given : Option (List ℕ)) (m : MessageView) (r : RequestView) → Follows x given m r → digest_of_request r ≡ given
 follows_kept (Err why) given m r e = ap digest_of_request e
 follows_kept (Ok t) None m r e = ap digest_of_request e
 follows_kept (Ok t) (Some d) m r asks = asked_kept t m d r asks

@@ -20,13 +20,13 @@ use Rattle.wgr_request.specs.Request.{Judged, MessageAsks}
 use Rattle.wgr_request.specs.Request as request
 use Rattle.wgr_request.specs.Paths.{route_rows}
 use Rattle.wgr_request.specs.Target.{TargetValue, networks, peers, peer, address, routes, lease, peer_file, unroute, dump, owner, server_file, number_of, resolved}
-use Rattle.wgr_request.specs.declared.fault.Fault.{Fault}
-use Rattle.wgr_request.specs.declared.fault.Fault.TheVariants.{BadField, Message, NoSuchPath, UnknownToken, WrongMethod}
-use Rattle.wgr_request.specs.declared.fault.Field.TheVariants.{Body, End}
+use Rattle.wgr_request.specs.declared.fault.RequestFault.{RequestFault}
+use Rattle.wgr_request.specs.declared.fault.RequestFault.TheVariants.{BadField, Message, NoSuchPath, UnknownToken, WrongMethod}
+use Rattle.wgr_request.specs.declared.fault.RequestField.TheVariants.{Body, End}
 use Rattle.wgr_request.specs.declared.paths.Methods.TheVariants.{Get, GetOrPost, Post, Delete}
 
 -- each path, by its method
-abbrev by : List ℕ → List ℕ → Result TargetValue Fault
+abbrev by : List ℕ → List ℕ → Result TargetValue RequestFault
 by method path = resolved method path
 
 list_of_networks : by (codes "GET") (codes "/networks") ≡ Ok networks

@@ -19,9 +19,9 @@ use Rattle.wgr_request.specs.Paths.{has_method, methods}
 use Rattle.wgr_request.specs.Request.{On, Asks, Follows, ask, digest_given}
 use Rattle.wgr_request.specs.Target.{TargetValue, resolved}
 use Rattle.wgr_request.specs.Target as target
-use Rattle.wgr_request.specs.declared.fault.Fault.{Fault}
-use Rattle.wgr_request.specs.declared.fault.Field.{Field}
-use Rattle.wgr_request.specs.declared.fault.Field.TheVariants.{End, Keepalive}
+use Rattle.wgr_request.specs.declared.fault.RequestFault.{RequestFault}
+use Rattle.wgr_request.specs.declared.fault.RequestField.{RequestField}
+use Rattle.wgr_request.specs.declared.fault.RequestField.TheVariants.{End, Keepalive}
 use Rattle.wgr_request.specs.declared.paths.Methods.TheVariants.{GetOrPost}
 use Rattle.wgr_request.proofs.Places.{by_its_method, is_delete, is_get, is_get_or_post, is_post, place_of}
 
@@ -40,7 +40,7 @@ fields_made Fields (Some d) c is = (d, is)
 body_made : (listed : List (List ℕ)) (Fields : Data → Outcome → Type 0) (body : List ℕ) (c : Command) → IsBody listed Fields body (Ok c) → (d : Data) × Fields d (Ok c)
 body_made listed Fields body c is = fields_made Fields is.0 c is.2
 
-good : (field : Field) (o : Option ℕ) (next : ℕ → Outcome) (c : Command) → done c ≡ or_bad field o next → (n : ℕ) × (done c ≡ next n)
+good : (field : RequestField) (o : Option ℕ) (next : ℕ → Outcome) (c : Command) → done c ≡ or_bad field o next → (n : ℕ) × (done c ≡ next n)
 good field None next c e = cc e
 good field (Some n) next c e = (n, e)
 
@@ -146,7 +146,7 @@ follows_made None t m digest name c by e = cc e
 follows_made (Some d) t m digest name c by asks =
     let is = asked_made t m digest name d c by asks in (ap (λ x. Some x) is.0, is.1, is.2)
 
-followed : (x : Result TargetValue Fault) (m : MessageView) (digest name : List ℕ) (c : Command) → resolved m.method m.target ≡ x → Follows x (digest_given m) m (ask digest name c)
+followed : (x : Result TargetValue RequestFault) (m : MessageView) (digest name : List ℕ) (c : Command) → resolved m.method m.target ≡ x → Follows x (digest_given m) m (ask digest name c)
     → (t : TargetValue) × (resolved m.method m.target ≡ Ok t) × (digest_given m ≡ Some digest) × (network_of t ≡ Some name) × Makes t m c
 followed (Err why) m digest name c at e = cc e
 followed (Ok t) m digest name c at asks =

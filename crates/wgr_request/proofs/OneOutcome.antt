@@ -19,11 +19,11 @@ use Rattle.wgr_request.specs.Bodies.{Outcome, With, IsJson, IsObject, OrBody, Is
 use Rattle.wgr_request.specs.Commands.{IsCommand, IsPeers, IsAdoption, IsOwner}
 use Rattle.wgr_request.specs.Fields.{IsField, IsText, SpellsFull, SpellsLabel, SpellsNamed, KeyField, LabelField, NamedField, PrefixField}
 use Rattle.wgr_request.specs.Laws.{IsOne, OneOutcome}
-use Rattle.wgr_request.specs.declared.fault.Fault.TheVariants.{BadDump}
-use Rattle.wgr_request.specs.declared.fault.Field.{Field}
-use Rattle.wgr_request.specs.declared.fault.Field.TheVariants.{Key, Label, Address, Prefix}
+use Rattle.wgr_request.specs.declared.fault.RequestFault.TheVariants.{BadDump}
+use Rattle.wgr_request.specs.declared.fault.RequestField.{RequestField}
+use Rattle.wgr_request.specs.declared.fault.RequestField.TheVariants.{Key, Label, Address, Prefix}
 
-one_with : {A : Type 0} (IsValue : Option A → Type 0) (field : Field) (Next : A → Outcome → Type 0)
+one_with : {A : Type 0} (IsValue : Option A → Type 0) (field : RequestField) (Next : A → Outcome → Type 0)
     → IsOne IsValue → ((a : A) → IsOne (Next a)) → IsOne (With IsValue field Next)
 one_with IsValue field Next one next r s (inl a) (inl b) = a.1 ∙ sym b.1
 one_with IsValue field Next one next r s (inl a) (inr b) = let e = one None (Some b.0) a.0 b.1 in cc e

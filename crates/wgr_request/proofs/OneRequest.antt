@@ -10,7 +10,7 @@ use Rattle.wgr_request.specs.Laws.{BeginningsAsk, IsOne, OneRequest}
 use Rattle.wgr_request.specs.Request.{On, Asks, Follows, Judged, digest_given, on_network}
 use Rattle.wgr_request.specs.Target.{TargetValue, resolved}
 use Rattle.wgr_request.specs.Target as target
-use Rattle.wgr_request.specs.declared.fault.Fault.{Fault}
+use Rattle.wgr_request.specs.declared.fault.RequestFault.{RequestFault}
 use Rattle.wgr_request.proofs.OneOutcome.{one_move, one_route, one_unroute, one_renew, one_command, one_peers, one_adoption, one_owner}
 
 one_on : (digest name : List ℕ) (Is : Outcome → Type 0) → IsOne Is → IsOne (On digest name Is)
@@ -29,7 +29,7 @@ one_asked digest (target.dump name) m = one_on digest name _ (one_adoption m.bod
 one_asked digest (target.owner name text) m = one_on digest name _ (one_owner text)
 one_asked digest (target.server_file name form) m = one_on digest name _ (one_command (command.ServerFile form))
 
-one_after : (t : Result TargetValue Fault) (digest : Option (List ℕ)) (m : MessageView) → IsOne (Follows t digest m)
+one_after : (t : Result TargetValue RequestFault) (digest : Option (List ℕ)) (m : MessageView) → IsOne (Follows t digest m)
 one_after (Err why) digest m r s a b = a ∙ sym b
 one_after (Ok t) None m r s a b = a ∙ sym b
 one_after (Ok t) (Some digest) m r s a b = one_asked digest t m r s a b

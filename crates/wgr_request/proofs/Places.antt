@@ -8,8 +8,8 @@ use Rattle.matchit.specs.Seek.{first}
 use Rattle.wgr_request.specs.Paths.{has_method, methods, route_rows}
 use Rattle.wgr_request.specs.Target.{TargetValue, PathParts, as_ascii, at_route, both, form_of, found_at, number_of, numbered, parts_at, resolved, target_of, with_method}
 use Rattle.wgr_request.specs.Target as target
-use Rattle.wgr_request.specs.declared.fault.Fault.{Fault}
-use Rattle.wgr_request.specs.declared.fault.Fault.TheVariants.{WrongMethod}
+use Rattle.wgr_request.specs.declared.fault.RequestFault.{RequestFault}
+use Rattle.wgr_request.specs.declared.fault.RequestFault.TheVariants.{WrongMethod}
 use Rattle.wgr_request.specs.declared.paths.Methods.TheVariants.{Get, GetOrPost, Post, Delete}
 use Rattle.wgr_request.specs.declared.paths.Place.{Place}
 use Rattle.wgr_request.specs.declared.paths.Place.TheVariants as place
@@ -73,7 +73,7 @@ placed_of path found e =
     let at = bound (λ p. at_route p (first route_rows p)) (as_ascii path) found e in
     placed_at at.0 (first route_rows at.0) found at.1
 
-ok_if : (b : Bool) (x t : TargetValue) (why : Fault) → cond b (Ok x) (Err why) ≡ Ok t → (b ≡ true) × (x ≡ t)
+ok_if : (b : Bool) (x t : TargetValue) (why : RequestFault) → cond b (Ok x) (Err why) ≡ Ok t → (b ≡ true) × (x ≡ t)
 ok_if true x t why e = (refl, cc e)
 ok_if false x t why e = cc e
 

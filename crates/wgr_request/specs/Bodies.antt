@@ -8,22 +8,22 @@ use Rattle.serde_json.specs.Read.{read}
 use Rattle.wgr_core.specs.declared.command.Command.{Command}
 use Rattle.wgr_core.specs.declared.command.Command.TheVariants.{Add, Move, Route, Unroute, Renew}
 use Rattle.wgr_request.specs.Fields.{KeyField, LabelField, NamedField, PrefixField, end_value, field_value, keepalive_value}
-use Rattle.wgr_request.specs.declared.bodies.Stop.{Stop}
-use Rattle.wgr_request.specs.declared.bodies.Stop.TheVariants as stop
-use Rattle.wgr_request.specs.declared.fault.Fault.{Fault}
-use Rattle.wgr_request.specs.declared.fault.Fault.TheVariants.{BadField}
-use Rattle.wgr_request.specs.declared.fault.Field.{Field}
-use Rattle.wgr_request.specs.declared.fault.Field.TheVariants.{Body, Key, Label, Address, End, Keepalive, Prefix}
+use Rattle.wgr_request.specs.declared.bodies.BodyFault.{BodyFault}
+use Rattle.wgr_request.specs.declared.bodies.BodyFault.TheVariants as body_fault
+use Rattle.wgr_request.specs.declared.fault.RequestFault.{RequestFault}
+use Rattle.wgr_request.specs.declared.fault.RequestFault.TheVariants.{BadField}
+use Rattle.wgr_request.specs.declared.fault.RequestField.{RequestField}
+use Rattle.wgr_request.specs.declared.fault.RequestField.TheVariants.{Body, Key, Label, Address, End, Keepalive, Prefix}
 
 -- a command, or why there is none
 abbrev pub Outcome : Type 0
-Outcome = Result Command Fault
+Outcome = Result Command RequestFault
 
 -- the outcome is so, unless memory was wanting
-abbrev pub ReadsAs : (Outcome → Type 0) → Result Command Stop → Type 0
+abbrev pub ReadsAs : (Outcome → Type 0) → Result Command BodyFault → Type 0
 ReadsAs Is (Ok command) = Is (Ok command)
-ReadsAs Is (Err (stop.Fault why)) = Is (Err why)
-ReadsAs Is (Err stop.NoMemory) = Unit {0}
+ReadsAs Is (Err (body_fault.Refused why)) = Is (Err why)
+ReadsAs Is (Err body_fault.NoMemory) = Unit {0}
 
 -- the JSON of bytes, where they are JSON
 abbrev pub IsJson : List ℕ → Option Data → Type 0
@@ -54,10 +54,10 @@ abbrev pub IsBody : List (List ℕ) → (Data → Outcome → Type 0) → List �
 IsBody listed Fields body r = (d : Option Data) × IsObject listed body d × OrBody Fields d r
 
 -- a field that isn't of its form is refused; else what follows for its value
-abbrev pub With : {A : Type 0} → (Option A → Type 0) → Field → (A → Outcome → Type 0) → Outcome → Type 0
+abbrev pub With : {A : Type 0} → (Option A → Type 0) → RequestField → (A → Outcome → Type 0) → Outcome → Type 0
 With {A} IsValue field Next r = (IsValue None × (r ≡ Err (BadField field))) ⊎ ((a : A) × IsValue (Some a) × Next a r)
 
-abbrev pub or_bad : Field → Option ℕ → (ℕ → Outcome) → Outcome
+abbrev pub or_bad : RequestField → Option ℕ → (ℕ → Outcome) → Outcome
 or_bad field None next = Err (BadField field)
 or_bad field (Some n) next = next n
 

@@ -8,8 +8,8 @@ use Rattle.wgr_dump.specs.Fault.{IsFirstBad}
 use Rattle.wgr_text.specs.PrefixText.{SpellsAddr}
 use Rattle.wgr_request.specs.Bodies.{Outcome, IsAdd, With}
 use Rattle.wgr_request.specs.Fields.{IsText}
-use Rattle.wgr_request.specs.declared.fault.Fault.TheVariants.{BadDump}
-use Rattle.wgr_request.specs.declared.fault.Field.TheVariants.{Address}
+use Rattle.wgr_request.specs.declared.fault.RequestFault.TheVariants.{BadDump}
+use Rattle.wgr_request.specs.declared.fault.RequestField.TheVariants.{Address}
 
 -- this command, whatever the body
 abbrev pub IsCommand : Command → Outcome → Type 0

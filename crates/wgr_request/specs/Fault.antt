@@ -1,9 +1,9 @@
 -- The names of fields.
 use Rattle.std.specs.Prelude.{ℕ, List, codes}
-use Rattle.wgr_request.specs.declared.fault.Field.{Field}
-use Rattle.wgr_request.specs.declared.fault.Field.TheVariants as field
+use Rattle.wgr_request.specs.declared.fault.RequestField.{RequestField}
+use Rattle.wgr_request.specs.declared.fault.RequestField.TheVariants as field
 
-abbrev pub field_name : Field → List ℕ
+abbrev pub field_name : RequestField → List ℕ
 field_name field.Body = codes "body"
 field_name field.Key = codes "key"
 field_name field.Label = codes "label"

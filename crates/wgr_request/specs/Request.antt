@@ -11,17 +11,17 @@ use Rattle.wgr_request.specs.Commands.{IsAdoption, IsCommand, IsOwner, IsPeers}
 use Rattle.wgr_request.specs.Digest.{digest_of}
 use Rattle.wgr_request.specs.Target.{TargetValue, resolved}
 use Rattle.wgr_request.specs.Target as target
-use Rattle.wgr_request.specs.declared.bodies.Stop.{Stop}
-use Rattle.wgr_request.specs.declared.bodies.Stop.TheVariants as stop
-use Rattle.wgr_request.specs.declared.fault.Fault.{Fault}
-use Rattle.wgr_request.specs.declared.fault.Fault.TheVariants as fault
+use Rattle.wgr_request.specs.declared.bodies.BodyFault.{BodyFault}
+use Rattle.wgr_request.specs.declared.bodies.BodyFault.TheVariants as body_fault
+use Rattle.wgr_request.specs.declared.fault.RequestFault.{RequestFault}
+use Rattle.wgr_request.specs.declared.fault.RequestFault.TheVariants as fault
 use Rattle.wgr_request.specs.declared.request.Request.{Request}
 use Rattle.wgr_request.specs.declared.request.Request.TheVariants as request
 
 -- A request that its bytes refuse, with the digest of its token where it is a message and has one; the
 -- networks of the tenant whose token has the digest; a command on that tenant's network of the name.
 pub data RequestView : Type 0 where
-  refused : (why : Fault) (digest : Option (List ℕ)) → RequestView
+  refused : (why : RequestFault) (digest : Option (List ℕ)) → RequestView
   networks : (digest : List ℕ) → RequestView
   ask : (digest name : List ℕ) (command : Command) → RequestView
 
@@ -57,7 +57,7 @@ Asks digest (target.owner name address) m r = On digest name (IsOwner address) r
 Asks digest (target.server_file name form) m r = On digest name (IsCommand (command.ServerFile form)) r
 
 -- the path and its method are checked before the token, and the token before what is asked
-abbrev pub Follows : Result TargetValue Fault → Option (List ℕ) → MessageView → RequestView → Type 0
+abbrev pub Follows : Result TargetValue RequestFault → Option (List ℕ) → MessageView → RequestView → Type 0
 Follows (Err why) digest m r = r ≡ refused why digest
 Follows (Ok t) None m r = r ≡ refused fault.UnknownToken None
 Follows (Ok t) (Some digest) m r = Asks digest t m r
@@ -80,7 +80,7 @@ Requests bytes r = (m : Result MessageView MessageFault) × Answers bytes m × J
 -- ---- what is read with memory to take
 
 -- what was read is the request
-abbrev pub IsOn : List ℕ → List ℕ → Result Command Stop → RequestView → Type 0
+abbrev pub IsOn : List ℕ → List ℕ → Result Command BodyFault → RequestView → Type 0
 IsOn digest name (Ok asked) r = r ≡ ask digest name asked
-IsOn digest name (Err (stop.Fault why)) r = r ≡ refused why (Some digest)
-IsOn digest name (Err stop.NoMemory) r = ⊥
+IsOn digest name (Err (body_fault.Refused why)) r = r ≡ refused why (Some digest)
+IsOn digest name (Err body_fault.NoMemory) r = ⊥

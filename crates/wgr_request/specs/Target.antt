@@ -8,12 +8,12 @@ use Rattle.matchit.specs.Seek.{first}
 use Rattle.wgr_core.specs.declared.form.Form.{Form}
 use Rattle.wgr_core.specs.declared.form.Form.TheVariants.{Wg, Quick}
 use Rattle.wgr_request.specs.Paths.{has_method, methods, route_rows}
-use Rattle.wgr_request.specs.declared.fault.Fault.{Fault}
-use Rattle.wgr_request.specs.declared.fault.Fault.TheVariants.{NoSuchPath, WrongMethod}
+use Rattle.wgr_request.specs.declared.fault.RequestFault.{RequestFault}
+use Rattle.wgr_request.specs.declared.fault.RequestFault.TheVariants.{NoSuchPath, WrongMethod}
 use Rattle.wgr_request.specs.declared.paths.Place.{Place}
 use Rattle.wgr_request.specs.declared.paths.Place.TheVariants as place
 use Rattle.wgr_request.specs.declared.target.Found.{Found}
-use Rattle.wgr_request.specs.declared.target.Parts.{Parts}
+use Rattle.wgr_request.specs.declared.target.PathTexts.{PathTexts}
 use Rattle.wgr_request.specs.declared.target.Target.{Target}
 use Rattle.wgr_request.specs.declared.target.Target.TheVariants as target
 use Rattle.wgr_peers.specs.Limits.{max_number}
@@ -54,7 +54,7 @@ pub record PathParts : Type 0 where
   pub form : Option (List ℕ)
   pub address : Option (List ℕ)
 
-abbrev pub parts_view : Parts → PathParts
+abbrev pub parts_view : PathTexts → PathParts
 parts_view p = record {
   name = option_map (λ t. t.now) p.name;
   number = option_map (λ t. t.now) p.number;
@@ -118,15 +118,15 @@ at_route path (Some r) = option_map (λ t. (r.value, t)) (target_of r.value (par
 abbrev pub found_at : List ℕ → Option (Place × TargetValue)
 found_at path = option_and_then (λ p. at_route p (first route_rows p)) (as_ascii path)
 
-abbrev pub resolved_view : Result Target Fault → Result TargetValue Fault
+abbrev pub resolved_view : Result Target RequestFault → Result TargetValue RequestFault
 resolved_view (Ok t) = Ok (target_view t)
 resolved_view (Err why) = Err why
 
 -- the path is told first, then the method
-abbrev pub with_method : List ℕ → Option (Place × TargetValue) → Result TargetValue Fault
+abbrev pub with_method : List ℕ → Option (Place × TargetValue) → Result TargetValue RequestFault
 with_method method None = Err NoSuchPath
 with_method method (Some found) = cond (has_method (methods found.0) method) (Ok found.1) (Err (WrongMethod (methods found.0)))
 
 -- what a target names for a method, or why it names nothing
-abbrev pub resolved : List ℕ → List ℕ → Result TargetValue Fault
+abbrev pub resolved : List ℕ → List ℕ → Result TargetValue RequestFault
 resolved method path = with_method method (found_at path)

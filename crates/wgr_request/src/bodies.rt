@@ -3,11 +3,11 @@
 ghost use Rattle.std.specs.Prelude.{◌≡◌, map, string_bytes, bytes_eq, option_map, Err, IfOk};
 ghost use Rattle.std.specs.List.{list_all, list_any};
 ghost use Rattle.serde_json.specs.View.{view};
-ghost use Rattle.wgr_request.specs.declared.bodies.Stop.TheVariants as stop;
-ghost use Rattle.wgr_request.specs.declared.fault.Fault.TheVariants as fault;
+ghost use Rattle.wgr_request.specs.declared.bodies.BodyFault.TheVariants as body_fault;
+ghost use Rattle.wgr_request.specs.declared.fault.RequestFault.TheVariants as fault;
 ghost use Rattle.wgr_request.specs.Bodies.{AddFields, IsAdd, IsMove, IsObject, IsRenew, IsRoute, IsUnroute, MoveFields, ReadsAs, has_only};
 
-use crate::fault::{Fault, Field};
+use crate::fault::{RequestFault, RequestField};
 use crate::fields::{
     address_field, end_field, keepalive_field, key_field, label_field, prefix_field,
 };
@@ -17,53 +17,53 @@ use wgr_core::{Command, LeaseEnd};
 
 /// Why a body gives no command.
 #[derive(Clone, Copy, Debug, Drop)]
-pub enum Stop {
+pub enum BodyFault {
     /// The request is refused.
-    Fault(Fault),
+    Refused(RequestFault),
     /// Memory was refused.
     NoMemory,
 }
 
-impl From<AllocError> for Stop {
+impl From<AllocError> for BodyFault {
     ghost use Rattle.std.specs.Prelude.{◌≡◌};
-    ghost use Rattle.wgr_request.specs.declared.bodies.Stop.TheVariants.{NoMemory};
+    ghost use Rattle.wgr_request.specs.declared.bodies.BodyFault.TheVariants.{NoMemory};
 
     ghost from_gives = { λ _ r. r ≡ NoMemory };
 
-    fn from(_: AllocError) -> Stop {
-        Stop::NoMemory
+    fn from(_: AllocError) -> BodyFault {
+        BodyFault::NoMemory
     }
 }
 
 /// The command of a new peer: `key`, `label`, `address`, `end` and `keepalive`, of which only the key
 /// has to be there.
-pub fn read_add(alloc: Global, body: &[u8]) -> Result<Command, Stop>
+pub fn read_add(alloc: Global, body: &[u8]) -> Result<Command, BodyFault>
     ensures { ReadsAs (IsAdd body.now) result }
 {
     let listed = ["key", "label", "address", "end", "keepalive"];
     let Some(fields) = object_of(alloc, body, &listed)? else {
-        return bad(Field::Body);
+        return bad(RequestField::Body);
     };
     add_of(alloc, &fields)
 }
 
-fn add_of(alloc: Global, fields: &Value) -> Result<Command, Stop>
+fn add_of(alloc: Global, fields: &Value) -> Result<Command, BodyFault>
     ensures { ReadsAs (AddFields (view fields.now)) result }
 {
     let Some(key) = key_field(fields) else {
-        return bad(Field::Key);
+        return bad(RequestField::Key);
     };
     let Some(label) = label_field(alloc, fields)? else {
-        return bad(Field::Label);
+        return bad(RequestField::Label);
     };
     let Some(address) = address_field(fields) else {
-        return bad(Field::Address);
+        return bad(RequestField::Address);
     };
     let Some(until) = end_field(fields, Some(LeaseEnd::never())) else {
-        return bad(Field::End);
+        return bad(RequestField::End);
     };
     let Some(keepalive) = keepalive_field(fields) else {
-        return bad(Field::Keepalive);
+        return bad(RequestField::Keepalive);
     };
     Ok(Command::Add {
         key,
@@ -75,61 +75,61 @@ fn add_of(alloc: Global, fields: &Value) -> Result<Command, Stop>
 }
 
 /// The command that moves the peer of this number: `address`, or the lowest free one.
-pub fn read_move(alloc: Global, number: u32, body: &[u8]) -> Result<Command, Stop>
+pub fn read_move(alloc: Global, number: u32, body: &[u8]) -> Result<Command, BodyFault>
     ensures { ReadsAs (IsMove number body.now) result }
 {
     let Some(fields) = object_of(alloc, body, &["address"])? else {
-        return bad(Field::Body);
+        return bad(RequestField::Body);
     };
     match address_field(&fields) {
         Some(address) => Ok(Command::Move { number, address }),
-        None => bad(Field::Address),
+        None => bad(RequestField::Address),
     }
 }
 
 /// The command that leads a prefix to the peer of this number: `prefix`.
-pub fn read_route(alloc: Global, number: u32, body: &[u8]) -> Result<Command, Stop>
+pub fn read_route(alloc: Global, number: u32, body: &[u8]) -> Result<Command, BodyFault>
     ensures { ReadsAs (IsRoute number body.now) result }
 {
     let Some(fields) = object_of(alloc, body, &["prefix"])? else {
-        return bad(Field::Body);
+        return bad(RequestField::Body);
     };
     match prefix_field(&fields) {
         Some(prefix) => Ok(Command::Route { number, prefix }),
-        None => bad(Field::Prefix),
+        None => bad(RequestField::Prefix),
     }
 }
 
 /// The command that gives the peer of this number another lease: `end`.
-pub fn read_renew(alloc: Global, number: u32, body: &[u8]) -> Result<Command, Stop>
+pub fn read_renew(alloc: Global, number: u32, body: &[u8]) -> Result<Command, BodyFault>
     ensures { ReadsAs (IsRenew number body.now) result }
 {
     let Some(fields) = object_of(alloc, body, &["end"])? else {
-        return bad(Field::Body);
+        return bad(RequestField::Body);
     };
     match end_field(&fields, None) {
         Some(until) => Ok(Command::Renew { number, until }),
-        None => bad(Field::End),
+        None => bad(RequestField::End),
     }
 }
 
 /// The command that takes back a route: `prefix`.
-pub fn read_unroute(alloc: Global, body: &[u8]) -> Result<Command, Stop>
+pub fn read_unroute(alloc: Global, body: &[u8]) -> Result<Command, BodyFault>
     ensures { ReadsAs (IsUnroute body.now) result }
 {
     let Some(fields) = object_of(alloc, body, &["prefix"])? else {
-        return bad(Field::Body);
+        return bad(RequestField::Body);
     };
     match prefix_field(&fields) {
         Some(prefix) => Ok(Command::Unroute { prefix }),
-        None => bad(Field::Prefix),
+        None => bad(RequestField::Prefix),
     }
 }
 
-fn bad(field: Field) -> Result<Command, Stop>
-    ensures { result ≡ Err (stop.Fault (fault.BadField field)) }
+fn bad(field: RequestField) -> Result<Command, BodyFault>
+    ensures { result ≡ Err (body_fault.Refused (fault.BadField field)) }
 {
-    Err(Stop::Fault(Fault::BadField(field)))
+    Err(BodyFault::Refused(RequestFault::BadField(field)))
 }
 
 // The object that a body is, where it has no members but the listed ones.

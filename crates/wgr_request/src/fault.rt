@@ -7,7 +7,7 @@ use wgr_http::MessageFault;
 
 /// A field of a request that isn't of its form.
 #[derive(Clone, Copy, Debug, PartialEq, Eq)]
-pub enum Field {
+pub enum RequestField {
     /// The body as a whole: no JSON object, or one with a member that its path doesn't have.
     Body,
     Key,
@@ -18,26 +18,26 @@ pub enum Field {
     Prefix,
 }
 
-impl Field {
+impl RequestField {
     /// Its name in a request.
     pub fn name(self) -> &'static str
         ensures { result.now ≡ field_name self }
     {
         match self {
-            Field::Body => "body",
-            Field::Key => "key",
-            Field::Label => "label",
-            Field::Address => "address",
-            Field::End => "end",
-            Field::Keepalive => "keepalive",
-            Field::Prefix => "prefix",
+            RequestField::Body => "body",
+            RequestField::Key => "key",
+            RequestField::Label => "label",
+            RequestField::Address => "address",
+            RequestField::End => "end",
+            RequestField::Keepalive => "keepalive",
+            RequestField::Prefix => "prefix",
         }
     }
 }
 
 /// Why a request is refused by its bytes alone.
 #[derive(Clone, Copy, Debug, PartialEq, Eq)]
-pub enum Fault {
+pub enum RequestFault {
     /// The bytes are no message.
     Message(MessageFault),
     /// Nothing is served at its path.
@@ -47,7 +47,7 @@ pub enum Fault {
     /// It has no token, or one that no tenant has.
     UnknownToken,
     /// A field isn't of its form.
-    BadField(Field),
+    BadField(RequestField),
     /// Its body is no dump: its first bad line and the least bad field in it, counted from 1.
     BadDump { line: usize, field: u8 },
 }

@@ -4,10 +4,10 @@ ghost use Rattle.wgr_request.specs.Digest.{digest_of};
 ghost use Rattle.wgr_request.specs.Request.{Asks, IsOn, MessageAsks, Requests, message_view, request_view};
 ghost use Rattle.wgr_request.specs.Target.{target_view};
 
-use crate::bodies::{Stop, read_move, read_renew, read_route, read_unroute};
+use crate::bodies::{BodyFault, read_move, read_renew, read_route, read_unroute};
 use crate::commands::{read_adoption, read_owner, read_peers};
 use crate::digest::token_digest;
-use crate::fault::Fault;
+use crate::fault::RequestFault;
 use crate::paths::Paths;
 use crate::target::Target;
 use std::alloc::{AllocError, Global};
@@ -19,7 +19,7 @@ use wgr_http::Message;
 pub enum Request<'a> {
     /// Its bytes alone refuse it. The digest is its token's, where it is a message and has one.
     Refused {
-        why: Fault,
+        why: RequestFault,
         digest: Option<[u8; 32]>,
     },
     /// The networks of the tenant that has the token of this digest.
@@ -46,7 +46,7 @@ pub fn request_of<'a>(
     match Message::read(bytes) {
         Ok(message) => of_message(alloc, paths, message),
         Err(fault) => Ok(Request::Refused {
-            why: Fault::Message(fault),
+            why: RequestFault::Message(fault),
             digest: None,
         }),
     }
@@ -68,7 +68,7 @@ fn of_message<'a>(
     match digest {
         Some(digest) => asked(alloc, target, message, digest),
         None => Ok(Request::Refused {
-            why: Fault::UnknownToken,
+            why: RequestFault::UnknownToken,
             digest: None,
         }),
     }
@@ -114,7 +114,7 @@ fn asked<'a>(
 fn on_network<'a>(
     digest: [u8; 32],
     name: &'a str,
-    command: Result<Command, Stop>,
+    command: Result<Command, BodyFault>,
 ) -> Result<Request<'a>, AllocError>
     ensures { IfOk result (λ r. IsOn digest name.now command (request_view r)) }
 {
@@ -124,10 +124,10 @@ fn on_network<'a>(
             name: name.as_bytes(),
             command,
         }),
-        Err(Stop::Fault(why)) => Ok(Request::Refused {
+        Err(BodyFault::Refused(why)) => Ok(Request::Refused {
             why,
             digest: Some(digest),
         }),
-        Err(Stop::NoMemory) => Err(AllocError),
+        Err(BodyFault::NoMemory) => Err(AllocError),
     }
 }

@@ -4,7 +4,7 @@ ghost use Rattle.std.specs.Str.{IsAscii};
 ghost use Rattle.wgr_request.specs.Paths.{route_rows};
 ghost use Rattle.wgr_request.specs.Target.{ArePartsTexts, all_ascii, as_ascii, form_of, found_at, found_view, number_of, parts_in, parts_view, resolved, resolved_view, target_of, target_view};
 
-use crate::fault::Fault;
+use crate::fault::RequestFault;
 use crate::paths::{Paths, Place};
 use matchit::Params;
 use std::str;
@@ -48,7 +48,7 @@ struct Found<'t> {
 
 // The parts of a path, as they stand there.
 #[derive(Clone, Copy)]
-struct Parts<'t> {
+struct PathTexts<'t> {
     name: Option<&'t str>,
     number: Option<&'t str>,
     form: Option<&'t str>,
@@ -57,15 +57,15 @@ struct Parts<'t> {
 
 impl Paths {
     /// What the target names, if its path is served and has the method.
-    pub fn resolve<'t>(&self, method: &[u8], target: &'t [u8]) -> Result<Target<'t>, Fault>
+    pub fn resolve<'t>(&self, method: &[u8], target: &'t [u8]) -> Result<Target<'t>, RequestFault>
         ensures { resolved_view result ≡ resolved method.now target.now }
     {
         let Some(found) = self.find(target) else {
-            return Err(Fault::NoSuchPath);
+            return Err(RequestFault::NoSuchPath);
         };
         let methods = found.place.methods();
         if !methods.has(method) {
-            return Err(Fault::WrongMethod(methods));
+            return Err(RequestFault::WrongMethod(methods));
         }
         Ok(found.target)
     }
@@ -106,11 +106,11 @@ fn is_ascii(bytes: &[u8]) -> bool
 }
 
 // The parts that a path's names in braces stand for.
-fn parts_of<'t>(params: &Params<'_, 't>) -> Parts<'t>
+fn parts_of<'t>(params: &Params<'_, 't>) -> PathTexts<'t>
     requires { ArePartsTexts params.now.pattern.now params.now.text.now params.now.path.now params.now.names.now }
     ensures { parts_view result ≡ parts_in params.now.pattern.now params.now.text.now params.now.path.now params.now.names.now }
 {
-    Parts {
+    PathTexts {
         name: params.get("name"),
         number: params.get("number"),
         form: params.get("form"),
@@ -119,7 +119,7 @@ fn parts_of<'t>(params: &Params<'_, 't>) -> Parts<'t>
 }
 
 // What the parts of a path to this place name.
-fn target_of<'t>(place: Place, parts: Parts<'t>) -> Option<Target<'t>>
+fn target_of<'t>(place: Place, parts: PathTexts<'t>) -> Option<Target<'t>>
     ensures { option_map target_view result ≡ target_of place (parts_view parts.entry) }
 {
     match place {

@@ -1,8 +1,8 @@
 //! Digests, paths and bodies in tables. The expected values are those of FIPS 180-2, and follow from
 //! RFC 8259 and the formats of requests and replies; no row is what this crate has answered.
 use crate::{
-    Fault, Paths, Stop, Target, read_add, read_move, read_renew, read_route, read_unroute,
-    token_digest,
+    BodyFault, Paths, RequestFault, Target, read_add, read_move, read_renew, read_route,
+    read_unroute, token_digest,
 };
 use std::alloc::AllocGlobal;
 use std::process::Abort;
@@ -81,11 +81,11 @@ fn named<'t>(target: Target<'t>) -> Named<'t> {
 }
 
 /// The words of what is named, or of why nothing is; a wrong method tells those that the path has.
-fn told(rt: &(impl Abort + AllocGlobal), answer: Result<Target<'_>, Fault>) -> Vec<u8> {
+fn told(rt: &(impl Abort + AllocGlobal), answer: Result<Target<'_>, RequestFault>) -> Vec<u8> {
     let (place, name, number, other) = match answer {
         Ok(target) => named(target),
-        Err(Fault::NoSuchPath) => ("no path", "", 0, ""),
-        Err(Fault::WrongMethod(methods)) => ("wrong method", "", 0, methods.text()),
+        Err(RequestFault::NoSuchPath) => ("no path", "", 0, ""),
+        Err(RequestFault::WrongMethod(methods)) => ("wrong method", "", 0, methods.text()),
         Err(_) => ("another fault", "", 0, ""),
     };
     let mut out = Vec::new(rt.alloc());
@@ -218,7 +218,10 @@ fn read(rt: &(impl Abort + AllocGlobal), command: &str, body: &[u8]) -> Vec<u8> 
     };
     match found {
         Ok(command) => shown(rt, &command),
-        Err(Stop::Fault(Fault::BadField(field))) => text_of(rt, field.name().as_bytes()),
+        Err(BodyFault::Refused(RequestFault::BadField(field))) => text_of(
+            rt,
+            field.name().as_bytes(),
+        ),
         Err(_) => text_of(rt, b"another fault"),
     }
 }

@@ -56,7 +56,7 @@ pub fn serve_connections<H: AllocGlobal + Clock, S: Alter, E: Write>(
     ensures stood { HasCleanDisk (state S.Store office.new) → (db : Database) × (late : List Event) × StandsAt S.Store office.old db late }
     ensures served { (outcomes : List Outcome) × AreServed S.Store office.old office.new now count outcomes × AreWritten (E.failed err.new) (E.contents err.old) (E.contents err.new) (flat_map line_of outcomes) }
 {
-    office.tell_rest();
+    office.tell_rules();
     for _ in 0..count {
         serve_next(rt, office, listener, now, err);
     }

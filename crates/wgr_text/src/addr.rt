@@ -92,6 +92,13 @@ impl Addr {
         self.number
     }
 
+    /// Does nothing. The number of every address fits its family.
+    pub fn tell_rules(&self)
+        ensures { IsAddr self.now }
+    {
+        let _number = self.number;
+    }
+
     /// Whether this address comes no later than the other: IPv4 first, then by number.
     pub fn is_at_most(&self, other: &Addr) -> bool
         ensures { IsTrue result ↔ (rank self.now ≤ rank other.now) }

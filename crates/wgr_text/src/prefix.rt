@@ -49,7 +49,7 @@ impl Prefix {
     pub fn full(address: Addr) -> Prefix
         ensures { result ≡ record { address = address; length = width address.family } }
     {
-        let _number = address.number();
+        address.tell_rules();
         Prefix {
             address,
             length: address.family().width(),
@@ -70,6 +70,14 @@ impl Prefix {
         ensures fits { IsPrefix self.now }
     {
         self.length
+    }
+
+    /// Does nothing. Every prefix is masked and no longer than its family has bits, and its address fits.
+    pub fn tell_rules(&self)
+        ensures prefix { IsPrefix self.now }
+        ensures address { IsAddr self.now.address }
+    {
+        let _length = self.length;
     }
 
     /// Whether the prefix has the address.

@@ -1,6 +1,6 @@
 //! What is read of good lines.
 use crate::tests::{GOOD, K1, K2, K3, S, joined};
-use crate::{Count, Dump, InterfaceLine, PeerLine};
+use crate::{Dump, InterfaceLine, PeerLine, WrittenCount};
 use std::process::Abort;
 use wgr_text::{Key, Prefix, read_loose};
 
@@ -208,7 +208,7 @@ fn prefix(text: &str) -> Option<Prefix> {
     Prefix::masked(address, length)
 }
 
-fn check_count(rt: &impl Abort, count: &Count<'_>, want: (&str, u64)) {
+fn check_count(rt: &impl Abort, count: &WrittenCount<'_>, want: (&str, u64)) {
     assert_eq!(rt; count.digits(), want.0.as_bytes());
     assert_eq!(rt; count.value(), want.1);
 }

@@ -1,23 +1,23 @@
 //! Whole messages in tables. `@` stands for the key of 32 bytes 0x01 wherever it stands.
 use super::{put, put_number, put_prefix, shown, text_of};
-use crate::{Fault, Paths, Request, request_of, token_digest};
+use crate::{Paths, Request, RequestFault, request_of, token_digest};
 use std::alloc::AllocGlobal;
 use std::process::Abort;
 use wgr_core::{Command, SeenPeer};
 use wgr_http::MessageFault;
 use wgr_text::write_key;
 
-fn fault_words(fault: Fault) -> (&'static str, &'static str) {
+fn fault_words(fault: RequestFault) -> (&'static str, &'static str) {
     match fault {
-        Fault::Message(MessageFault::BadHead) => ("bad_head", ""),
-        Fault::Message(MessageFault::TooLarge) => ("too_large", ""),
-        Fault::Message(MessageFault::LengthRequired) => ("length_required", ""),
-        Fault::Message(MessageFault::Truncated) => ("truncated", ""),
-        Fault::NoSuchPath => ("no_such_path", ""),
-        Fault::WrongMethod(methods) => ("wrong_method", methods.text()),
-        Fault::UnknownToken => ("unknown_token", ""),
-        Fault::BadField(field) => ("bad_field", field.name()),
-        Fault::BadDump { .. } => ("bad_dump", ""),
+        RequestFault::Message(MessageFault::BadHead) => ("bad_head", ""),
+        RequestFault::Message(MessageFault::TooLarge) => ("too_large", ""),
+        RequestFault::Message(MessageFault::LengthRequired) => ("length_required", ""),
+        RequestFault::Message(MessageFault::Truncated) => ("truncated", ""),
+        RequestFault::NoSuchPath => ("no_such_path", ""),
+        RequestFault::WrongMethod(methods) => ("wrong_method", methods.text()),
+        RequestFault::UnknownToken => ("unknown_token", ""),
+        RequestFault::BadField(field) => ("bad_field", field.name()),
+        RequestFault::BadDump { .. } => ("bad_dump", ""),
     }
 }
 
@@ -78,11 +78,11 @@ fn put_command(rt: &(impl Abort + AllocGlobal), out: &mut Vec<u8>, command: &Com
     }
 }
 
-fn put_refusal(rt: &(impl Abort + AllocGlobal), out: &mut Vec<u8>, why: Fault) {
+fn put_refusal(rt: &(impl Abort + AllocGlobal), out: &mut Vec<u8>, why: RequestFault) {
     let (name, fact) = fault_words(why);
     put(rt, out, name.as_bytes());
     put(rt, out, fact.as_bytes());
-    if let Fault::BadDump { line, field } = why {
+    if let RequestFault::BadDump { line, field } = why {
         put_number(rt, out, line as u64);
         put_number(rt, out, u64::from(field));
     }

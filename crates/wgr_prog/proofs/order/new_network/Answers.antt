@@ -2,7 +2,7 @@ use Rattle.std.proofs.Common.{[]}
 use Rattle.wgr_command_line.specs.Words.{NetworkAdd, network_asked}
 use Rattle.wgr_dump.specs.Fields.{SpellsKey}
 use Rattle.wgr_peers.specs.Host.{IsHostText}
-use Rattle.wgr_prog.specs.declared.field.Field.TheVariants as of
+use Rattle.wgr_prog.specs.declared.field.WordField.TheVariants as of
 use Rattle.wgr_prog.specs.Order.{IsDraftFault}
 use Rattle.wgr_prog.specs.Words.{SpellsCapacity, SpellsPlace, SpellsPort}
 use Rattle.wgr_prog.proofs.OrderLemmas.{draft_fault, from_capacity, from_host, from_key, from_name, from_pool, from_port, here, later, passed}

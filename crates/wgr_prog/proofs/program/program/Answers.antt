@@ -64,9 +64,9 @@ pub returns-in-Err : goal.returns-in-Err
 returns-in-Err g c =
     let kept = kept_streams g.R.Read.remaining g.R.Read.failed g.W.Write.contents g.W.Write.failed c.args.input.now _ _ in
     record {
-      served = lacks_memory _ _ _ _ _ _ c.in-Err.ensures.err (λ other. kept (c.no_request.ensures.kept other)) c.no_request.ensures.status;
-      told = if_none _ (tells_error _ c.in-Err.answer _ _ _ (refl, refl) c.in-Err.ensures.kinds c.no_request.ensures.status
-          (λ other. kept (c.no_request.ensures.kept other))
-          (λ fault. left_of kept (c.no_request.ensures.fault fault))
-          c.no_request.ensures.sound);
+      served = lacks_memory _ _ _ _ _ _ c.in-Err.ensures.err (λ other. kept (c.no_invocation.ensures.kept other)) c.no_invocation.ensures.status;
+      told = if_none _ (tells_error _ c.in-Err.answer _ _ _ (refl, refl) c.in-Err.ensures.kinds c.no_invocation.ensures.status
+          (λ other. kept (c.no_invocation.ensures.kept other))
+          (λ fault. left_of kept (c.no_invocation.ensures.fault fault))
+          c.no_invocation.ensures.sound);
     }

@@ -1,5 +1,5 @@
 use Rattle.std.proofs.Common.{ℕ, List, ◌∷◌, Bor, option_map}
-use Rattle.wgr_prog.specs.declared.field.Field.TheVariants as of
+use Rattle.wgr_prog.specs.declared.field.WordField.TheVariants as of
 use Rattle.wgr_prog.specs.Answering.{choice_fields, output_of}
 use Rattle.wgr_prog.specs.Words.{SpellsEndpoint}
 use Rattle.wgr_prog.proofs.AnsweringLemmas.{choice, choice_fault, field_fault, served}

@@ -2,8 +2,8 @@
 //!
 //! A first check of a command takes long, so this crate has nothing else, and is proved beside those of
 //! networks. A further word is a function in `commands.rt`, which is called in [`wgr_command`], with its
-//! help in `help.rt`; a variant of [`Request`] or of [`OrderWords`]; a function in `values.rt`; and an
-//! arm in [`request_of`].
+//! help in `help.rt`; a variant of [`Invocation`] or of [`OrderWords`]; a function in `values.rt`; and an
+//! arm in [`invocation_of`].
 ghost use Rattle.std.specs.Prelude.{◌≡◌, true, Some, IfErr, IfOk, is_some, map, option_and_then, option_map};
 ghost use Rattle.clap.specs.Words.{HasKind, kind_of, subcommand_rows_of};
 ghost use Rattle.wgr_command_line.specs.Words.{asked_by, asked_in, asked_of, wrong_with};
@@ -17,7 +17,7 @@ use std::convert::AsStr;
 
 /// What a command line asks for.
 #[derive(Drop)]
-pub enum Request<'a> {
+pub enum Invocation<'a> {
     /// A plan of a pool.
     Plan {
         pool: &'a str,
@@ -68,11 +68,11 @@ pub struct NetworkWords<'a> {
     pub capacity: &'a str,
 }
 
-fn request_of<'a>(
+fn invocation_of<'a>(
     alloc: Global,
     matches: &ArgMatches<'a>,
-) -> Result<Option<Request<'a>>, AllocError>
-    ensures { IfOk result (λ request. option_map asked_of request ≡ option_and_then asked_in (subcommand_rows_of matches.now)) }
+) -> Result<Option<Invocation<'a>>, AllocError>
+    ensures { IfOk result (λ invocation. option_map asked_of invocation ≡ option_and_then asked_in (subcommand_rows_of matches.now)) }
 {
     let Some(given) = matches.subcommand() else {
         return Ok(None);
@@ -94,16 +94,16 @@ fn request_of<'a>(
 /// What the words ask for. An error is also the text of `--help` and of `--version`.
 ///
 /// Words that ask for something are refused only for want of memory.
-pub fn read_words<'a, S: AsStr>(alloc: Global, words: &'a [S]) -> Result<Request<'a>, Error>
-    ensures ok { IfOk result (λ request. asked_by (map S.text words.now) ≡ Some (asked_of request)) }
+pub fn read_words<'a, S: AsStr>(alloc: Global, words: &'a [S]) -> Result<Invocation<'a>, Error>
+    ensures ok { IfOk result (λ invocation. asked_by (map S.text words.now) ≡ Some (asked_of invocation)) }
     ensures err { IfErr result (λ error. is_some (asked_by (map S.text words.now)) ≡ true → kind_of error ≡ ErrorKind.OutOfMemory) }
     ensures kinds { IfErr result (HasKind (wrong_with (map S.text words.now))) }
 {
     let mut command = wgr_command(alloc)?;
     let matches = command.try_get_matches_from_mut(words)?;
-    let asked = request_of(alloc, &matches)?;
+    let asked = invocation_of(alloc, &matches)?;
     match asked {
-        Some(request) => Ok(request),
+        Some(invocation) => Ok(invocation),
         None => Err(command.error(ErrorKind::MissingSubcommand, "a command is missing")?),
     }
 }

@@ -8,23 +8,23 @@ use httparse::spans::HeaderSpan;
 
 /// The lines of a head that have one name: none, one with its value, or more.
 #[derive(Clone, Copy)]
-pub(crate) enum Field<'a> {
+pub(crate) enum FieldLines<'a> {
     Absent,
     Once(&'a [u8]),
     Repeated,
 }
 
 /// The lines of this name.
-pub(crate) fn field_of<'a>(buf: &'a [u8], headers: &[HeaderSpan], name: &[u8]) -> Field<'a>
+pub(crate) fn field_of<'a>(buf: &'a [u8], headers: &[HeaderSpan], name: &[u8]) -> FieldLines<'a>
     requires { All (IsHeaderWithin (length buf.now)) headers.now }
     ensures { IsField result (values name.now (map (header_bytes buf.now) headers.now)) }
 {
-    let mut found = Field::Absent;
+    let mut found = FieldLines::Absent;
     for header in headers {
         if same_name(header.name.of(buf), name) {
             match found {
-                Field::Absent => found = Field::Once(header.value.of(buf)),
-                Field::Once(_) | Field::Repeated => return Field::Repeated,
+                FieldLines::Absent => found = FieldLines::Once(header.value.of(buf)),
+                FieldLines::Once(_) | FieldLines::Repeated => return FieldLines::Repeated,
             }
         }
     }

@@ -3,10 +3,10 @@ use Rattle.std.specs.Str.{str_eq_ignore_ascii_case}
 use Rattle.httparse.specs.declared.spans.HeaderSpan.{HeaderSpan}
 use Rattle.httparse.specs.Spans.{header_bytes}
 use Rattle.wgr_http.specs.Field.{values}
-use Rattle.wgr_http.specs.declared.field.Field.TheVariants.{Absent, Once, Repeated}
+use Rattle.wgr_http.specs.declared.field_lines.FieldLines.TheVariants.{Absent, Once, Repeated}
 use Rattle.wgr_http.proofs.FieldLemmas.{values_hit, values_miss, values_front, second}
-use Rattle.wgr_http.proofs.field.field_of.Goals as goal
-use Rattle.wgr_http.proofs.field.field_of.Goals.{then-same_name+in-Absent, else-same_name}
+use Rattle.wgr_http.proofs.field_lines.field_of.Goals as goal
+use Rattle.wgr_http.proofs.field_lines.field_of.Goals.{then-same_name+in-Absent, else-same_name}
 
 -- what a read past the end gives
 abbrev no_header : HeaderSpan

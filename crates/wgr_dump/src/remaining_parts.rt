@@ -5,27 +5,27 @@ ghost use Rattle.wgr_dump.specs.PartsLeft.{left};
 
 /// The parts that are still to come.
 #[derive(Clone, Copy, Drop)]
-pub(crate) struct Parts<'a> {
+pub(crate) struct RemainingParts<'a> {
     rest: Option<&'a [u8]>,
     separator: u8,
 }
 
-impl<'a> Parts<'a> {
+impl<'a> RemainingParts<'a> {
     /// All parts of `text`: one more than it has separators.
-    pub(crate) fn new(text: &'a [u8], separator: u8) -> Parts<'a>
+    pub(crate) fn new(text: &'a [u8], separator: u8) -> RemainingParts<'a>
         ensures { left result ≡ parts_at separator text.entry.now }
     {
-        Parts {
+        RemainingParts {
             rest: Some(text),
             separator,
         }
     }
 
     /// No part.
-    pub(crate) fn none() -> Parts<'a>
+    pub(crate) fn none() -> RemainingParts<'a>
         ensures { left result ≡ [] }
     {
-        Parts {
+        RemainingParts {
             rest: None,
             separator: 0,
         }

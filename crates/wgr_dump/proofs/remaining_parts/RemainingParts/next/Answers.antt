@@ -6,7 +6,7 @@ use Rattle.std.proofs.lemmas.Bool.{ltb-false}
 use Rattle.std.proofs.lemmas.List.Quantifiers.{position-Some}
 use Rattle.wgr_dump.specs.PartsLeft.{parts_of_rest}
 use Rattle.wgr_dump.proofs.PartLemmas.{part_at, part_whole}
-use Rattle.wgr_dump.proofs.parts.Parts.next.Goals as goal
+use Rattle.wgr_dump.proofs.remaining_parts.RemainingParts.next.Goals as goal
 
 -- what is left where no place is found
 no_place : (v : Bool) (place : ℕ) → None ≡ cond v (Some place) None → v ≡ false

@@ -6,7 +6,7 @@ use Rattle.clap.specs.declared.error.kind.ErrorKind.TheVariants.{OutOfMemory}
 use Rattle.clap.proofs.OnLiterals.{clap_on_literals}
 use Rattle.clap.proofs.TakesLemmas.{passed_up}
 use Rattle.wgr_command_line.specs.Words.{Asked, asked_in, asked_of, if_missing, named_by, unless_wrong, wgr_app}
-use Rattle.wgr_command_line.proofs.request.read_words.Goals as goal
+use Rattle.wgr_command_line.proofs.invocation.read_words.Goals as goal
 
 simple : is_simple wgr_app ≡ true
 unfolding clap_on_literals

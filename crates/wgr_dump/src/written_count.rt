@@ -8,12 +8,12 @@ use std::marker::Model;
 /// A count of bytes, or a moment in seconds: at most 9,223,372,036,854,775,807. A greater one is
 /// kept as that.
 #[derive(Drop)]
-pub struct Count<'a> {
+pub struct WrittenCount<'a> {
     digits: &'a [u8],
     value: u64,
 }
 
-impl<'a> Model for Count<'a> {
+impl<'a> Model for WrittenCount<'a> {
     ghost use Rattle.wgr_dump.specs.Fields.{CountValue, SpellsCount};
 
     ghost Value = { CountValue };
@@ -23,14 +23,14 @@ impl<'a> Model for Count<'a> {
     ghost invariant = { λ c. SpellsCount c.digits.now (record { digits = c.digits.now; value = c.value }) };
 }
 
-impl<'a> Count<'a> {
+impl<'a> WrittenCount<'a> {
     /// The count of 1 to 20 digits.
-    pub(crate) fn read(field: &'a [u8]) -> Option<Count<'a>>
+    pub(crate) fn read(field: &'a [u8]) -> Option<WrittenCount<'a>>
         ensures spelled { IfSome result (SpellsCount field.entry.now) }
         ensures none { IfNone result ((count : CountValue) → ¬ (SpellsCount field.entry.now count)) }
     {
         let written = read_number(field, 20)?;
-        Some(Count {
+        Some(WrittenCount {
             digits: field,
             value: kept(written),
         })
