@@ -103,15 +103,15 @@ altered_rise (q ∷ start) (p ∷ peers) rise =
 is_less : (m n : ℕ) → m < n → nat_lt m n ≡ true
 is_less m n l = grind (arith, nat_tests)
 
-is_over : (m n : ℕ) → m ≡ n → (nat_lt m n ≡ false) × (nat_eq m n ≡ true)
-is_over m n e = (grind (arith, nat_tests), grind (arith, nat_tests))
+is_same_number : (m n : ℕ) → m ≡ n → (nat_lt m n ≡ false) × (nat_eq m n ≡ true)
+is_same_number m n e = (grind (arith, nat_tests), grind (arith, nat_tests))
 
 behind : (y : Peer) (ys : List Peer) (p : Peer) → y.number < p.number → put_peer (y ∷ ys) p ≡ y ∷ put_peer ys p
 behind y ys p l = ap (λ b. cond b (y ∷ put_peer ys p) (cond (nat_eq y.number p.number) (p ∷ ys) (p ∷ y ∷ ys))) (is_less y.number p.number l)
 
-over : (y : Peer) (ys : List Peer) (p : Peer) → y.number ≡ p.number → put_peer (y ∷ ys) p ≡ p ∷ ys
-over y ys p e =
-    let at = is_over y.number p.number e in
+in_place : (y : Peer) (ys : List Peer) (p : Peer) → y.number ≡ p.number → put_peer (y ∷ ys) p ≡ p ∷ ys
+in_place y ys p e =
+    let at = is_same_number y.number p.number e in
     ap (λ b. cond b (y ∷ put_peer ys p) (cond (nat_eq y.number p.number) (p ∷ ys) (p ∷ y ∷ ys))) at.0
     ∙ ap (λ b. cond b (p ∷ ys) (p ∷ y ∷ ys)) at.1
 
@@ -132,7 +132,7 @@ put_case true start q p ps noted above is =
     let same : p ≡ q = noted ∙ ap (λ (s : Option Status). record q { status = s }) (sym (is refl)) in
     ap (λ (r : Peer). put_peers (r ∷ start) ps) (sym same) ∙ put_behind p start ps above
 put_case false start q p ps noted above is =
-    ap (λ (rs : List Peer). put_peers rs ps) (over q start p (sym (ap (λ (r : Peer). r.number) noted))) ∙ put_behind p start ps above
+    ap (λ (rs : List Peer). put_peers rs ps) (in_place q start p (sym (ap (λ (r : Peer). r.number) noted))) ∙ put_behind p start ps above
 
 put_either : (start : List Peer) (q p : Peer) (ps : List Peer) → p ≡ record q { status = p.status } → All (IsNumberedBelow p) ps
     → put_peers (q ∷ start) (cond (same_status q.status p.status) ps (p ∷ ps)) ≡ p ∷ put_peers start ps

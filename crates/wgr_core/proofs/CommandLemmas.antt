@@ -12,7 +12,7 @@ use Rattle.wgr_core.specs.declared.change.Change.{Change}
 use Rattle.wgr_core.specs.declared.reply.Reply.{Reply}
 use Rattle.wgr_core.specs.declared.fault.ActFault.{ActFault}
 use Rattle.wgr_core.specs.declared.fault.ActFault.TheVariants.{Refused, NoMemory}
-use Rattle.wgr_peers.specs.Limits.{is_over}
+use Rattle.wgr_peers.specs.Limits.{is_expired}
 use Rattle.wgr_peers.specs.Peers.{expired, is_live, peer_of, put_peer}
 use Rattle.wgr_peers.specs.Routes.{routes_to}
 use Rattle.wgr_core.specs.Network.{NetworkValue, IsNetwork, IsRoute, is_among, live_at, without_peers}
@@ -112,7 +112,7 @@ none_over [] = refl
 none_over (p ∷ peers) =
     ap (λ b. map (λ (q : Peer). q.number) (cond (not b) (p ∷ filter (λ q. not (is_live 0 q)) peers) (filter (λ q. not (is_live 0 q)) peers))) (runs p.until) ∙ none_over peers
   where
-    runs : (until : ℕ) → not (is_over 0 until) ≡ true
+    runs : (until : ℕ) → not (is_expired 0 until) ≡ true
     runs until = grind (arith, nat_tests)
 
 pub whole_at_first : (n : NetworkValue) → IsNetwork n → live_at n 0 ≡ n

@@ -14,7 +14,7 @@ use Rattle.wgr_core.specs.declared.refusal.Refusal.{Refusal}
 use Rattle.wgr_core.specs.declared.refusal.Refusal.TheVariants.{CapacityReached, IsAddress, NumbersSpent, LeaseOver, RoutesFull, ServerKey}
 use Rattle.wgr_core.specs.declared.reply.Reply.{Reply}
 use Rattle.wgr_pool.specs.PrefixTests.{full, same_address}
-use Rattle.wgr_peers.specs.Limits.{is_over}
+use Rattle.wgr_peers.specs.Limits.{is_expired}
 use Rattle.wgr_peers.specs.Peers.{is_own, key_holder, peer_of, same_key, without_peer}
 use Rattle.wgr_peers.specs.Routes.{route_of}
 use Rattle.wgr_core.specs.Network.{NetworkValue, IsNetwork, IsMember, is_address, live_at}
@@ -41,7 +41,7 @@ After done = IsNetwork done.1
 pub record IsAdmitted (n : NetworkValue) (now : ℕ) (key : Key) (until : ℕ) : Type 0 where
   pub not_server : same_key key n.server ≡ false
   pub unheld : key_holder n.peers key ≡ None
-  pub runs : is_over now until ≡ false
+  pub runs : is_expired now until ≡ false
   pub room : length n.peers < n.capacity
   pub left : n.next ≤ 1000000
 
@@ -57,7 +57,7 @@ none_holds false false false false w x y z None h = (refl, refl, refl, refl, ref
 
 pub is_admitted : (n : NetworkValue) (now : ℕ) (key : Key) (until : ℕ) → join_refusal n now key until ≡ None → IsAdmitted n now key until
 is_admitted n now key until h =
-    let parts = none_holds (same_key key n.server) (is_over now until) (not (nat_lt (length n.peers) n.capacity)) (nat_lt 1000000 n.next) ServerKey LeaseOver CapacityReached NumbersSpent (key_holder n.peers key) h in
+    let parts = none_holds (same_key key n.server) (is_expired now until) (not (nat_lt (length n.peers) n.capacity)) (nat_lt 1000000 n.next) ServerKey LeaseOver CapacityReached NumbersSpent (key_holder n.peers key) h in
     record { not_server = parts.0; unheld = parts.1; runs = parts.2; room = has_room (length n.peers) n.capacity parts.3; left = has_number n.next parts.4 }
   where
     has_room : (m c : ℕ) → not (nat_lt m c) ≡ false → m < c

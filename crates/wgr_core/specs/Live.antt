@@ -4,9 +4,9 @@ use Rattle.wgr_text.specs.Prefix.{AddrValue}
 use Rattle.wgr_peers.specs.Peers.{expired, expired_addresses}
 use Rattle.wgr_core.specs.Network.{NetworkValue, IsNetwork, is_among, live_at}
 
--- the peers that are over are those of these numbers and addresses
-pub record IsLive (n : NetworkValue) (now : ℕ) (is_over : ℕ → Bool) (given_up : List AddrValue) : Type 0 where
+-- the expired peers are those of these numbers and addresses
+pub record IsLive (n : NetworkValue) (now : ℕ) (is_expired : ℕ → Bool) (given_up : List AddrValue) : Type 0 where
   pub whole : IsNetwork n
   pub live : IsNetwork (live_at n now)
-  pub numbers : (i : ℕ) → is_over i ≡ is_among (expired now n.peers) i
+  pub numbers : (i : ℕ) → is_expired i ≡ is_among (expired now n.peers) i
   pub addresses : given_up ≡ expired_addresses now n.peers

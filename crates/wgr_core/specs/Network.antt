@@ -26,7 +26,7 @@ pub record NetworkValue : Type 0 where
 abbrev pub server_address : PrefixValue → AddrValue
 server_address pool = record pool.address { number = pool.address.number + 1 }
 
--- the network without the peers whose lease is over, and without the routes to them
+-- the network without the expired peers, and without the routes to them
 abbrev pub live_at : NetworkValue → ℕ → NetworkValue
 live_at n now =
     let peers = filter (is_live now) n.peers in

@@ -14,7 +14,7 @@ use Rattle.wgr_core.specs.declared.reply.Reply.TheVariants as reply
 use Rattle.wgr_core.specs.declared.reply.PeerView.{PeerView}
 use Rattle.wgr_pool.specs.PrefixTests.{full}
 use Rattle.wgr_pool.specs.Allot.{is_assignable}
-use Rattle.wgr_peers.specs.Limits.{is_over, max_number, max_routes}
+use Rattle.wgr_peers.specs.Limits.{is_expired, max_number, max_routes}
 use Rattle.wgr_peers.specs.Peers.{is_own, key_holder, peer_of, put_peer, same_key, without_peer}
 use Rattle.wgr_peers.specs.Routes.{Routes, assign_route, route_of, routes_to, without_route}
 use Rattle.wgr_core.specs.Network.{NetworkValue, is_address, live_at, lowest_free, without_peers}
@@ -70,7 +70,7 @@ abbrev pub join_refusal : NetworkValue → ℕ → Key → ℕ → Option Refusa
 join_refusal n now key until =
     cond (same_key key n.server) (Some ServerKey)
     (held_or (key_holder n.peers key)
-    (cond (is_over now until) (Some LeaseOver)
+    (cond (is_expired now until) (Some LeaseOver)
     (cond (not (nat_lt (length n.peers) n.capacity)) (Some CapacityReached)
     (cond (nat_lt max_number n.next) (Some NumbersSpent) None))))
 
@@ -110,7 +110,7 @@ abbrev pub revoke : NetworkValue → ℕ → Outcome
 revoke n number = if_stands (peer_of n.peers number) (λ p. Ok (reply.Revoked number, without_peers n (number ∷ [])))
 
 abbrev pub lease_refusal : ℕ → ℕ → Option Refusal
-lease_refusal now until = cond (is_over now until) (Some LeaseOver) None
+lease_refusal now until = cond (is_expired now until) (Some LeaseOver) None
 
 abbrev pub renew : NetworkValue → ℕ → ℕ → ℕ → Outcome
 renew n now number until =

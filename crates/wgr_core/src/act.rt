@@ -16,7 +16,7 @@ use wgr_peers::{Items, Peer};
 impl Network {
     /// What the command answers at this moment, and what it changes. The network itself stays as
     /// it is: [`Change::apply`] or [`Network::apply`] makes the change. A reading gives none; any other
-    /// accepted command gives one, which also removes the peers whose lease is over.
+    /// accepted command gives one, which also removes the expired peers.
     ///
     /// No peer or route is copied but those of the answer, and those that Adopt tries its lines on.
     pub fn act(

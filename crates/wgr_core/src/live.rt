@@ -16,18 +16,18 @@ use crate::routes::prefixes_of;
 use std::alloc::{AllocError, Global};
 use std::collections::HashSet;
 use std::marker::Model;
-use wgr_peers::{Capacity, Items, MAX_ROUTES, Over, Peer};
+use wgr_peers::{Capacity, ExpiredPeers, Items, MAX_ROUTES, Peer};
 use wgr_pool::Pool;
 use wgr_text::{Addr, Key, Prefix};
 
 /// A network as its live peers and the routes to them are alone. It refers to the whole network, and
-/// its look-ups pass over what is over.
+/// its look-ups pass by what is expired.
 #[derive(Drop)]
 pub(crate) struct Live<'a> {
     pub(crate) network: &'a Network,
     pub(crate) moment: u64,
-    // The numbers and the addresses of the peers that are over.
-    pub(crate) over: HashSet<u32>,
+    // The numbers and the addresses of the expired peers.
+    pub(crate) expired: HashSet<u32>,
     pub(crate) addresses: Items<Addr>,
 }
 
@@ -36,11 +36,11 @@ impl<'a> Model for Live<'a> {
 
     ghost view = { λ l. live_at l.network.now l.moment };
 
-    ghost invariant = { λ l. IsLive l.network.now l.moment (contains nat_eq l.over) l.addresses };
+    ghost invariant = { λ l. IsLive l.network.now l.moment (contains nat_eq l.expired) l.addresses };
 }
 
 impl<'a> Live<'a> {
-    // What is live of the network at this moment, and the numbers of its peers that are over.
+    // What is live of the network at this moment, and the numbers of its expired peers.
     pub(crate) fn at(
         network: &'a Network,
         alloc: Global,
@@ -48,14 +48,14 @@ impl<'a> Live<'a> {
     ) -> Result<(Live<'a>, Items<u32>), AllocError>
         ensures live { IfOk result (λ found. found.0 ≡ live_at network.now now) }
         ensures rules { IsNetwork network.now }
-        ensures over { IfOk result (λ found. found.1 ≡ expired now network.now.peers) }
+        ensures expired { IfOk result (λ found. found.1 ≡ expired now network.now.peers) }
     {
-        let Over { numbers, addresses } = network.table().expired(alloc, now)?;
-        let over = number_set(alloc, numbers.as_slice())?;
+        let ExpiredPeers { numbers, addresses } = network.table().expired(alloc, now)?;
+        let expired = number_set(alloc, numbers.as_slice())?;
         let live = Live {
             network,
             moment: now,
-            over,
+            expired,
             addresses,
         };
         Ok((live, numbers))

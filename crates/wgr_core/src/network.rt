@@ -190,7 +190,7 @@ impl Network {
         &self.peers
     }
 
-    /// The network without the peers whose lease is over, and the routes to them.
+    /// The network without the expired peers, and the routes to them.
     pub fn live_at(&self, alloc: Global, now: u64) -> Result<Network, AllocError>
         ensures { IfOk result (λ live. live ≡ live_at self.now now) }
     {

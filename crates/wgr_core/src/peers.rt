@@ -33,7 +33,7 @@ impl Live<'_> {
         if let Some(number) = self.key_holder(key) {
             return Some(Refusal::KeyHeld { number });
         }
-        if until.is_over(now) {
+        if until.is_expired(now) {
             return Some(Refusal::LeaseOver);
         }
         if self.len() >= usize::from(self.capacity().peers()) {
@@ -76,7 +76,7 @@ impl Live<'_> {
         ensures value { result ≡ lowest_free self.now }
         ensures rules { IsNetwork self.now }
     {
-        let mut lowest = lowest_beside(self.network, &self.over);
+        let mut lowest = lowest_beside(self.network, &self.expired);
         for address in self.addresses.as_slice() {
             lowest = self.or_freed(lowest, address);
         }
@@ -222,7 +222,7 @@ impl Live<'_> {
         let Some(peer) = self.peer(number) else {
             return Err(ActFault::Refused(Refusal::NoSuchPeer));
         };
-        if until.is_over(now) {
+        if until.is_expired(now) {
             return Err(ActFault::Refused(Refusal::LeaseOver));
         }
         let mut renewed = peer.copy()?;
@@ -231,13 +231,13 @@ impl Live<'_> {
     }
 }
 
-// The lowest address that no peer has, live or over, and no route but those to the peers of these
+// The lowest address that no peer has, live or expired, and no route but those to the peers of these
 // numbers.
-fn lowest_beside(network: &Network, over: &HashSet<u32>) -> Option<Addr>
-    ensures { result ≡ lowest_where network.now.pool (λ a. is_own network.now.peers a || is_routed network.now.pool (standing (contains nat_eq over.now) network.now.routes) a) }
+fn lowest_beside(network: &Network, expired: &HashSet<u32>) -> Option<Addr>
+    ensures { result ≡ lowest_where network.now.pool (λ a. is_own network.now.peers a || is_routed network.now.pool (standing (contains nat_eq expired.now) network.now.routes) a) }
 {
     let addresses = network.table().addresses();
-    lowest_address(&network.pool(), addresses, network.routes(), over)
+    lowest_address(&network.pool(), addresses, network.routes(), expired)
 }
 
 // Whether there is an address and it is below the other, which is of its family.

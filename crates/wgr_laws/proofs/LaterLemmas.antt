@@ -6,7 +6,7 @@ use Rattle.std.proofs.lemmas.Bool.Decides.{nat_tests}
 use Rattle.wgr_text.specs.Prefix.{PrefixValue}
 use Rattle.wgr_peers.specs.declared.peer.Peer.{Peer}
 use Rattle.wgr_core.specs.declared.command.Command.{Command}
-use Rattle.wgr_peers.specs.Limits.{is_over}
+use Rattle.wgr_peers.specs.Limits.{is_expired}
 use Rattle.wgr_peers.specs.Peers.{is_live, peer_of}
 use Rattle.wgr_peers.specs.Routes.{Routes}
 use Rattle.wgr_core.specs.Network.{NetworkValue, IsNetwork, live_at}
@@ -20,7 +20,7 @@ live_is_found n now i p is = found_kept (is_live now) n.peers i p is.numbered
 pub live_until : (now : ℕ) (p : Peer) → (is_live now p ≡ true) ↔ ((p.until ≡ 0) ⊎ (now < p.until))
 live_until now p = by_numbers p.until
   where
-    by_numbers : (until : ℕ) → (not (is_over now until) ≡ true) ↔ ((until ≡ 0) ⊎ (now < until))
+    by_numbers : (until : ℕ) → (not (is_expired now until) ≡ true) ↔ ((until ≡ 0) ⊎ (now < until))
     by_numbers zero = ((λ h. inl refl), (λ h. refl))
     by_numbers (suc k) = (
       (λ h. inr (grind (arith, nat_tests))),
@@ -30,7 +30,7 @@ live_until now p = by_numbers p.until
 -- ---- later moments
 
 -- a lease that runs later runs now
-runs_before : (now later until : ℕ) → now ≤ later → not (is_over later until) ≡ true → not (is_over now until) ≡ true
+runs_before : (now later until : ℕ) → now ≤ later → not (is_expired later until) ≡ true → not (is_expired now until) ≡ true
 runs_before now later zero l h = refl
 runs_before now later (suc k) l h = grind (arith, nat_tests)
 

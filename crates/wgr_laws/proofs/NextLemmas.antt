@@ -12,7 +12,7 @@ use Rattle.wgr_core.specs.declared.refusal.Refusal.TheVariants.{LeaseOver}
 use Rattle.wgr_core.specs.declared.reply.Reply.{Reply}
 use Rattle.wgr_core.specs.declared.reply.Reply.TheVariants as reply
 use Rattle.wgr_pool.specs.PrefixTests.{full}
-use Rattle.wgr_peers.specs.Limits.{is_over}
+use Rattle.wgr_peers.specs.Limits.{is_expired}
 use Rattle.wgr_peers.specs.Peers.{is_live, peer_of}
 use Rattle.wgr_peers.specs.Routes.{route_of}
 use Rattle.wgr_core.specs.Network.{NetworkValue, IsNetwork, is_among, live_at, without_peers}
@@ -72,8 +72,8 @@ revoked_next n now number p live stands = record {
   shows = ap is_some stands;
 }
 
-runs_on : (now until : ℕ) → lease_refusal now until ≡ None → is_over now until ≡ false
-runs_on now until h = by_test (is_over now until) h
+runs_on : (now until : ℕ) → lease_refusal now until ≡ None → is_expired now until ≡ false
+runs_on now until h = by_test (is_expired now until) h
   where
     by_test : (over : Bool) → cond over (Some LeaseOver) None ≡ None → over ≡ false
     by_test true h = cc

@@ -35,7 +35,7 @@ PartsMakeOneNetwork = (parts : Parts) (n m : NetworkValue) → IsNetworkOf parts
 abbrev pub CommandsKeepTheRules : Type 0
 CommandsKeepTheRules = (n : NetworkValue) (now : ℕ) (asked : Command) → IsNetwork n → IsAsked asked → IfOk (outcome_of n now asked) (λ done. IsNetwork done.1)
 
--- and so does the network without the peers whose lease is over
+-- and so does the network without the expired peers
 abbrev pub LivePeersKeepTheRules : Type 0
 LivePeersKeepTheRules = (n : NetworkValue) (now : ℕ) → IsNetwork n → IsNetwork (live_at n now)
 
@@ -155,7 +155,7 @@ LiveUntil = (now : ℕ) (p : Peer) → (is_live now p ≡ true) ↔ ((p.until �
 abbrev pub OverStaysOver : Type 0
 OverStaysOver = (n : NetworkValue) (now later : ℕ) → now ≤ later → live_at (live_at n now) later ≡ live_at n later
 
--- so no change tells whether the peers whose lease is over were removed before
+-- so no change tells whether the expired peers were removed before
 abbrev pub SweepsAreUnseen : Type 0
 SweepsAreUnseen = (n : NetworkValue) (now later : ℕ) (asked : Command) → now ≤ later → is_reading asked ≡ false → outcome_of (live_at n now) later asked ≡ outcome_of n later asked
 
@@ -296,8 +296,8 @@ abbrev pub ChangesLeaveLive : Type 0
 ChangesLeaveLive = (n : NetworkValue) (now : ℕ) (asked : Command) → IsNetwork n → is_reading asked ≡ false → IfOk (outcome_of n now asked) (λ done. All (λ p. is_live now p ≡ true) done.1.peers)
 
 -- and nobody has its number ever after
-abbrev pub OverNeverReturns : Type 0
-OverNeverReturns = (n : NetworkValue) (now number : ℕ) (asked : Command) (more : List (ℕ × Command)) → IsNetwork n → IsAsked asked → AreAsked more → is_reading asked ≡ false → number < n.next
+abbrev pub ExpiredNeverReturn : Type 0
+ExpiredNeverReturn = (n : NetworkValue) (now number : ℕ) (asked : Command) (more : List (ℕ × Command)) → IsNetwork n → IsAsked asked → AreAsked more → is_reading asked ≡ false → number < n.next
     → peer_of (live_at n now).peers number ≡ None → IfOk (outcome_of n now asked) (λ done. peer_of (after_commands done.1 more).peers number ≡ None)
 
 -- the owner of an address is a peer of the network; so of the live network it is a live one

@@ -8,7 +8,7 @@ ghost use Rattle.wgr_laws.specs.Laws.{LowestIsFree, LowestIsLeast, NoneIsFull};
 ghost use Rattle.wgr_laws.specs.Laws.{LongestOwns, MatchIsLongest, NoMatchIsNone, NobodyOwns, OwnerHasLongest, PeersOwnTheirs};
 ghost use Rattle.wgr_laws.specs.Laws.{RoutesElsewhere, RoutesGoElsewhere, RoutesLead, RoutesYield};
 ghost use Rattle.wgr_laws.specs.Laws.{LiveIsFound, LiveRoutesLead, LiveUntil, OverStaysOver, SweepsAreUnseen};
-ghost use Rattle.wgr_laws.specs.Laws.{ChangesLeaveLive, OverNeverReturns, OwnersStand, RepliesShowLive};
+ghost use Rattle.wgr_laws.specs.Laws.{ChangesLeaveLive, ExpiredNeverReturn, OwnersStand, RepliesShowLive};
 ghost use Rattle.wgr_laws.specs.Laws.{CommandsKeepTheForms, CommandsKeepTheRules, LivePeersKeepTheRules, ReadingChangesNothing};
 ghost use Rattle.wgr_laws.specs.Laws.{OtherPeersStay, OtherRoutesStay, SettingsStay};
 ghost use Rattle.wgr_laws.specs.Laws.{AddressesAreOwn, KeysAreOwn, RunsKeepTheRules};
@@ -128,11 +128,11 @@ pub fn revoked_is_gone()
 
 /// A peer whose lease is over is in no reply and owns no address; an accepted change removes it
 /// for good.
-pub fn over_is_over()
+pub fn expired_peers_are_gone()
     ensures replies { RepliesShowLive }
     ensures owners { OwnersStand }
     ensures changes { ChangesLeaveLive }
-    ensures numbers { OverNeverReturns }
+    ensures numbers { ExpiredNeverReturn }
 {}
 
 /// A route changes the owners of its own addresses alone, and of those only where no longer

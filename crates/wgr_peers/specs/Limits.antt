@@ -31,5 +31,5 @@ abbrev pub kept_count : ℕ → ℕ
 kept_count n = cond (nat_lt 9223372036854775807 n) 9223372036854775807 n
 
 -- whether a lease with this end has ended by the moment; 0 is no end
-abbrev pub is_over : ℕ → ℕ → Bool
-is_over now until = not (nat_eq until 0) && not (nat_lt now until)
+abbrev pub is_expired : ℕ → ℕ → Bool
+is_expired now until = not (nat_eq until 0) && not (nat_lt now until)

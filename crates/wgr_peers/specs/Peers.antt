@@ -7,12 +7,12 @@ use Rattle.wgr_text.specs.Prefix.{AddrValue}
 use Rattle.wgr_peers.specs.declared.peer.Peer.{Peer}
 use Rattle.wgr_pool.specs.PrefixTests.{same_address}
 use Rattle.wgr_peers.specs.Ordered.{put_in_order}
-use Rattle.wgr_peers.specs.Limits.{is_over}
+use Rattle.wgr_peers.specs.Limits.{is_expired}
 
 abbrev pub is_live : ℕ → Peer → Bool
-is_live now p = not (is_over now p.until)
+is_live now p = not (is_expired now p.until)
 
--- the numbers of the peers whose lease is over
+-- the numbers of the expired peers
 abbrev pub expired : ℕ → List Peer → List ℕ
 expired now peers = map (λ p. p.number) (filter (λ p. not (is_live now p)) peers)
 

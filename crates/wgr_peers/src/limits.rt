@@ -1,6 +1,6 @@
 //! Numbers with limits of their own.
 ghost use Rattle.std.specs.Prelude.{◌≡◌, ℕ, ◌<◌, ◌≤◌, ◌↔◌, IsSome, IfSome, IsTrue};
-ghost use Rattle.wgr_peers.specs.Limits.{IsPort, IsCapacity, IsLeaseEnd, IsCount, is_over, kept_count};
+ghost use Rattle.wgr_peers.specs.Limits.{IsPort, IsCapacity, IsLeaseEnd, IsCount, is_expired, kept_count};
 
 use std::marker::Model;
 
@@ -133,8 +133,8 @@ impl LeaseEnd {
     }
 
     /// Whether the lease has ended by this moment.
-    pub fn is_over(self, now: u64) -> bool
-        ensures { result ≡ is_over now self }
+    pub fn is_expired(self, now: u64) -> bool
+        ensures { result ≡ is_expired now self }
     {
         self.seconds != 0 && self.seconds <= now
     }

@@ -44,7 +44,7 @@ impl Peer {
     pub fn is_live(&self, now: u64) -> bool
         ensures { result ≡ is_live now self.now }
     {
-        !self.until.is_over(now)
+        !self.until.is_expired(now)
     }
 
     /// Whether the address is the peer's own.

@@ -22,9 +22,9 @@ use wgr_text::{Addr, Key};
 
 mod change;
 
-/// The peers whose lease is over at a moment.
+/// The peers that are expired at a moment.
 #[derive(Debug, Drop)]
-pub struct Over {
+pub struct ExpiredPeers {
     /// Their numbers, which rise.
     pub numbers: Items<u32>,
     /// Their addresses, in the same order.
@@ -246,26 +246,26 @@ impl PeerTable {
         Ok(peers)
     }
 
-    /// The peers whose lease is over at this moment; one walk over the peers, and none before the
+    /// The peers that are expired at this moment; one walk over the peers, and none before the
     /// soonest end of a lease.
-    pub fn expired(&self, alloc: Global, now: u64) -> Result<Over, AllocError>
-        ensures numbers { IfOk result (λ over. over.numbers ≡ expired now self.now) }
-        ensures addresses { IfOk result (λ over. over.addresses ≡ expired_addresses now self.now) }
+    pub fn expired(&self, alloc: Global, now: u64) -> Result<ExpiredPeers, AllocError>
+        ensures numbers { IfOk result (λ found. found.numbers ≡ expired now self.now) }
+        ensures addresses { IfOk result (λ found. found.addresses ≡ expired_addresses now self.now) }
     {
-        let mut over = Over {
+        let mut found = ExpiredPeers {
             numbers: Items::new(alloc),
             addresses: Items::new(alloc),
         };
         if now < self.soonest_end {
-            return Ok(over);
+            return Ok(found);
         }
         for peer in &self.peers {
             if !peer.is_live(now) {
-                over.numbers.push(peer.number)?;
-                over.addresses.push(peer.address)?;
+                found.numbers.push(peer.number)?;
+                found.addresses.push(peer.address)?;
             }
         }
-        Ok(over)
+        Ok(found)
     }
 }
 

@@ -18,13 +18,13 @@ abbrev pub route_spans : PrefixValue → List (PrefixValue × ℕ) → List Span
 route_spans pool [] = []
 route_spans pool (r ∷ routes) = if covers pool r.0 then span_of r.0 ∷ route_spans pool routes else route_spans pool routes
 
--- the routes to peers that aren't over
+-- the routes to peers that aren't expired
 abbrev pub standing : (ℕ → Bool) → List (PrefixValue × ℕ) → List (PrefixValue × ℕ)
-standing over routes = filter (λ r. not (over r.1)) routes
+standing expired routes = filter (λ r. not (expired r.1)) routes
 
 -- the spans of those that lie wholly in the pool
 abbrev pub standing_spans : PrefixValue → (ℕ → Bool) → List (PrefixValue × ℕ) → List Span
-standing_spans pool over routes = route_spans pool (standing over routes)
+standing_spans pool expired routes = route_spans pool (standing expired routes)
 
 -- a span before the first that begins no lower
 abbrev pub put_span : Span → List Span → List Span

@@ -8,7 +8,7 @@ use Rattle.wgr_pool.specs.Spans.{RisesFrom}
 use Rattle.wgr_pool.specs.declared.held_spans.RouteSpans.{RouteSpans}
 
 abbrev pub to_come : RouteSpans → List Span
-to_come r = standing_spans r.pool (contains nat_eq r.over.now) r.routes.now
+to_come r = standing_spans r.pool (contains nat_eq r.expired.now) r.routes.now
 
 -- with the one that was taken before its turn
 abbrev pub waiting : Option Span → RouteSpans → List Span

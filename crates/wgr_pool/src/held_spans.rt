@@ -18,11 +18,11 @@ use crate::pool::{Pool, covers};
 use std::collections::HashSet;
 use wgr_text::{Addr, Prefix, Span};
 
-/// The spans of the routes that lie wholly in a pool, but for those to peers that are over.
+/// The spans of the routes that lie wholly in a pool, but for those to expired peers.
 #[derive(Drop)]
 struct RouteSpans<'a> {
     pool: Prefix,
-    over: &'a HashSet<u32>,
+    expired: &'a HashSet<u32>,
     routes: &'a [(Prefix, u32)],
 }
 
@@ -34,7 +34,7 @@ impl RouteSpans<'_> {
     {
         while let Some((route, later)) = self.routes.split_first() {
             self.routes = later;
-            if covers(&self.pool, &route.0) && !self.over.contains(&route.1) {
+            if covers(&self.pool, &route.0) && !self.expired.contains(&route.1) {
                 return Some(whole(&route.0));
             }
         }
@@ -63,17 +63,17 @@ impl<'a> HeldSpans<'a> {
         pool: &Pool,
         runs: &'a [Span],
         routes: &'a [(Prefix, u32)],
-        over: &'a HashSet<u32>,
+        expired: &'a HashSet<u32>,
     ) -> HeldSpans<'a>
         requires runs_rise { RisesFrom 0 runs.now }
         requires routes_rise { AllPairs (λ r s. is_before r.0 s.0 ≡ true) routes.now }
         ensures runs { result.runs.now ≡ runs.now }
-        ensures routes { waiting result.route result.routes ≡ standing_spans pool.now (contains nat_eq over.now) routes.now }
+        ensures routes { waiting result.route result.routes ≡ standing_spans pool.now (contains nat_eq expired.now) routes.now }
         ensures is_pool { IsPool pool.now }
     {
         let mut routes = RouteSpans {
             pool: pool.prefix(),
-            over,
+            expired,
             routes,
         };
         let route = routes.next();
@@ -135,18 +135,18 @@ fn whole(route: &Prefix) -> Span
 }
 
 /// The lowest address of the pool that may be given and that neither the set has nor a route that
-/// lies wholly in the pool. Routes to the peers of the numbers in `over` don't count.
+/// lies wholly in the pool. Routes to the peers of the numbers in `expired` don't count.
 pub fn lowest_address(
     pool: &Pool,
     addresses: &AddressSet,
     routes: &[(Prefix, u32)],
-    over: &HashSet<u32>,
+    expired: &HashSet<u32>,
 ) -> Option<Addr>
     requires in_order { AllPairs (λ r s. is_before r.0 s.0 ≡ true) routes.now }
     requires prefixes { All (λ r. IsPrefix r.0) routes.now }
-    ensures { (taken : AddrValue → Bool) → ((b : AddrValue) → IsAddr b → (taken b ≡ true) ↔ (IsHeld addresses.now b ⊎ (is_routed pool.now (standing (contains nat_eq over.now) routes.now) b ≡ true))) → result ≡ lowest_where pool.now taken }
+    ensures { (taken : AddrValue → Bool) → ((b : AddrValue) → IsAddr b → (taken b ≡ true) ↔ (IsHeld addresses.now b ⊎ (is_routed pool.now (standing (contains nat_eq expired.now) routes.now) b ≡ true))) → result ≡ lowest_where pool.now taken }
 {
-    let mut holds = HeldSpans::new(pool, addresses.spans(), routes, over);
+    let mut holds = HeldSpans::new(pool, addresses.spans(), routes, expired);
     match lowest_free(pool, &mut holds) {
         Ok(found) => found,
         // A source in memory never stops.

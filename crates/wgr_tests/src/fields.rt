@@ -51,9 +51,9 @@ fn keeps_ends(rt: HostRuntime) {
 #[test]
 fn leases_are_over_at_their_end(rt: HostRuntime) {
     assert_eq!(rt; LeaseEnd::never().seconds(), 0);
-    assert!(rt; !LeaseEnd::never().is_over(u64::MAX));
-    for (now, is_over) in [(99, false), (100, true), (101, true)] {
-        assert_eq!(rt; end(&rt, 100).is_over(now), is_over, "at {now}");
+    assert!(rt; !LeaseEnd::never().is_expired(u64::MAX));
+    for (now, is_expired) in [(99, false), (100, true), (101, true)] {
+        assert_eq!(rt; end(&rt, 100).is_expired(now), is_expired, "at {now}");
     }
 }
 

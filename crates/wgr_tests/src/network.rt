@@ -13,9 +13,9 @@ ghost use Rattle.wgr_core.specs.Change.{Fits};
 
 mod adopt;
 mod commands;
+mod expired;
 mod fields;
 mod files;
-mod over;
 mod parts;
 mod refusals;
 

@@ -131,7 +131,7 @@ fn networks_begin_anew(rt: HostRuntime) {
 }
 
 #[test]
-fn who_is_over_stands_until_the_next_change(rt: HostRuntime) {
+fn expired_peers_stand_until_the_next_change(rt: HostRuntime) {
     check(
         &rt,
         &[

@@ -9,7 +9,7 @@ use Rattle.wgr_pool.proofs.held_spans.lowest_address.Goals as goal
 pub returns-in-Ok : goal.returns-in-Ok
 returns-in-Ok c = λ taken test.
     let holds = c.new-holds in
-    let over = contains nat_eq c.args.over.now in
-    let prefixes = All-filter (λ (r : PrefixValue × ℕ). not (over r.1)) (λ r. IsPrefix r.0) c.args.routes.now c.requires.prefixes in
-    let same = taken_is c.args.pool.now taken c.args.addresses.now _ _ (standing over c.args.routes.now) (holds.ensures.runs ∙ c.spans.ensures.value) holds.ensures.routes holds.ensures.is_pool prefixes test in
+    let expired = contains nat_eq c.args.expired.now in
+    let prefixes = All-filter (λ (r : PrefixValue × ℕ). not (expired r.1)) (λ r. IsPrefix r.0) c.args.routes.now c.requires.prefixes in
+    let same = taken_is c.args.pool.now taken c.args.addresses.now _ _ (standing expired c.args.routes.now) (holds.ensures.runs ∙ c.spans.ensures.value) holds.ensures.routes holds.ensures.is_pool prefixes test in
     found_is c.args.pool.now taken _ c.in-Ok.found holds.ensures.is_pool same (c.in-Ok.ensures.lowest tt)

@@ -14,6 +14,6 @@ invariant_of-live c =
     record {
       whole = c.table.ensures.rules;
       live = live_is_network n c.args.now c.table.ensures.rules;
-      numbers = λ i. c.in_ok-over.ensures i ∙ ap (λ (ns : List ℕ). is_among ns i) listed;
+      numbers = λ i. c.in_ok-expired.ensures i ∙ ap (λ (ns : List ℕ). is_among ns i) listed;
       addresses = addresses;
     }

@@ -14,7 +14,7 @@ pub loop-address-init : goal.loop-address-init
 loop-address-init c =
     let n = c.self.inside.network.now in
     c.lowest_beside-lowest.ensures
-    ∙ begin_with n c.self.inside.moment (contains nat_eq c.self.inside.over) c.self.invariant.whole c.self.invariant.numbers
+    ∙ begin_with n c.self.inside.moment (contains nat_eq c.self.inside.expired) c.self.invariant.whole c.self.invariant.numbers
     ∙ ap (λ (m : NetworkValue). lowest_where m.pool (held_but [] m.pool n.peers m.routes)) c.self.view_is
 
 pub or_freed-lowest-requires : goal.or_freed-lowest-requires

@@ -6,7 +6,7 @@ use Rattle.wgr_core.proofs.network.Network.act.Goals as goal
 pub returns-clause-outcome : goal.returns-clause-outcome
 returns-clause-outcome c =
     let n = c.args.self.now in
-    meets_from_live n c.in_ok-live.live c.args.now c.args.command.now c.in_ok-live.removed c.act.result c.at.ensures.rules c.in_ok-live.ensures.live c.in_ok-live.ensures.over c.act.ensures
+    meets_from_live n c.in_ok-live.live c.args.now c.args.command.now c.in_ok-live.removed c.act.result c.at.ensures.rules c.in_ok-live.ensures.live c.in_ok-live.ensures.expired c.act.ensures
 
 pub returns-clause-fits : goal.returns-clause-fits
 returns-clause-fits c =

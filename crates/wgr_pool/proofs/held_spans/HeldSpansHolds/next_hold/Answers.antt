@@ -11,7 +11,7 @@ invariant_of-self-in-None-Some c =
     let s = c.args.self.now in
     let y = c.in-None-Some.route in
     let none = rw c.in-None-Some.is-1 at c.in-None-Some.ensures in
-    let routes = subst (λ o. RisesFrom (reached s.last) (from_first o (standing_spans s.routes.pool (contains nat_eq s.routes.over.now) s.routes.routes.now))) c.in-None-Some.is-1 s.routes_rise in
+    let routes = subst (λ o. RisesFrom (reached s.last) (from_first o (standing_spans s.routes.pool (contains nat_eq s.routes.expired.now) s.routes.routes.now))) c.in-None-Some.is-1 s.routes_rise in
     let runs_rise = rises_from (rank y.lo + 1) (rank y.lo) s.runs.now (omega arith) none in
     let routes_rise = subst (RisesFrom (rank y.lo)) (sym (taken_all _ _ _ c.next-self.ensures.next)) routes.1 in
     record { runs_rise = runs_rise; routes_rise = routes_rise; all_rise = rises_merged (rank y.lo) s.runs.now _ runs_rise routes_rise }

@@ -22,7 +22,7 @@ fn check_over(rt: &(impl Abort + AllocGlobal), script: &[Step<'_>]) {
 }
 
 #[test]
-fn what_is_over_is_passed_over(rt: HostRuntime) {
+fn expired_peers_are_passed_by(rt: HostRuntime) {
     let scripts: [&[(u64, &str, &str)]; 11] = [
         &[
             (99, "owner 192.168.4.1", "1"),
@@ -78,7 +78,7 @@ fn what_is_over_is_passed_over(rt: HostRuntime) {
 }
 
 #[test]
-fn routes_to_a_peer_that_is_over_leave_room(rt: HostRuntime) {
+fn routes_to_an_expired_peer_leave_room(rt: HostRuntime) {
     check(
         &rt,
         full_of_routes(&rt),
