@@ -1,6 +1,6 @@
 use Rattle.std.proofs.Common.{sym, ap, ◌∙◌}
 use Rattle.wgr_core.specs.Change.{assign_routes}
-use Rattle.wgr_core.proofs.DraftLemmas.{assign_none}
+use Rattle.wgr_core.proofs.PutRouteLemmas.{assign_none}
 use Rattle.wgr_core.proofs.draft.each_once.Goals as goal
 
 pub returns-then-is_empty : goal.returns-then-is_empty

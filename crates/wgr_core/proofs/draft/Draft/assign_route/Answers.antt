@@ -3,7 +3,7 @@ use Rattle.wgr_peers.specs.Routes.{Routes, assign_route}
 use Rattle.wgr_core.specs.Change.{assign_routes}
 use Rattle.wgr_core.specs.Draft.{DraftValue, IsGrown, drafted}
 use Rattle.wgr_core.specs.Network.{NetworkValue, IsNetwork}
-use Rattle.wgr_core.proofs.DraftLemmas.{assign_routes_push}
+use Rattle.wgr_core.proofs.PutRouteLemmas.{assign_routes_push}
 use Rattle.wgr_core.proofs.draft.Draft.assign_route.Goals as goal
 
 pub invariant_of-self : goal.invariant_of-self
