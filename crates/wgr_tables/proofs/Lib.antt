@@ -24,6 +24,7 @@ pub mod LoadLemmas
 pub mod ToldLemmas
 pub mod ListedLemmas
 pub mod StoredLemmas
+pub mod SortedRows
 pub mod HostLemmas
 pub mod ArrangeLemmas
 pub mod FieldLemmas

@@ -87,7 +87,7 @@ abbrev pub of_network : ℕ → List Term
 of_network place = equal_to place 0 ∷ []
 
 abbrev pub addresses_text : List ℕ
-addresses_text = codes "SELECT NULL, network, family, lo, length, hi, peer, kind FROM allowed WHERE network = ?1 AND kind <> 'route' ORDER BY peer"
+addresses_text = codes "SELECT NULL, network, family, lo, length, hi, peer, kind FROM allowed WHERE network = ?1 AND kind <> 'route'"
 
 abbrev pub allowed_places : List Term
 allowed_places = lit Null ∷ col 1 1 ∷ col 1 2 ∷ col 1 3 ∷ col 1 4 ∷ col 1 5 ∷ col 1 6 ∷ col 1 7 ∷ []
@@ -180,7 +180,7 @@ module _ (others : Others) where
   unfolding understood everything
   peers_asks = record { means = record { command_is = refl; plain = (refl, refl) }; unlisted = refl }
 
-  pub addresses_asks : Asks others addresses_text (Select (record { lets = []; body = plain_query 10 of_addresses allowed_places (rising 6 ∷ []) }) (codes "NULL" ∷ codes "network" ∷ codes "family" ∷ codes "lo" ∷ codes "length" ∷ codes "hi" ∷ codes "peer" ∷ codes "kind" ∷ []))
+  pub addresses_asks : Asks others addresses_text (Select (record { lets = []; body = plain_query 10 of_addresses allowed_places [] }) (codes "NULL" ∷ codes "network" ∷ codes "family" ∷ codes "lo" ∷ codes "length" ∷ codes "hi" ∷ codes "peer" ∷ codes "kind" ∷ []))
   unfolding understood everything
   addresses_asks = record { means = record { command_is = refl; plain = (refl, refl) }; unlisted = refl }
 
