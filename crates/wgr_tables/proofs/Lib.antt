@@ -9,6 +9,8 @@ pub mod Commits
 pub mod Rests
 pub mod WriteLemmas
 pub mod DropLemmas
+pub mod RangeDrops
+pub mod RangeLemmas
 pub mod NextLemmas
 pub mod UniqueLemmas
 pub mod AllowedLemmas
