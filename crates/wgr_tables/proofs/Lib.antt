@@ -9,6 +9,8 @@ pub mod Commits
 pub mod Rests
 pub mod WriteLemmas
 pub mod DropLemmas
+pub mod RangeDrops
+pub mod RangeLemmas
 pub mod NextLemmas
 pub mod UniqueLemmas
 pub mod AllowedLemmas
@@ -24,6 +26,7 @@ pub mod LoadLemmas
 pub mod ToldLemmas
 pub mod ListedLemmas
 pub mod StoredLemmas
+pub mod SortedRows
 pub mod HostLemmas
 pub mod ArrangeLemmas
 pub mod FieldLemmas

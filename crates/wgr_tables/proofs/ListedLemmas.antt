@@ -82,7 +82,7 @@ module _ (old new : State) (register : IsRegister old.now) (n : ℕ) (rows : Lis
 
   pub addresses_listed : Shown addresses_text params old new rows → ShowAddresses n (tables_of old.now) rows
   addresses_listed shown =
-      listed old new register addresses_text params 10 of_addresses allowed_places (rising 6 ∷ []) _ (addresses_asks register.others) rows shown allowed_in (λ a. nat_eq a.network n && not a.is_route) (λ r. refl)
+      listed old new register addresses_text params 10 of_addresses allowed_places [] _ (addresses_asks register.others) rows shown allowed_in (λ a. nat_eq a.network n && not a.is_route) (λ r. refl)
       (λ r here. ap₂ (λ x y. x && y) (owner_is r here) (and_true _ ∙ ap (λ v. is_true (binary (Compare Ne Binary) v (Text route_kind))) (kind_at r here) ∙ differ_texts (bytes_at r 7) route_kind))
 
   and_turns : (a b : Bool) → (a && b) ≡ (b && a)

@@ -7,7 +7,8 @@ use Rattle.sqlite.specs.Source.TheVariants.{Values}
 use Rattle.sqlite.specs.Term.{Term, lit, col, op2}
 use Rattle.sqlite.specs.Collation.TheVariants.{Binary}
 use Rattle.sqlite_sql.specs.declared.ops.BinaryOp.TheVariants.{Compare}
-use Rattle.sqlite_sql.specs.declared.ops.CompareOp.TheVariants.{Eq, Ne}
+use Rattle.sqlite_sql.specs.declared.ops.CompareOp.{CompareOp}
+use Rattle.sqlite_sql.specs.declared.ops.CompareOp.TheVariants.{Eq, Ge, Le, Ne}
 use Rattle.sqlite_tied.specs.Compute.{everything}
 use Rattle.sqlite.specs.Listing.{understood, reads_listing}
 use Rattle.sqlite_value.specs.declared.keys.Key.{Key}
@@ -37,6 +38,21 @@ drop_address_text = codes "DELETE FROM allowed WHERE network = ?1 AND peer = ?2 
 
 abbrev pub of_address : List Term
 of_address = equal_to 1 0 ∷ equal_to 6 1 ∷ op2 (Compare Ne Binary) (col 1 7) (lit (Text (codes "route"))) ∷ []
+
+abbrev pub compared_to : CompareOp → ℕ → ℕ → Term
+compared_to op place given = op2 (Compare op Binary) (col 1 place) (col 0 given)
+
+abbrev pub drop_peer_range_text : List ℕ
+drop_peer_range_text = codes "DELETE FROM peer WHERE network = ?1 AND id >= ?2 AND id <= ?3"
+
+abbrev pub of_peer_range : List Term
+of_peer_range = equal_to 2 0 ∷ compared_to Ge 0 1 ∷ compared_to Le 0 2 ∷ []
+
+abbrev pub drop_address_range_text : List ℕ
+drop_address_range_text = codes "DELETE FROM allowed WHERE network = ?1 AND peer >= ?2 AND peer <= ?3 AND kind <> 'route'"
+
+abbrev pub of_address_range : List Term
+of_address_range = equal_to 1 0 ∷ compared_to Ge 6 1 ∷ compared_to Le 6 2 ∷ op2 (Compare Ne Binary) (col 1 7) (lit (Text (codes "route"))) ∷ []
 
 abbrev pub drop_route_text : List ℕ
 drop_route_text = codes "DELETE FROM allowed WHERE network = ?1 AND family = ?2 AND lo = ?3 AND length = ?4 AND kind = 'route'"
@@ -87,7 +103,7 @@ abbrev pub of_network : ℕ → List Term
 of_network place = equal_to place 0 ∷ []
 
 abbrev pub addresses_text : List ℕ
-addresses_text = codes "SELECT NULL, network, family, lo, length, hi, peer, kind FROM allowed WHERE network = ?1 AND kind <> 'route' ORDER BY peer"
+addresses_text = codes "SELECT NULL, network, family, lo, length, hi, peer, kind FROM allowed WHERE network = ?1 AND kind <> 'route'"
 
 abbrev pub allowed_places : List Term
 allowed_places = lit Null ∷ col 1 1 ∷ col 1 2 ∷ col 1 3 ∷ col 1 4 ∷ col 1 5 ∷ col 1 6 ∷ col 1 7 ∷ []
@@ -156,6 +172,14 @@ module _ (others : Others) where
   unfolding understood everything
   drop_address_means = record { command_is = refl; plain = (refl, refl) }
 
+  pub drop_peer_range_means : Means others drop_peer_range_text (Delete 4 (record { lets = []; body = plain_query 8 of_peer_range (col 1 0 ∷ []) [] }))
+  unfolding understood everything
+  drop_peer_range_means = record { command_is = refl; plain = (refl, refl) }
+
+  pub drop_address_range_means : Means others drop_address_range_text (Delete 5 (record { lets = []; body = plain_query 10 of_address_range (col 1 0 ∷ []) [] }))
+  unfolding understood everything
+  drop_address_range_means = record { command_is = refl; plain = (refl, refl) }
+
   pub drop_route_means : Means others drop_route_text (Delete 5 (record { lets = []; body = plain_query 10 of_route (col 1 0 ∷ []) [] }))
   unfolding understood everything
   drop_route_means = record { command_is = refl; plain = (refl, refl) }
@@ -180,7 +204,7 @@ module _ (others : Others) where
   unfolding understood everything
   peers_asks = record { means = record { command_is = refl; plain = (refl, refl) }; unlisted = refl }
 
-  pub addresses_asks : Asks others addresses_text (Select (record { lets = []; body = plain_query 10 of_addresses allowed_places (rising 6 ∷ []) }) (codes "NULL" ∷ codes "network" ∷ codes "family" ∷ codes "lo" ∷ codes "length" ∷ codes "hi" ∷ codes "peer" ∷ codes "kind" ∷ []))
+  pub addresses_asks : Asks others addresses_text (Select (record { lets = []; body = plain_query 10 of_addresses allowed_places [] }) (codes "NULL" ∷ codes "network" ∷ codes "family" ∷ codes "lo" ∷ codes "length" ∷ codes "hi" ∷ codes "peer" ∷ codes "kind" ∷ []))
   unfolding understood everything
   addresses_asks = record { means = record { command_is = refl; plain = (refl, refl) }; unlisted = refl }
 

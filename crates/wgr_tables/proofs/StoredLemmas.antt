@@ -145,10 +145,7 @@ module _ (old new : State) (register : IsRegister old.now) (n : ℕ) (rows : Lis
       λ k. Null ∷ network k ∷ family k ∷ lo k ∷ long k ∷ hi k ∷ peer k ∷ kind k ∷ []
 
   pub addresses_stored : Shown addresses_text params old new rows → AreStored stored_allowed allowed_in rows
-  addresses_stored shown = stored_rows old new register addresses_text params 10 of_addresses allowed_places (rising 6 ∷ []) _ (addresses_asks register.others) rows shown allowed_in (λ r. refl) stored_allowed allowed_is
-
-  pub addresses_rise : Shown addresses_text params old new rows → AreRising (λ a. a.peer) allowed_in rows
-  addresses_rise shown = rising_rows old new register addresses_text params 10 of_addresses allowed_places (rising 6 ∷ []) _ (addresses_asks register.others) rows shown allowed_in (λ r. refl) (λ a. a.peer) 6 refl (λ r here. register.written.allowed.numbers_are r here 6 (inr (inr (inr (inl refl)))))
+  addresses_stored shown = stored_rows old new register addresses_text params 10 of_addresses allowed_places [] _ (addresses_asks register.others) rows shown allowed_in (λ r. refl) stored_allowed allowed_is
 
   pub routes_stored : Shown routes_text params old new rows → AreStored stored_allowed allowed_in rows
   routes_stored shown = stored_rows old new register routes_text params 10 of_routes allowed_places (rising 2 ∷ rising 3 ∷ rising 4 ∷ []) _ (routes_asks register.others) rows shown allowed_in (λ r. refl) stored_allowed allowed_is

@@ -1,5 +1,5 @@
 -- What the statements of a commit make of the rows.
-use Rattle.std.specs.Prelude.{◌≡◌, ℕ, Bool, false, not, ◌&&◌, nat_eq, List, ◌∷◌, map}
+use Rattle.std.specs.Prelude.{◌≡◌, ℕ, suc, Bool, false, not, ◌&&◌, nat_eq, nat_le, List, [], ◌∷◌, map, ⊤}
 use Rattle.std.specs.List.{filter}
 use Rattle.std.specs.List.Sorted.{IsPermutation}
 use Rattle.wgr_text.specs.Prefix.{PrefixValue}
@@ -56,6 +56,25 @@ is_address_of network id a = nat_eq a.network network && (nat_eq a.peer id && no
 -- the row of the peer of the number goes, and that of its address; routes to it stay
 abbrev pub PeerRowsGo : ℕ → ℕ → Tables → Tables → Type 0
 PeerRowsGo network number = Then (PeerGoes network (peer_id network number)) (AllowedGoes (is_address_of network (peer_id network number)))
+
+-- the numbers rise by one, and the first is this one
+abbrev pub AreFrom : ℕ → List Peer → Type 0
+AreFrom first [] = ⊤
+AreFrom first (p ∷ ps) = (p.number ≡ first) × AreFrom (suc first) ps
+
+abbrev pub is_peer_within : ℕ → ℕ → ℕ → PeerRow → Bool
+is_peer_within network first last p = nat_eq p.network network && (nat_le first p.id && nat_le p.id last)
+
+abbrev pub is_address_within : ℕ → ℕ → ℕ → AllowedRow → Bool
+is_address_within network first last a = nat_eq a.network network && (nat_le first a.peer && (nat_le a.peer last && not a.is_route))
+
+-- the rows of the peers of these ids go
+abbrev pub PeersGo : ℕ → ℕ → ℕ → Tables → Tables → Type 0
+PeersGo network first last t u = u ≡ record t { peers = filter (λ p. not (is_peer_within network first last p)) t.peers }
+
+-- those of the peers of these numbers, and of their addresses
+abbrev pub RangeGoes : ℕ → ℕ → ℕ → Tables → Tables → Type 0
+RangeGoes network first last = Then (PeersGo network (peer_id network first) (peer_id network last)) (AllowedGoes (is_address_within network (peer_id network first) (peer_id network last)))
 
 -- a row comes, whose id no other has
 abbrev pub PeerRowComes : PeerRow → Tables → Tables → Type 0

@@ -10,6 +10,7 @@ ghost use Rattle.wgr_tables.specs.TableSteps.{AllowedGoes, AllowedComes, PeerRow
 ghost use Rattle.wgr_tables.specs.Standing.{StepsOn, StepsFrom};
 
 use crate::leave::drop_peer_row;
+use crate::range::{drop_range, range_of};
 use crate::value::{bytes_of, family_value, number_value, peer_id_value};
 use sqlite::types::ValueRef;
 use sqlite::{Alter, Transaction};
@@ -79,8 +80,8 @@ fn drop_rows<S: Alter>(
     drop_address(tx, network, number)
 }
 
-/// Takes the rows of each of these peers away.
-fn drop_all_rows<S: Alter>(
+/// Takes the rows of each of these peers away, one peer after the other.
+fn drop_one_by_one<S: Alter>(
     tx: &mut Transaction<'_, S>,
     network: u32,
     peers: &[Peer],
@@ -93,6 +94,23 @@ fn drop_all_rows<S: Alter>(
         drop_rows(tx, network, peer.number)?;
     }
     Ok(())
+}
+
+/// Takes the rows of each of these peers away.
+fn drop_all_rows<S: Alter>(
+    tx: &mut Transaction<'_, S>,
+    network: u32,
+    peers: &[Peer],
+) -> Result<(), Fault>
+    ensures same_reference { tx.new.conn.ghost_name ≡ tx.old.conn.ghost_name }
+    ensures step { HasCleanDisk (state S.Store tx.new.conn.now) → StepsFrom (Each (λ p. PeerRowsGo network p.number) peers.now) (state S.Store tx.old.conn.now) (state S.Store tx.new.conn.now) result }
+    ensures survives { Survives (state S.Store tx.old.conn.now) (state S.Store tx.new.conn.now) (λ _. ⊥) }
+{
+    if let Some((first, last)) = range_of(peers) {
+        drop_range(tx, network, first, last)?;
+        return Ok(());
+    }
+    drop_one_by_one(tx, network, peers)
 }
 
 /// Adds the row of a peer.

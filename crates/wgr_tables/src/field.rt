@@ -41,6 +41,16 @@ pub(crate) fn number_at(row: &Row, at: usize) -> Result<u64, Fault>
     }
 }
 
+/// The number at this place without its sign; 0 where none stands there.
+pub(crate) fn magnitude_at(row: &Row, at: usize) -> u64
+    ensures { result ≡ number_at row.now at }
+{
+    match row.get_ref(at) {
+        Ok(ValueRef::Int(number)) => number.unsigned_abs(),
+        _ => 0,
+    }
+}
+
 /// Whether nothing stands at this place.
 pub(crate) fn is_null_at(row: &Row, at: usize) -> bool
     ensures { IsTrue result ↔ (column row.now at ≡ Null) }

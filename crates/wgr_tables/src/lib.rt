@@ -10,6 +10,7 @@ mod field;
 mod leave;
 mod load;
 mod lookup;
+mod range;
 mod read;
 mod route;
 mod settled;

@@ -15,7 +15,7 @@ ghost use Rattle.wgr_tables.specs.Loads.{IsMade, ShowAddresses, ShowNetwork, Sho
 ghost use Rattle.wgr_tables.specs.Writes.{Written};
 ghost use Rattle.wgr_tables.specs.Standing.{Stands};
 
-use crate::field::{host_at, key_at, pool_in, short_at, word_at};
+use crate::field::{host_at, key_at, magnitude_at, pool_in, short_at, word_at};
 use crate::read::{peers_of, routes_of};
 use crate::value::number_value;
 use sqlite::{Alter, Connection, Row};
@@ -45,6 +45,32 @@ pub(crate) fn peer_rows<S: Alter>(conn: &mut Connection<S>, network: u32) -> Res
     )
 }
 
+/// The rows of their addresses, in the order of an index, which costs the database no sort.
+fn unsorted_addresses<S: Alter>(conn: &mut Connection<S>, network: u32) -> Result<Vec<Row>, Fault>
+    requires idle { conn.old.in_transaction ≡ false }
+    ensures idle { conn.new.in_transaction ≡ false }
+    ensures stands { (db : Database) (pending : List Written) → Stands S.Store conn.old db pending → Stands S.Store conn.new db pending }
+    ensures clean { HasCleanDisk (state S.Store conn.new) → HasCleanDisk (state S.Store conn.old) }
+    ensures listed { (db : Database) (pending : List Written) → Stands S.Store conn.old db pending → HasCleanDisk (state S.Store conn.new)
+        → IfOk result (λ rows. ShowAddresses network (tables_of db) rows.items) }
+    ensures stored { (db : Database) (pending : List Written) → Stands S.Store conn.old db pending → HasCleanDisk (state S.Store conn.new)
+        → IfOk result (λ rows. AreStored stored_allowed allowed_in rows.items) }
+{
+    query(
+        conn,
+        "SELECT NULL, network, family, lo, length, hi, peer, kind FROM allowed WHERE network = ?1 AND kind <> 'route'",
+        &[number_value(network)],
+    )
+}
+
+/// Puts rows of addresses in the order of their peers.
+fn sort_by_peer(rows: &mut Vec<Row>)
+    ensures same { IsPermutation rows.old.items rows.new.items }
+    ensures sorted { AreRising (λ a. a.peer) allowed_in rows.new.items }
+{
+    rows.sort_unstable_by_key(|row| magnitude_at(row, 6));
+}
+
 /// The rows of their addresses, in the order of the peers.
 pub(crate) fn address_rows<S: Alter>(
     conn: &mut Connection<S>,
@@ -61,11 +87,9 @@ pub(crate) fn address_rows<S: Alter>(
     ensures rising { (db : Database) (pending : List Written) → Stands S.Store conn.old db pending → HasCleanDisk (state S.Store conn.new)
         → IfOk result (λ rows. AreRising (λ a. a.peer) allowed_in rows.items) }
 {
-    query(
-        conn,
-        "SELECT NULL, network, family, lo, length, hi, peer, kind FROM allowed WHERE network = ?1 AND kind <> 'route' ORDER BY peer",
-        &[number_value(network)],
-    )
+    let mut rows = unsorted_addresses(conn, network)?;
+    sort_by_peer(&mut rows);
+    Ok(rows)
 }
 
 /// The rows of the network's routes, in the order of their prefixes.

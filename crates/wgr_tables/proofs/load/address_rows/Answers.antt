@@ -1,29 +1,14 @@
-use Rattle.std.proofs.Common.{pos, [], ◌∷◌}
-use Rattle.sqlite.specs.declared.types.Value.TheVariants.{Int}
-use Rattle.wgr_sql.proofs.ResultLemmas.{if_ok}
-use Rattle.wgr_tables.specs.Decode.{allowed_in}
-use Rattle.wgr_tables.specs.Stored.{AreRising, AreStored, stored_allowed}
-use Rattle.wgr_tables.specs.Loads.{ShowAddresses}
-use Rattle.wgr_tables.proofs.ListedLemmas.{addresses_listed}
-use Rattle.wgr_tables.proofs.Meanings.{addresses_text, addresses_asks}
-use Rattle.wgr_tables.proofs.StoredLemmas.{addresses_stored, addresses_rise}
-use Rattle.wgr_tables.proofs.ReadLemmas.{stands_read, rows_read}
+use Rattle.std.proofs.Common.{map, filter, nat_eq, not, ◌&&◌}
+use Rattle.std.proofs.lemmas.List.Sorted.{IsPermutation-map, IsPermutation-trans}
+use Rattle.wgr_tables.specs.Decode.{tables_of, allowed_in}
+use Rattle.wgr_tables.specs.Stored.{stored_allowed}
+use Rattle.wgr_tables.proofs.SortedRows.{sorted_stored}
 use Rattle.wgr_tables.proofs.load.address_rows.Goals as goal
-
-pub returns-clause-stands : goal.returns-clause-stands
-returns-clause-stands g c db pending stood = stands_read g.S.Store c.args.conn.now c.query.new.conn db pending stood addresses_text c.query.ensures.survives (λ others. (addresses_asks others).means.plain) c.query.ensures.kept c.query.ensures.idle
 
 pub returns-clause-listed : goal.returns-clause-listed
 returns-clause-listed g c db pending stood clean =
-    if_ok c.query.result _ _ (λ rows given. rows_read g.S.Store c.args.conn.now c.query.new.conn db pending stood addresses_text c.query.ensures.survives (ShowAddresses c.args.network) (Int (pos c.args.network) ∷ []) (λ a b register found. addresses_listed a b register c.args.network found) clean rows.items
-    (rw c.number_value.ensures at given)) (c.query.ensures.shown clean)
+    IsPermutation-trans (filter (λ a. nat_eq a.network c.args.network && not a.is_route) (tables_of db).allowed) (map allowed_in c.in_ok-rows.rows.items) _
+    (c.in_ok-rows.ensures.listed db pending stood clean) (IsPermutation-map allowed_in _ _ c.sort_by_peer.ensures.same)
 
 pub returns-clause-stored : goal.returns-clause-stored
-returns-clause-stored g c db pending stood clean =
-    if_ok c.query.result _ _ (λ rows given. rows_read g.S.Store c.args.conn.now c.query.new.conn db pending stood addresses_text c.query.ensures.survives (λ t. AreStored stored_allowed allowed_in) (Int (pos c.args.network) ∷ []) (λ a b register found. addresses_stored a b register c.args.network found) clean rows.items
-    (rw c.number_value.ensures at given)) (c.query.ensures.shown clean)
-
-pub returns-clause-rising : goal.returns-clause-rising
-returns-clause-rising g c db pending stood clean =
-    if_ok c.query.result _ _ (λ rows given. rows_read g.S.Store c.args.conn.now c.query.new.conn db pending stood addresses_text c.query.ensures.survives (λ t. AreRising (λ a. a.peer) allowed_in) (Int (pos c.args.network) ∷ []) (λ a b register found. addresses_rise a b register c.args.network found) clean rows.items
-    (rw c.number_value.ensures at given)) (c.query.ensures.shown clean)
+returns-clause-stored g c db pending stood clean = sorted_stored stored_allowed allowed_in _ _ c.sort_by_peer.ensures.same (c.in_ok-rows.ensures.stored db pending stood clean)

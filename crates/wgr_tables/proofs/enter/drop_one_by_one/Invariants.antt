@@ -6,7 +6,7 @@ use Rattle.wgr_sql.specs.declared.fault.Fault.{Fault}
 use Rattle.wgr_sql.specs.Steps.{Each}
 use Rattle.wgr_tables.specs.TableSteps.{PeerRowsGo}
 use Rattle.wgr_tables.specs.Standing.{StepsFrom}
-use Rattle.wgr_tables.proofs.enter.drop_all_rows.Given as goal
+use Rattle.wgr_tables.proofs.enter.drop_one_by_one.Given as goal
 
 abbrev pub invariant-loop-peer : goal.invariant-loop-peer
 invariant-loop-peer g l =

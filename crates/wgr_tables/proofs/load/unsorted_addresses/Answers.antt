@@ -1,0 +1,24 @@
+use Rattle.std.proofs.Common.{pos, [], ◌∷◌}
+use Rattle.sqlite.specs.declared.types.Value.TheVariants.{Int}
+use Rattle.wgr_sql.proofs.ResultLemmas.{if_ok}
+use Rattle.wgr_tables.specs.Decode.{allowed_in}
+use Rattle.wgr_tables.specs.Stored.{AreStored, stored_allowed}
+use Rattle.wgr_tables.specs.Loads.{ShowAddresses}
+use Rattle.wgr_tables.proofs.ListedLemmas.{addresses_listed}
+use Rattle.wgr_tables.proofs.Meanings.{addresses_text, addresses_asks}
+use Rattle.wgr_tables.proofs.StoredLemmas.{addresses_stored}
+use Rattle.wgr_tables.proofs.ReadLemmas.{stands_read, rows_read}
+use Rattle.wgr_tables.proofs.load.unsorted_addresses.Goals as goal
+
+pub returns-clause-stands : goal.returns-clause-stands
+returns-clause-stands g c db pending stood = stands_read g.S.Store c.args.conn.now c.query.new.conn db pending stood addresses_text c.query.ensures.survives (λ others. (addresses_asks others).means.plain) c.query.ensures.kept c.query.ensures.idle
+
+pub returns-clause-listed : goal.returns-clause-listed
+returns-clause-listed g c db pending stood clean =
+    if_ok c.query.result _ _ (λ rows given. rows_read g.S.Store c.args.conn.now c.query.new.conn db pending stood addresses_text c.query.ensures.survives (ShowAddresses c.args.network) (Int (pos c.args.network) ∷ []) (λ a b register found. addresses_listed a b register c.args.network found) clean rows.items
+    (rw c.number_value.ensures at given)) (c.query.ensures.shown clean)
+
+pub returns-clause-stored : goal.returns-clause-stored
+returns-clause-stored g c db pending stood clean =
+    if_ok c.query.result _ _ (λ rows given. rows_read g.S.Store c.args.conn.now c.query.new.conn db pending stood addresses_text c.query.ensures.survives (λ t. AreStored stored_allowed allowed_in) (Int (pos c.args.network) ∷ []) (λ a b register found. addresses_stored a b register c.args.network found) clean rows.items
+    (rw c.number_value.ensures at given)) (c.query.ensures.shown clean)

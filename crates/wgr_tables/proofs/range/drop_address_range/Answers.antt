@@ -1,0 +1,11 @@
+use Rattle.sqlite.specs.Held.{state}
+use Rattle.wgr_model.specs.Rows.{peer_id}
+use Rattle.wgr_sql.proofs.ResultLemmas.{if_ok}
+use Rattle.wgr_tables.proofs.RangeDrops.{addresses_gone}
+use Rattle.wgr_tables.proofs.range.drop_address_range.Goals as goal
+
+pub returns-clause-step : goal.returns-clause-step
+returns-clause-step g c clean inside register =
+    let old = state g.S.Store c.args.tx.now.conn.now in
+    let new = state g.S.Store c.execute.new.tx.conn.now in
+    (c.execute.ensures.kept clean inside, if_ok c.execute.result _ _ (λ count h. (addresses_gone old new (register h.1.was_open) c.args.network (peer_id c.args.network c.args.first) (peer_id c.args.network c.args.last) count (rw (c.number_value.ensures, c.peer_id_value.ensures, c.peer_id_value-2.ensures) at h.0), h.1)) (c.execute.ensures.ran clean inside))
