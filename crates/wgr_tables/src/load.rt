@@ -213,7 +213,7 @@ pub(crate) fn make_network(
     let parts = parts_of(alloc, row, peers, routes)?;
     match Network::of(alloc, parts) {
         Ok(Some(network)) => {
-            let _rules = network.pool();
+            network.tell_rules();
             Ok(network)
         }
         Ok(None) => Err(Fault::Store),
