@@ -17,7 +17,8 @@ use Rattle.wgr_core.specs.Network.{NetworkValue, IsNetwork, live_at}
 use Rattle.wgr_core.specs.Owner.{longest_match, own_prefixes}
 use Rattle.wgr_pool.proofs.Lists.{AllPairs-head, AllPairs-tail, filter_none, filter_twice, list_any-filter_none}
 use Rattle.wgr_pool.proofs.Bools.{decide}
-use Rattle.wgr_pool.proofs.PrefixLemmas.{nat_eq_is, same_address_is, same_address_self}
+use Rattle.wgr_pool.proofs.PrefixLemmas.{nat_eq_is}
+use Rattle.wgr_peers.proofs.PeerLemmas.{apart_too}
 use Rattle.wgr_peers.proofs.TableLemmas.{holder_absent, peer_absent, same_key_is}
 use Rattle.wgr_core.proofs.LookLemmas.{absent_kept, found_kept, live_routes}
 use Rattle.wgr_core.proofs.OwnerLemmas.{own_here, own_skip}
@@ -145,15 +146,6 @@ one_of {X} q k (x ∷ xs) pairs = by (q x) refl (one_of q k xs (AllPairs-tail (�
 any_map : {X Y : Type 0} (f : X → Y) (q : Y → Bool) (xs : List X) → list_any q (map f xs) ≡ list_any (λ x. q (f x)) xs
 any_map f q [] = refl
 any_map f q (x ∷ xs) = ap (λ b. q (f x) || b) (any_map f q xs)
-
-apart_too : (q r a : AddrValue) → same_address q r ≡ false → same_address q a ≡ true → same_address r a ≡ false
-apart_too q r a apart same = elim (decide (same_address r a)) [
-  | inr f ↦ f
-  | inl t ↦
-      let one = same_address_is q a same in
-      let other = same_address_is r a t in
-      let bad : true ≡ false = sym (same_address_self q) ∙ ap (same_address q) (one ∙ sym other) ∙ apart in cc
-]
 
 pub own_live : (now : ℕ) (peers : List Peer) (a : AddrValue) → AreApart peers
     → is_own (filter (is_live now) peers) a ≡ (is_own peers a && not (list_any (λ b. same_address b a) (expired_addresses now peers)))

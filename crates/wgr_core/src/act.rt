@@ -36,7 +36,8 @@ impl Network {
 }
 
 impl Live<'_> {
-    // The same of the live network, from which `removed` have gone.
+    // The same of the live network, from which `removed` have gone: a table, with an arm for each
+    // command.
     fn act(
         &self,
         alloc: Global,

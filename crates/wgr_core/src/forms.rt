@@ -1,12 +1,14 @@
-//! What the types of a command keep, told to a proof. Each function only asks a value for its parts:
+//! What the types of a command and of a network keep, told to a proof. Each function only asks a value for its parts:
 //! the contracts of these say of what form they are.
-ghost use Rattle.std.specs.Prelude.{All};
-ghost use Rattle.wgr_core.specs.Forms.{IsFormedCommand, IsFormedLine, IsKeepalive, IsKey, IsStatus};
+ghost use Rattle.std.specs.Prelude.{All, IfSome};
+ghost use Rattle.wgr_core.specs.Forms.{HasForms, IsFormed, IsFormedCommand, IsFormedLine, IsKeepalive, IsKey, IsStatus};
 ghost use Rattle.wgr_core.specs.Outcome.{AreLinesAsked, IsAsked, IsPrefixAsked};
+ghost use Rattle.wgr_peers.specs.Host.{IsHost};
 
 use crate::command::Command;
+use crate::network::Network;
 use crate::seen_peer::SeenPeer;
-use wgr_peers::Status;
+use wgr_peers::{Peer, Status};
 use wgr_text::{Key, Prefix};
 
 impl Command {
@@ -39,6 +41,47 @@ impl Command {
             }
             _ => {}
         }
+    }
+}
+
+impl Network {
+    /// Does nothing. Its contract says what the types of the fields keep.
+    pub fn tell_forms(&self)
+        ensures forms { HasForms self.now }
+        ensures host { IsHost self.now.host }
+    {
+        let _host = self.host().as_str();
+        let server = self.server_key();
+        tell_key(&server);
+        tell_peers(self.peers());
+    }
+}
+
+// Each field of a peer is of its form.
+fn tell_peer(peer: &Peer)
+    ensures { IsFormed peer.now }
+{
+    tell_key(&peer.key);
+    let _label = peer.label.as_str();
+    let _until = peer.until.seconds();
+    tell_keepalive(peer.keepalive);
+    tell_seen(&peer.status);
+}
+
+// The same of all peers.
+fn tell_peers(peers: &[Peer])
+    ensures { All IsFormed peers.now }
+{
+    for peer in peers {
+        tell_peer(peer);
+    }
+}
+
+fn tell_seen(status: &Option<Status>)
+    ensures { IfSome status.now IsStatus }
+{
+    if let Some(status) = status {
+        tell_status(status);
     }
 }
 

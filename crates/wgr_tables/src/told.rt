@@ -1,11 +1,9 @@
 //! A network that its rows tell, if they tell one.
-ghost use Rattle.std.specs.Prelude.{◌≡◌, Ok, Err, IfOk, IfSome, IfNone, All, IsPermutation, filter, map, not, ◌&&◌, nat_eq, false, List};
+ghost use Rattle.std.specs.Prelude.{◌≡◌, Ok, Err, IfOk, IfSome, IfNone, IsPermutation, filter, map, not, ◌&&◌, nat_eq, false, List};
 ghost use Rattle.sqlite.specs.Effect.{Database};
 ghost use Rattle.sqlite.specs.State.{HasCleanDisk};
 ghost use Rattle.sqlite.specs.Held.{state};
-ghost use Rattle.wgr_core.specs.Forms.{HasForms, IsFormed, IsKeepalive, IsKey, IsStatus};
 ghost use Rattle.wgr_core.specs.Network.{NetworkValue};
-ghost use Rattle.wgr_peers.specs.Host.{IsHost};
 ghost use Rattle.wgr_model.specs.Rows.{address_row, peer_row, route_row};
 ghost use Rattle.wgr_sql.specs.declared.fault.Fault.TheVariants.{Store};
 ghost use Rattle.wgr_tables.specs.Decode.{tables_of};
@@ -18,68 +16,9 @@ use crate::read::{peers_of, routes_of};
 use sqlite::{Alter, Connection};
 use std::alloc::Global;
 use wgr_core::Network;
-use wgr_peers::{Peer, Status};
+use wgr_peers::Peer;
 use wgr_sql::Fault;
-use wgr_text::{Key, Prefix};
-
-// A key has 32 bytes.
-fn tell_key(key: &Key)
-    ensures { IsKey key.now }
-{
-    let _bytes = key.0;
-}
-
-fn tell_status(status: &Status)
-    ensures { IsStatus status.now }
-{
-    let _handshake = status.handshake.value();
-    let _received = status.received.value();
-    let _sent = status.sent.value();
-}
-
-fn tell_seen(status: &Option<Status>)
-    ensures { IfSome status.now IsStatus }
-{
-    if let Some(status) = status {
-        tell_status(status);
-    }
-}
-
-// The seconds fit 16 bits.
-fn tell_keepalive(seconds: u16)
-    ensures { IsKeepalive seconds }
-{}
-
-// Does nothing. Each field of a peer is of the form that its type keeps.
-fn tell_peer(peer: &Peer)
-    ensures { IsFormed peer.now }
-{
-    tell_key(&peer.key);
-    let _label = peer.label.as_str();
-    let _until = peer.until.seconds();
-    tell_keepalive(peer.keepalive);
-    tell_seen(&peer.status);
-}
-
-// The same of all peers. The loop is for the proof.
-fn tell_peers(peers: &[Peer])
-    ensures { All IsFormed peers.now }
-{
-    for peer in peers {
-        tell_peer(peer);
-    }
-}
-
-// Does nothing that is seen: the fields of a network are of the forms that their types keep.
-fn tell_network(network: &Network)
-    ensures forms { HasForms network.now }
-    ensures host { IsHost network.now.host }
-{
-    let _host = network.host().as_str();
-    let server = network.server_key();
-    tell_key(&server);
-    tell_peers(network.peers());
-}
+use wgr_text::Prefix;
 
 /// What rows tell, or `None` where they tell nothing of the sort.
 fn told<T>(read: Result<T, Fault>) -> Result<Option<T>, Fault>
@@ -164,6 +103,6 @@ pub fn told_network<S: Alter>(
     let Some(made) = told(make_network(alloc, &row, peers, routes))? else {
         return Ok(None);
     };
-    tell_network(&made);
+    made.tell_forms();
     Ok(Some(made))
 }

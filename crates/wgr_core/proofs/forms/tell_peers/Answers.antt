@@ -4,7 +4,7 @@ use Rattle.std.proofs.lemmas.List.{take_more}
 use Rattle.std.proofs.lemmas.List.Elements.{All-push}
 use Rattle.wgr_peers.specs.declared.peer.Peer.{Peer}
 use Rattle.wgr_core.specs.Forms.{IsFormed}
-use Rattle.wgr_tables.proofs.told.tell_peers.Goals as goal
+use Rattle.wgr_core.proofs.forms.tell_peers.Goals as goal
 
 pub loop-peer-preserved : goal.loop-peer-preserved
 loop-peer-preserved c =
