@@ -9,6 +9,9 @@ use std::collections::{BTreeMap, HashMap, HashSet};
 
 pub const MAX_ROUTES: usize = 4096;
 
+/// From so many routes on, it is asked whether the network has any.
+const MANY_ROUTES: usize = 64;
+
 /// The query of networks, with what stands behind it.
 macro_rules! networks {
     ($rest:literal) => {
@@ -151,11 +154,12 @@ fn load_peers(db: &mut Connection, network: u32) -> Vec<Peer> {
         &id,
         |row| peer_at(row, network),
     );
-    let addresses = db.rows(
-        "SELECT network, family, lo, length, hi, peer, kind FROM allowed WHERE network = ?1 AND kind <> 'route' ORDER BY peer",
+    let mut addresses = db.rows(
+        "SELECT network, family, lo, length, hi, peer, kind FROM allowed WHERE network = ?1 AND kind <> 'route'",
         &id,
         |row| allowed_at(row, network),
     );
+    addresses.sort_unstable_by_key(|(_, number)| *number);
     assert!(peers.len() == addresses.len(), "a peer has one address");
     for (peer, (address, number)) in peers.iter_mut().zip(addresses) {
         assert!(peer.number == number, "a peer has one address");
@@ -398,17 +402,11 @@ impl Network {
                 drop_route(db, self.id, prefix);
             }
             // The rows of all go first, since two of them may have changed their addresses.
-            for peer in &change.peers {
-                drop_peer_row(db, self.id, peer.number);
-                drop_address(db, self.id, peer.number);
-            }
+            drop_peers(db, self.id, &change.peers);
             for peer in &change.peers {
                 put_peer(db, self.id, peer);
             }
-            for (prefix, number) in &change.routes {
-                drop_route(db, self.id, prefix);
-                put_allowed(db, self.id, prefix, *number, "route");
-            }
+            put_routes(db, self.id, &change.routes);
             let next = [Value::Int(i64::from(self.id)), Value::Int(i64::from(change.next))];
             db.run("UPDATE network SET next = ?2 WHERE id = ?1", &next);
         });
@@ -439,6 +437,22 @@ fn drop_address(db: &mut Connection, network: u32, number: u32) {
     db.run("DELETE FROM allowed WHERE network = ?1 AND peer = ?2 AND kind <> 'route'", &values);
 }
 
+/// The rows of peers whose numbers follow one another go by one range of each table.
+fn drop_peers(db: &mut Connection, network: u32, peers: &[Peer]) {
+    let follow_on = peers.is_sorted_by(|one, other| other.number == one.number + 1);
+    let ([first, .., last], true) = (peers, follow_on) else {
+        for peer in peers {
+            drop_peer_row(db, network, peer.number);
+            drop_address(db, network, peer.number);
+        }
+        return;
+    };
+    let (first, last) = (peer_id(network, first.number), peer_id(network, last.number));
+    let values = [Value::Int(i64::from(network)), first, last];
+    db.run("DELETE FROM peer WHERE network = ?1 AND id >= ?2 AND id <= ?3", &values);
+    db.run("DELETE FROM allowed WHERE network = ?1 AND peer >= ?2 AND peer <= ?3 AND kind <> 'route'", &values);
+}
+
 fn drop_allowed(db: &mut Connection, network: u32, number: u32) {
     let values = [Value::Int(i64::from(network)), peer_id(network, number)];
     db.run("DELETE FROM allowed WHERE network = ?1 AND peer = ?2", &values);
@@ -454,6 +468,27 @@ fn drop_route(db: &mut Connection, network: u32, prefix: &Prefix) {
             Value::Int(i64::from(prefix.length)),
         ],
     );
+}
+
+fn has_route(db: &mut Connection, network: u32) -> bool {
+    let found = db.rows(
+        "SELECT peer FROM allowed WHERE network = ?1 AND kind = 'route' LIMIT 1",
+        &[Value::Int(i64::from(network))],
+        |row| row.int(0),
+    );
+    !found.is_empty()
+}
+
+/// Where a network has no route, many that come are put without a statement for each that drops what isn't there.
+fn put_routes(db: &mut Connection, network: u32, routes: &[(Prefix, u32)]) {
+    let are_ordered = routes.is_sorted_by(|one, other| one.0 < other.0);
+    let are_new = routes.len() >= MANY_ROUTES && are_ordered && !has_route(db, network);
+    for (prefix, number) in routes {
+        if !are_new {
+            drop_route(db, network, prefix);
+        }
+        put_allowed(db, network, prefix, *number, "route");
+    }
 }
 
 fn put_peer(db: &mut Connection, network: u32, peer: &Peer) {
