@@ -6,6 +6,7 @@
 use crate::prefix::{Family, Prefix};
 use crate::sqlite::{Connection, Row, Value};
 use std::collections::{BTreeMap, HashMap, HashSet};
+use std::ops::Range;
 
 pub const MAX_ROUTES: usize = 4096;
 
@@ -23,7 +24,7 @@ macro_rules! networks {
 }
 
 /// What a running interface last showed of a peer.
-#[derive(Clone, Copy)]
+#[derive(Clone, Copy, PartialEq)]
 pub struct Status {
     pub handshake: i64,
     pub received: i64,
@@ -81,6 +82,13 @@ pub struct Change {
     pub peers: Vec<Peer>,
     routes: Vec<(Prefix, u32)>,
     next: u32,
+}
+
+/// What an adoption changes, the numbers of its new peers, and how many lines found their key held.
+pub struct Adoption {
+    pub change: Change,
+    pub added: Range<u32>,
+    pub known: usize,
 }
 
 /// Why a command is refused.
@@ -361,19 +369,33 @@ impl Network {
         routes
     }
 
-    /// The peers of all lines, each of which names an address.
-    pub fn adopt(&self, server: Option<[u8; 32]>, lines: &[Seen]) -> Change {
+    /// Those of these peers that aren't the network's as they are.
+    fn altered(&self, peers: Vec<Peer>) -> Vec<Peer> {
+        let differs = |place: usize, peer: &Peer| self.peers.get(place).is_none_or(|was| was.status != peer.status);
+        let all = peers.into_iter().enumerate();
+        all.filter(|(place, peer)| differs(*place, peer)).map(|(_, peer)| peer).collect()
+    }
+
+    /// The peers of all lines, each of which names an address. One whose key is held gives its status alone.
+    pub fn adopt(&self, server: Option<[u8; 32]>, lines: &[Seen]) -> Adoption {
         assert!(server.is_none_or(|key| key == self.server), "a refusal");
-        let mut keys: HashSet<_> = self.peers.iter().map(|peer| peer.key).collect();
+        let mut peers = self.peers.clone();
+        let mut places: HashMap<_, _> = peers.iter().enumerate().map(|(place, peer)| (peer.key, place)).collect();
         let mut addresses: HashSet<_> = self.peers.iter().map(|peer| peer.address).collect();
         let mut routes: BTreeMap<_, _> = self.routes.iter().copied().collect();
         let mut change = self.no_change();
+        let mut known = 0;
         for line in lines {
+            if let Some(place) = places.get(&line.key) {
+                peers[*place].status = Some(line.status);
+                known += 1;
+                continue;
+            }
             let named = line.allowed.iter().find(|prefix| self.gives(prefix));
             let address = *named.expect("a line that names no address");
             let is_fresh = !routes.contains_key(&address) && addresses.insert(address);
-            assert!(line.key != self.server && keys.insert(line.key) && is_fresh, "a refusal");
-            assert!(keys.len() <= self.capacity, "a refusal");
+            places.insert(line.key, peers.len());
+            assert!(line.key != self.server && is_fresh && places.len() <= self.capacity, "a refusal");
             let number = change.next;
             for prefix in line.allowed.iter().filter(|prefix| **prefix != address) {
                 assert!(*prefix != self.server_address() && !addresses.contains(prefix), "a refusal");
@@ -381,14 +403,15 @@ impl Network {
                 assert!(routes.len() <= MAX_ROUTES, "a refusal");
                 change.routes.push((*prefix, number));
             }
-            change.peers.push(line.peer(number, address));
+            peers.push(line.peer(number, address));
             change.next += 1;
         }
         // A line may take a route from the one before; where there was none, each is put once.
         if self.routes.is_empty() {
             change.routes = routes.into_iter().collect();
         }
-        change
+        change.peers = self.altered(peers);
+        Adoption { added: self.next..change.next, change, known }
     }
 
     /// Writes the change in one commit.
