@@ -110,19 +110,19 @@ class Network:
     def add(self, number):
         return self.ask("POST", "peers", f'{{"key":"{key_text(self.key(number))}"}}')
 
-    def dump_line(self, number, count):
+    def dump_line(self, number, count, later):
         """A peer with its address, a route that it takes from the one before, and one of its own.
 
-        The first has none of its own, so that there are no more routes than peers.
+        The first has none of its own, so that there are no more routes than peers. It was seen so many seconds later.
         """
         allowed = [f"{ip_address(self.address(number))}/32", "0.0.0.0/0"]
         if number > 1:
             allowed.append(str(route(number, count)))
-        seen = f"{1_700_000_000 + number}\t{1024 * number}\t{2048 * number}"
+        seen = f"{1_700_000_000 + number + later}\t{1024 * number}\t{2048 * number}"
         return f"{key_text(self.key(number))}\t(none)\t198.51.100.7:40000\t{','.join(allowed)}\t{seen}\t25\n"
 
-    def adoption(self, numbers, count):
-        lines = [self.dump_line(number, count) for number in numbers]
+    def adoption(self, numbers, count, later=0):
+        lines = [self.dump_line(number, count, later) for number in numbers]
         return self.ask("POST", "dump", f"(none)\t{key_text(SERVER_KEY)}\t{PORT}\toff\n{''.join(lines)}")
 
 

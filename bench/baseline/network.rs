@@ -6,8 +6,12 @@
 use crate::prefix::{Family, Prefix};
 use crate::sqlite::{Connection, Row, Value};
 use std::collections::{BTreeMap, HashMap, HashSet};
+use std::ops::Range;
 
 pub const MAX_ROUTES: usize = 4096;
+
+/// From so many routes on, it is asked whether the network has any.
+const MANY_ROUTES: usize = 64;
 
 /// The query of networks, with what stands behind it.
 macro_rules! networks {
@@ -20,7 +24,7 @@ macro_rules! networks {
 }
 
 /// What a running interface last showed of a peer.
-#[derive(Clone, Copy)]
+#[derive(Clone, Copy, PartialEq)]
 pub struct Status {
     pub handshake: i64,
     pub received: i64,
@@ -78,6 +82,13 @@ pub struct Change {
     pub peers: Vec<Peer>,
     routes: Vec<(Prefix, u32)>,
     next: u32,
+}
+
+/// What an adoption changes, the numbers of its new peers, and how many lines found their key held.
+pub struct Adoption {
+    pub change: Change,
+    pub added: Range<u32>,
+    pub known: usize,
 }
 
 /// Why a command is refused.
@@ -151,11 +162,12 @@ fn load_peers(db: &mut Connection, network: u32) -> Vec<Peer> {
         &id,
         |row| peer_at(row, network),
     );
-    let addresses = db.rows(
-        "SELECT network, family, lo, length, hi, peer, kind FROM allowed WHERE network = ?1 AND kind <> 'route' ORDER BY peer",
+    let mut addresses = db.rows(
+        "SELECT network, family, lo, length, hi, peer, kind FROM allowed WHERE network = ?1 AND kind <> 'route'",
         &id,
         |row| allowed_at(row, network),
     );
+    addresses.sort_unstable_by_key(|(_, number)| *number);
     assert!(peers.len() == addresses.len(), "a peer has one address");
     for (peer, (address, number)) in peers.iter_mut().zip(addresses) {
         assert!(peer.number == number, "a peer has one address");
@@ -357,19 +369,33 @@ impl Network {
         routes
     }
 
-    /// The peers of all lines, each of which names an address.
-    pub fn adopt(&self, server: Option<[u8; 32]>, lines: &[Seen]) -> Change {
+    /// Those of these peers that aren't the network's as they are.
+    fn altered(&self, peers: Vec<Peer>) -> Vec<Peer> {
+        let differs = |place: usize, peer: &Peer| self.peers.get(place).is_none_or(|was| was.status != peer.status);
+        let all = peers.into_iter().enumerate();
+        all.filter(|(place, peer)| differs(*place, peer)).map(|(_, peer)| peer).collect()
+    }
+
+    /// The peers of all lines, each of which names an address. One whose key is held gives its status alone.
+    pub fn adopt(&self, server: Option<[u8; 32]>, lines: &[Seen]) -> Adoption {
         assert!(server.is_none_or(|key| key == self.server), "a refusal");
-        let mut keys: HashSet<_> = self.peers.iter().map(|peer| peer.key).collect();
+        let mut peers = self.peers.clone();
+        let mut places: HashMap<_, _> = peers.iter().enumerate().map(|(place, peer)| (peer.key, place)).collect();
         let mut addresses: HashSet<_> = self.peers.iter().map(|peer| peer.address).collect();
         let mut routes: BTreeMap<_, _> = self.routes.iter().copied().collect();
         let mut change = self.no_change();
+        let mut known = 0;
         for line in lines {
+            if let Some(place) = places.get(&line.key) {
+                peers[*place].status = Some(line.status);
+                known += 1;
+                continue;
+            }
             let named = line.allowed.iter().find(|prefix| self.gives(prefix));
             let address = *named.expect("a line that names no address");
             let is_fresh = !routes.contains_key(&address) && addresses.insert(address);
-            assert!(line.key != self.server && keys.insert(line.key) && is_fresh, "a refusal");
-            assert!(keys.len() <= self.capacity, "a refusal");
+            places.insert(line.key, peers.len());
+            assert!(line.key != self.server && is_fresh && places.len() <= self.capacity, "a refusal");
             let number = change.next;
             for prefix in line.allowed.iter().filter(|prefix| **prefix != address) {
                 assert!(*prefix != self.server_address() && !addresses.contains(prefix), "a refusal");
@@ -377,14 +403,15 @@ impl Network {
                 assert!(routes.len() <= MAX_ROUTES, "a refusal");
                 change.routes.push((*prefix, number));
             }
-            change.peers.push(line.peer(number, address));
+            peers.push(line.peer(number, address));
             change.next += 1;
         }
         // A line may take a route from the one before; where there was none, each is put once.
         if self.routes.is_empty() {
             change.routes = routes.into_iter().collect();
         }
-        change
+        change.peers = self.altered(peers);
+        Adoption { added: self.next..change.next, change, known }
     }
 
     /// Writes the change in one commit.
@@ -398,17 +425,11 @@ impl Network {
                 drop_route(db, self.id, prefix);
             }
             // The rows of all go first, since two of them may have changed their addresses.
-            for peer in &change.peers {
-                drop_peer_row(db, self.id, peer.number);
-                drop_address(db, self.id, peer.number);
-            }
+            drop_peers(db, self.id, &change.peers);
             for peer in &change.peers {
                 put_peer(db, self.id, peer);
             }
-            for (prefix, number) in &change.routes {
-                drop_route(db, self.id, prefix);
-                put_allowed(db, self.id, prefix, *number, "route");
-            }
+            put_routes(db, self.id, &change.routes);
             let next = [Value::Int(i64::from(self.id)), Value::Int(i64::from(change.next))];
             db.run("UPDATE network SET next = ?2 WHERE id = ?1", &next);
         });
@@ -439,6 +460,22 @@ fn drop_address(db: &mut Connection, network: u32, number: u32) {
     db.run("DELETE FROM allowed WHERE network = ?1 AND peer = ?2 AND kind <> 'route'", &values);
 }
 
+/// The rows of peers whose numbers follow one another go by one range of each table.
+fn drop_peers(db: &mut Connection, network: u32, peers: &[Peer]) {
+    let follow_on = peers.is_sorted_by(|one, other| other.number == one.number + 1);
+    let ([first, .., last], true) = (peers, follow_on) else {
+        for peer in peers {
+            drop_peer_row(db, network, peer.number);
+            drop_address(db, network, peer.number);
+        }
+        return;
+    };
+    let (first, last) = (peer_id(network, first.number), peer_id(network, last.number));
+    let values = [Value::Int(i64::from(network)), first, last];
+    db.run("DELETE FROM peer WHERE network = ?1 AND id >= ?2 AND id <= ?3", &values);
+    db.run("DELETE FROM allowed WHERE network = ?1 AND peer >= ?2 AND peer <= ?3 AND kind <> 'route'", &values);
+}
+
 fn drop_allowed(db: &mut Connection, network: u32, number: u32) {
     let values = [Value::Int(i64::from(network)), peer_id(network, number)];
     db.run("DELETE FROM allowed WHERE network = ?1 AND peer = ?2", &values);
@@ -454,6 +491,27 @@ fn drop_route(db: &mut Connection, network: u32, prefix: &Prefix) {
             Value::Int(i64::from(prefix.length)),
         ],
     );
+}
+
+fn has_route(db: &mut Connection, network: u32) -> bool {
+    let found = db.rows(
+        "SELECT peer FROM allowed WHERE network = ?1 AND kind = 'route' LIMIT 1",
+        &[Value::Int(i64::from(network))],
+        |row| row.int(0),
+    );
+    !found.is_empty()
+}
+
+/// Where a network has no route, many that come are put without a statement for each that drops what isn't there.
+fn put_routes(db: &mut Connection, network: u32, routes: &[(Prefix, u32)]) {
+    let are_ordered = routes.is_sorted_by(|one, other| one.0 < other.0);
+    let are_new = routes.len() >= MANY_ROUTES && are_ordered && !has_route(db, network);
+    for (prefix, number) in routes {
+        if !are_new {
+            drop_route(db, network, prefix);
+        }
+        put_allowed(db, network, prefix, *number, "route");
+    }
 }
 
 fn put_peer(db: &mut Connection, network: u32, peer: &Peer) {

@@ -183,8 +183,8 @@ fn replaced(network: &Network, change: Change) -> Outcome {
 
 fn adopt(network: &Network, body: &str) -> Outcome {
     let (server, lines) = dump_of(body);
-    let change = network.adopt(server, &lines);
-    done(json(pages::adopted(&change.peers)), change)
+    let adoption = network.adopt(server, &lines);
+    done(json(pages::adopted(adoption.added, adoption.known)), adoption.change)
 }
 
 fn lead(network: &Network, number: u32, prefix: Prefix) -> Outcome {

@@ -4,6 +4,7 @@ use crate::key::write_key;
 use crate::network::{Network, Peer, Status};
 use crate::prefix::Prefix;
 use std::io::Write;
+use std::ops::Range;
 
 // Writing to a vector does not fail.
 macro_rules! put {
@@ -103,10 +104,10 @@ pub fn revoked(number: u32) -> Vec<u8> {
     format!("{{\"revoked\":{number}}}").into_bytes()
 }
 
-/// What an adoption added; no line found its key held.
-pub fn adopted(peers: &[Peer]) -> Vec<u8> {
-    let numbers: Vec<_> = peers.iter().map(|peer| peer.number.to_string()).collect();
-    format!("{{\"added\":[{}],\"known\":0}}", numbers.join(",")).into_bytes()
+/// The numbers of the peers that an adoption added, and how many lines found their key held.
+pub fn adopted(added: Range<u32>, known: usize) -> Vec<u8> {
+    let numbers: Vec<_> = added.map(|number| number.to_string()).collect();
+    format!("{{\"added\":[{}],\"known\":{known}}}", numbers.join(",")).into_bytes()
 }
 
 /// Why a request is refused, and the number of the peer that it is about.

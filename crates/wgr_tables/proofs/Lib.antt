@@ -1,6 +1,7 @@
 pub mod ByteLemmas
 pub mod DefinedLemmas
 pub mod LayoutLemmas
+pub mod FirstRow
 pub mod Meanings
 pub mod EditLemmas
 pub mod WrittenLemmas
@@ -17,6 +18,7 @@ pub mod AllowedLemmas
 pub mod LeftRows
 pub mod RestLemmas
 pub mod RouteRests
+pub mod NewRoutes
 pub mod PeerLemmas
 pub mod PeersGone
 pub mod PeersCome
@@ -31,5 +33,6 @@ pub mod HostLemmas
 pub mod ArrangeLemmas
 pub mod FieldLemmas
 pub mod ReadLemmas
+pub mod QuerySteps
 pub mod SameBytes
 pub mod LookupLemmas

@@ -24,6 +24,8 @@ use Rattle.wgr_sql.proofs.Values.{and_true}
 use Rattle.wgr_tables.specs.Layout.{schema_with, allowed_at}
 use Rattle.wgr_tables.specs.Loads.{ShowAddresses, ShowNetwork, ShowPeers, ShowRoutes}
 use Rattle.wgr_tables.specs.Decode.{IsRegister, tables_of, network_in, peer_in, allowed_in, number_at, bytes_at, route_kind}
+use Rattle.wgr_tables.specs.TableSteps.{HasNoRoute}
+use Rattle.wgr_tables.proofs.FirstRow.{none_passes}
 use Rattle.wgr_tables.proofs.Meanings.{
   Asks,
   peers_text,
@@ -38,6 +40,9 @@ use Rattle.wgr_tables.proofs.Meanings.{
   routes_text,
   routes_asks,
   of_routes,
+  first_route_text,
+  first_route_asks,
+  route_place,
   network_text,
   network_asks,
   network_places,
@@ -91,7 +96,19 @@ module _ (old new : State) (register : IsRegister old.now) (n : ℕ) (rows : Lis
   and_turns false true = refl
   and_turns false false = refl
 
+  route_passes : (r : Row) → Has (old.now.trees 10) r → list_all (holds (params ∷ r ∷ [])) of_routes ≡ (bytes_eq (bytes_at r 7) route_kind && nat_eq (number_at r 1) n)
+  route_passes r here =
+      ap₂ (λ x y. x && y) (owner_is r here) (and_true _ ∙ ap (λ v. is_true (binary (Compare Eq Binary) v (Text route_kind))) (kind_at r here) ∙ equal_texts (bytes_at r 7) route_kind)
+      ∙ and_turns (nat_eq (number_at r 1) n) (bytes_eq (bytes_at r 7) route_kind)
+
   pub routes_listed : Shown routes_text params old new rows → ShowRoutes n (tables_of old.now) rows
   routes_listed shown =
-      listed old new register routes_text params 10 of_routes allowed_places (rising 2 ∷ rising 3 ∷ rising 4 ∷ []) _ (routes_asks register.others) rows shown allowed_in (λ a. a.is_route && nat_eq a.network n) (λ r. refl)
-      (λ r here. ap₂ (λ x y. x && y) (owner_is r here) (and_true _ ∙ ap (λ v. is_true (binary (Compare Eq Binary) v (Text route_kind))) (kind_at r here) ∙ equal_texts (bytes_at r 7) route_kind) ∙ and_turns (nat_eq (number_at r 1) n) (bytes_eq (bytes_at r 7) route_kind))
+      listed old new register routes_text params 10 of_routes allowed_places (rising 2 ∷ rising 3 ∷ rising 4 ∷ []) _ (routes_asks register.others) rows shown allowed_in (λ a. a.is_route && nat_eq a.network n) (λ r. refl) route_passes
+
+  -- the query for one route shows none
+  pub no_route_listed : Shown first_route_text params old new [] → HasNoRoute n (tables_of old.now)
+  no_route_listed shown =
+      let asks = first_route_asks register.others in
+      let read = reads_as first_route_text params old new (schema_with register.others) register.schema_is _ asks.means.command_is asks.means.plain asks.unlisted [] shown in
+      let none = none_passes 10 of_routes route_place old.now.trees params read.answer in
+      sym (map_filter allowed_in (λ r. list_all (holds (params ∷ r ∷ [])) of_routes) (λ a. a.is_route && nat_eq a.network n) (old.now.trees 10) route_passes) ∙ ap (map allowed_in) none

@@ -15,6 +15,7 @@ use Rattle.sqlite_value.specs.declared.keys.Key.{Key}
 use Rattle.sqlite.proofs.Callers.{IsPlain, command_of}
 use Rattle.wgr_sql.specs.Effects.{plain_query}
 use Rattle.wgr_tables.specs.Layout.{Others, schema_with}
+use Rattle.wgr_tables.proofs.FirstRow.{first_of}
 
 abbrev pub equal_to : ℕ → ℕ → Term
 equal_to place given = op2 (Compare Eq Binary) (col 1 place) (col 0 given)
@@ -117,6 +118,12 @@ routes_text = codes "SELECT NULL, network, family, lo, length, hi, peer, kind FR
 abbrev pub of_routes : List Term
 of_routes = equal_to 1 0 ∷ op2 (Compare Eq Binary) (col 1 7) (lit (Text (codes "route"))) ∷ []
 
+abbrev pub first_route_text : List ℕ
+first_route_text = codes "SELECT peer FROM allowed WHERE network = ?1 AND kind = 'route' LIMIT 1"
+
+abbrev pub route_place : List Term
+route_place = col 1 6 ∷ []
+
 abbrev pub network_text : List ℕ
 network_text = codes "SELECT id, NULL, tenant, name, family, lo, length, host, port, server, capacity, next FROM network WHERE id = ?1"
 
@@ -211,6 +218,10 @@ module _ (others : Others) where
   pub routes_asks : Asks others routes_text (Select (record { lets = []; body = plain_query 10 of_routes allowed_places (rising 2 ∷ rising 3 ∷ rising 4 ∷ []) }) (codes "NULL" ∷ codes "network" ∷ codes "family" ∷ codes "lo" ∷ codes "length" ∷ codes "hi" ∷ codes "peer" ∷ codes "kind" ∷ []))
   unfolding understood everything
   routes_asks = record { means = record { command_is = refl; plain = (refl, refl) }; unlisted = refl }
+
+  pub first_route_asks : Asks others first_route_text (Select (record { lets = []; body = first_of 10 of_routes route_place }) (codes "peer" ∷ []))
+  unfolding understood everything
+  first_route_asks = record { means = record { command_is = refl; plain = (refl, refl) }; unlisted = refl }
 
   pub network_asks : Asks others network_text (Select (record { lets = []; body = plain_query 5 by_id network_places [] }) (codes "id" ∷ codes "NULL" ∷ codes "tenant" ∷ codes "name" ∷ codes "family" ∷ codes "lo" ∷ codes "length" ∷ codes "host" ∷ codes "port" ∷ codes "server" ∷ codes "capacity" ∷ codes "next" ∷ []))
   unfolding understood everything

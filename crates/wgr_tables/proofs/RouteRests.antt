@@ -97,7 +97,7 @@ nested true true false = refl
 nested true false l = refl
 nested false n l = refl
 
-route_test : (id : ℕ) (p : PrefixValue) (s : PrefixValue × ℕ) → is_route_at id p (route_row id s) ≡ same_prefix s.0 p
+pub route_test : (id : ℕ) (p : PrefixValue) (s : PrefixValue × ℕ) → is_route_at id p (route_row id s) ≡ same_prefix s.0 p
 route_test id p s = and_left (nat_eq id id) (nat_eq (family_number s.0.address.family) (family_number p.address.family) && (nat_eq s.0.address.number p.address.number && (nat_eq s.0.length p.length && true))) (eqb_self id)
     ∙ nested (nat_eq (family_number s.0.address.family) (family_number p.address.family)) (nat_eq s.0.address.number p.address.number) (nat_eq s.0.length p.length)
     ∙ ap (λ f. (f && nat_eq s.0.address.number p.address.number) && nat_eq s.0.length p.length) (same_families s.0.address.family p.address.family)

@@ -48,6 +48,10 @@ RouteComes network r t u = HasAddr r × AllowedComes (route_row network r) t u
 abbrev pub RoutePuts : ℕ → PrefixValue × ℕ → Tables → Tables → Type 0
 RoutePuts network r = Then (RouteGoes network r.0) (RouteComes network r)
 
+-- no row is a route of the network
+abbrev pub HasNoRoute : ℕ → Tables → Type 0
+HasNoRoute network t = filter (λ a. a.is_route && nat_eq a.network network) t.allowed ≡ []
+
 -- ---- peers that come, or take the place of the one of their number
 
 abbrev pub is_address_of : ℕ → ℕ → AllowedRow → Bool

@@ -1,16 +1,21 @@
 //! Routes of a network that come and go.
-ghost use Rattle.std.specs.Prelude.{◌≡◌};
+ghost use Rattle.std.specs.Prelude.{◌≡◌, [], IfOk, IsTrue};
 ghost use Rattle.sqlite.specs.State.{HasCleanDisk, Survives};
 ghost use Rattle.sqlite.specs.Held.{state};
+ghost use Rattle.wgr_peers.specs.Routes.{AreOrdered};
 ghost use Rattle.wgr_sql.specs.Steps.{Each};
-ghost use Rattle.wgr_tables.specs.TableSteps.{RouteGoes, RouteComes, RoutePuts};
+ghost use Rattle.wgr_tables.specs.TableSteps.{HasNoRoute, RouteGoes, RouteComes, RoutePuts};
 ghost use Rattle.wgr_tables.specs.Standing.{StepsOn, StepsFrom};
 
 use crate::value::{bytes_of, family_value, number_value, peer_id_value};
 use sqlite::types::ValueRef;
-use sqlite::{Alter, Transaction};
-use wgr_sql::{Fault, execute};
+use sqlite::{Alter, Row, Transaction};
+use wgr_peers::order::comes_before;
+use wgr_sql::{Fault, execute, fault_of};
 use wgr_text::Prefix;
+
+/// From so many routes on, a query whether the network has any costs less than it saves.
+const MANY: usize = 64;
 
 /// Takes a route away.
 fn drop_route<S: Alter>(
@@ -78,8 +83,8 @@ fn put_route<S: Alter>(
     add_route(tx, network, &route.0, route.1)
 }
 
-/// Leads each of these prefixes to its peer.
-pub(crate) fn put_routes<S: Alter>(
+/// Leads each of these prefixes to its peer, in place of the route that it has.
+fn replace_routes<S: Alter>(
     tx: &mut Transaction<'_, S>,
     network: u32,
     routes: &[(Prefix, u32)],
@@ -92,6 +97,78 @@ pub(crate) fn put_routes<S: Alter>(
         put_route(tx, network, route)?;
     }
     Ok(())
+}
+
+/// Adds each of these routes.
+fn add_routes<S: Alter>(
+    tx: &mut Transaction<'_, S>,
+    network: u32,
+    routes: &[(Prefix, u32)],
+) -> Result<(), Fault>
+    ensures same_reference { tx.new.conn.ghost_name ≡ tx.old.conn.ghost_name }
+    ensures step { HasCleanDisk (state S.Store tx.new.conn.now) → StepsFrom (Each (RouteComes network) routes.now) (state S.Store tx.old.conn.now) (state S.Store tx.new.conn.now) result }
+    ensures survives { Survives (state S.Store tx.old.conn.now) (state S.Store tx.new.conn.now) (λ _. ⊥) }
+{
+    for route in routes {
+        add_route(tx, network, &route.0, route.1)?;
+    }
+    Ok(())
+}
+
+/// A route of the network, if it has any.
+fn first_route<S: Alter>(tx: &mut Transaction<'_, S>, network: u32) -> Result<Vec<Row>, Fault>
+    ensures same_reference { tx.new.conn.ghost_name ≡ tx.old.conn.ghost_name }
+    ensures step { HasCleanDisk (state S.Store tx.new.conn.now) → StepsOn (λ t u. (t ≡ u) × IfOk result (λ rows. rows.items ≡ [] → HasNoRoute network t)) (state S.Store tx.old.conn.now) (state S.Store tx.new.conn.now) result }
+    ensures survives { Survives (state S.Store tx.old.conn.now) (state S.Store tx.new.conn.now) (λ _. ⊥) }
+{
+    tx.query_all(
+        "SELECT peer FROM allowed WHERE network = ?1 AND kind = 'route' LIMIT 1",
+        &[number_value(network)],
+    )
+    .map_err(|error| fault_of(error))
+}
+
+/// Whether each prefix comes before the next one.
+fn are_ordered(routes: &[(Prefix, u32)]) -> bool
+    ensures { IsTrue result → AreOrdered routes.now }
+{
+    routes.is_sorted_by(|one, other| comes_before(&one.0, &other.0))
+}
+
+/// Whether none of these routes takes the place of another; where they are few, it isn't asked.
+fn are_new<S: Alter>(
+    tx: &mut Transaction<'_, S>,
+    network: u32,
+    routes: &[(Prefix, u32)],
+) -> Result<bool, Fault>
+    ensures same_reference { tx.new.conn.ghost_name ≡ tx.old.conn.ghost_name }
+    ensures step { HasCleanDisk (state S.Store tx.new.conn.now) → StepsFrom (λ t u. (t ≡ u) × IfOk result (λ new. IsTrue new → HasNoRoute network t)) (state S.Store tx.old.conn.now) (state S.Store tx.new.conn.now) result }
+    ensures ordered { IfOk result (λ new. IsTrue new → AreOrdered routes.now) }
+    ensures survives { Survives (state S.Store tx.old.conn.now) (state S.Store tx.new.conn.now) (λ _. ⊥) }
+{
+    if routes.len() < MANY || !are_ordered(routes) {
+        return Ok(false);
+    }
+    let found = first_route(tx, network)?;
+    Ok(found.is_empty())
+}
+
+/// Leads each of these prefixes to its peer. Many that come to a network without routes come without
+/// a statement for each that takes away what isn't there.
+pub(crate) fn put_routes<S: Alter>(
+    tx: &mut Transaction<'_, S>,
+    network: u32,
+    routes: &[(Prefix, u32)],
+) -> Result<(), Fault>
+    ensures same_reference { tx.new.conn.ghost_name ≡ tx.old.conn.ghost_name }
+    ensures step { HasCleanDisk (state S.Store tx.new.conn.now) → StepsFrom (Each (RoutePuts network) routes.now) (state S.Store tx.old.conn.now) (state S.Store tx.new.conn.now) result }
+    ensures survives { Survives (state S.Store tx.old.conn.now) (state S.Store tx.new.conn.now) (λ _. ⊥) }
+{
+    if are_new(tx, network, routes)? {
+        add_routes(tx, network, routes)
+    } else {
+        replace_routes(tx, network, routes)
+    }
 }
 
 /// Takes each of these routes away.

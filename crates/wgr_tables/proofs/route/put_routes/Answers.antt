@@ -1,29 +1,38 @@
-use Rattle.std.proofs.Common.{◌≡◌, ℕ, [], ◌∷◌, ◌++◌, ◌+◌, take, Ok, sym, ap, subst, ◌∙◌, arith}
-use Rattle.std.proofs.lemmas.List.{take_more}
+use Rattle.std.proofs.Common.{◌≡◌, IsTrue, arith, sym, subst}
 use Rattle.sqlite.specs.State.{HasCleanDisk}
 use Rattle.sqlite.specs.Held.{state}
+use Rattle.wgr_model.specs.Rows.{Tables}
 use Rattle.wgr_sql.specs.declared.fault.Fault.{Fault}
 use Rattle.wgr_sql.specs.Steps.{Each}
-use Rattle.wgr_tables.specs.TableSteps.{RoutePuts}
-use Rattle.wgr_tables.specs.Standing.{StepsFrom}
-use Rattle.wgr_text.specs.Prefix.{PrefixValue}
-use Rattle.wgr_sql.proofs.SurvivesLemmas.{survives_next}
-use Rattle.wgr_sql.proofs.StepLemmas.{loop_more}
+use Rattle.wgr_sql.proofs.StepLemmas.{chain_then}
 use Rattle.wgr_tables.specs.Decode.{IsRegister, tables_of}
+use Rattle.wgr_tables.specs.TableSteps.{HasNoRoute, RouteComes, RoutePuts}
+use Rattle.wgr_tables.proofs.Made.{Made}
+use Rattle.wgr_tables.proofs.NewRoutes.{routes_are_put}
 use Rattle.wgr_tables.proofs.route.put_routes.Goals as goal
 
-pub loop-route-preserved : goal.loop-route-preserved
-loop-route-preserved g c =
-    let at = c.loop-route.route-index in
-    let d : PrefixValue × ℕ = c.route-item.result in
-    let start = state g.S.Store c.args.tx.now.conn.now in
-    let before = state g.S.Store c.loop-route.tx.conn.now in
-    let after = state g.S.Store c.put_route.new.tx.conn.now in
-    let more : take (at + 1) c.args.routes.now ≡ take at c.args.routes.now ++ d ∷ [] = take_more c.args.routes.now at d c.loop-route-test.true ∙ ap (λ x. take at c.args.routes.now ++ x ∷ []) (sym c.route-item.is) in (
-      c.put_route.ensures.same_reference ∙ c.loop-route.invariant.0,
-      survives_next _ _ _ c.loop-route.invariant.1 c.put_route.ensures.survives,
-      λ clean.
-          let was : HasCleanDisk before = omega (arith, c.put_route.ensures.survives.clean, clean) in
-          subst (λ l. StepsFrom {X = ℕ} {E = Fault} (Each (RoutePuts c.args.network) l) start after (Ok 0)) (sym more)
-          (loop_more IsRegister tables_of Fault (RoutePuts c.args.network) (take at c.args.routes.now) d start before after c.in_ok-put_route.field-0 (c.loop-route.invariant.2 was) (c.in_ok-put_route.ensures.step clean)),
-    )
+pub returns-then-branch-clause-step : goal.returns-then-branch-clause-step
+returns-then-branch-clause-step g c clean =
+    let network = c.args.network in
+    let routes = c.args.routes.now in
+    let a = state g.S.Store c.args.tx.now.conn.now in
+    let b = state g.S.Store c.are_new.new.tx.conn.now in
+    let d = state g.S.Store c.add_routes.new.tx.conn.now in
+    let was : HasCleanDisk b = omega (arith, c.add_routes.ensures.survives.clean, clean) in
+    let ordered = c.in_ok-are_new.ensures.ordered c.if-branch.true in
+    chain_then IsRegister {E = Fault} (Made (λ t u. (t ≡ u) × (IsTrue c.in_ok-are_new.field-0 → HasNoRoute network t))) (Made (Each (RouteComes network) routes)) (Made (Each (RoutePuts network) routes)) a b d c.in_ok-are_new.field-0 c.add_routes.result
+    (λ p q r asked come. record {
+      sound = come.sound;
+      made = routes_are_put network routes (tables_of p) (tables_of r) ordered (asked.made.1 c.if-branch.true) (subst (λ (t : Tables). Each (RouteComes network) routes t (tables_of r)) (sym asked.made.0) come.made);
+    }) (λ p q asked. asked.sound) (c.in_ok-are_new.ensures.step was) (c.add_routes.ensures.step clean)
+
+pub returns-else-branch-clause-step : goal.returns-else-branch-clause-step
+returns-else-branch-clause-step g c clean =
+    let network = c.args.network in
+    let routes = c.args.routes.now in
+    let a = state g.S.Store c.args.tx.now.conn.now in
+    let b = state g.S.Store c.are_new.new.tx.conn.now in
+    let d = state g.S.Store c.replace_routes.new.tx.conn.now in
+    let was : HasCleanDisk b = omega (arith, c.replace_routes.ensures.survives.clean, clean) in
+    chain_then IsRegister {E = Fault} (Made (λ t u. (t ≡ u) × (IsTrue c.in_ok-are_new.field-0 → HasNoRoute network t))) (Made (Each (RoutePuts network) routes)) (Made (Each (RoutePuts network) routes)) a b d c.in_ok-are_new.field-0 c.replace_routes.result
+    (λ p q r asked put. record { sound = put.sound; made = subst (λ (t : Tables). Each (RoutePuts network) routes t (tables_of r)) (sym asked.made.0) put.made }) (λ p q asked. asked.sound) (c.in_ok-are_new.ensures.step was) (c.replace_routes.ensures.step clean)

@@ -5,7 +5,7 @@ use Rattle.wgr_sql.specs.declared.fault.Fault.{Fault}
 use Rattle.wgr_sql.specs.Steps.{Each}
 use Rattle.wgr_tables.specs.TableSteps.{RoutePuts}
 use Rattle.wgr_tables.specs.Standing.{StepsFrom}
-use Rattle.wgr_tables.proofs.route.put_routes.Given as goal
+use Rattle.wgr_tables.proofs.route.replace_routes.Given as goal
 
 abbrev pub invariant-loop-route : goal.invariant-loop-route
 invariant-loop-route g l =
