@@ -1,6 +1,9 @@
 pub mod Queries
+pub mod SelectLemmas
 pub mod AddressLemmas
 pub mod NetworkLemmas
 pub mod RowLemmas
+pub mod TableLemmas
+pub mod StreamLemmas
 pub mod MemberLemmas
 pub mod MemberLaws

@@ -1,11 +1,13 @@
 //! What stands at a place of a row.
-ghost use Rattle.std.specs.Prelude.{◌≡◌, ◌<◌, ◌↔◌, true, nat_eq, length, IsTrue};
+ghost use Rattle.std.specs.Prelude.{◌≡◌, ◌<◌, ◌↔◌, true, nat_eq, length, IsTrue, IfSome, IfNone};
 ghost use Rattle.std.specs.List.{AllByRecursion, list_any};
 ghost use Rattle.std.specs.List.Sorted.{IsSorted};
 ghost use Rattle.std.specs.Ordering.{nat_cmp};
 ghost use Rattle.sqlite_value.specs.Order.{column};
+ghost use Rattle.sqlite_rules.specs.Edit.{id_in};
 ghost use Rattle.sqlite.specs.declared.types.Value.TheVariants.{Null};
 ghost use Rattle.wgr_tables.specs.Decode.{IsKindAt, bytes_of, number_at, number_of};
+ghost use Rattle.wgr_audit.specs.Fields.{IsIntegerAt};
 ghost use Rattle.wgr_members.specs.AllowedRows.{IsFamily};
 ghost use Rattle.wgr_members.specs.Fields.{IsAddressAt, IsNaturalAt};
 
@@ -20,6 +22,17 @@ pub(crate) fn is_natural_at(row: &Row, at: usize) -> bool
         Ok(ValueRef::Int(number)) => number >= 0,
         _ => false,
     }
+}
+
+/// The integer at this place.
+pub(crate) fn integer_at(row: &Row, at: usize) -> Option<i64>
+    ensures some { IfSome result (λ number. IsIntegerAt row.now at × (number ≡ id_in (column row.now at))) }
+    ensures none { IfNone result (IsIntegerAt row.now at → ⊥) }
+{
+    let Ok(ValueRef::Int(number)) = row.get_ref(at) else {
+        return None;
+    };
+    Some(number)
 }
 
 /// Whether nothing stands at this place.

@@ -59,21 +59,17 @@ fn read_holdings<S: Alter>(
 }
 
 /// Whether the rows of members are those of members of these networks.
-fn are_members_written<S: Alter>(
-    alloc: Global,
-    conn: &mut Connection<S>,
-    networks: &[u32],
-) -> Result<bool, Fault>
+fn are_members_written<S: Alter>(conn: &mut Connection<S>, networks: &[u32]) -> Result<bool, Fault>
     requires idle { conn.old.in_transaction ≡ false }
     ensures idle { conn.new.in_transaction ≡ false }
     ensures told { HasCleanDisk (state S.Store conn.new) → Laid (state S.Store conn.old) → IsSorted nat_cmp networks.now → IfOk result (λ is. IsTrue (state S.Store conn.old).is_open × (IsTrue is ↔ (AreWrittenPeers networks.now ((state S.Store conn.old).now.trees 8) × AreWrittenAllowed networks.now ((state S.Store conn.old).now.trees 10)))) }
     ensures kept { (HasCleanDisk (state S.Store conn.new) → Laid (state S.Store conn.old)) → IsKept (state S.Store conn.old) (state S.Store conn.new) }
     ensures survives { Survives (state S.Store conn.old) (state S.Store conn.new) (λ _. ⊥) }
 {
-    if !peers_are_written(alloc, conn, networks)? {
+    if !peers_are_written(conn, networks)? {
         return Ok(false);
     }
-    allowed_are_written(alloc, conn, networks)
+    allowed_are_written(conn, networks)
 }
 
 /// The ids of the networks, if the rows of each table are good.
@@ -91,7 +87,7 @@ pub(crate) fn read_tables<S: Alter>(
     let Some(networks) = read_holdings(alloc, conn)? else {
         return Ok(None);
     };
-    if !are_members_written(alloc, conn, networks.as_slice())? {
+    if !are_members_written(conn, networks.as_slice())? {
         return Ok(None);
     }
     Ok(Some(networks))

@@ -1,7 +1,0 @@
-use Rattle.std.proofs.Common.{[], arith}
-use Rattle.wgr_audit.proofs.ListLemmas.{all_places}
-use Rattle.wgr_members.specs.PeerRows.{IsPeerRowOf}
-use Rattle.wgr_members.proofs.peers.are_peer_rows_of.Goals as goal
-
-pub returns-clause-is : goal.returns-clause-is
-returns-clause-is c up so = all_places (IsPeerRowOf c.args.networks.now) c.args.rows.now [] (λ k low. c.loop-row.invariant up k (omega (arith, low, c.loop-row-test.false)))

@@ -1,0 +1,73 @@
+//! Rows that a query shows, tested one after the other.
+ghost use Rattle.std.specs.Prelude.{◌≡◌, ◌↔◌, [], false, IsTrue, IfOk, IfSome, IfNone};
+ghost use Rattle.std.specs.List.Sorted.{IsSorted};
+ghost use Rattle.std.specs.Ordering.{int_cmp, nat_cmp};
+ghost use Rattle.std.specs.declared.cmp.Ordering.TheVariants.{Less};
+ghost use Rattle.sqlite.specs.State.{HasCleanDisk, Survives};
+ghost use Rattle.sqlite.specs.Held.{state};
+ghost use Rattle.sqlite.specs.Given.{HasGiven};
+ghost use Rattle.sqlite_value.specs.Order.{column};
+ghost use Rattle.sqlite_rules.specs.Edit.{id_in};
+ghost use Rattle.wgr_sql.specs.Calls.{IsKept};
+ghost use Rattle.wgr_audit.specs.Fields.{IsIntegerAt};
+ghost use Rattle.wgr_audit.specs.Layouts.{Laid};
+ghost use Rattle.wgr_members.specs.OwnRows.{AreOwnRows};
+ghost use Rattle.wgr_members.specs.TableRows.{IsRowOf, text_of, tree_of};
+
+use crate::field::integer_at;
+use crate::table::Table;
+use sqlite::{Alter, Row, Rows};
+use wgr_sql::{Fault, fault_of};
+
+/// Whether a rowid comes after the one before it, if there is one.
+fn comes_after(before: Option<i64>, rowid: i64) -> bool
+    ensures { IsTrue result ↔ IfSome before (λ last. int_cmp last rowid ≡ Less) }
+{
+    match before {
+        Some(last) => last < rowid,
+        None => true,
+    }
+}
+
+/// The rowid of a row that passes: one of the table and of these networks, whose rowid comes after
+/// the one before it.
+fn passing_rowid(row: &Row, before: Option<i64>, table: Table, networks: &[u32]) -> Option<i64>
+    ensures some { IsSorted nat_cmp networks.now → IfSome result (λ rowid. IsRowOf table networks.now row.now × IsIntegerAt row.now 0 × (rowid ≡ id_in (column row.now 0)) × IfSome before (λ last. int_cmp last rowid ≡ Less)) }
+    ensures none { IsSorted nat_cmp networks.now → IfNone result (IsRowOf table networks.now row.now → IsIntegerAt row.now 0 → IfSome before (λ last. int_cmp last (id_in (column row.now 0)) ≡ Less) → ⊥) }
+{
+    if !table.is_row_of(row, networks) {
+        return None;
+    }
+    match integer_at(row, 0) {
+        Some(rowid) if comes_after(before, rowid) => Some(rowid),
+        _ => None,
+    }
+}
+
+/// Whether all rows that the table's query is about to show pass. Of the rows that passed only the
+/// last one's rowid is held.
+pub(crate) fn all_pass<S: Alter>(
+    rows: &mut Rows<'_, S>,
+    table: Table,
+    networks: &[u32],
+) -> Result<bool, Fault>
+    ensures same_reference { rows.new.conn.ghost_name ≡ rows.old.conn.ghost_name }
+    ensures idle { rows.old.conn.now.in_transaction ≡ false → rows.new.conn.now.in_transaction ≡ false }
+    ensures told { HasCleanDisk (state S.Store rows.new.conn.now) → Laid (state S.Store rows.old.conn.now) → IsSorted nat_cmp networks.now → HasGiven S.Store (text_of table) [] rows.old.conn.now []
+        → IfOk result (λ is. IsTrue is ↔ AreOwnRows (IsRowOf table networks.now) ((state S.Store rows.old.conn.now).now.trees (tree_of table))) }
+    ensures kept { (IsTrue (state S.Store rows.old.conn.now).is_open → (state S.Store rows.old.conn.now).now ≡ (state S.Store rows.old.conn.now).committed) → IsKept (state S.Store rows.old.conn.now) (state S.Store rows.new.conn.now) }
+    ensures survives { Survives (state S.Store rows.old.conn.now) (state S.Store rows.new.conn.now) (λ _. ⊥) }
+{
+    let mut last = None;
+    'rows: for _ in 0..u64::MAX {
+        rows.advance().map_err(|error| fault_of(error))?;
+        let Some(row) = rows.get() else {
+            return Ok(true);
+        };
+        let Some(rowid) = passing_rowid(row, last, table, networks) else {
+            return Ok(false);
+        };
+        last = Some(rowid);
+    }
+    Err(Fault::Store)
+}
