@@ -49,6 +49,28 @@ ADOPTED = [
 ]
 
 
+# Peers by number, which a dump shows with two prefixes each; the numbers whose handshakes are later in
+# each dump after the first.
+MANY = range(1, 101)
+LATER = [
+    ("all", list(MANY)),
+    ("one by one", [number for number in MANY if number % 2]),
+    ("in a row", list(range(31, 51))),
+    ("in two rows", [*range(1, 21), *range(61, 81)]),
+    ("the last", [100]),
+    ("none", []),
+]
+
+
+def shown(number, handshake):
+    """A line of a dump, and the peer that the API shows of it."""
+    # The routes come in an order of their own.
+    address, route = f"10.8.0.{number + 1}/32", f"10.{100 + number * 37 % 101}.0.0/16"
+    line = [key(number), "(none)", "(none)", f"{address},{route}", str(handshake), "5", "6", "off"]
+    status = {"handshake": handshake, "received": 5, "sent": 6}
+    return line, peer(number, number, address, routes=[route], status=status)
+
+
 def text_of(lines):
     return "".join("\t".join(line) + "\n" for line in lines).encode()
 
@@ -82,6 +104,23 @@ class Requests(unittest.TestCase):
                 self.assertEqual(server.ask("GET", PEERS), done({"peers": ADOPTED}))
                 self.assertEqual(server.ask("POST", DUMP, text), done({"added": [], "known": 3}))
                 self.assertEqual(server.ask("GET", PEERS), done({"peers": ADOPTED}))
+
+    def test_later_handshakes_of_a_dump(self):
+        server = self.serve()
+        seen = dict.fromkeys(MANY, 1)
+        for moment, (name, numbers) in enumerate([("first", []), *LATER], 1):
+            seen.update(dict.fromkeys(numbers, moment))
+            lines, peers = zip(*(shown(number, handshake) for number, handshake in seen.items()))
+            with self.subTest(name):
+                due = {"added": [], "known": 100} if moment > 1 else {"added": list(MANY), "known": 0}
+                self.assertEqual(server.ask("POST", DUMP, text_of([LINES[0], *lines])), done(due))
+                self.assertEqual(server.ask("GET", PEERS), done({"peers": list(peers)}))
+        self.assertEqual(server.ask("DELETE", f"{PEERS}/50"), done({"revoked": 50}))
+        lines, peers = zip(*(shown(number, 99) for number in MANY if number != 50))
+        with self.subTest("beside a number that is gone"):
+            due = {"added": [], "known": 99}
+            self.assertEqual(server.ask("POST", DUMP, text_of([LINES[0], *lines])), done(due))
+            self.assertEqual(server.ask("GET", PEERS), done({"peers": list(peers)}))
 
     def test_dumps_that_are_none(self):
         server = self.serve()
