@@ -66,9 +66,9 @@ def shown(number, handshake):
     """A line of a dump, and the peer that the API shows of it."""
     # The routes come in an order of their own.
     address, route = f"10.8.0.{number + 1}/32", f"10.{100 + number * 37 % 101}.0.0/16"
-    line = [key(number), "(none)", "(none)", f"{address},{route}", str(handshake), "5", "6", "off"]
+    line = [key(100 + number), "(none)", "(none)", f"{address},{route}", str(handshake), "5", "6", "off"]
     status = {"handshake": handshake, "received": 5, "sent": 6}
-    return line, peer(number, number, address, routes=[route], status=status)
+    return line, peer(number, 100 + number, address, routes=[route], status=status)
 
 
 def text_of(lines):
