@@ -1,18 +1,23 @@
-"""10,000 random events of three tenants: each is answered as though it were alone.
+"""Random events: each tenant is answered as though it were alone, and each request as though it were.
 
-The events are run on one register for all, and each tenant's own requests and the accepted orders about it
-on a register of its own. Its replies have to be the same, byte for byte. `WGR_SEED=N` takes other events.
+10,000 events of three tenants are run on one register for all, and each tenant's own requests and the
+accepted orders about it on a register of its own; its replies have to be the same, byte for byte. And a
+list of requests is answered by one program as each of them by a program of its own, which has nothing of
+the networks in memory. `WGR_SEED=N` takes other events.
 """
 
 import json
 import os
 import random
+import shutil
+import sqlite3
 import tempfile
 import unittest
+from contextlib import closing
 from pathlib import Path
 
 from program import run
-from serving import SERVER_KEY, key, request
+from serving import SERVER_KEY, key, make_register, network_add, request
 from test_batch import batch, replies
 
 EVENTS = 10_000
@@ -20,6 +25,8 @@ EVENTS = 10_000
 SEGMENT = 50
 TENANTS = ["acme", "bolt", "cato"]
 NAMES = ["lab", "office"]
+# More networks than a program keeps in memory, and requests that come back to each.
+MANY, ASKED = 70, 300
 POOLS = ["10.8.0.0/29", "10.8.0.0/24", "10.9.0.0/26", "10.10.0.0/24", "fd00::/126", "fd00:1::/64"]
 
 
@@ -131,3 +138,32 @@ class Worlds(unittest.TestCase):
         self.assertIn(left.status, [0, 2], left)
         if left.status == 0:
             self.assertEqual(run([words[0], own[tenant], *words[1:]], token), left)
+
+
+class Alone(unittest.TestCase):
+    def test_each_request_is_answered_as_though_alone(self):
+        seed = int(os.environ.get("WGR_SEED", "1"))
+        with self.subTest(f"WGR_SEED={seed}"), tempfile.TemporaryDirectory() as folder:
+            together = make_register(folder)
+            names = [f"n{place}" for place in range(MANY)]
+            for place, name in enumerate(names):
+                network_add(together, "acme", name, f"10.{9 + place}.0.0/24", port=str(40000 + place))
+            alone = str(Path(folder) / "alone.db")
+            shutil.copy(together, alone)
+            script, asked = Script(seed), []
+            while len(asked) < ASKED:
+                # Now the networks in turn, now one of the last few.
+                turn = names[len(asked) % MANY]
+                last = script.random.choice([turn, *(name for name, _ in asked[-9:])])
+                name = turn if script.random.random() < 0.7 else last
+                asked.append((name, request(*script.asked(name))))
+            answers = replies(batch(together, 0, [message for _, message in asked]).out)
+            for (name, message), answer in zip(asked, answers, strict=True):
+                self.assertEqual(batch(alone, 0, [message]).out, answer, (name, message))
+            self.assertEqual(rows(alone), rows(together))
+            self.assertGreater(sum(answer.startswith(b"HTTP/1.1 200") for answer in answers), ASKED // 2)
+
+
+def rows(database):
+    with closing(sqlite3.connect(database)) as file:
+        return [sorted(file.execute(f"select * from {table}"), key=repr) for table in ["network", "peer", "allowed"]]

@@ -13,6 +13,7 @@ mod prefix;
 mod sha256;
 mod sqlite;
 
+use office::Office;
 use sqlite::Connection;
 use std::fs;
 use std::io::{self, Write};
@@ -25,8 +26,8 @@ fn main() -> io::Result<()> {
     };
     let now = now.parse().expect("a moment");
     let requests = files.iter().map(fs::read).collect::<io::Result<Vec<_>>>()?;
-    let mut db = Connection::open(path);
-    let replies: Vec<_> = requests.iter().map(|request| office::answer(&mut db, now, request)).collect();
+    let mut office = Office::new(Connection::open(path));
+    let replies: Vec<_> = requests.iter().map(|request| office.answer(now, request)).collect();
     let mut out = io::stdout().lock();
     replies.iter().try_for_each(|reply| out.write_all(reply))
 }

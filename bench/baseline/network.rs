@@ -414,6 +414,31 @@ impl Network {
         Adoption { added: self.next..change.next, change, known }
     }
 
+    /// Makes the change in memory.
+    pub fn apply(&mut self, change: Change) {
+        let gone: HashSet<_> = change.removed.into_iter().collect();
+        let gone_routes: HashSet<_> = change.routes_gone.into_iter().collect();
+        self.peers.retain(|peer| !gone.contains(&peer.number));
+        self.routes.retain(|route| !gone.contains(&route.1) && !gone_routes.contains(&route.0));
+        for peer in change.peers {
+            match self.peers.binary_search_by_key(&peer.number, |peer| peer.number) {
+                Ok(place) => self.peers[place] = peer,
+                Err(place) => self.peers.insert(place, peer),
+            }
+        }
+        if let [(prefix, number)] = change.routes[..] {
+            match self.routes.binary_search_by_key(&prefix, |route| route.0) {
+                Ok(place) => self.routes[place].1 = number,
+                Err(place) => self.routes.insert(place, (prefix, number)),
+            }
+        } else if !change.routes.is_empty() {
+            let mut routes: BTreeMap<_, _> = self.routes.drain(..).collect();
+            routes.extend(change.routes);
+            self.routes = routes.into_iter().collect();
+        }
+        self.next = change.next;
+    }
+
     /// Writes the change in one commit.
     pub fn commit(&self, db: &mut Connection, change: &Change) {
         db.commit(|db| {

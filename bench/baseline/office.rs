@@ -23,6 +23,15 @@ struct Reply {
     body: Vec<u8>,
 }
 
+/// How many networks stay in memory.
+const MOST_LOADED: usize = 64;
+
+/// A register, and the networks that were last asked of, the latest at the end.
+pub struct Office {
+    db: Connection,
+    loaded: Vec<Network>,
+}
+
 /// The reply of a command, and what it changes.
 type Outcome = Result<(Reply, Option<Change>), Refusal>;
 
@@ -236,41 +245,65 @@ fn act(network: &Network, now: i64, request: &Request, rest: &[&str]) -> Outcome
     }
 }
 
-/// What the command answers on the network of this id; what it changes is committed.
-fn ask(db: &mut Connection, id: u32, now: i64, request: &Request, rest: &[&str]) -> Reply {
-    let network = Network::load(db, id);
-    assert!(network.peers.iter().all(|peer| peer.is_live(now)), "a lease that is over");
-    match act(&network, now, request, rest) {
-        Ok((reply, change)) => {
-            if let Some(change) = change {
-                network.commit(db, &change);
-            }
-            reply
-        }
-        Err(why) => refused(why),
+impl Office {
+    pub fn new(db: Connection) -> Office {
+        Office { db, loaded: Vec::new() }
     }
-}
 
-fn respond(db: &mut Connection, now: i64, request: &Request) -> Reply {
-    let Some(tenant) = tenant_of_token(db, &sha256::digest_of(request.token.as_bytes())) else {
-        return unknown_token();
-    };
-    let parts: Vec<&str> = request.path.split('/').skip(1).collect();
-    match &parts[..] {
-        ["networks"] => json(pages::networks(&networks_of(db, tenant))),
-        ["networks", name, rest @ ..] => match network_id(db, tenant, name) {
-            Some(id) => ask(db, id, now, request, rest),
-            None => not_found("no_such_network"),
-        },
-        _ => panic!("no such path"),
+    /// The network of this id: the one in memory, or else what its rows form.
+    fn take(&mut self, id: u32) -> Network {
+        match self.loaded.iter().position(|network| network.id == id) {
+            Some(place) => self.loaded.remove(place),
+            None => Network::load(&mut self.db, id),
+        }
+    }
+
+    fn keep(&mut self, network: Network) {
+        if self.loaded.len() == MOST_LOADED {
+            self.loaded.remove(0);
+        }
+        self.loaded.push(network);
+    }
+
+    /// What the command answers on the network of this id; what it changes is committed.
+    fn ask(&mut self, id: u32, now: i64, request: &Request, rest: &[&str]) -> Reply {
+        let mut network = self.take(id);
+        assert!(network.peers.iter().all(|peer| peer.is_live(now)), "a lease that is over");
+        let reply = match act(&network, now, request, rest) {
+            Ok((reply, change)) => {
+                if let Some(change) = change {
+                    network.commit(&mut self.db, &change);
+                    network.apply(change);
+                }
+                reply
+            }
+            Err(why) => refused(why),
+        };
+        self.keep(network);
+        reply
+    }
+
+    fn respond(&mut self, now: i64, request: &Request) -> Reply {
+        let Some(tenant) = tenant_of_token(&mut self.db, &sha256::digest_of(request.token.as_bytes())) else {
+            return unknown_token();
+        };
+        let parts: Vec<&str> = request.path.split('/').skip(1).collect();
+        match &parts[..] {
+            ["networks"] => json(pages::networks(&networks_of(&mut self.db, tenant))),
+            ["networks", name, rest @ ..] => match network_id(&mut self.db, tenant, name) {
+                Some(id) => self.ask(id, now, request, rest),
+                None => not_found("no_such_network"),
+            },
+            _ => panic!("no such path"),
+        }
+    }
+
+    /// The bytes of the reply to a message, at this moment.
+    pub fn answer(&mut self, now: i64, message: &[u8]) -> Vec<u8> {
+        self.respond(now, &Request::read(message).expect("a request")).bytes()
     }
 }
 
 pub fn is_whole(message: &[u8]) -> bool {
     Request::read(message).is_some()
-}
-
-/// The bytes of the reply to a message, at this moment.
-pub fn answer(db: &mut Connection, now: i64, message: &[u8]) -> Vec<u8> {
-    respond(db, now, &Request::read(message).expect("a request")).bytes()
 }

@@ -11,6 +11,7 @@ mod prefix;
 mod sha256;
 mod sqlite;
 
+use office::Office;
 use sqlite::Connection;
 use std::io::{self, Read, Write};
 use std::net::{Shutdown, TcpListener, TcpStream};
@@ -34,23 +35,23 @@ fn now() -> i64 {
 }
 
 /// Reads a request, answers it, and reads to the end, so that no byte which comes late resets the link.
-fn serve_one(db: &mut Connection, link: &mut TcpStream) -> io::Result<()> {
+fn serve_one(office: &mut Office, link: &mut TcpStream) -> io::Result<()> {
     let mut message = Vec::new();
     while !office::is_whole(&message) {
         read_more(link, &mut message)?;
     }
-    link.write_all(&office::answer(db, now(), &message))?;
+    link.write_all(&office.answer(now(), &message))?;
     link.shutdown(Shutdown::Write)?;
     io::copy(link, &mut io::sink()).map(|_| ())
 }
 
 fn serve(path: &str, place: &str, count: u32) -> io::Result<()> {
-    let mut db = Connection::open(path);
+    let mut office = Office::new(Connection::open(path));
     let listener = TcpListener::bind(place)?;
     println!("listening");
     for _ in 0..count {
         let (mut link, _) = listener.accept()?;
-        if serve_one(&mut db, &mut link).is_err() {
+        if serve_one(&mut office, &mut link).is_err() {
             eprintln!("wgr: connection");
         }
     }

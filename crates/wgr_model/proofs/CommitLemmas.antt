@@ -31,13 +31,13 @@ module _ (h : Holding) (n : NetworkValue) where
   put hs = with_network hs h.tenant h.name n
 
   -- the network itself is in its place
-  put_has : (hs : List Holding) → IsDistinct same_slot (map slot hs) → Has hs h → Has (with_network hs h.tenant h.name n) (record h { network = n })
+  pub put_has : (hs : List Holding) → IsDistinct same_slot (map slot hs) → Has hs h → Has (with_network hs h.tenant h.name n) (record h { network = n })
   put_has [] u k = elim k [ ]
   put_has (x ∷ hs) u (inl e) = subst (λ b. Has (if b then record x { network = n } ∷ hs else x ∷ with_network hs h.tenant h.name n) (record h { network = n })) (sym (is_slot h x ∙ ap (λ z. same_slot (slot h) (slot z)) e ∙ self_slot h)) (inl (ap {A = Holding} (λ z. record z { network = n }) e))
   put_has (x ∷ hs) u (inr k) = subst (λ b. Has (if b then record x { network = n } ∷ hs else x ∷ with_network hs h.tenant h.name n) (record h { network = n })) (sym (is_slot h x ∙ slot_sym (slot h) (slot x) ∙ head_apart slot same_slot (slot x) hs h (IsDistinct-head same_slot (slot x) (map slot hs) u) k)) (inr (put_has hs (IsDistinct-tail same_slot (slot x) (map slot hs) u) k))
 
   -- and so is each other one
-  put_other : (hs : List Holding) (k : Holding) → Has hs k → same_slot (slot h) (slot k) ≡ false → Has (with_network hs h.tenant h.name n) k
+  pub put_other : (hs : List Holding) (k : Holding) → Has hs k → same_slot (slot h) (slot k) ≡ false → Has (with_network hs h.tenant h.name n) k
   put_other [] k there apart = elim there [ ]
   put_other (x ∷ hs) k (inl e) apart = subst (λ b. Has (if b then record x { network = n } ∷ hs else x ∷ with_network hs h.tenant h.name n) k) (sym (is_slot h x ∙ ap (λ z. same_slot (slot h) (slot z)) e ∙ apart)) (inl e)
   put_other (x ∷ hs) k (inr there) apart = by_test (nat_eq x.tenant h.tenant && is_same h.name x.name) (put_other hs k there apart) where

@@ -52,7 +52,7 @@ act_refused : (n : NetworkValue) (now : ℕ) (command : Command) (why : Refusal)
 unfolding act
 act_refused n now command why e = refused_as n why (outcome_of n now command) e
 
-act_done : (n : NetworkValue) (now : ℕ) (command : Command) (reply : Reply) (change : Option Change) → Meets n (Ok (reply, change)) (outcome_of n now command) → act n now command ≡ Ok (reply, applied_if change n)
+pub act_done : (n : NetworkValue) (now : ℕ) (command : Command) (reply : Reply) (change : Option Change) → Meets n (Ok (reply, change)) (outcome_of n now command) → act n now command ≡ Ok (reply, applied_if change n)
 unfolding act
 act_done n now command reply change e = done_as n reply change (outcome_of n now command) e
 

@@ -4,3 +4,4 @@ pub mod AskLemmas
 pub mod OrderLemmas
 pub mod NetworkLemmas
 pub mod ListLemmas
+pub mod LoadedLemmas

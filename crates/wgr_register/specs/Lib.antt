@@ -2,3 +2,4 @@ pub mod Given
 pub mod Standing
 pub mod Ends
 pub mod Listing
+pub mod Loaded

@@ -5,6 +5,7 @@ mod ask;
 mod fault;
 mod given;
 mod list;
+mod loaded;
 mod order;
 mod register;
 

@@ -1,5 +1,5 @@
 //! The list of a tenant's networks.
-ghost use Rattle.std.specs.Prelude.{◌≡◌, ℕ, List, map, false, IfOk, OnOk};
+ghost use Rattle.std.specs.Prelude.{◌≡◌, ℕ, List, map, false, IfOk, IsTrue, OnOk};
 ghost use Rattle.sqlite.specs.Effect.{Database};
 ghost use Rattle.sqlite.specs.State.{HasCleanDisk};
 ghost use Rattle.sqlite.specs.Held.{state};
@@ -13,6 +13,7 @@ ghost use Rattle.wgr_tables.specs.Writes.{Written};
 ghost use Rattle.wgr_register.specs.Ends.{AskEnds};
 ghost use Rattle.wgr_register.specs.Given.{as_added};
 ghost use Rattle.wgr_register.specs.Listing.{ShowNetworksOf, by_name, seen_by};
+ghost use Rattle.wgr_register.specs.Loaded.{UnlessFault};
 ghost use Rattle.wgr_register.specs.Standing.{StandsAt};
 
 use crate::fault::AskFault;
@@ -91,6 +92,8 @@ pub(crate) fn networks<S: Alter, R: Render>(
     requires idle { conn.old.in_transaction ≡ false }
     ensures idle { conn.new.in_transaction ≡ false }
     ensures clean { HasCleanDisk (state S.Store conn.new) → HasCleanDisk (state S.Store conn.old) }
+    ensures stands { (db : Database) (pending : List Written) → Stands S.Store conn.old db pending → Stands S.Store conn.new db pending }
+    ensures open { HasCleanDisk (state S.Store conn.new) → UnlessFault result (IsTrue (state S.Store conn.old).is_open) }
     ensures ends { (db : Database) (late : List Event) (now : ℕ) → StandsAt S.Store conn.old db late → AskEnds S.Store R.shown conn.new db late (Networks digest.now) now result }
 {
     let Some(tenant) = tenant_of_token(conn, digest)? else {

@@ -15,6 +15,7 @@ ghost use Rattle.wgr_whole.specs.Good.{IsGood};
 
 use crate::fault::{AskFault, Done, OpenFault, OrderFault};
 use crate::given::Render;
+use crate::loaded::{Networks, drop_after_fault};
 use crate::{ask, list, order};
 use sqlite::{Alter, Connection};
 use std::alloc::Global;
@@ -26,14 +27,19 @@ use wgr_whole::check_register;
 
 /// The networks of many tenants, in a database whose rows are consistent at all times.
 ///
+/// The 64 networks that were last asked of stay in memory as their rows form them, so a request
+/// loads a network only where it isn't one of them.
+///
 /// Every contract names the database at which the register stands, and the events that a stop at
 /// this moment may leave done: those that were answered by a fault since the last acknowledged change.
 pub struct Register<S: Alter> {
     conn: Connection<S>,
+    loaded: Option<Networks>,
 }
 
 impl<S: Alter> Model for Register<S> {
     ghost use Rattle.sqlite.specs.Held.{Held, held_code};
+    ghost use Rattle.wgr_register.specs.Loaded.{AreFormed, Shows, entries_of};
     ghost use Rattle.wgr_register.specs.Standing.{IsAtRest};
 
     ghost Value = { Held S };
@@ -42,7 +48,7 @@ impl<S: Alter> Model for Register<S> {
 
     ghost view = { λ r. r.conn };
 
-    ghost invariant = { λ r. IsAtRest S.Store r.conn };
+    ghost invariant = { λ r. IsAtRest S.Store r.conn × Shows S.Store r.conn (AreFormed (entries_of r.loaded)) };
 }
 
 impl<S: Alter> Register<S> {
@@ -61,7 +67,7 @@ impl<S: Alter> Register<S> {
         ensures idle { IfErr result (λ e. e.connection.in_transaction ≡ false) }
     {
         match make(&mut conn) {
-            Ok(()) => Ok(Register { conn }),
+            Ok(()) => Ok(Register { conn, loaded: None }),
             Err(fault) => Err(OpenFault {
                 fault,
                 connection: conn,
@@ -83,7 +89,7 @@ impl<S: Alter> Register<S> {
         ensures idle { IfErr result (λ e. e.connection.in_transaction ≡ false) }
     {
         match check_register(alloc, &mut conn) {
-            Ok(()) => Ok(Register { conn }),
+            Ok(()) => Ok(Register { conn, loaded: None }),
             Err(fault) => Err(OpenFault {
                 fault,
                 connection: conn,
@@ -102,16 +108,20 @@ impl<S: Alter> Register<S> {
     pub fn into_connection(self) -> Connection<S>
         ensures { result ≡ self }
     {
-        let Register { conn } = self;
+        let Register {
+            conn,
+            loaded: _loaded,
+        } = self;
         conn
     }
 
     /// Does an order of the operator, in one commit, or refuses it. A refusal and a fault leave the rows
-    /// as they are.
+    /// as they are. No network stays in memory.
     pub fn operate(&mut self, alloc: Global, order: &Order) -> Result<Done, OrderFault>
         ensures clean { HasCleanDisk (state S.Store self.new) → HasCleanDisk (state S.Store self.old) }
         ensures ends { (db : Database) (late : List Event) → StandsAt S.Store self.old db late → OrderEnds S.Store self.new db late (order_event order.now) result }
     {
+        self.loaded = None;
         order::operate(alloc, &mut self.conn, order)
     }
 
@@ -132,7 +142,18 @@ impl<S: Alter> Register<S> {
         ensures clean { HasCleanDisk (state S.Store self.new) → HasCleanDisk (state S.Store self.old) }
         ensures ends { (db : Database) (late : List Event) → StandsAt S.Store self.old db late → AskEnds S.Store R.shown self.new db late (Ask digest.now name.now now command.now) now result }
     {
-        ask::ask(alloc, &mut self.conn, digest, name, now, command, render)
+        let answered = ask::ask(
+            alloc,
+            &mut self.conn,
+            &mut self.loaded,
+            digest,
+            name,
+            now,
+            command,
+            render,
+        );
+        drop_after_fault(&mut self.loaded, &answered);
+        answered
     }
 
     /// The text of the list of the networks that the tenant of the token with this digest (SHA-256)
@@ -148,6 +169,8 @@ impl<S: Alter> Register<S> {
         ensures clean { HasCleanDisk (state S.Store self.new) → HasCleanDisk (state S.Store self.old) }
         ensures ends { (db : Database) (late : List Event) (now : ℕ) → StandsAt S.Store self.old db late → AskEnds S.Store R.shown self.new db late (Networks digest.now) now result }
     {
-        list::networks(alloc, &mut self.conn, digest, render)
+        let answered = list::networks(alloc, &mut self.conn, digest, render);
+        drop_after_fault(&mut self.loaded, &answered);
+        answered
     }
 }

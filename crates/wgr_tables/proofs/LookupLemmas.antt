@@ -1,5 +1,5 @@
 -- What the queries by a key show, and what is found so.
-use Rattle.std.proofs.Common.{◌≡◌, ℕ, pos, List, [], ◌∷◌, find, filter, nat_eq, Bool, true, false, cond, ◌&&◌, Option, Some, None, option_map, eqb-true, IfSome, IfNone, IsPermutation, refl, sym, ap, ap₂, subst, ◌∙◌, inl, inr}
+use Rattle.std.proofs.Common.{◌≡◌, ℕ, pos, List, [], ◌∷◌, find, filter, nat_eq, Bool, true, false, cond, ◌&&◌, Option, Some, None, option_map, eqb-true, Result, Ok, Err, IfOk, IfSome, IfNone, OnOk, IsPermutation, refl, sym, ap, ap₂, subst, ◌∙◌, inl, inr}
 use Rattle.std.proofs.lemmas.Bool.{and_parts}
 use Rattle.std.proofs.lemmas.List.Sorted.{IsPermutation-sym}
 use Rattle.sqlite.specs.declared.types.Value.TheVariants.{Int, Text, Blob}
@@ -136,3 +136,13 @@ slot_none t tenant name rows None shows is = λ w here. go w here (p w) refl
     go : (w : NetworkRow) → model.Has t.networks w → (b : Bool) → p w ≡ b → p w ≡ false
     go w here false e = e
     go w here true e = elim (has_permutation (filter p t.networks) [] w (subst (λ l. ShowSlot (tenant, name) t l) is shows) (in_filter p t.networks w here e)) [ ]
+
+-- ---- what the store was
+
+pub on_each : {X E : Type 0} (r : Result X E) (P : X → Type 0) (Q : Type 0) → ((x : X) → P x → Q) → IfOk r P → OnOk r Q
+on_each (Ok x) P Q tells holds = tells x holds
+on_each (Err e) P Q tells holds = tt
+
+pub on_any : {X E : Type 0} (r : Result X E) (P : Type 0) → P → OnOk r P
+on_any (Ok x) P holds = holds
+on_any (Err e) P holds = tt

@@ -3,28 +3,48 @@ use Rattle.wgr_core.specs.Change.{Meets}
 use Rattle.wgr_core.specs.Outcome.{outcome_of}
 use Rattle.wgr_core.specs.declared.fault.ActFault.{ActFault}
 use Rattle.wgr_model.specs.Steps.{Ask}
+use Rattle.wgr_sql.specs.declared.fault.Fault.TheVariants.{NoMemory}
 use Rattle.wgr_tables.specs.Decode.{tables_of}
+use Rattle.wgr_register.specs.Loaded.{AreFormed, entries_of}
 use Rattle.wgr_register.proofs.AskLemmas.{acts_done, acts_late, refused_rows}
-use Rattle.wgr_register.proofs.GivenLemmas.{reply_gives}
-use Rattle.wgr_register.proofs.StandLemmas.{late_ends, undone_ends}
+use Rattle.wgr_register.proofs.LoadedLemmas.{committed_so, found_formed, shown_so, unless}
+use Rattle.wgr_register.proofs.StandLemmas.{at_more, late_ends, undone_ends}
 use Rattle.wgr_register.proofs.ask.act_on.Goals as goal
 
-pub render_reply-requires : goal.render_reply-requires
-render_reply-requires g c = (reply_gives c.args.network.now c.args.now c.args.command.now c.in_ok-reply.reply c.in_ok-reply.change c.in_ok-reply.ensures.outcome).0
+-- ---- the command isn't done
 
-pub returns-in_err-reply-clause-ends : goal.returns-in_err-reply-clause-ends
-returns-in_err-reply-clause-ends g c db late digest name at found =
-    undone_ends g.S.Store g.R.Render.shown c.args.conn.now db late (Ask digest name c.args.now c.args.command.now) c.args.now c.from_residual.result c.in_err-reply.field-0.0 c.from_residual.ensures.1 at
-    (λ refusal is. refused_rows (tables_of db) at.consistent digest name c.args.now c.args.command.now c.args.id c.args.network.now found refusal
-    (subst (λ (w : ActFault). Meets c.args.network.now (Err w) (outcome_of c.args.network.now c.args.now c.args.command.now)) is c.in_err-reply.ensures.outcome))
+pub returns-in-Err-clause-ends : goal.returns-in-Err-clause-ends
+returns-in-Err-clause-ends g c db late digest name at found =
+    undone_ends g.S.Store g.R.Render.shown c.args.conn.now db late (Ask digest name c.args.now c.args.command.now) c.args.now (Err c.from.result) c.in-Err.why c.from.ensures at
+    (λ refusal is. refused_rows (tables_of db) at.consistent digest name c.args.now c.args.command.now c.args.id c.args.network found refusal
+    (subst (λ (w : ActFault). Meets c.args.network (Err w) (outcome_of c.args.network c.args.now c.args.command.now)) is c.in-Err.ensures.outcome))
+
+pub returns-in-Err-clause-formed : goal.returns-in-Err-clause-formed
+returns-in-Err-clause-formed g c db late digest name at found others =
+    unless (Err c.from.result) _
+    (shown_so g.S.Store c.args.conn.now db at.pending (AreFormed (entries_of c.keep.new.loaded)) at.stands (c.keep.ensures (tables_of db) others (found_formed (tables_of db) digest name c.args.id c.args.network found)))
+
+-- ---- its text isn't made, or its change not committed
+
+pub returns-in_err-text-clause-ends : goal.returns-in_err-text-clause-ends
+returns-in_err-text-clause-ends g c db late digest name at found =
+    let event = Ask digest name c.args.now c.args.command.now in
+    late_ends g.S.Store g.R.Render.shown c.args.conn.now db late event c.args.now c.from_residual.result NoMemory c.from_residual.ensures.1 (at_more g.S.Store c.args.conn.now db late event at)
 
 pub returns-in_err-commit_if-clause-ends : goal.returns-in_err-commit_if-clause-ends
 returns-in_err-commit_if-clause-ends g c db late digest name at found =
     late_ends g.S.Store g.R.Render.shown c.commit_if.new.conn db late (Ask digest name c.args.now c.args.command.now) c.args.now c.from_residual-in_err-commit_if.result c.in_err-commit_if.field-0.0 c.from_residual-in_err-commit_if.ensures.1
-    (acts_late g.S.Store g.R.Render.shown c.commit_if.new.conn db at.pending late at.consistent at.steps digest name c.args.now c.args.command.now (c.tell_forms.ensures.asked, c.tell_forms.ensures.forms) c.args.id c.args.network.now found c.in_ok-reply.reply
-    c.in_ok-reply.change c.in_ok-reply.ensures.outcome (c.in_err-commit_if.ensures.fault db at.pending found.row at.stands at.consistent found.there found.at))
+    (acts_late g.S.Store g.R.Render.shown c.commit_if.new.conn db at.pending late at.consistent at.steps digest name c.args.now c.args.command.now (c.tell_forms.ensures.asked, c.tell_forms.ensures.forms) c.args.id c.args.network found c.in-Ok.done.0
+    c.in-Ok.done.1 c.in-Ok.ensures.outcome (c.in_err-commit_if.ensures.fault db at.pending found.row at.stands at.consistent found.there found.at))
+
+-- ---- it is done
 
 pub returns-clause-ends : goal.returns-clause-ends
 returns-clause-ends g c db late digest name at found clean =
-    acts_done g.S.Store g.R.Render.shown c.commit_if.new.conn db at.pending late at.consistent at.steps digest name c.args.now c.args.command.now (c.tell_forms.ensures.asked, c.tell_forms.ensures.forms) c.args.id c.args.network.now found c.in_ok-reply.reply
-    c.in_ok-reply.change c.in_ok-text.text.items c.in_ok-reply.ensures.outcome c.in_ok-text.ensures (c.in_ok-commit_if.ensures.done db at.pending found.row at.stands at.consistent found.there found.at clean) clean
+    acts_done g.S.Store g.R.Render.shown c.commit_if.new.conn db at.pending late at.consistent at.steps digest name c.args.now c.args.command.now (c.tell_forms.ensures.asked, c.tell_forms.ensures.forms) c.args.id c.args.network found c.in-Ok.done.0
+    c.in-Ok.done.1 c.in_ok-text.text.items c.in-Ok.ensures.outcome c.in_ok-text.ensures (c.in_ok-commit_if.ensures.done db at.pending found.row at.stands at.consistent found.there found.at clean) clean
+
+pub returns-clause-formed : goal.returns-clause-formed
+returns-clause-formed g c db late digest name at found others clean live =
+    committed_so g.S.Store c.commit_if.new.conn db at.pending at.consistent digest name c.args.now c.args.command.now (c.tell_forms.ensures.asked, c.tell_forms.ensures.forms) c.args.id c.args.network found c.in-Ok.done.0
+    (entries_of c.args.loaded.now) (entries_of c.keep_changed.new.loaded) others c.in-Ok.done.1 c.in-Ok.ensures.outcome (c.in_ok-commit_if.ensures.done db at.pending found.row at.stands at.consistent found.there found.at clean) c.keep_changed.ensures clean live

@@ -1,10 +1,11 @@
-use Rattle.std.proofs.Common.{◌≡◌, None, Some, refl, sym, ap, ◌∙◌}
+use Rattle.std.proofs.Common.{◌≡◌, None, Some, sym, ap, ◌∙◌}
 use Rattle.wgr_sql.specs.declared.fault.Fault.TheVariants.{NoMemory}
-use Rattle.wgr_model.specs.Steps.{Listed, Networks, UnknownToken, tenant_of_token}
+use Rattle.wgr_model.specs.Steps.{Listed, Networks, tenant_of_token}
 use Rattle.wgr_tables.specs.Decode.{tables_of}
 use Rattle.wgr_register.specs.Given.{IsShown, OfNetworks}
 use Rattle.wgr_register.specs.Listing.{seen_by}
 use Rattle.wgr_register.proofs.ListLemmas.{holder_lists, nobody_lists}
+use Rattle.wgr_register.proofs.LoadedLemmas.{unless_late}
 use Rattle.wgr_register.proofs.StandLemmas.{at_more, at_read, ends_still, late_ends}
 use Rattle.wgr_register.proofs.list.networks.Goals as goal
 
@@ -44,3 +45,24 @@ returns-clause-ends g c db late now at clean =
     ends_still g.S.Store c.added_networks.new.conn db late event (IsShown g.R.Render.shown now c.in_ok-text.text.items) (Listed (seen_by (tables_of db) c.in-Some.tenant)) here
     (ap Some (ap (λ ns. g.R.Render.shown (OfNetworks ns)) (sym listed) ∙ sym c.in_ok-text.ensures))
     (holder_lists (tables_of db) at.consistent c.args.digest.now c.in-Some.tenant known) clean
+
+pub returns-in_err-networks-clause-stands : goal.returns-in_err-networks-clause-stands
+returns-in_err-networks-clause-stands g c db pending stood = c.added_networks.ensures.stands db pending (c.tenant_of_token.ensures.stands db pending stood)
+
+pub returns-in_err-text-clause-stands : goal.returns-in_err-text-clause-stands
+returns-in_err-text-clause-stands g c db pending stood = c.added_networks.ensures.stands db pending (c.tenant_of_token.ensures.stands db pending stood)
+
+pub returns-clause-stands : goal.returns-clause-stands
+returns-clause-stands g c db pending stood = c.added_networks.ensures.stands db pending (c.tenant_of_token.ensures.stands db pending stood)
+
+pub returns-in_err-tenant-clause-open : goal.returns-in_err-tenant-clause-open
+returns-in_err-tenant-clause-open g c clean = unless_late c.from_residual.result c.in_err-tenant.field-0.0 _ c.from_residual.ensures.1
+
+pub returns-in_err-networks-clause-open : goal.returns-in_err-networks-clause-open
+returns-in_err-networks-clause-open g c clean = unless_late c.from_residual-in_err-networks.result c.in_err-networks.field-0.0 _ c.from_residual-in_err-networks.ensures.1
+
+pub returns-in_err-text-clause-open : goal.returns-in_err-text-clause-open
+returns-in_err-text-clause-open g c clean = unless_late c.from_residual-in_err-text.result NoMemory _ c.from_residual-in_err-text.ensures.1
+
+pub returns-clause-open : goal.returns-clause-open
+returns-clause-open g c clean = c.in_ok-tenant.ensures.open (c.added_networks.ensures.clean clean)

@@ -2,7 +2,7 @@ use Rattle.std.proofs.Common.{[], ◌∷◌}
 use Rattle.sqlite.specs.declared.types.Value.TheVariants.{Blob}
 use Rattle.wgr_sql.proofs.ResultLemmas.{if_ok}
 use Rattle.wgr_tables.specs.Lookups.{ShowToken}
-use Rattle.wgr_tables.proofs.LookupLemmas.{token_listed}
+use Rattle.wgr_tables.proofs.LookupLemmas.{on_each, token_listed}
 use Rattle.wgr_tables.proofs.Meanings.{token_text, token_asks}
 use Rattle.wgr_tables.proofs.ReadLemmas.{stands_read, rows_read}
 use Rattle.wgr_tables.proofs.lookup.token_rows.Goals as goal
@@ -14,3 +14,6 @@ pub returns-clause-listed : goal.returns-clause-listed
 returns-clause-listed g c db pending stood clean =
     if_ok c.query.result _ _ (λ rows given. rows_read g.S.Store c.args.conn.now c.query.new.conn db pending stood token_text c.query.ensures.survives (ShowToken c.args.digest.now) (Blob c.args.digest.now ∷ []) (λ a b register found. token_listed a b register found c.args.digest.now) clean rows.items
     given) (c.query.ensures.shown clean)
+
+pub returns-clause-open : goal.returns-clause-open
+returns-clause-open g c clean = on_each c.query.result _ _ (λ rows given. given.was_open) (c.query.ensures.shown clean)

@@ -1,16 +1,31 @@
 use Rattle.std.proofs.Common.{sym, subst}
+use Rattle.sqlite.specs.Held.{state}
 use Rattle.wgr_model.specs.Steps.{Ask}
+use Rattle.wgr_tables.specs.Decode.{tables_of}
+use Rattle.wgr_register.specs.Loaded.{AreFormed, Shows, entries_of}
 use Rattle.wgr_register.specs.Standing.{StandsAt}
+use Rattle.wgr_register.proofs.LoadedLemmas.{unless_map}
 use Rattle.wgr_register.proofs.StandLemmas.{ask_somewhere}
 use Rattle.wgr_register.proofs.register.Register.ask.Goals as goal
 
+pub ask-answered-requires-clause-formed : goal.ask-answered-requires-clause-formed
+ask-answered-requires-clause-formed g c = c.self.invariant.1
+
 pub invariant_of-self : goal.invariant_of-self
-invariant_of-self g c = record {
-  idle = c.ask.ensures.idle;
-  somewhere = λ clean.
-      let held = c.self.invariant.somewhere (c.ask.ensures.clean clean) in
-      ask_somewhere g.S.Store g.R.Render.shown c.ask.new.conn held.0 held.1 (Ask c.args.digest.now c.args.name.now c.args.now c.args.command.now) c.args.now c.ask.result (c.ask.ensures.ends held.0 held.1 held.2) clean;
-}
+invariant_of-self g c = (
+  record {
+    idle = c.ask-answered.ensures.idle;
+    somewhere = λ clean.
+        let held = c.self.invariant.0.somewhere (c.ask-answered.ensures.clean clean) in
+        ask_somewhere g.S.Store g.R.Render.shown c.ask-answered.new.conn held.0 held.1 (Ask c.args.digest.now c.args.name.now c.args.now c.args.command.now) c.args.now c.ask-answered.result (c.ask-answered.ensures.ends held.0 held.1 held.2) clean;
+  },
+  λ clean live.
+      let held = c.self.invariant.0.somewhere (c.ask-answered.ensures.clean clean) in
+      let loaded = entries_of c.ask-answered.new.loaded in
+      let shown = tables_of (state g.S.Store c.ask-answered.new.conn).now in
+      c.drop_after_fault.ensures shown
+      (unless_map c.ask-answered.result (Shows g.S.Store c.ask-answered.new.conn (AreFormed loaded)) (AreFormed loaded shown) (λ shows. shows clean live) (c.ask-answered.ensures.formed held.0 held.1 held.2)),
+)
 
 pub returns-clause-ends : goal.returns-clause-ends
-returns-clause-ends g c db late at = c.ask.ensures.ends db late (subst (λ h. StandsAt g.S.Store h db late) (sym c.self.view_is) at)
+returns-clause-ends g c db late at = c.ask-answered.ensures.ends db late (subst (λ h. StandsAt g.S.Store h db late) (sym c.self.view_is) at)

@@ -1,12 +1,18 @@
 use Rattle.std.proofs.Common.{[]}
+use Rattle.sqlite.specs.Held.{state}
+use Rattle.wgr_tables.specs.Decode.{tables_of}
+use Rattle.wgr_register.proofs.LoadedLemmas.{none_formed}
 use Rattle.wgr_register.proofs.StandLemmas.{at_good}
 use Rattle.wgr_register.proofs.register.Register.open.Goals as goal
 
 pub invariant_of-result : goal.invariant_of-result
-invariant_of-result g c = record {
-  idle = c.check_register.ensures.idle;
-  somewhere = λ clean. let found = c.in-Ok.ensures.right clean in (_, [], at_good g.S.Store c.check_register.new.conn _ found.0 found.1);
-}
+invariant_of-result g c = (
+  record {
+    idle = c.check_register.ensures.idle;
+    somewhere = λ clean. let found = c.in-Ok.ensures.right clean in (_, [], at_good g.S.Store c.check_register.new.conn _ found.0 found.1);
+  },
+  λ clean live. none_formed (tables_of (state g.S.Store c.check_register.new.conn).now),
+)
 
 pub returns-in-Ok-clause-good : goal.returns-in-Ok-clause-good
 returns-in-Ok-clause-good g c clean = let found = c.in-Ok.ensures.right clean in (found.0, at_good g.S.Store c.check_register.new.conn _ found.0 found.1)

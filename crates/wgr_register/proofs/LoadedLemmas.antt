@@ -1,0 +1,208 @@
+-- The networks that a register keeps in memory, after what a call does to them and to the rows.
+use Rattle.std.proofs.Common.{◌≡◌, ℕ, zero, suc, ◌-◌, Bool, true, false, cond, List, [], ◌∷◌, take, Option, Some, None, Result, Ok, Err, IsErrAnd, IsTrue, IsPermutation, map, nat_eq, eqb-true, refl, sym, ap, subst, ◌∙◌, true≢false, inl, inr}
+use Rattle.std.specs.Cmp.{nat_eq_equiv}
+use Rattle.std.specs.Map.{AreApart, lookup, lookup_entry, remove_entry}
+use Rattle.std.specs.Option.{option_map_or}
+use Rattle.std.specs.declared.vec.Vec.{Vec}
+use Rattle.std.specs.declared.alloc.Global.{Global}
+use Rattle.lru.specs.LruCache.{LruCache, put_entries}
+use Rattle.lru.proofs.CallerLemmas.{Contains-lookup_entry, lookup-put_entries}
+use Rattle.sqlite.specs.Effect.{Database}
+use Rattle.sqlite.specs.State.{HasCleanDisk}
+use Rattle.sqlite.specs.Store.{Ghosts}
+use Rattle.sqlite.specs.Held.{Held, state}
+use Rattle.wgr_core.specs.Network.{NetworkValue}
+use Rattle.wgr_core.specs.Change.{Meets, applied, applied_if}
+use Rattle.wgr_core.specs.Outcome.{outcome_of}
+use Rattle.wgr_core.specs.declared.change.Change.{Change}
+use Rattle.wgr_core.specs.declared.command.Command.{Command}
+use Rattle.wgr_core.specs.declared.reply.Reply.{Reply}
+use Rattle.wgr_model.specs.Consistent.{same_slot, slot}
+use Rattle.wgr_model.specs.Laws.{Has}
+use Rattle.wgr_model.specs.Register.{Bytes, Holding}
+use Rattle.wgr_model.specs.RowLaws.{AreConsistent}
+use Rattle.wgr_model.specs.Rows.{NetworkRow, Replaces, Tables, holding_of, register_of}
+use Rattle.wgr_model.specs.Steps.{Ask, IsProperCommand, Outcome, Replied, act, outcome, put_network, tenant_of_token, with_network}
+use Rattle.wgr_model.proofs.AskRowLemmas.{asked_at}
+use Rattle.wgr_model.proofs.CollectLemmas.{from_map, has_map}
+use Rattle.wgr_model.proofs.CommitLemmas.{put_has, put_other}
+use Rattle.wgr_model.proofs.GatherLemmas.{eqb_self}
+use Rattle.wgr_model.proofs.HolderLemmas.{one_or_apart}
+use Rattle.wgr_model.proofs.RowRunLemmas.{row_step}
+use Rattle.wgr_model.proofs.SameLemmas.{eqb_sym, has_permutation, slot_sym}
+use Rattle.wgr_sql.specs.declared.fault.Fault.{Fault}
+use Rattle.wgr_tables.specs.Decode.{tables_of}
+use Rattle.wgr_tables.specs.Lookups.{IsSlotOf}
+use Rattle.wgr_tables.specs.Standing.{Stands}
+use Rattle.wgr_tables.specs.Writes.{Written}
+use Rattle.wgr_register.specs.Ends.{CommitsIf, IsFound}
+use Rattle.wgr_register.specs.Loaded.{AreFormed, AreOthersFormed, IsFormed, Loaded, Shows, UnlessFault}
+use Rattle.wgr_register.specs.declared.fault.AskFault.{AskFault}
+use Rattle.wgr_register.specs.declared.fault.AskFault.TheVariants as fault
+use Rattle.wgr_register.proofs.AskLemmas.{act_done, changed_rows, one_row}
+
+-- ---- one is taken, and one is kept
+
+cond_true : {A : Type 0} {b : Bool} (x y : A) → b ≡ true → cond b x y ≡ x
+cond_true x y is = ap (λ b. cond b x y) is
+
+cond_false : {A : Type 0} {b : Bool} (x y : A) → b ≡ false → cond b x y ≡ y
+cond_false x y is = ap (λ b. cond b x y) is
+
+apart : (id other : ℕ) → nat_eq id other ≡ false → AreApart (nat_eq id) (nat_eq other)
+apart id other off key is = ap (nat_eq other) (sym (eqb-true id key is)) ∙ eqb_sym other id ∙ off
+
+-- what stands under another key stays
+lookup_rest : (test other : ℕ → Bool) → AreApart test other → (loaded : Loaded) → lookup other (remove_entry test loaded) ≡ lookup other loaded
+lookup_rest test other off [] = refl
+lookup_rest test other off (e ∷ loaded) = (elim (test e.0) as (λ b. test e.0 ≡ b → lookup other (remove_entry test (e ∷ loaded)) ≡ lookup other (e ∷ loaded)) [
+  | true ↦ λ is. ap (lookup other) (cond_true loaded _ is) ∙ sym (cond_false _ _ (off e.0 is))
+  | false ↦ λ is. ap (lookup other) (cond_false loaded _ is) ∙ ap (cond (other e.0) (Some e.1)) (lookup_rest test other off loaded)
+]) refl
+
+pub others_left : (id : ℕ) (loaded : Loaded) (t : Tables) → AreFormed loaded t → AreOthersFormed id (remove_entry (nat_eq id) loaded) t
+others_left id loaded t formed other n off found = formed other n (sym (lookup_rest (nat_eq id) (nat_eq other) (apart id other off) loaded) ∙ found)
+
+in_first : (test : ℕ → Bool) (count : ℕ) (loaded : Loaded) (n : NetworkValue) → lookup test (take count loaded) ≡ Some n → lookup test loaded ≡ Some n
+in_first test zero loaded n found = cc
+in_first test (suc count) [] n found = found
+in_first test (suc count) (e ∷ loaded) n found = (elim (test e.0) as (λ b. test e.0 ≡ b → lookup test (e ∷ loaded) ≡ Some n) [
+  | true ↦ λ is. cond_true _ _ is ∙ sym (cond_true _ _ is) ∙ found
+  | false ↦ λ is. cond_false _ _ is ∙ in_first test count loaded n (sym (cond_false _ _ is) ∙ found)
+]) refl
+
+module _ (c : LruCache ℕ NetworkValue) (id : ℕ) (n : NetworkValue) where
+  abbrev entries : Option (ℕ × NetworkValue) → Loaded
+  entries o = option_map_or (λ e. (e.0, n) ∷ remove_entry (nat_eq id) c.entries) o ((id, n) ∷ take (c.cap - 1) c.entries)
+
+  other_put : (other : ℕ) (m : NetworkValue) (o : Option (ℕ × NetworkValue)) → nat_eq id other ≡ false → lookup_entry (nat_eq id) c.entries ≡ o → lookup (nat_eq other) (entries o) ≡ Some m → lookup (nat_eq other) c.entries ≡ Some m
+  other_put other m None off is found = in_first (nat_eq other) (c.cap - 1) c.entries m (sym (cond_false _ _ (eqb_sym other id ∙ off)) ∙ found)
+  other_put other m (Some e) off is found =
+      let test = apart id other off in
+      sym (lookup_rest (nat_eq id) (nat_eq other) test c.entries)
+      ∙ sym (cond_false _ _ (test e.0 (Contains-lookup_entry (nat_eq id) c.entries e is).1))
+      ∙ found
+
+  pub put_formed : (t : Tables) → AreOthersFormed id c.entries t → IsFormed t id n → AreFormed (put_entries nat_eq c id n) t
+  put_formed t others own other m found = (elim (nat_eq id other) as (λ b. nat_eq id other ≡ b → IsFormed t other m) [
+    | true ↦ λ is.
+        let same = eqb-true id other is in
+        let found_here = subst (λ i. lookup (nat_eq i) (put_entries nat_eq c id n) ≡ Some m) (sym same) found in
+        let put : lookup (nat_eq id) (put_entries nat_eq c id n) ≡ Some n = lookup-put_entries nat_eq c id n nat_eq_equiv in
+        let both : Some n ≡ Some m = sym put ∙ found_here in
+        let value : n ≡ m = cc in
+        subst (λ i. IsFormed t i m) same (subst (IsFormed t id) value own)
+    | false ↦ λ off. others other m off (other_put other m (lookup_entry (nat_eq id) c.entries) off refl found)
+  ]) refl
+
+pub none_formed : (t : Tables) → AreFormed [] t
+none_formed t id n found = cc
+
+-- ---- the rows change
+
+module _ (t u : Tables) (is : AreConsistent t) (digest name : Bytes) (now : ℕ) (command : Command) (proper : IsProperCommand command) (id : ℕ) (n : NetworkValue) (found : IsFound t digest name id n)
+    (reply : Reply) (change : Change) (meets : Meets n (Ok (reply, Some change)) (outcome_of n now command)) (replaces : Replaces id (applied change (holding_of t found.row).network) t u) where
+  abbrev w : NetworkRow
+  w = found.row
+
+  abbrev held : List Holding
+  held = map (holding_of t) t.networks
+
+  abbrev after : NetworkValue
+  after = applied change (holding_of t w).network
+
+  is_held : (v : NetworkRow) → Has t.networks v → Has held (holding_of t v)
+  is_held v there = has_map (holding_of t) t.networks v there
+
+  acts : act (holding_of t w).network now command ≡ Ok (reply, after)
+  acts = subst (λ m. act m now command ≡ Ok (reply, applied change m)) found.value (act_done n now command reply (Some change) meets)
+
+  same_networks : IsPermutation (with_network held w.tenant w.name after) (map (holding_of u) u.networks)
+  same_networks =
+      let step = changed_rows t is digest name now command id n found u reply change meets replaces in
+      let law = row_step t u (Ask digest name now command) (Replied reply (applied change n)) is proper step in
+      let put = subst (λ x. outcome (register_of t) (Ask digest x now command) 0 ≡ (Replied reply after, put_network (register_of t) w.tenant w.name after)) found.named (asked_at t is w found.there digest now command (reply, after) found.tenant acts) in
+      subst (λ (o : Outcome). IsPermutation o.1.networks (register_of u).networks) put law.1.rows.networks
+
+  formed_after : (h : Holding) → Has (with_network held w.tenant w.name after) h → IsFormed u h.id h.network
+  formed_after h there =
+      let row = from_map (holding_of u) u.networks h (has_permutation (with_network held w.tenant w.name after) (map (holding_of u) u.networks) h same_networks there) in
+      (row.0, row.1, ap (λ k. k.id) row.2, sym (ap (λ k. k.network) row.2))
+
+  -- the network of this id is as the change leaves it
+  pub changed_own : IsFormed u id (applied change n)
+  changed_own =
+      let own = formed_after (record (holding_of t w) { network = after }) (put_has (holding_of t w) after held is.consistent.slots (is_held w found.there)) in
+      subst (λ i. IsFormed u i (applied change n)) found.at (subst (IsFormed u w.id) (ap (applied change) (sym found.value)) own)
+
+  -- each other is as it was
+  pub changed_others : (loaded : Loaded) → AreOthersFormed id loaded t → AreOthersFormed id loaded u
+  changed_others loaded others other m off there =
+      let v = others other m off there in
+      let apart : same_slot (slot (holding_of t w)) (slot (holding_of t v.0)) ≡ false = elim (one_or_apart slot same_slot slot_sym held (holding_of t w) (holding_of t v.0) is.consistent.slots (is_held w found.there) (is_held v.0 v.1)) [
+        | inl same ↦ let ids : id ≡ other = sym found.at ∙ ap (λ h. h.id) same ∙ v.2 in absurd (true≢false (sym (eqb_self id) ∙ ap (nat_eq id) ids ∙ off))
+        | inr is ↦ is
+      ] in
+      let formed = formed_after (holding_of t v.0) (put_other (holding_of t w) after held (holding_of t v.0) (is_held v.0 v.1) apart) in
+      subst (λ i. IsFormed u i m) v.2 (subst (IsFormed u v.0.id) (sym v.3) formed)
+
+pub found_formed : (t : Tables) (digest name : Bytes) (id : ℕ) (n : NetworkValue) → IsFound t digest name id n → IsFormed t id n
+found_formed t digest name id n found = (found.row, found.there, found.at, found.value)
+
+pub found_so : (t : Tables) (digest name : Bytes) (tenant id : ℕ) (n : NetworkValue) → AreConsistent t → tenant_of_token t.tokens digest ≡ Some tenant
+    → ((w : NetworkRow) × Has t.networks w × IsSlotOf w tenant name × (w.id ≡ id)) → IsFormed t id n → IsFound t digest name id n
+found_so t digest name tenant id n is known named formed =
+    let same = one_row t is formed.0 named.0 formed.1 named.1 (formed.2 ∙ sym named.3) in
+    record { row = named.0; there = named.1; tenant = known ∙ ap Some (sym named.2.0); named = named.2.1; at = named.3; value = formed.3 ∙ ap (λ w. (holding_of t w).network) same }
+
+-- ---- unless a fault ended the ask
+
+pub unless : (r : Result (Vec ℕ Global) AskFault) (P : Type 0) → P → UnlessFault r P
+unless (Ok text) P holds = holds
+unless (Err (fault.Refused why)) P holds = holds
+unless (Err fault.UnknownToken) P holds = holds
+unless (Err fault.NoSuchNetwork) P holds = holds
+unless (Err (fault.Fault why)) P holds = tt
+
+pub unless_map : (r : Result (Vec ℕ Global) AskFault) (P Q : Type 0) → (P → Q) → UnlessFault r P → UnlessFault r Q
+unless_map (Ok text) P Q tells holds = tells holds
+unless_map (Err (fault.Refused why)) P Q tells holds = tells holds
+unless_map (Err fault.UnknownToken) P Q tells holds = tells holds
+unless_map (Err fault.NoSuchNetwork) P Q tells holds = tells holds
+unless_map (Err (fault.Fault why)) P Q tells holds = tt
+
+pub unless_late : (r : Result (Vec ℕ Global) AskFault) (why : Fault) (P : Type 0) → IsErrAnd r (λ e. e ≡ fault.Fault why) → UnlessFault r P
+unless_late (Ok text) why P is = absurd is
+unless_late (Err (fault.Refused other)) why P is = cc
+unless_late (Err fault.UnknownToken) why P is = cc
+unless_late (Err fault.NoSuchNetwork) why P is = cc
+unless_late (Err (fault.Fault other)) why P is = tt
+
+-- ---- what the connection shows
+
+module _ {S : Type 0} (g : Ghosts S) where
+  pub shown_so : (conn : Held S) (db : Database) (pending : List Written) (P : Tables → Type 0) → Stands g conn db pending → P (tables_of db) → Shows g conn P
+  shown_so conn db pending P stands holds = λ clean live. subst (λ d. P (tables_of d)) (sym (stands.shows clean live)) holds
+
+  pub known_so : (conn : Held S) (db : Database) (pending : List Written) (P : Tables → Type 0) → Stands g conn db pending → Shows g conn P → HasCleanDisk (state g conn) → IsTrue (state g conn).is_open → P (tables_of db)
+  known_so conn db pending P stands shows clean live = subst (λ d. P (tables_of d)) (stands.shows clean live) (shows clean live)
+
+  pub shows_if : (r : Result (Vec ℕ Global) AskFault) (conn : Held S) (P : Tables → Type 0) → (HasCleanDisk (state g conn) → UnlessFault r (Shows g conn P)) → UnlessFault r (Shows g conn P)
+  shows_if (Ok text) conn P shows = λ clean live. shows clean clean live
+  shows_if (Err (fault.Refused why)) conn P shows = λ clean live. shows clean clean live
+  shows_if (Err fault.UnknownToken) conn P shows = λ clean live. shows clean clean live
+  shows_if (Err fault.NoSuchNetwork) conn P shows = λ clean live. shows clean clean live
+  shows_if (Err (fault.Fault why)) conn P shows = tt
+
+  module _ (conn : Held S) (db : Database) (pending : List Written) (consistent : AreConsistent (tables_of db)) (digest name : Bytes) (now : ℕ) (command : Command) (proper : IsProperCommand command) (id : ℕ) (n : NetworkValue)
+      (found : IsFound (tables_of db) digest name id n) (reply : Reply) (loaded kept : Loaded) (others : AreOthersFormed id loaded (tables_of db)) where
+    -- the networks that are kept once the change, if there is one, is committed
+    pub committed_so : (change : Option Change) → Meets n (Ok (reply, change)) (outcome_of n now command) → CommitsIf g conn db pending id (holding_of (tables_of db) found.row).network change
+        → ((t : Tables) → AreOthersFormed id loaded t → IsFormed t id (applied_if change n) → AreFormed kept t) → Shows g conn (AreFormed kept)
+    committed_so None meets stands keeps = shown_so conn db pending (AreFormed kept) stands (keeps (tables_of db) others (found_formed (tables_of db) digest name id n found))
+    committed_so (Some change) meets done keeps =
+        let next = done.0 in
+        let replaces = done.1.made in
+        shown_so conn next [] (AreFormed kept) done.2
+        (keeps (tables_of next) (changed_others (tables_of db) (tables_of next) consistent digest name now command proper id n found reply change meets replaces loaded others)
+        (changed_own (tables_of db) (tables_of next) consistent digest name now command proper id n found reply change meets replaces))

@@ -1,0 +1,82 @@
+//! Networks that stay in memory between requests.
+//!
+//! The least recently asked of gives way. Where memory is refused, and after a fault, none is kept:
+//! the next request loads its network from the rows.
+ghost use Rattle.std.specs.Prelude.{◌≡◌, None, IfOk, IfSome, nat_eq};
+ghost use Rattle.std.specs.Map.{lookup, remove_entry};
+ghost use Rattle.wgr_core.specs.Change.{Fits, applied_if};
+ghost use Rattle.wgr_model.specs.Rows.{Tables};
+ghost use Rattle.wgr_register.specs.Loaded.{AreFormed, AreOthersFormed, IsFormed, UnlessFault, entries_of};
+
+use crate::fault::AskFault;
+use lru::LruCache;
+use std::alloc::{AllocError, Global};
+use std::num::NonZeroUsize;
+use wgr_core::{Change, Network};
+
+/// Networks by the ids of their rows, at most 64.
+pub(crate) type Networks = LruCache<u32, Network>;
+
+/// Takes out the network of this id, if it is kept.
+pub(crate) fn take(loaded: &mut Option<Networks>, id: u32) -> Option<Network>
+    ensures value { result ≡ lookup (nat_eq id) (entries_of loaded.old) }
+    ensures rest { entries_of loaded.new ≡ remove_entry (nat_eq id) (entries_of loaded.old) }
+{
+    let mut networks = loaded.take()?;
+    let network = networks.pop(&id);
+    *loaded = Some(networks);
+    network
+}
+
+/// Keeps the network of this id, in place of one that was kept.
+pub(crate) fn keep(alloc: Global, loaded: &mut Option<Networks>, id: u32, network: Network)
+    ensures { (t : Tables) → AreOthersFormed id (entries_of loaded.old) t → IsFormed t id network → AreFormed (entries_of loaded.new) t }
+{
+    let Ok(mut networks) = taken_or_new(alloc, loaded) else {
+        return;
+    };
+    if let Ok(_) = networks.put(id, network) {
+        *loaded = Some(networks);
+    }
+}
+
+// Those that are kept, or none yet.
+fn taken_or_new(alloc: Global, loaded: &mut Option<Networks>) -> Result<Networks, AllocError>
+    ensures entries { IfOk result (λ networks. networks.entries ≡ entries_of loaded.old) }
+    ensures none { loaded.new ≡ None }
+{
+    match loaded.take() {
+        Some(networks) => Ok(networks),
+        None => LruCache::new(alloc, NonZeroUsize::new(64).unwrap()),
+    }
+}
+
+/// Keeps the network of this id as the change leaves it.
+pub(crate) fn keep_changed(
+    alloc: Global,
+    loaded: &mut Option<Networks>,
+    id: u32,
+    mut network: Network,
+    change: Option<Change>,
+)
+    requires { IfSome change (λ c. Fits c network) }
+    ensures { (t : Tables) → AreOthersFormed id (entries_of loaded.old) t → IsFormed t id (applied_if change network) → AreFormed (entries_of loaded.new) t }
+{
+    let Some(change) = change else {
+        keep(alloc, loaded, id, network);
+        return;
+    };
+    match network.apply(alloc, change) {
+        Ok(()) => keep(alloc, loaded, id, network),
+        Err(_) => *loaded = None,
+    }
+}
+
+/// Keeps none after a fault.
+pub(crate) fn drop_after_fault(loaded: &mut Option<Networks>, answered: &Result<Vec<u8>, AskFault>)
+    ensures { (t : Tables) → UnlessFault answered.now (AreFormed (entries_of loaded.old) t) → AreFormed (entries_of loaded.new) t }
+{
+    if let Err(AskFault::Fault(_)) = answered {
+        *loaded = None;
+    }
+}
