@@ -1,0 +1,289 @@
+"""The Debian package that tools/package makes of the released program."""
+
+import gzip
+import hashlib
+import os
+import re
+import shutil
+import subprocess
+import tarfile
+import tempfile
+import unittest
+from pathlib import Path
+
+from tools import needs
+
+TOP = Path(__file__).resolve().parent.parent
+DIST = TOP / "dist"
+RELEASE = DIST / "release/RELEASE"
+DOCUMENTS = "usr/share/doc/wgr"
+
+# Each file of the package and the file of the repository that it is, the program and what is made of others apart.
+COPIED = {
+    "usr/lib/sysusers.d/wgr.conf": DIST / "debian/sysusers",
+    "usr/lib/tmpfiles.d/wgr.conf": DIST / "debian/tmpfiles",
+    "usr/share/bash-completion/completions/wgr": DIST / "wgr.bash-completion",
+    "usr/share/lintian/overrides/wgr": DIST / "debian/lintian-overrides",
+    f"{DOCUMENTS}/README.Debian": DIST / "debian/README.Debian",
+    f"{DOCUMENTS}/README.md": TOP / "README.md",
+    f"{DOCUMENTS}/SECURITY.md": TOP / "SECURITY.md",
+    f"{DOCUMENTS}/examples/nginx.conf": DIST / "nginx.conf",
+    **{f"{DOCUMENTS}/docs/{page.name}": page for page in (TOP / "docs").iterdir()},
+}
+MADE = {
+    "usr/bin/wgr",
+    "usr/lib/systemd/system/wgr.service",
+    "usr/share/man/man8/wgr.8.gz",
+    f"{DOCUMENTS}/changelog.gz",
+    f"{DOCUMENTS}/copyright",
+}
+
+# Fields of the control file that have one value; those of the version, the size and the C library are below.
+FIELDS = [("Package", "wgr"), ("Architecture", "amd64"), ("Section", "net"), ("Priority", "optional")]
+
+# The words behind `wgr`, the last one under the cursor, and what it may be, in a folder with the files `register.db` and
+# `request`. Bash splits words at `=` and `:`.
+FILES = ["register.db", "request"]
+COMPLETED = [
+    ("part of a word", ["token"], ["token-grant", "token-end"]),
+    ("a word's help", ["help", "se"], ["serve"]),
+    ("no word behind a word's help", ["help", "serve", ""], []),
+    ("the register", ["init", ""], FILES),
+    ("part of a file", ["serve", "reg"], ["register.db"]),
+    ("no tenant", ["token-grant", "register.db", ""], []),
+    ("the files of batch", ["batch", "register.db", ""], FILES),
+    ("the register behind an option", ["network-add", "--port", "51820", ""], FILES),
+    ("the register behind an option with =", ["serve", "--count", "=", "9", ""], FILES),
+    ("the register behind a key", ["network-add", "--key", "AAAA", "=", ""], FILES),
+    ("no value of an option", ["batch", "--now", ""], []),
+    ("no value behind =", ["serve", "--now", "=", ""], []),
+    ("an option's part", ["network-add", "register.db", "acme", "office", "--po"], ["--pool", "--port"]),
+    ("an option behind an address", ["serve", "register.db", "[::1]", ":", "8080", "--c"], ["--count"]),
+    ("no file of plan", ["plan", ""], []),
+    ("a word that there isn't", ["peer-add", ""], []),
+]
+
+# What tools/package refuses to pack: how a copy of the repository is damaged, and the message.
+REFUSED = [
+    ("a damaged archive", lambda top: flip(top / "dist/release/wgr-linux-x86_64.xz"), b"can't be unpacked"),
+    ("another program", lambda top: sub(top / "dist/release/RELEASE", r"(?m)^program .*", "program " + 64 * "0"), b"isn't the program of"),
+    ("no entry for the version", lambda top: sub(top / "CHANGELOG.md", r"(?m)^## .*\n", ""), b"CHANGELOG.md has no line '## "),
+    ("no release", lambda top: (top / "dist/release/RELEASE").unlink(), b"RELEASE is missing"),
+]
+
+
+def flip(file):
+    text = bytearray(file.read_bytes())
+    text[len(text) // 2] ^= 1
+    file.write_bytes(text)
+
+
+def sub(file, pattern, text):
+    file.write_text(re.sub(pattern, text, file.read_text()))
+
+
+def release():
+    """The fields of RELEASE, by name."""
+    return dict(line.split(" ", 1) for line in RELEASE.read_text().splitlines())
+
+
+def make(folder, top=TOP, **environment):
+    """What tools/package leaves, and the package's path."""
+    done = subprocess.run([top / "tools/package", folder], capture_output=True, env={**os.environ, **environment})
+    return done, Path(folder) / f"wgr_{release()['version']}_amd64.deb"
+
+
+class Made(unittest.TestCase):
+    """Tests over one package, and its files below `self.files`."""
+
+    @classmethod
+    def setUpClass(cls):
+        folder = tempfile.TemporaryDirectory()
+        cls.addClassCleanup(folder.cleanup)
+        done, cls.package = make(folder.name)
+        if done.returncode != 0:
+            raise AssertionError(done.stderr)
+        cls.files = Path(folder.name) / "files"
+        subprocess.run(["dpkg-deb", "-x", cls.package, cls.files], check=True)
+
+    def read(self, path):
+        text = (self.files / path).read_bytes()
+        return gzip.decompress(text) if path.endswith(".gz") else text
+
+    def field(self, name):
+        return subprocess.run(["dpkg-deb", "-f", self.package, name], check=True, capture_output=True, text=True).stdout.rstrip("\n")
+
+
+@unittest.skipUnless(RELEASE.is_file(), "there is no release")
+@needs("dpkg-deb", "xz")
+class Package(Made):
+    def test_files(self):
+        there = {str(path.relative_to(self.files)) for path in self.files.rglob("*") if not path.is_dir()}
+        self.assertEqual(there, MADE | COPIED.keys())
+        for path, source in COPIED.items():
+            with self.subTest(path):
+                self.assertEqual(self.read(path), source.read_bytes())
+        with self.subTest("the program"):
+            self.assertEqual(hashlib.sha256(self.read("usr/bin/wgr")).hexdigest(), release()["program"])
+        with self.subTest("the man page"):
+            self.assertEqual(self.read("usr/share/man/man8/wgr.8.gz"), (DIST / "wgr.8").read_bytes())
+
+    def test_owners_and_modes(self):
+        listed = subprocess.run(["dpkg-deb", "--fsys-tarfile", self.package], check=True, stdout=subprocess.PIPE).stdout
+        with tempfile.TemporaryFile() as file:
+            file.write(listed)
+            file.seek(0)
+            for entry in tarfile.open(fileobj=file):
+                with self.subTest(entry.name):
+                    mode = 0o755 if entry.isdir() or entry.name == "./usr/bin/wgr" else 0o644
+                    self.assertEqual((entry.uid, entry.gid, entry.mode), (0, 0, mode))
+
+    def test_fields(self):
+        needed = max(tuple(map(int, found.split(b"."))) for found in re.findall(rb"GLIBC_([0-9]+(?:\.[0-9]+)+)", self.read("usr/bin/wgr")))
+        sizes = [1 if path.is_dir() else -(-path.stat().st_size // 1024) for path in [self.files / "usr", *self.files.rglob("usr/**/*")]]
+        for name, value in FIELDS + [("Version", release()["version"]), ("Installed-Size", str(sum(sizes)))]:
+            with self.subTest(name):
+                self.assertEqual(self.field(name), value)
+        with self.subTest("Depends"):
+            self.assertIn(f"libc6 (>= {'.'.join(map(str, needed))})", self.field("Depends").split(", "))
+        with self.subTest("Maintainer"):
+            self.assertRegex(self.field("Maintainer"), r"^[\w ]+ <[\w.]+@[\w.]+>$")
+
+    def test_the_unit(self):
+        unit = self.read("usr/lib/systemd/system/wgr.service").decode()
+        programs = re.findall(r"(?m)^Exec\w+=(\S+)", unit)
+        self.assertEqual(programs, ["/usr/bin/wgr"])
+        self.assertTrue(os.access(self.files / "usr/bin/wgr", os.X_OK))
+        # Nothing else of it differs from the one that is installed by hand.
+        self.assertEqual(unit.replace("/usr/bin/wgr", "/usr/local/bin/wgr"), (DIST / "wgr.service").read_text())
+
+    def test_the_changelog(self):
+        entries, here = {}, None
+        for line in (TOP / "CHANGELOG.md").read_text().splitlines():
+            if line.startswith("## "):
+                here = entries.setdefault(line[3:].partition(", ")[0], []) if ", " in line else []
+            elif line.startswith("- "):
+                here.append(line[2:])
+        parts = re.findall(r"(?ms)^wgr \((.*?)\) unstable; urgency=medium\n\n(.*?)\n -- (.*?)  (.*?)\n", self.read(f"{DOCUMENTS}/changelog.gz").decode())
+        self.assertEqual(parts[0][0], release()["version"])
+        told = {version: [" ".join(item.split()) for item in text.split("  * ")[1:]] for version, text, _, _ in parts}
+        self.assertEqual(told, entries)
+        self.assertEqual({maintainer for _, _, maintainer, _ in parts}, {self.field("Maintainer")})
+
+    def test_the_copyright(self):
+        told = self.read(f"{DOCUMENTS}/copyright").decode()
+        notice = (TOP / "NOTICE").read_text()
+        apache = notice.index("\nLicense: Apache-2.0\n ")
+        self.assertTrue(told.startswith(notice[:apache]))
+        self.assertIn("/usr/share/common-licenses/Apache-2.0", told[apache:])
+        self.assertNotIn("TERMS AND CONDITIONS", told[apache:])
+
+    def test_the_same_again(self):
+        with tempfile.TemporaryDirectory() as folder:
+            done, package = make(folder, TZ="Asia/Tokyo", LC_ALL="C.UTF-8")
+            self.assertEqual(done.returncode, 0, done.stderr)
+            self.assertEqual(package.read_bytes(), self.package.read_bytes())
+
+    def test_releases_that_are_refused(self):
+        for name, damage, told in REFUSED:
+            with self.subTest(name), tempfile.TemporaryDirectory() as folder:
+                top = Path(folder) / "top"
+                for part in ["tools", "dist", "docs"]:
+                    shutil.copytree(TOP / part, top / part)
+                for page in ["README.md", "SECURITY.md", "CHANGELOG.md", "NOTICE"]:
+                    shutil.copy(TOP / page, top)
+                damage(top)
+                done, package = make(folder, top)
+                self.assertEqual((done.returncode, package.exists()), (1, False))
+                self.assertIn(told, done.stderr)
+
+    @needs("lintian")
+    def test_lintian(self):
+        told = subprocess.run(["lintian", "--allow-root", "--fail-on", "error,warning", self.package], capture_output=True, text=True)
+        self.assertEqual((told.returncode, told.stdout), (0, ""), told.stderr)
+
+
+@unittest.skipUnless(RELEASE.is_file(), "there is no release")
+@unittest.skipUnless(os.geteuid() == 0, "dpkg needs root")
+@needs("dpkg", "dpkg-deb", "xz", "systemd-sysusers", "systemd-tmpfiles", "deb-systemd-helper")
+class Installed(Made):
+    """The package installed into a folder in the place of the root, and taken away again."""
+
+    def setUp(self):
+        folder = tempfile.TemporaryDirectory()
+        self.addCleanup(folder.cleanup)
+        self.root = Path(folder.name)
+        for name in ["etc", "var/lib/dpkg/info", "var/lib/dpkg/updates", "var/lib/dpkg/triggers"]:
+            (self.root / name).mkdir(parents=True)
+        for name in ["status", "available"]:
+            (self.root / "var/lib/dpkg" / name).touch()
+
+    def dpkg(self, *words):
+        # The folder has no C library and no systemd, so the scripts run outside of it, with DPKG_ROOT.
+        words = ["dpkg", f"--root={self.root}", "--force-script-chrootless", "--force-depends", "--force-unsafe-io", "--log=/dev/null", *words]
+        done = subprocess.run(words, capture_output=True, text=True)
+        self.assertEqual(done.returncode, 0, done.stderr)
+
+    def left(self):
+        """What is there but dpkg's own files, those in which the system keeps its users, and the folders of both."""
+        own = ["var/lib/dpkg/", "etc/passwd", "etc/group", "etc/shadow", "etc/gshadow", "etc/.pwd.lock"]
+        paths = [str(path.relative_to(self.root)) for path in self.root.rglob("*")]
+        there = {path for path in paths if not any(path.startswith(name) for name in own)}
+        return there - {"etc", "var", "var/lib", "var/lib/dpkg", "var/lib/systemd"}
+
+    def test_an_installation(self):
+        self.dpkg("-i", self.package)
+        with self.subTest("the program runs"):
+            ran = subprocess.run([self.root / "usr/bin/wgr", "--version"], capture_output=True, text=True)
+            self.assertEqual((ran.returncode, ran.stdout), (0, f"wgr {release()['version']}\n"))
+        users = [line.split(":") for line in (self.root / "etc/passwd").read_text().splitlines()]
+        user = next(fields for fields in users if fields[0] == "wgr")
+        with self.subTest("the user"):
+            self.assertEqual(user[5:], ["/var/lib/wgr", "/usr/sbin/nologin"])
+        with self.subTest("its folder"):
+            folder = (self.root / "var/lib/wgr").stat()
+            self.assertEqual((folder.st_uid, folder.st_gid, folder.st_mode & 0o777), (int(user[2]), int(user[3]), 0o700))
+        with self.subTest("the service is not enabled"):
+            self.assertEqual({path for path in self.left() if path.startswith("etc")}, set())
+
+    def test_a_purge_leaves_the_register(self):
+        for name, files in [("without a register", []), ("with one", ["var/lib/wgr/register.db", "var/lib/wgr/register.db-wal"])]:
+            with self.subTest(name):
+                self.dpkg("-i", self.package)
+                for file in files:
+                    (self.root / file).write_text("rows")
+                self.dpkg("-i", self.package)
+                self.dpkg("-r", "wgr")
+                self.dpkg("-P", "wgr")
+                self.assertEqual(self.left(), {*files, "var/lib/wgr"} if files else set())
+                self.assertEqual({(self.root / file).read_text() for file in files}, {"rows"} if files else set())
+
+
+@needs("bash")
+class Completion(unittest.TestCase):
+    def complete(self, words):
+        """What the word under the cursor may be, the last of these behind `wgr`."""
+        script = 'source "$1" && COMP_WORDS=(wgr "${@:2}") COMP_CWORD=$(($# - 1)) && _wgr && printf "%s\\n" "${COMPREPLY[@]}"'
+        with tempfile.TemporaryDirectory() as folder:
+            for name in FILES:
+                (Path(folder) / name).touch()
+            ran = subprocess.run(["bash", "-euc", script, "bash", DIST / "wgr.bash-completion", *words], cwd=folder, capture_output=True, text=True)
+        self.assertEqual((ran.returncode, ran.stderr), (0, ""))
+        return ran.stdout.split()
+
+    def test_words(self):
+        for name, words, wanted in COMPLETED:
+            with self.subTest(name):
+                self.assertEqual(sorted(self.complete(words)), sorted(wanted))
+
+    def test_words_and_options_are_those_of_the_help(self):
+        """The help texts in `data/` are what the program prints (test_command_line.py)."""
+        data = TOP / "tests/data"
+        words = re.findall(r"(?m)^  ([a-z-]+)  ", (data / "wgr_help.txt").read_text().partition("Options:")[0])
+        with self.subTest("words"):
+            self.assertEqual(sorted(self.complete([""])), sorted([*words, "--help", "--version"]))
+        for word in set(words) - {"help"}:
+            with self.subTest(word):
+                told = (data / f"{word.replace('-', '_')}_help.txt").read_text()
+                options = re.findall(r"(?m)^ +(?:-\w, )?(--[a-z]+)", told.partition("\nOptions:\n")[2].partition("\n\n")[0])
+                self.assertEqual(sorted(self.complete([word, "--"])), sorted(options))

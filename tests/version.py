@@ -1,0 +1,11 @@
+"""The version, from the one place that it is written at: the sources."""
+
+import re
+from pathlib import Path
+
+SOURCE = Path(__file__).resolve().parent.parent / "crates/wgr_command_line/src/commands.rt"
+
+
+def version():
+    (found,) = re.findall(r'\.version\("(.*)"\)', SOURCE.read_text())
+    return found
