@@ -11,7 +11,7 @@ from typing import NamedTuple
 
 BENCH = Path(__file__).resolve().parent
 MADE = BENCH / "out"
-BUILT = BENCH.parent / "crates/wgr_prog/out/wgr_prog"
+SCRIPTS = BENCH.parent / "tools/program.bash"
 
 
 class Left(NamedTuple):
@@ -23,12 +23,17 @@ class Left(NamedTuple):
 
 
 def find(words):
-    """The program that is timed, and the words that are left."""
-    given = words and "/" in words[0]
-    program = Path(words[0]).resolve() if given else BUILT
-    if not program.exists():
-        sys.exit(f"{program} is missing; ./wgr makes crates/wgr_prog/out/wgr_prog")
-    return program, words[1:] if given else words
+    """The program that is timed, and the words that are left. Where none is named, it is the one that ./wgr runs."""
+    if words and "/" in words[0]:
+        program = Path(words[0]).resolve()
+        if not program.exists():
+            sys.exit(f"{program} is missing")
+        return program, words[1:]
+    asked = 'set -u; speaker=bench; source "$0"; find_program'
+    found = subprocess.run(["bash", "-c", asked, SCRIPTS], stdout=subprocess.PIPE, text=True)
+    if found.returncode != 0:
+        sys.exit("bench: there is no program to time: run ./build first, or name one")
+    return Path(found.stdout.rstrip("\n")), words
 
 
 def build(name):

@@ -44,6 +44,27 @@ def address_bytes(text):
     return ipaddress.ip_address(text).packed.rjust(16, b"\0")
 
 
+def network_row(row, tenant, name, pool, host, port, following=1):
+    """A row of `network`: the server's key is S, the capacity 4,096, and `following` the next number."""
+    prefix = ipaddress.ip_network(pool)
+    lo = address_bytes(prefix.network_address)
+    return row, tenant, name, prefix.version, lo, prefix.prefixlen, host, port, bytes([200]) * 32, 4096, following
+
+
+def pool_of(place):
+    """One of 65,536 pools that have no address in common, and its prefix without the last number and length."""
+    first = f"10.{place >> 8}.{place & 255}"
+    return f"{first}.0/24", first
+
+
+def put(database, table, rows):
+    """Puts rows into a table by Python's own SQLite, which ends the commit in the file itself."""
+    with closing(sqlite3.connect(database)) as conn:
+        conn.executemany(f"INSERT INTO {table} VALUES ({', '.join('?' * len(rows[0]))})", rows)
+        conn.commit()
+        conn.execute("PRAGMA wal_checkpoint(TRUNCATE)")
+
+
 ACME = ("tenant-add", "acme")
 BOLT = ("tenant-add", "bolt")
 NETWORK = ("network-add", "acme", "office", *options())

@@ -1,13 +1,13 @@
 """The examples of docs/API.md, run one after the other by a shell with curl."""
 
 import os
-import shutil
 import subprocess
 import tempfile
 import unittest
 from pathlib import Path
 
 from serving import TOKEN, Server, make_register
+from tools import needs
 
 PAGE = Path(__file__).resolve().parent.parent / "docs" / "API.md"
 
@@ -23,7 +23,7 @@ def examples():
     return found
 
 
-@unittest.skipUnless(shutil.which("curl"), "curl is missing: the Debian package curl brings it")
+@needs("curl")
 class Page(unittest.TestCase):
     maxDiff = None
 

@@ -12,6 +12,7 @@ from serving import (
     SERVER_KEY,
     TOKEN,
     done,
+    file_of,
     key,
     make_register,
     network_add,
@@ -46,6 +47,32 @@ def replies(text):
     return found
 
 
+def compare(test, database, moment, rows, **facts):
+    """Answers requests in turn. Each row has a name, a request, and the reply that is due."""
+    rows = list(rows)
+    left = batch(database, moment, [message for _, message, _ in rows])
+    for (name, _, due), reply in zip(rows, replies(left.out), strict=True):
+        with test.subTest(name, moment=moment, **facts):
+            # A list of thousands would be too long to print.
+            test.assertTrue(reply == due, (reply[:500], due[:500]))
+    with test.subTest("the status", moment=moment, **facts):
+        test.assertEqual((left.status, left.err), (0, b""))
+
+
+def files_at(moment, form):
+    """The files of peer 1, of peer 2, whose lease ends at 100 and who has a route, and of the server."""
+    live, quick = moment < 100, form == "quick"
+    to_server = ["", "[Peer]", f"PublicKey = {SERVER_KEY}"]
+    allowed, endpoint = "AllowedIPs = 10.8.0.0/24", "Endpoint = vpn.example.net:51820"
+    first = ["[Interface]", *(["Address = 10.8.0.2/32"] if quick else []), *to_server, allowed + (", 192.168.4.0/24" if live else ""), endpoint]
+    second = ["[Interface]", *(["Address = 10.8.0.3/32"] if quick else []), *to_server, allowed, endpoint]
+    server = ["[Interface]", *(["Address = 10.8.0.1/24"] if quick else []), "ListenPort = 51820"]
+    server += ["", "[Peer]", f"PublicKey = {key(1)}", "AllowedIPs = 10.8.0.2/32"]
+    if live:
+        server += ["", "[Peer]", f"PublicKey = {key(2)}", "AllowedIPs = 10.8.0.3/32, 192.168.4.0/24"]
+    return [file_of(*first), file_of(*second) if live else refused(404, "no_such_peer"), file_of(*server)]
+
+
 class Batch(unittest.TestCase):
     maxDiff = None
 
@@ -73,6 +100,29 @@ class Batch(unittest.TestCase):
         self.assertEqual(
             batch(self.database, 100, [request("GET", PEERS)]), Left(0, done({"peers": []}))
         )
+
+    def test_files_at_a_moment(self):
+        """A file has the peers, and the routes to them, whose leases aren't over at its moment."""
+        add = [request("POST", PEERS, {"key": key(of), "end": end}) for of, end in [(1, 0), (2, 100)]]
+        route = request("POST", f"{PEERS}/2/routes", {"prefix": "192.168.4.0/24"})
+        self.assertEqual(batch(self.database, 7, [*add, route]).status, 0)
+        for moment in [99, 100, 101]:
+            for form in ["wg", "quick"]:
+                with self.subTest(form, moment=moment):
+                    files = [f"{PEERS}/1/file/{form}", f"{PEERS}/2/file/{form}", f"/networks/office/server/{form}"]
+                    left = batch(self.database, moment, [request("GET", path) for path in files])
+                    self.assertEqual(left, Left(0, b"".join(files_at(moment, form))))
+
+    def test_networks_by_name(self):
+        for name, place in [("zoo", 1), ("a-b", 2), ("a", 3), ("ab", 4), ("office2", 5)]:
+            network_add(self.database, "acme", name, f"10.9.{place}.0/24", port=str(place))
+        named = [("a", 9, 3), ("a-b", 9, 2), ("ab", 9, 4), ("office", 8, 0), ("office2", 9, 5), ("zoo", 9, 1)]
+        networks = [
+            {"capacity": 4096, "endpoint": f"vpn.example.net:{place or 51820}", "name": name, "pool": f"10.{second}.{place}.0/24", "server": SERVER_KEY}
+            for name, second, place in named
+        ]
+        left = batch(self.database, 7, [request("GET", "/networks")])
+        self.assertEqual(left, Left(0, done({"networks": networks})))
 
     def test_an_address_for_each_peer(self):
         """The last addresses of a pool are given in turn, with strangers' requests and orders between."""

@@ -4,6 +4,7 @@ import unittest
 from pathlib import Path
 
 from program import Left, run
+from version import version
 
 DATA = Path(__file__).parent / "data"
 
@@ -68,7 +69,7 @@ class CommandLine(unittest.TestCase):
     def test_version(self):
         for word in ["--version", "-V"]:
             with self.subTest(word):
-                self.assertEqual(run([word]), Left(0, b"wgr 0.1.0\n"))
+                self.assertEqual(run([word]), Left(0, f"wgr {version()}\n".encode()))
 
     def test_mistakes(self):
         for name, words, part in MISTAKES:

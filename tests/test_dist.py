@@ -122,3 +122,15 @@ class Files(unittest.TestCase):
         shown = subprocess.run(["mandoc", "-T", "ascii", page], capture_output=True).stdout
         for word in [b"network-add", b"--capacity", b"pool_overlaps", b"EXIT STATUS"]:
             self.assertIn(word, re.sub(rb".\x08", b"", shown))
+
+    def test_the_notice(self):
+        uses = dict(line.split(":") for line in (DIST.parent / "crates.txt").read_text().splitlines())
+        crates = {name for crate in ["wgr_prog", *uses["wgr_prog"].split()] for name in uses.get(crate, "").split()} - uses.keys()
+        notice = (DIST.parent / "NOTICE").read_text()
+        named = re.findall(r"(?m)^(?:Files:)? rattle/(\w+)/\*$", notice)
+        self.assertEqual(len(named), len(set(named)))
+        self.assertLessEqual(crates, set(named))
+        # Each licence that is named has its text.
+        licences = {name for line in re.findall(r"(?m)^License: (.*)$", notice) for name in re.split(" or | and ", line)}
+        texts = set(re.findall(r"(?m)^License: (\S+)\n ", notice))
+        self.assertEqual(licences, texts)

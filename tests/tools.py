@@ -16,14 +16,37 @@ PACKAGES = {
     "ping": "iputils-ping",
     "sqlite3": "sqlite3",
     "systemd-analyze": "systemd",
+    "systemd-sysusers": "systemd",
+    "systemd-tmpfiles": "systemd",
+    "deb-systemd-helper": "init-system-helpers",
+    "dpkg": "dpkg",
+    "dpkg-deb": "dpkg",
+    "xz": "xz-utils",
+    "lintian": "lintian",
+    "bash": "bash",
 }
 
 
+# The packages whose programs are missing, by the reason that a skipped test gives.
+MISSING = {}
+
+
 def needs(*programs, root=False):
-    """Skips a test where one of the programs is missing, and says which package brings it."""
-    for name in programs:
-        if not shutil.which(name):
-            return unittest.skip(f"{name} is missing: the Debian package {PACKAGES[name]} brings it")
+    """Skips a test where some of the programs are missing, and says which packages bring them."""
+    missing = [name for name in programs if not shutil.which(name)]
+    if missing:
+        reason = f"without {', '.join(missing)}"
+        MISSING[reason] = {PACKAGES[name] for name in missing}
+        return unittest.skip(reason)
     if root and (os.geteuid() != 0 or not os.path.exists("/dev/net/tun")):
-        return unittest.skip("namespaces of the network need root and /dev/net/tun")
+        return unittest.skip("network namespaces need root and /dev/net/tun")
     return lambda test: test
+
+
+def tell_skipped(reasons):
+    """Lines on the tests that were skipped for these reasons: how many for each, and the missing packages."""
+    lines = [f"{reasons.count(reason)} skipped: {reason}" for reason in sorted(set(reasons))]
+    packages = sorted(set().union(*(MISSING.get(reason, ()) for reason in reasons)))
+    if packages:
+        lines.append(f"the skipped tests want these Debian packages: apt-get install {' '.join(packages)}")
+    return lines

@@ -33,6 +33,7 @@ pub mod OrderRowLemmas
 pub mod AskRowLemmas
 pub mod RowRunLemmas
 pub mod RowWorldLemmas
+pub mod StopLemmas
 -- The definitions on small registers, by computation.
 pub mod Examples
 pub mod RowExamples

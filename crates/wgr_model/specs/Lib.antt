@@ -12,3 +12,4 @@ pub mod RowLaws
 pub mod RowRules
 pub mod RowAsks
 pub mod RowsExist
+pub mod Stops

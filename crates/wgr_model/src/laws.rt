@@ -4,6 +4,7 @@ ghost use Rattle.wgr_model.specs.RowAsks.{ChangesReplaceRows, NetworksAreFound, 
 ghost use Rattle.wgr_model.specs.RowLaws.{CommitsReplace, NoRowsAreConsistent, OrderIsUnseen, RowsAreIsolated, RowsAreRead, RowsOfTwoWorlds, RowsStayConsistent};
 ghost use Rattle.wgr_model.specs.RowRules.{ConsistentRowsKeepRules, NetworksGain, NetworksLose, TenantsGain, TokensGain, TokensLose};
 ghost use Rattle.wgr_model.specs.RowsExist.{EveryEventHasARowStep, RowsExist, StepsHaveRows};
+ghost use Rattle.wgr_model.specs.Stops.{RunsGoOn};
 
 /// A register without entries is consistent.
 pub fn empty_is_consistent()
@@ -66,6 +67,12 @@ pub fn rows_are_isolated()
 /// and asks and on the accepted orders about it: the tenant can't tell them apart.
 pub fn rows_of_two_worlds()
     ensures { RowsOfTwoWorlds }
+{}
+
+/// Events that were run before a stop and those that are run on what it left are one run, with at
+/// most one late event between them; so each tenant is apart along all of it.
+pub fn runs_go_on()
+    ensures { RunsGoOn }
 {}
 
 /// The register is never without an answer, and never without an id where it has room.

@@ -4,3 +4,4 @@ pub mod RunLemmas
 pub mod WorldLemmas
 pub mod ServeLemmas
 pub mod SecretLemmas
+pub mod TenantExamples

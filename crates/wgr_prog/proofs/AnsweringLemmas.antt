@@ -1,92 +1,76 @@
 -- How the words end that answer requests.
-use Rattle.std.proofs.Common.{◌≡◌, ℕ, Bool, true, List, [], Option, Some, None, Result, Ok, Err, refl, subst, sym}
-use Rattle.std.specs.Prelude.{IsErrAnd, flat_map}
+use Rattle.std.proofs.Common.{◌≡◌, ℕ, Bool, true, List, [], Option, Result, Ok, Err, subst, sym, inr}
+use Rattle.std.specs.Prelude.{flat_map}
 use Rattle.std.specs.Io.KnownBytes.{Appends}
 use Rattle.std.specs.List.{list_all}
+use Rattle.sqlite.specs.Files.{file_state, over_files}
+use Rattle.sqlite.specs.Held.{Held}
+use Rattle.sqlite.specs.Recovery.{Image}
 use Rattle.sqlite.specs.State.{HasCleanDisk}
-use Rattle.sqlite.specs.Store.{Ghosts}
-use Rattle.sqlite.specs.Held.{Held, state}
+use Rattle.sqlite_disk.specs.declared.Disk as disk
+use Rattle.sqlite_disk.specs.declared.Files.{Files}
+use Rattle.sqlite_store.specs.declared.store.FileStore.{FileStore}
+use Rattle.wgr_file.specs.OnFiles.{IsClosedTo, IsOpen}
+use Rattle.wgr_file.proofs.FileLemmas.{stays_open}
 use Rattle.wgr_office.specs.declared.answer.Answer as given
 use Rattle.wgr_office.specs.declared.run.Event as event
 use Rattle.wgr_office.specs.Serving.{reply_of}
 use Rattle.wgr_service.specs.Batch.{IsBatch, IsCut, is_available}
-use Rattle.wgr_prog.specs.declared.field.WordField.TheVariants as of
-use Rattle.wgr_prog.specs.declared.field.WordFault.{WordFault}
-use Rattle.wgr_prog.specs.declared.field.WordFault.TheVariants as fault
 use Rattle.wgr_prog.specs.declared.register_words.Failure.{Failure}
 use Rattle.wgr_prog.specs.declared.register_words.Failure.TheVariants as failure
-use Rattle.wgr_prog.specs.Answering.{AreAsked, EndsServe, HasAnswered, HasBrokenOff, HasReplied, IsChoice, Listens, Output, SpellsMoment, choice_fields, serve_fields}
-use Rattle.wgr_prog.specs.OnRegister.{IsOpen, of_words}
-use Rattle.wgr_prog.specs.Words.{IsRead, SpellsWhole}
-use Rattle.wgr_prog.proofs.OrderLemmas.{IsFaultIn, here}
+use Rattle.wgr_prog.specs.declared.request_words.Serving.{Serving}
+use Rattle.wgr_prog.specs.Answering.{Answers, AreSpelled, EndsBatch, EndsServe, HasAnswered, HasBrokenOff, HasReplied, IsServing, Listens, Output, ServesAll}
 
-module _ {S : Type 0} (g : Ghosts S) where
+module _ {D : Type 0} (g : disk.Ghosts D) (start : Image) (closed : Option (Files D)) where
+  -- the office is its register
+  pub same_office : (register office : Held (FileStore D g)) → office ≡ register → IsOpen start register → IsOpen start office
+  same_office register office same is_open = subst (IsOpen start) (sym same) is_open
+
   -- ---- requests in files
 
-  -- a list of requests on a register that is open
-  answered : (register left : Held S) (asked : List event.Event) (answers : List given.Answer) → IsOpen g register
-      → (HasCleanDisk (state g left) → HasCleanDisk (state g register)) → IsBatch g register left asked answers → HasAnswered g asked answers
-  answered register left asked answers is_open clean batch = record {
-    each = batch.0;
-    left = left;
-    run = λ is. let o = is_open (clean is) in (o.0, o.1, batch.1 o.0 [] o.2 is);
-  }
-
-  -- the office is its register
-  pub same_office : (register office : Held S) → office ≡ register → IsOpen g register → IsOpen g office
-  same_office register office same is_open = subst (IsOpen g) (sym same) is_open
-
-  module _ (moment count : ℕ) (requests asked : List event.Event) (asked_is : AreAsked moment count requests) (same : asked ≡ requests) (register left : Held S) (is_open : IsOpen g register)
-      (clean : HasCleanDisk (state g left) → HasCleanDisk (state g register)) (old new : Output) where
-    pub replied : (whole : Bool) → (answers : List given.Answer) × IsBatch g register left asked answers × Appends old.written new.written (flat_map reply_of answers) × (whole ≡ list_all is_available answers)
-        → new.failed ≡ old.failed → HasReplied g moment count old new whole
-    replied whole told sound = record {
-      asked = asked;
-      asked_is = subst (AreAsked moment count) (sym same) asked_is;
-      answers = told.0;
-      answered = answered register left asked told.0 is_open clean told.1;
-      written = told.2;
-      sound = sound;
-      available = told.3;
+  module _ (asked : List event.Event) (register left : Held (FileStore D g)) (is_open : IsOpen start register) (clean : HasCleanDisk (file_state left) → HasCleanDisk (file_state register))
+      (closed_to : IsClosedTo g closed left) (old new : Output) where
+    -- a list of requests on a register that is open
+    answered : (answers : List given.Answer) → IsBatch over_files register left asked answers → HasAnswered g start closed asked answers
+    answered answers batch = record {
+      each = batch.0;
+      left = left;
+      closed_to = closed_to;
+      run = λ is. let o = is_open (clean is) in (o.0, o.1, batch.1 o.0 [] o.2 is);
     }
 
-    pub broken_off : (new.failed ≡ true) × ((answers : List given.Answer) × IsBatch g register left asked answers × IsCut old.written new.written (flat_map reply_of answers)) → HasBrokenOff g moment count old new
-    broken_off told = record {
-      asked = asked;
-      asked_is = subst (AreAsked moment count) (sym same) asked_is;
-      answers = told.1.0;
-      answered = answered register left asked told.1.0 is_open clean told.1.1;
-      cut = told.1.2;
-      failed = told.0;
-    }
+    pub replied : (whole : Bool) → (answers : List given.Answer) × IsBatch over_files register left asked answers × Appends old.written new.written (flat_map reply_of answers) × (whole ≡ list_all is_available answers)
+        → new.failed ≡ old.failed → HasReplied g start closed asked old new whole
+    replied whole told sound = record { answers = told.0; answered = answered told.0 told.1; written = told.2; sound = sound; available = told.3 }
+
+    pub broken_off : (new.failed ≡ true) × ((answers : List given.Answer) × IsBatch over_files register left asked answers × IsCut old.written new.written (flat_map reply_of answers)) → HasBrokenOff g start closed asked old new
+    broken_off told = record { answers = told.1.0; answered = answered told.1.0 told.1.1; cut = told.1.2; failed = told.0 }
+
+  -- those that the words spell
+  pub ends_batch : (now : List ℕ) (files : List (List ℕ)) (requests asked : List event.Event) → asked ≡ requests → AreSpelled now files requests → (old new : Output) (r : Result Bool Failure)
+      → Answers g start closed asked old new r → EndsBatch g start closed now files old new r
+  ends_batch now files requests asked same spelled old new (Ok whole) answers = (asked, subst (AreSpelled now files) (sym same) spelled, answers)
+  ends_batch now files requests asked same spelled old new (Err (failure.Field field)) answers = absurd answers
+  ends_batch now files requests asked same spelled old new (Err (failure.Refused why)) answers = absurd answers
+  ends_batch now files requests asked same spelled old new (Err (failure.Register why)) answers = answers
+  ends_batch now files requests asked same spelled old new (Err failure.Device) answers = inr (asked, subst (AreSpelled now files) (sym same) spelled, answers)
 
   -- ---- connections
 
-  module _ (place count : List ℕ) (now : Option (List ℕ)) where
-    pub field_fault : (out : Output) (why : WordFault) (r : Result (Unit {0}) Failure) → IsErrAnd r (λ (e : Failure). e ≡ of_words why) → IsFaultIn (serve_fields place count now) why
-        → EndsServe g place count now out out r
-    field_fault out why (Ok done) is told = absurd is
-    field_fault out why (Err e) is told = subst (λ (f : Failure). EndsServe g place count now out out (Err f)) (sym is) (by_fault why told)
-      where
-        by_fault : (why : WordFault) → IsFaultIn (serve_fields place count now) why → EndsServe g place count now out out (Err (of_words why))
-        by_fault (fault.Field f) told = (refl, told)
-        by_fault fault.NoMemory told = refl
-        by_fault fault.Device told = absurd told
+  pub serves_all : (register left : Held (FileStore D g)) (s : Serving) (old new : Output) (r : Result (Unit {0}) Failure) → IsOpen start register → IsClosedTo g closed left
+      → Listens register left s.count s.moment old new r → ServesAll g start closed s old new r
+  serves_all register left s old new (Ok done) is_open closed_to listens =
+      (record { register = register; opened = is_open; left = left; closed_to = closed_to; clean = listens.0; outcomes = listens.1.0; served = listens.1.1 }, listens.2, listens.3)
+  serves_all register left s old new (Err (failure.Field f)) is_open closed_to listens = absurd listens
+  serves_all register left s old new (Err (failure.Refused why)) is_open closed_to listens = absurd listens
+  serves_all register left s old new (Err (failure.Register why)) is_open closed_to listens = absurd listens
+  serves_all register left s old new (Err failure.Device) is_open closed_to listens = (listens.1, stays_open register left start closed is_open listens.0 closed_to)
 
-    pub served : (register left : Held S) (number : ℕ) (moment : Option ℕ) (old new : Output) (r : Result (Unit {0}) Failure) → SpellsWhole count number → SpellsMoment now moment
-        → IsOpen g register → Listens g register left number moment old new r → EndsServe g place count now old new r
-    served register left number moment old new (Ok done) spelled at is_open listens =
-        (number, moment, spelled, at, record { register = register; opened = is_open; left = left; clean = listens.0; outcomes = listens.1.0; served = listens.1.1 }, listens.2, listens.3)
-    served register left number moment old new (Err (failure.Field f)) spelled at is_open listens = absurd listens
-    served register left number moment old new (Err (failure.Refused why)) spelled at is_open listens = absurd listens
-    served register left number moment old new (Err (failure.Register why)) spelled at is_open listens = absurd listens
-    served register left number moment old new (Err failure.Device) spelled at is_open listens = listens
-
--- the moment, where one is given
-pub choice_fault : (now : Option (List ℕ)) (why : WordFault) → IsChoice now (Err why) → IsFaultIn (choice_fields now) why
-choice_fault None why told = cc
-choice_fault (Some text) why told = here (SpellsWhole text) of.Now text [] why (λ is. is) told
-
-pub choice : (now : Option (List ℕ)) (moment : Option ℕ) → IsChoice now (Ok moment) → SpellsMoment now moment
-choice None moment is = cc
-choice (Some text) moment is = is
+  -- where the words spell what to serve
+  pub ends_serve : (place count : List ℕ) (now : Option (List ℕ)) (s : Serving) → IsServing place count now s → (old new : Output) (r : Result (Unit {0}) Failure) → ServesAll g start closed s old new r
+      → EndsServe g start closed place count now old new r
+  ends_serve place count now s spelled old new (Ok done) serves = (s, spelled, serves)
+  ends_serve place count now s spelled old new (Err (failure.Field f)) serves = absurd serves
+  ends_serve place count now s spelled old new (Err (failure.Refused why)) serves = absurd serves
+  ends_serve place count now s spelled old new (Err (failure.Register why)) serves = serves
+  ends_serve place count now s spelled old new (Err failure.Device) serves = serves

@@ -9,18 +9,12 @@ use Rattle.wgr_prog.specs.declared.field.WordFault.{WordFault}
 use Rattle.wgr_prog.specs.declared.field.WordFault.TheVariants as fault
 use Rattle.wgr_prog.specs.declared.order.OrderDraft.TheVariants as draft
 use Rattle.wgr_prog.specs.Words.{IsOf, IsRead}
-use Rattle.wgr_prog.specs.Order.{Input, IsDraftFault, IsDraftOf, IsFirst, OrdersBy, TakesDigest, fields_of}
+use Rattle.wgr_prog.specs.Order.{Input, IsDraftFault, IsDraftOf, IsFaultIn, IsFirst, OrdersBy, TakesDigest, fields_of}
 
 -- what `?` hands on is what it was given
 pub passed : {T E : Type 0} (r : Result T E) (why : E) (P : E → Type 0) → IsErrAnd r (λ (e : E). e ≡ why) → P why → IfErr r P
 passed (Ok x) why P is p = tt
 passed (Err e) why P is p = subst P (sym is) p
-
--- the first of these fields that is not of its form is told, or memory is wanting
-abbrev pub IsFaultIn : List (WordField × List ℕ) → WordFault → Type 0
-IsFaultIn fields (fault.Field field) = IsFirst field fields
-IsFaultIn fields fault.NoMemory = Unit {0}
-IsFaultIn fields fault.Device = ⊥
 
 -- it is this one
 pub here : {A : Type 0} (P : A → Type 0) (field : WordField) (text : List ℕ) (more : List (WordField × List ℕ)) (why : WordFault)

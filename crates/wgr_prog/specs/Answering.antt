@@ -1,11 +1,16 @@
--- What the words leave that answer tenants' requests, while the disk returns what was written to it.
+-- What the words leave that answer tenants' requests.
 use Rattle.std.specs.Prelude.{ℕ, ◌≡◌, ◌⊎◌, Bool, true, List, [], ◌∷◌, length, codes, Option, Some, None, Result, Ok, Err, All, flat_map}
 use Rattle.std.specs.Io.KnownBytes.{Appends}
 use Rattle.std.specs.List.{list_all}
 use Rattle.sqlite.specs.Effect.{Database}
+use Rattle.sqlite.specs.Files.{file_state, over_files}
+use Rattle.sqlite.specs.Held.{Held}
+use Rattle.sqlite.specs.Recovery.{Image}
 use Rattle.sqlite.specs.State.{HasCleanDisk}
-use Rattle.sqlite.specs.Store.{Ghosts}
-use Rattle.sqlite.specs.Held.{Held, state}
+use Rattle.sqlite_disk.specs.declared.Disk as disk
+use Rattle.sqlite_disk.specs.declared.Files.{Files}
+use Rattle.sqlite_store.specs.declared.store.FileStore.{FileStore}
+use Rattle.wgr_file.specs.OnFiles.{IsClosedTo, IsOpen, Stays, StoodIn}
 use Rattle.wgr_office.specs.Events.{HasRun}
 use Rattle.wgr_office.specs.Serving.{reply_of}
 use Rattle.wgr_office.specs.declared.answer.Answer as given
@@ -13,16 +18,15 @@ use Rattle.wgr_office.specs.declared.run.Event as event
 use Rattle.wgr_office.specs.declared.run.Event.TheVariants as events
 use Rattle.wgr_service.specs.Batch.{IsCut, is_available}
 use Rattle.wgr_service.specs.Connections.{AreServed, Outcome}
-use Rattle.wgr_whole.specs.Good.{IsGood}
 use Rattle.wgr_prog.specs.declared.field.WordField.{WordField}
 use Rattle.wgr_prog.specs.declared.field.WordField.TheVariants as of
 use Rattle.wgr_prog.specs.declared.field.WordFault.{WordFault}
 use Rattle.wgr_prog.specs.declared.field.WordFault.TheVariants as word_fault
 use Rattle.wgr_prog.specs.declared.register_words.Failure.{Failure}
 use Rattle.wgr_prog.specs.declared.register_words.Failure.TheVariants as failure
-use Rattle.wgr_prog.specs.OnRegister.{IsOpen}
 use Rattle.wgr_prog.specs.Order.{IsFirst}
-use Rattle.wgr_prog.specs.Words.{IsRead, SpellsWhole}
+use Rattle.wgr_prog.specs.Words.{IsRead, SpellsEndpoint, SpellsWhole}
+use Rattle.wgr_prog.specs.declared.request_words.Serving.{Serving}
 
 -- what was written to a writer, and whether a write has failed
 pub record Output : Type 0 where
@@ -48,38 +52,52 @@ IsAskedAt now (events.Order order) = ⊥
 abbrev pub AreAsked : ℕ → ℕ → List event.Event → Type 0
 AreAsked now count asked = (length asked ≡ count) × All (IsAskedAt now) asked
 
--- these requests were run, with these answers, on a register whose rows were all good
-pub record HasAnswered {S : Type 0} (g : Ghosts S) (asked : List event.Event) (answers : List given.Answer) : Type 0 where
-  pub each : length answers ≡ length asked
-  pub left : Held S
-  pub run : HasCleanDisk (state g left) → (db : Database) × IsGood db × HasRun g left db [] asked answers
+-- the requests in these files at the moment that the text spells
+abbrev pub AreSpelled : List ℕ → List (List ℕ) → List event.Event → Type 0
+AreSpelled now files asked = (moment : ℕ) × SpellsWhole now moment × AreAsked moment (length files) asked
 
--- All requests were answered, and their replies written. It tells whether none was answered Unavailable.
-pub record HasReplied {S : Type 0} (g : Ghosts S) (now files : ℕ) (old new : Output) (whole : Bool) : Type 0 where
-  pub asked : List event.Event
-  pub asked_is : AreAsked now files asked
+-- the moment is not of its form, or memory or a file fails
+abbrev pub IsBatchFault : List ℕ → WordFault → Type 0
+IsBatchFault now (word_fault.Field field) = IsFirst field ((of.Now, now) ∷ [])
+IsBatchFault now word_fault.NoMemory = Unit {0}
+IsBatchFault now word_fault.Device = Unit {0}
+
+-- these requests were run, with these answers, on the register that was in the files, and nothing else
+pub record HasAnswered {D : Type 0} (g : disk.Ghosts D) (start : Image) (closed : Option (Files D)) (asked : List event.Event) (answers : List given.Answer) : Type 0 where
+  pub each : length answers ≡ length asked
+  pub left : Held (FileStore D g)
+  pub closed_to : IsClosedTo g closed left
+  pub run : HasCleanDisk (file_state left) → (db : Database) × StoodIn start db × HasRun over_files left db [] asked answers
+
+-- They were answered, and their replies written. It tells whether none was answered Unavailable.
+pub record HasReplied {D : Type 0} (g : disk.Ghosts D) (start : Image) (closed : Option (Files D)) (asked : List event.Event) (old new : Output) (whole : Bool) : Type 0 where
   pub answers : List given.Answer
-  pub answered : HasAnswered g asked answers
+  pub answered : HasAnswered g start closed asked answers
   pub written : Appends old.written new.written (flat_map reply_of answers)
   pub sound : new.failed ≡ old.failed
   pub available : whole ≡ list_all is_available answers
 
 -- They were answered, but a write failed behind a beginning of the replies.
-pub record HasBrokenOff {S : Type 0} (g : Ghosts S) (now files : ℕ) (old new : Output) : Type 0 where
-  pub asked : List event.Event
-  pub asked_is : AreAsked now files asked
+pub record HasBrokenOff {D : Type 0} (g : disk.Ghosts D) (start : Image) (closed : Option (Files D)) (asked : List event.Event) (old new : Output) : Type 0 where
   pub answers : List given.Answer
-  pub answered : HasAnswered g asked answers
+  pub answered : HasAnswered g start closed asked answers
   pub cut : IsCut old.written new.written (flat_map reply_of answers)
   pub failed : new.failed ≡ true
 
+-- the requests are answered, or the register isn't opened or memory is wanting
+abbrev pub Answers : {D : Type 0} → disk.Ghosts D → Image → Option (Files D) → List event.Event → Output → Output → Result Bool Failure → Type 0
+Answers g start closed asked old new (Ok whole) = HasReplied g start closed asked old new whole
+Answers g start closed asked old new (Err (failure.Register why)) = (new ≡ old) × Stays g start closed
+Answers g start closed asked old new (Err failure.Device) = HasBrokenOff g start closed asked old new
+Answers g start closed asked old new (Err other) = ⊥
+
 -- How the requests in these files end: where they end by a fault, nothing is written, or a beginning of the replies.
-abbrev pub EndsBatch : {S : Type 0} → Ghosts S → List ℕ → List (List ℕ) → Output → Output → Result Bool Failure → Type 0
-EndsBatch g now files old new (Ok whole) = (moment : ℕ) × SpellsWhole now moment × HasReplied g moment (length files) old new whole
-EndsBatch g now files old new (Err (failure.Field field)) = (new ≡ old) × IsFirst field ((of.Now, now) ∷ [])
-EndsBatch g now files old new (Err (failure.Refused why)) = ⊥
-EndsBatch g now files old new (Err (failure.Register why)) = new ≡ old
-EndsBatch g now files old new (Err failure.Device) = (new ≡ old) ⊎ ((moment : ℕ) × SpellsWhole now moment × HasBrokenOff g moment (length files) old new)
+abbrev pub EndsBatch : {D : Type 0} → disk.Ghosts D → Image → Option (Files D) → List ℕ → List (List ℕ) → Output → Output → Result Bool Failure → Type 0
+EndsBatch g start closed now files old new (Ok whole) = (asked : List event.Event) × AreSpelled now files asked × HasReplied g start closed asked old new whole
+EndsBatch g start closed now files old new (Err (failure.Field field)) = (new ≡ old) × IsFirst field ((of.Now, now) ∷ [])
+EndsBatch g start closed now files old new (Err (failure.Refused why)) = ⊥
+EndsBatch g start closed now files old new (Err (failure.Register why)) = (new ≡ old) × Stays g start closed
+EndsBatch g start closed now files old new (Err failure.Device) = ((new ≡ old) × Stays g start closed) ⊎ ((asked : List event.Event) × AreSpelled now files asked × HasBrokenOff g start closed asked old new)
 
 -- ---- connections
 
@@ -102,30 +120,41 @@ choice_fields (Some now) = (of.Now, now) ∷ []
 abbrev pub serve_fields : List ℕ → List ℕ → Option (List ℕ) → List (WordField × List ℕ)
 serve_fields place count now = (of.HostPort, place) ∷ (of.Count, count) ∷ choice_fields now
 
--- so many connections were served, by a register whose rows were all good
-pub record HasServed {S : Type 0} (g : Ghosts S) (now : Option ℕ) (count : ℕ) : Type 0 where
-  pub register : Held S
-  pub opened : IsOpen g register
-  pub left : Held S
-  pub clean : HasCleanDisk (state g left) → HasCleanDisk (state g register)
-  pub outcomes : List Outcome
-  pub served : AreServed g register left now count outcomes
+-- what the words ask to serve
+abbrev pub IsServing : List ℕ → List ℕ → Option (List ℕ) → Serving → Type 0
+IsServing place count now s = SpellsEndpoint place s.endpoint × SpellsWhole count s.count × SpellsMoment now s.moment
 
--- `listening` is written and so many connections are served, or nothing is written, unless a write has failed
-abbrev pub Listens : {S : Type 0} → Ghosts S → Held S → Held S → ℕ → Option ℕ → Output → Output → Result (Unit {0}) Failure → Type 0
-Listens g register left count now old new (Ok done) =
-    (HasCleanDisk (state g left) → HasCleanDisk (state g register)) × ((outcomes : List Outcome) × AreServed g register left now count outcomes)
+-- so many connections were served by the register that was in the files
+pub record HasServed {D : Type 0} (g : disk.Ghosts D) (start : Image) (closed : Option (Files D)) (now : Option ℕ) (count : ℕ) : Type 0 where
+  pub register : Held (FileStore D g)
+  pub opened : IsOpen start register
+  pub left : Held (FileStore D g)
+  pub closed_to : IsClosedTo g closed left
+  pub clean : HasCleanDisk (file_state left) → HasCleanDisk (file_state register)
+  pub outcomes : List Outcome
+  pub served : AreServed over_files register left now count outcomes
+
+-- `listening` is written and so many connections are served; or none is served, and nothing is written, unless a write
+-- has failed
+abbrev pub Listens : {D : Type 0} {g : disk.Ghosts D} → Held (FileStore D g) → Held (FileStore D g) → ℕ → Option ℕ → Output → Output → Result (Unit {0}) Failure → Type 0
+Listens register left count now old new (Ok done) =
+    (HasCleanDisk (file_state left) → HasCleanDisk (file_state register)) × ((outcomes : List Outcome) × AreServed over_files register left now count outcomes)
     × Appends old.written new.written (codes "listening\n") × (new.failed ≡ old.failed)
-Listens g register left count now old new (Err failure.Device) = (new ≡ old) ⊎ (new.failed ≡ true)
-Listens g register left count now old new (Err other) = ⊥
+Listens register left count now old new (Err failure.Device) = (left ≡ register) × ((new ≡ old) ⊎ (new.failed ≡ true))
+Listens register left count now old new (Err other) = ⊥
+
+-- `listening` is written and so many connections are served; or the register isn't opened, or the address can't be had
+abbrev pub ServesAll : {D : Type 0} → disk.Ghosts D → Image → Option (Files D) → Serving → Output → Output → Result (Unit {0}) Failure → Type 0
+ServesAll g start closed s old new (Ok done) = HasServed g start closed s.moment s.count × Appends old.written new.written (codes "listening\n") × (new.failed ≡ old.failed)
+ServesAll g start closed s old new (Err (failure.Register why)) = (new ≡ old) × Stays g start closed
+ServesAll g start closed s old new (Err failure.Device) = ((new ≡ old) ⊎ (new.failed ≡ true)) × Stays g start closed
+ServesAll g start closed s old new (Err other) = ⊥
 
 -- How serving ends: `listening` is written and so many connections are served, or nothing is written, unless a write
 -- has failed.
-abbrev pub EndsServe : {S : Type 0} → Ghosts S → List ℕ → List ℕ → Option (List ℕ) → Output → Output → Result (Unit {0}) Failure → Type 0
-EndsServe g place count now old new (Ok done) =
-    (number : ℕ) × (moment : Option ℕ) × SpellsWhole count number × SpellsMoment now moment × HasServed g moment number
-    × Appends old.written new.written (codes "listening\n") × (new.failed ≡ old.failed)
-EndsServe g place count now old new (Err (failure.Field field)) = (new ≡ old) × IsFirst field (serve_fields place count now)
-EndsServe g place count now old new (Err (failure.Refused why)) = ⊥
-EndsServe g place count now old new (Err (failure.Register why)) = new ≡ old
-EndsServe g place count now old new (Err failure.Device) = (new ≡ old) ⊎ (new.failed ≡ true)
+abbrev pub EndsServe : {D : Type 0} → disk.Ghosts D → Image → Option (Files D) → List ℕ → List ℕ → Option (List ℕ) → Output → Output → Result (Unit {0}) Failure → Type 0
+EndsServe g start closed place count now old new (Ok done) = (s : Serving) × IsServing place count now s × ServesAll g start closed s old new (Ok done)
+EndsServe g start closed place count now old new (Err (failure.Field field)) = (new ≡ old) × IsFirst field (serve_fields place count now)
+EndsServe g start closed place count now old new (Err (failure.Refused why)) = ⊥
+EndsServe g start closed place count now old new (Err (failure.Register why)) = (new ≡ old) × Stays g start closed
+EndsServe g start closed place count now old new (Err failure.Device) = ((new ≡ old) ⊎ (new.failed ≡ true)) × Stays g start closed

@@ -53,6 +53,12 @@ abbrev pub IsFirst : WordField → List (WordField × List ℕ) → Type 0
 IsFirst field [] = ⊥
 IsFirst field ((first, text) ∷ more) = ((field ≡ first) × ¬ (IsOf first text)) ⊎ (IsOf first text × IsFirst field more)
 
+-- the first of these fields that is not of its form is told, or memory is wanting
+abbrev pub IsFaultIn : List (WordField × List ℕ) → WordFault → Type 0
+IsFaultIn fields (fault.Field field) = IsFirst field fields
+IsFaultIn fields fault.NoMemory = Unit {0}
+IsFaultIn fields fault.Device = ⊥
+
 -- ---- before the token is read
 
 abbrev pub wants_token : OrderAsked → Bool

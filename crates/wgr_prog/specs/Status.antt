@@ -6,7 +6,9 @@ use Rattle.std.specs.declared.io.ErrorKind.TheVariants.{InvalidData}
 use Rattle.clap.specs.Words.{IsAmong, Kinds, Text}
 use Rattle.clap.specs.declared.error.kind.ErrorKind.{ErrorKind}
 use Rattle.clap.specs.declared.error.kind.ErrorKind.TheVariants.{DisplayHelp, DisplayVersion, OutOfMemory}
-use Rattle.sqlite.specs.Store.{Ghosts}
+use Rattle.sqlite.specs.Recovery.{Image}
+use Rattle.sqlite_disk.specs.declared.Disk as disk
+use Rattle.sqlite_disk.specs.declared.Files.{Files}
 use Rattle.wgr_command_line.specs.Words.{Asked, Batch, Init, Operate, OrderAsked, Plan, Serve, asked_by, wrong_with}
 use Rattle.wgr_register.specs.declared.fault.Done.{Done}
 use Rattle.wgr_text.specs.Prefix.{PrefixValue}
@@ -17,7 +19,8 @@ use Rattle.wgr_plan.specs.declared.planner.PlanFault.TheVariants.{Refused, NoMem
 use Rattle.wgr_prog.specs.declared.messages.TheConstants.{DONE, FAULT, REFUSED}
 use Rattle.wgr_plan.specs.PlanFault.{Answers, Streams}
 use Rattle.wgr_prog.specs.Answering.{EndsBatch, EndsServe, Output}
-use Rattle.wgr_prog.specs.OnRegister.{CarriesOut, IsMade}
+use Rattle.wgr_file.specs.OnFiles.{IsMade, Stays}
+use Rattle.wgr_prog.specs.OnRegister.{CarriesOut}
 use Rattle.wgr_prog.specs.Order.{Input, wants_token}
 use Rattle.wgr_prog.specs.declared.register_words.Failure.{Failure}
 use Rattle.wgr_prog.specs.declared.register_words.Failure.TheVariants as failure
@@ -77,14 +80,18 @@ TellsDone written written' failed failed' status =
     ⊎ ((status ≡ FAULT) × (failed' ≡ true))
 
 -- how it went is told; where nothing is done, nothing is printed
+abbrev pub TellsEnd : Option (List ℕ) → Option (List ℕ) → Bool → Bool → Result Done Failure → ℕ → Type 0
+TellsEnd written written' failed failed' (Ok done) status = TellsDone written written' failed failed' status
+TellsEnd written written' failed failed' (Err why) status = (status ≡ failure_status why) × (written' ≡ written) × (failed' ≡ failed)
+
 abbrev pub Told : Streams → Streams → Result Done Failure → ℕ → Type 0
-Told old new (Ok done) status = TellsDone old.written new.written old.write_failed new.write_failed status
-Told old new (Err why) status = (status ≡ failure_status why) × (new.written ≡ old.written) × (new.write_failed ≡ old.write_failed)
+Told old new answer status = TellsEnd old.written new.written old.write_failed new.write_failed answer status
 
 -- a register is made, or a fault is told; nothing is read
-pub record RunsInit {S : Type 0} (g : Ghosts S) (old new : Streams) (status : ℕ) : Type 0 where
+pub record RunsInit {D : Type 0} (g : disk.Ghosts D) (start : Image) (closed : Option (Files D)) (old new : Streams) (status : ℕ) : Type 0 where
   pub answer : Result Done Failure
-  pub made : IfOk answer (λ done. IsMade g)
+  pub made : IfOk answer (λ done. IsMade g start closed)
+  pub kept : IfErr answer (λ why. Stays g start closed)
   pub fault : IfErr answer (λ why. failure_status why ≡ FAULT)
   pub told : Told old new answer status
   pub unread : ReadsNothing old new
@@ -93,9 +100,9 @@ abbrev pub input_in : Streams → Input
 input_in s = record { remaining = s.input; failed = s.read_failed }
 
 -- the order that the words and the token spell is carried out; nothing is read where there is no token
-pub record RunsOrder {S : Type 0} (g : Ghosts S) (asked : OrderAsked) (old new : Streams) (status : ℕ) : Type 0 where
+pub record RunsOrder {D : Type 0} (g : disk.Ghosts D) (start : Image) (closed : Option (Files D)) (asked : OrderAsked) (old new : Streams) (status : ℕ) : Type 0 where
   pub answer : Result Done Failure
-  pub carried : CarriesOut g asked (input_in old) (input_in new) answer
+  pub carried : CarriesOut g start closed asked (input_in old) (input_in new) answer
   pub told : Told old new answer status
   pub unread : wants_token asked ≡ false → ReadsNothing old new
 
@@ -109,9 +116,9 @@ batch_status (Ok false) = FAULT
 batch_status (Err why) = failure_status why
 
 -- the requests in the files are answered
-pub record RunsBatch {S : Type 0} (g : Ghosts S) (now : Text) (files : List Text) (old new : Streams) (status : ℕ) : Type 0 where
+pub record RunsBatch {D : Type 0} (g : disk.Ghosts D) (start : Image) (closed : Option (Files D)) (now : Text) (files : List Text) (old new : Streams) (status : ℕ) : Type 0 where
   pub answer : Result Bool Failure
-  pub ends : EndsBatch g now files (output_in old) (output_in new) answer
+  pub ends : EndsBatch g start closed now files (output_in old) (output_in new) answer
   pub told : status ≡ batch_status answer
   pub unread : ReadsNothing old new
 
@@ -120,9 +127,9 @@ serve_status (Ok done) = DONE
 serve_status (Err why) = failure_status why
 
 -- connections are served
-pub record RunsServe {S : Type 0} (g : Ghosts S) (place count : Text) (now : Option Text) (old new : Streams) (status : ℕ) : Type 0 where
+pub record RunsServe {D : Type 0} (g : disk.Ghosts D) (start : Image) (closed : Option (Files D)) (place count : Text) (now : Option Text) (old new : Streams) (status : ℕ) : Type 0 where
   pub answer : Result (Unit {0}) Failure
-  pub ends : EndsServe g place count now (output_in old) (output_in new) answer
+  pub ends : EndsServe g start closed place count now (output_in old) (output_in new) answer
   pub told : status ≡ serve_status answer
   pub unread : ReadsNothing old new
 
@@ -132,16 +139,16 @@ pub record RunsServe {S : Type 0} (g : Ghosts S) (place count : Text) (now : Opt
 abbrev pub LacksMemory : Streams → Streams → ℕ → Type 0
 LacksMemory old new status = (new ≡ old) × (status ≡ FAULT)
 
-abbrev pub Runs : {S : Type 0} → Ghosts S → Asked → Streams → Streams → ℕ → Type 0
-Runs g (Plan pool) old new status = RunsPlan pool old new status
-Runs g (Init db) old new status = RunsInit g old new status
-Runs g (Operate db order) old new status = RunsOrder g order old new status
-Runs g (Batch db now files) old new status = RunsBatch g now files old new status
-Runs g (Serve db place count now) old new status = RunsServe g place count now old new status
+abbrev pub Runs : {D : Type 0} → disk.Ghosts D → Image → Option (Files D) → Asked → Streams → Streams → ℕ → Type 0
+Runs g start closed (Plan pool) old new status = RunsPlan pool old new status
+Runs g start closed (Init db) old new status = RunsInit g start closed old new status
+Runs g start closed (Operate db order) old new status = RunsOrder g start closed order old new status
+Runs g start closed (Batch db now files) old new status = RunsBatch g start closed now files old new status
+Runs g start closed (Serve db place count now) old new status = RunsServe g start closed place count now old new status
 
 -- the words ask for something
-abbrev pub ServesAsked : {S : Type 0} → Ghosts S → Asked → Streams → Streams → ℕ → Type 0
-ServesAsked g asked old new status = LacksMemory old new status ⊎ Runs g asked old new status
+abbrev pub ServesAsked : {D : Type 0} → disk.Ghosts D → Image → Option (Files D) → Asked → Streams → Streams → ℕ → Type 0
+ServesAsked g start closed asked old new status = LacksMemory old new status ⊎ Runs g start closed asked old new status
 
 -- help and the version were asked for, and are no mistake
 abbrev pub kind_status : ErrorKind → ℕ
@@ -168,8 +175,8 @@ abbrev pub TellsError : Kinds → Streams → Streams → ℕ → Type 0
 TellsError kinds old new status = LacksMemory old new status ⊎ FailsToWrite old new status ⊎ TellsKind kinds old new status
 
 -- the words ask for something, or for nothing
-pub record Serves {S : Type 0} (g : Ghosts S) (words : List Text) (old new : Streams) (status : ℕ) : Type 0 where
-  pub served : IfSome (asked_by words) (λ asked. ServesAsked g asked old new status)
+pub record Serves {D : Type 0} (g : disk.Ghosts D) (start : Image) (closed : Option (Files D)) (words : List Text) (old new : Streams) (status : ℕ) : Type 0 where
+  pub served : IfSome (asked_by words) (λ asked. ServesAsked g start closed asked old new status)
   pub told : IfNone (asked_by words) (TellsError (wrong_with words) old new status)
 
 -- the words can't be had: they aren't UTF-8, or memory is wanting; nothing is read or printed

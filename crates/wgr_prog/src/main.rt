@@ -1,7 +1,6 @@
 //! The program `wgr`.
 #![tactic(auto)]
 
-mod database;
 mod endpoint;
 mod field;
 mod messages;
@@ -12,6 +11,7 @@ mod register_words;
 mod request_words;
 mod requests;
 
+use sqlite::Unknown;
 use std::process::ExitCode;
 use std::{env, io};
 use wgr_io::Device;
@@ -26,5 +26,6 @@ fn main(rt: HostRuntime) -> ExitCode {
     let mut out = Device::new(rt.stdout());
     let mut err = Device::new(rt.stderr());
     let arguments = arguments(&rt);
-    ExitCode::from(program::run(&rt, &arguments, &mut input, &mut out, &mut err))
+    let (status, _files) = program::run(&rt, Unknown, &arguments, &mut input, &mut out, &mut err);
+    ExitCode::from(status)
 }

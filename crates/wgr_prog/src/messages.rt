@@ -2,13 +2,13 @@
 //!
 //! Where standard error fails there is nobody to tell, and the status stays.
 ghost use Rattle.std.specs.Prelude.{◌≡◌};
-ghost use Rattle.wgr_prog.specs.Status.{TellsDone, failure_status};
+ghost use Rattle.wgr_prog.specs.Status.{TellsDone, TellsEnd, failure_status};
 
 use crate::register_words::Failure;
 use std::fmt;
 use std::fmt::Write as _;
 use wgr_io::{Write, write_all};
-use wgr_register::RegisterFault;
+use wgr_register::{Done, RegisterFault};
 
 /// All is done.
 pub(crate) const DONE: u8 = 0;
@@ -50,6 +50,20 @@ pub(crate) fn done<W: Write, E: Write>(out: &mut W, err: &mut E) -> u8
     match write_all(out, b"done\n") {
         Ok(()) => DONE,
         Err(_) => device(err),
+    }
+}
+
+/// Prints that an order is done, or tells why it isn't.
+pub(crate) fn ended<W: Write, E: Write>(
+    ended: &Result<Done, Failure>,
+    out: &mut W,
+    err: &mut E,
+) -> u8
+    ensures { TellsEnd (W.contents out.old) (W.contents out.new) (W.failed out.old) (W.failed out.new) ended.now result }
+{
+    match ended {
+        Ok(_) => done(out, err),
+        Err(why) => failure(why, err),
     }
 }
 

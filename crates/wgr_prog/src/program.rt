@@ -2,6 +2,7 @@
 ghost use Rattle.std.specs.Prelude.{◌≡◌, ◌≢◌, ◌⊎◌, true, IfOk, IfErr, drop, map, string_bytes};
 ghost use Rattle.std.specs.IoError.{error_kind};
 ghost use Rattle.std.specs.declared.io.ErrorKind.TheVariants.{InvalidData};
+ghost use Rattle.sqlite.specs.WalFiles.{image_at};
 ghost use Rattle.clap.specs.Words.{kind_of};
 ghost use Rattle.wgr_prog.specs.Status.{LacksWords, RunsPlan, Serves, fault_status, kind_status, streams};
 ghost use Rattle.wgr_prog.specs.declared.messages.TheConstants.{DONE, FAULT, REFUSED};
@@ -10,35 +11,40 @@ use crate::messages::{DONE, REFUSED, Text, device, no_memory, refusal};
 use crate::register_words::{run_init, run_order};
 use crate::request_words::{run_batch, run_serve};
 use clap::error::ErrorKind;
-use sqlite::{File, FileStore};
-use sqlite_trees::store::Store;
+use sqlite::{FileFrom, Start};
+use sqlite_disk::Disk;
 use std::alloc::Global;
 use std::convert::AsStr;
 use std::fmt::Write as _;
 use std::io;
 use wgr_command_line::{Invocation, read_words};
 use wgr_core::Pool;
+use wgr_file::Closed;
 use wgr_io::{Read, Write, write_all};
 use wgr_plan::{PlanFault, plan};
 use wgr_text::read_loose;
 
 /// Does what the program's arguments ask for, of which the first is its own name, and answers the
-/// exit status; or says why there are none.
+/// exit status; or says why there are none. A register's files are given back as they were closed.
+///
+/// `start` is what the files held as they were opened, which no system tells: `main` passes `Unknown`, and
+/// the contract says for each first contents what is in them afterwards.
 ///
 /// Where standard error fails there is nobody to tell, and the status stays.
-pub fn run<R: Read, W: Write, E: Write>(
+pub fn run<S: Start, R: Read, W: Write, E: Write>(
     rt: &HostRuntime,
+    start: S,
     arguments: &io::Result<Vec<String>>,
     input: &mut R,
     out: &mut W,
     err: &mut E,
-) -> u8
-    ensures serves { IfOk arguments.now (λ all. Serves ⟦<FileStore<File> as Store>⟧ (map string_bytes (drop 1 all.items)) (streams R.remaining R.failed W.contents W.failed input.old out.old) (streams R.remaining R.failed W.contents W.failed input.new out.new) result) }
-    ensures lacks { IfErr arguments.now (λ error. LacksWords (error_kind error) (streams R.remaining R.failed W.contents W.failed input.old out.old) (streams R.remaining R.failed W.contents W.failed input.new out.new) result) }
+) -> (u8, Closed<S>)
+    ensures serves { IfOk arguments.now (λ all. Serves ⟦<FileFrom<S> as Disk>⟧ (image_at S.Start) result.1 (map string_bytes (drop 1 all.items)) (streams R.remaining R.failed W.contents W.failed input.old out.old) (streams R.remaining R.failed W.contents W.failed input.new out.new) result.0) }
+    ensures lacks { IfErr arguments.now (λ error. LacksWords (error_kind error) (streams R.remaining R.failed W.contents W.failed input.old out.old) (streams R.remaining R.failed W.contents W.failed input.new out.new) result.0) }
 {
     match arguments {
-        Ok(all) => program(rt, words_of(all), input, out, err),
-        Err(error) => no_words(error, err),
+        Ok(all) => program(rt, start, words_of(all), input, out, err),
+        Err(error) => (no_words(error, err), None),
     }
 }
 
@@ -53,21 +59,24 @@ fn words_of(arguments: &[String]) -> &[String]
 }
 
 /// Does what the words ask for, and answers the exit status.
-fn program<T: AsStr, R: Read, W: Write, E: Write>(
+fn program<S: Start, T: AsStr, R: Read, W: Write, E: Write>(
     rt: &HostRuntime,
+    start: S,
     words: &[T],
     input: &mut R,
     out: &mut W,
     err: &mut E,
-) -> u8
-    ensures { Serves ⟦<FileStore<File> as Store>⟧ (map T.text words.now) (streams R.remaining R.failed W.contents W.failed input.old out.old) (streams R.remaining R.failed W.contents W.failed input.new out.new) result }
+) -> (u8, Closed<S>)
+    ensures { Serves ⟦<FileFrom<S> as Disk>⟧ (image_at S.Start) result.1 (map T.text words.now) (streams R.remaining R.failed W.contents W.failed input.old out.old) (streams R.remaining R.failed W.contents W.failed input.new out.new) result.0 }
 {
     let alloc = rt.alloc();
     match read_words(alloc, words) {
-        Ok(Invocation::Plan { pool }) => run_plan(alloc, pool, input, out, err),
-        Ok(Invocation::Init { db }) => run_init(rt, db, out, err),
-        Ok(Invocation::Operate { db, order }) => { run_order(rt, db, &order, input, out, err) }
-        Ok(Invocation::Batch { db, now, files }) => run_batch(rt, db, now, &files, out, err),
+        Ok(Invocation::Plan { pool }) => (run_plan(alloc, pool, input, out, err), None),
+        Ok(Invocation::Init { db }) => run_init(rt, db, start, out, err),
+        Ok(Invocation::Operate { db, order }) => {
+            run_order(rt, db, start, &order, input, out, err)
+        }
+        Ok(Invocation::Batch { db, now, files }) => run_batch(rt, db, start, now, &files, out, err),
         Ok(
             Invocation::Serve {
                 db,
@@ -75,8 +84,8 @@ fn program<T: AsStr, R: Read, W: Write, E: Write>(
                 count,
                 now,
             },
-        ) => run_serve(rt, db, place, count, now, out, err),
-        Err(answer) => no_invocation(alloc, &answer, out, err),
+        ) => run_serve(rt, db, start, place, count, now, out, err),
+        Err(answer) => (no_invocation(alloc, &answer, out, err), None),
     }
 }
 

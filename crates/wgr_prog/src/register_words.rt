@@ -1,19 +1,21 @@
 //! The words on a register in a file.
-ghost use Rattle.std.specs.Prelude.{◌≡◌, ℕ, Bool, IfOk, List, Option, false};
+ghost use Rattle.std.specs.Prelude.{◌≡◌, ℕ, Bool, List, Option, false};
+ghost use Rattle.sqlite.specs.WalFiles.{image_at};
 ghost use Rattle.wgr_command_line.specs.Words.{order_asked};
 ghost use Rattle.wgr_prog.specs.Order.{input_of, wants_token};
-ghost use Rattle.wgr_prog.specs.OnRegister.{CarriesOut, EndsAs, IsMade, IsOpen, is_of};
+ghost use Rattle.wgr_prog.specs.OnRegister.{CarriesOut, EndsAs, as_ended};
 ghost use Rattle.wgr_prog.specs.Status.{RunsInit, RunsOrder, streams};
 
 use crate::field::{WordFault, WordField};
+use crate::messages;
 use crate::order::order_of;
-use crate::{database, messages};
-use sqlite::{File, FileStore};
-use sqlite_trees::store::Store;
+use sqlite::{FileFrom, Start};
+use sqlite_disk::Disk;
 use wgr_command_line::OrderWords;
+use wgr_file::{Closed, Unopened, make_register, operate};
 use wgr_io::{Read, Write};
 use wgr_model::{Order, OrderRefusal};
-use wgr_register::{Done, Fault, OpenFault, OrderFault, Register, RegisterFault};
+use wgr_register::{Done, OrderFault, RegisterFault, register_fault};
 
 /// Why a word on a register is not done.
 #[derive(Drop)]
@@ -68,110 +70,82 @@ impl From<OrderFault> for Failure {
     }
 }
 
-fn register_fault(why: Fault) -> RegisterFault
-    ensures { result ≡ is_of why }
-{
-    match why {
-        Fault::NoMemory => RegisterFault::NoMemory,
-        Fault::Store => RegisterFault::Store,
-    }
-}
-
 /// Makes a register in the file at this path, and answers the exit status.
-pub(crate) fn run_init<W: Write, E: Write>(
+pub(crate) fn run_init<S: Start, W: Write, E: Write>(
     rt: &HostRuntime,
     path: &str,
+    start: S,
     out: &mut W,
     err: &mut E,
-) -> u8
-    ensures { (input : Option (List ℕ)) (failed : Bool) → RunsInit ⟦<FileStore<File> as Store>⟧
+) -> (u8, Closed<S>)
+    ensures { (input : Option (List ℕ)) (failed : Bool) → RunsInit ⟦<FileFrom<S> as Disk>⟧ (image_at S.Start) result.1
         (record { input = input; read_failed = failed; written = W.contents out.old; write_failed = W.failed out.old })
         (record { input = input; read_failed = failed; written = W.contents out.new; write_failed = W.failed out.new })
-        result }
+        result.0 }
 {
-    match make_register(rt, path) {
-        Ok(Done) => messages::done(out, err),
-        Err(why) => messages::failure(&Failure::Register(why), err),
+    match make_register(rt, path, start) {
+        Ok(files) => (messages::done(out, err), files),
+        Err(Unopened { fault, files }) => (
+            messages::failure(&Failure::Register(fault), err),
+            files,
+        ),
     }
 }
 
 /// Does an order on the register in the file at this path, and answers the exit status.
-pub(crate) fn run_order<R: Read, W: Write, E: Write>(
+pub(crate) fn run_order<S: Start, R: Read, W: Write, E: Write>(
     rt: &HostRuntime,
     path: &str,
+    start: S,
     words: &OrderWords<'_>,
     input: &mut R,
     out: &mut W,
     err: &mut E,
-) -> u8
-    ensures runs { RunsOrder ⟦<FileStore<File> as Store>⟧ (order_asked words.now) (streams R.remaining R.failed W.contents W.failed input.old out.old) (streams R.remaining R.failed W.contents W.failed input.new out.new) result }
+) -> (u8, Closed<S>)
+    ensures runs { RunsOrder ⟦<FileFrom<S> as Disk>⟧ (image_at S.Start) result.1 (order_asked words.now) (streams R.remaining R.failed W.contents W.failed input.old out.old) (streams R.remaining R.failed W.contents W.failed input.new out.new) result.0 }
     ensures unread { wants_token (order_asked words.now) ≡ false → input.new ≡ input.old }
 {
-    match carry_out(rt, path, words, input) {
-        Ok(Done) => messages::done(out, err),
-        Err(why) => messages::failure(&why, err),
-    }
+    let (ended, files) = carry_out(rt, path, start, words, input);
+    (messages::ended(&ended, out, err), files)
 }
 
 /// Makes the order, and only then opens the database.
-fn carry_out<R: Read>(
+fn carry_out<S: Start, R: Read>(
     rt: &HostRuntime,
     path: &str,
+    start: S,
     words: &OrderWords<'_>,
     input: &mut R,
-) -> Result<Done, Failure>
-    ensures carried { CarriesOut ⟦<FileStore<File> as Store>⟧ (order_asked words.now) (input_of R.remaining R.failed input.old) (input_of R.remaining R.failed input.new) result }
+) -> (Result<Done, Failure>, Closed<S>)
+    ensures carried { CarriesOut ⟦<FileFrom<S> as Disk>⟧ (image_at S.Start) result.1 (order_asked words.now) (input_of R.remaining R.failed input.old) (input_of R.remaining R.failed input.new) result.0 }
     ensures unread { wants_token (order_asked words.now) ≡ false → input.new ≡ input.old }
 {
-    let order = order_of(rt.alloc(), words, input)?;
-    operate(rt, path, &order)
-}
-
-fn operate(rt: &HostRuntime, path: &str, order: &Order) -> Result<Done, Failure>
-    ensures { EndsAs ⟦<FileStore<File> as Store>⟧ order.now result }
-{
-    let mut register = open_register(rt, path)?;
-    let ended = register.operate(rt.alloc(), order);
-    database::close(register.into_connection());
-    Ok(ended?)
-}
-
-/// The register in the file at this path; none is one that is missing.
-pub(crate) fn open_register(
-    rt: &HostRuntime,
-    path: &str,
-) -> Result<Register<FileStore<File>>, RegisterFault>
-    ensures { IfOk result (IsOpen ⟦<FileStore<File> as Store>⟧) }
-{
-    let conn = match database::find(rt, path) {
-        Ok(Some(conn)) => conn,
-        Ok(None) => return Err(RegisterFault::NotARegister),
-        Err(why) => return Err(register_fault(why)),
-    };
-    match Register::open(rt.alloc(), conn) {
-        Ok(register) => Ok(register),
-        Err(OpenFault { fault, connection }) => {
-            database::close(connection);
-            Err(fault)
-        }
+    match order_of(rt.alloc(), words, input) {
+        Ok(order) => done_or_failed(rt, path, start, &order),
+        Err(why) => (Err(Failure::from(why)), None),
     }
 }
 
-fn make_register(rt: &HostRuntime, path: &str) -> Result<Done, RegisterFault>
-    ensures { IfOk result (λ _. IsMade ⟦<FileStore<File> as Store>⟧) }
+/// Does an order on the register in the file at this path.
+fn done_or_failed<S: Start>(
+    rt: &HostRuntime,
+    path: &str,
+    start: S,
+    order: &Order,
+) -> (Result<Done, Failure>, Closed<S>)
+    ensures { EndsAs ⟦<FileFrom<S> as Disk>⟧ (image_at S.Start) result.1 order.now result.0 }
 {
-    let conn = match database::make(rt, path) {
-        Ok(conn) => conn,
-        Err(why) => return Err(register_fault(why)),
-    };
-    match Register::create(conn) {
-        Ok(register) => {
-            database::close(register.into_connection());
-            Ok(Done)
-        }
-        Err(OpenFault { fault, connection }) => {
-            database::close(connection);
-            Err(fault)
-        }
+    match operate(rt, path, start, order) {
+        Ok((ended, files)) => (as_failure(ended), files),
+        Err(Unopened { fault, files }) => (Err(Failure::Register(fault)), files),
+    }
+}
+
+fn as_failure(ended: Result<Done, OrderFault>) -> Result<Done, Failure>
+    ensures { result ≡ as_ended ended }
+{
+    match ended {
+        Ok(done) => Ok(done),
+        Err(why) => Err(Failure::from(why)),
     }
 }

@@ -1,110 +1,180 @@
 //! The words that answer tenants' requests over the register in a file.
-ghost use Rattle.std.specs.Prelude.{ℕ, Bool, IfOk, List, Option, map, option_map};
-ghost use Rattle.wgr_prog.specs.Answering.{EndsBatch, EndsServe, IsChoice, Listens, output_of};
-ghost use Rattle.wgr_prog.specs.OnRegister.{IsOpen};
-ghost use Rattle.wgr_prog.specs.Status.{RunsBatch, RunsServe};
+ghost use Rattle.std.specs.Prelude.{◌≡◌, ℕ, Bool, IfErr, IfOk, List, Option, map, option_map};
+ghost use Rattle.sqlite.specs.WalFiles.{image_at};
+ghost use Rattle.wgr_file.specs.OnFiles.{IsClosedTo, IsOpen, Stays};
+ghost use Rattle.wgr_prog.specs.Answering.{Answers, AreSpelled, EndsBatch, EndsServe, IsBatchFault, IsChoice, IsServing, Listens, ServesAll, output_of, serve_fields};
+ghost use Rattle.wgr_prog.specs.Order.{IsFaultIn};
+ghost use Rattle.wgr_prog.specs.Status.{RunsBatch, RunsServe, batch_status, serve_status};
 
 use crate::field::{WordFault, WordField, read_endpoint_field, read_whole_field};
-use crate::messages::{DONE, FAULT};
-use crate::register_words::{Failure, open_register};
+use crate::messages::{self, DONE, FAULT};
+use crate::register_words::Failure;
 use crate::requests::read_requests;
-use crate::{database, messages};
-use sqlite::{File, FileStore};
-use sqlite_trees::store::Store;
+use sqlite::{FileFrom, FileStore, Start};
+use sqlite_disk::Disk;
 use std::net::{IpAddr, TcpListener};
 use wgr_core::Port;
+use wgr_file::{Closed, Unopened, close, open_register};
 use wgr_io::{Write, write_all};
-use wgr_office::Office;
+use wgr_office::{Event, Office};
 use wgr_register::RegisterFault;
 use wgr_service::{BatchFault, answer_all, serve_connections};
 
 /// Answers the requests in files in turn, and answers the exit status.
-pub(crate) fn run_batch<W: Write, E: Write>(
+pub(crate) fn run_batch<S: Start, W: Write, E: Write>(
     rt: &HostRuntime,
     path: &str,
+    start: S,
     now: &str,
     files: &[&str],
     out: &mut W,
     err: &mut E,
-) -> u8
-    ensures { (input : Option (List ℕ)) (failed : Bool) → RunsBatch ⟦<FileStore<File> as Store>⟧ now.now (map (λ file. file.now) files.now)
+) -> (u8, Closed<S>)
+    ensures { (input : Option (List ℕ)) (failed : Bool) → RunsBatch ⟦<FileFrom<S> as Disk>⟧ (image_at S.Start) result.1 now.now (map (λ file. file.now) files.now)
         (record { input = input; read_failed = failed; written = W.contents out.old; write_failed = W.failed out.old })
         (record { input = input; read_failed = failed; written = W.contents out.new; write_failed = W.failed out.new })
-        result }
+        result.0 }
 {
-    match answer_files(rt, path, now, files, out) {
+    let (answered, closed) = answer_files(rt, path, start, now, files, out);
+    (batch_status(&answered, err), closed)
+}
+
+// Where no reply is that of want of memory or of a fault of the store, all is done.
+fn batch_status<E: Write>(answered: &Result<bool, Failure>, err: &mut E) -> u8
+    ensures { result ≡ batch_status answered.now }
+{
+    match answered {
         Ok(true) => DONE,
         Ok(false) => FAULT,
-        Err(why) => messages::failure(&why, err),
+        Err(why) => messages::failure(why, err),
     }
 }
 
-/// Reads all files, and only then opens the register. Tells whether none of the replies is that of
-/// want of memory or of a fault of the store.
-fn answer_files<W: Write>(
+/// Reads all files, and only then opens the register.
+fn answer_files<S: Start, W: Write>(
     rt: &HostRuntime,
     path: &str,
+    start: S,
     now: &str,
     files: &[&str],
     out: &mut W,
-) -> Result<bool, Failure>
-    ensures { EndsBatch ⟦<FileStore<File> as Store>⟧ now.now (map (λ file. file.now) files.now) (output_of W.contents W.failed out.old) (output_of W.contents W.failed out.new) result }
+) -> (Result<bool, Failure>, Closed<S>)
+    ensures { EndsBatch ⟦<FileFrom<S> as Disk>⟧ (image_at S.Start) result.1 now.now (map (λ file. file.now) files.now) (output_of W.contents W.failed out.old) (output_of W.contents W.failed out.new) result.0 }
+{
+    match read_batch(rt, now, files) {
+        Ok(requests) => answer_requests(rt, path, start, &requests, out),
+        Err(why) => (Err(Failure::from(why)), None),
+    }
+}
+
+/// The requests in the files, at this moment.
+fn read_batch(rt: &HostRuntime, now: &str, files: &[&str]) -> Result<Vec<Event>, WordFault>
+    ensures ok { IfOk result (λ requests. AreSpelled now.now (map (λ file. file.now) files.now) requests.items) }
+    ensures err { IfErr result (IsBatchFault now.now) }
 {
     let moment = read_whole_field(WordField::Now, now)?;
-    let requests = read_requests(rt, moment, files)?;
-    let mut office = open_office(rt, path)?;
-    let answered = answer_all(rt.alloc(), &mut office, &requests, out);
-    close_office(office);
+    read_requests(rt, moment, files)
+}
+
+/// Answers requests over the register in the file at this path. Tells whether none of the replies is
+/// that of want of memory or of a fault of the store.
+fn answer_requests<S: Start, W: Write>(
+    rt: &HostRuntime,
+    path: &str,
+    start: S,
+    requests: &[Event],
+    out: &mut W,
+) -> (Result<bool, Failure>, Closed<S>)
+    ensures { Answers ⟦<FileFrom<S> as Disk>⟧ (image_at S.Start) result.1 requests.now (output_of W.contents W.failed out.old) (output_of W.contents W.failed out.new) result.0 }
+{
+    let mut office = match open_office(rt, path, start) {
+        Ok(office) => office,
+        Err(Unopened { fault, files }) => return (Err(Failure::Register(fault)), files),
+    };
+    let answered = answer_all(rt.alloc(), &mut office, requests, out);
+    let closed = close_office(office);
     match answered {
-        Ok(whole) => Ok(whole),
-        Err(BatchFault::NoMemory) => Err(Failure::Register(RegisterFault::NoMemory)),
-        Err(BatchFault::Write) => Err(Failure::Device),
+        Ok(whole) => (Ok(whole), closed),
+        Err(BatchFault::NoMemory) => (Err(Failure::Register(RegisterFault::NoMemory)), closed),
+        Err(BatchFault::Write) => (Err(Failure::Device), closed),
     }
+}
+
+/// What the words ask to serve.
+#[derive(Clone, Copy)]
+pub(crate) struct Serving {
+    /// Where to listen.
+    pub(crate) endpoint: (IpAddr, Port),
+    /// How many connections are served.
+    pub(crate) count: u64,
+    /// The moment of all requests, where one is given.
+    pub(crate) moment: Option<u64>,
 }
 
 /// Serves so many connections, and answers the exit status.
-pub(crate) fn run_serve<W: Write, E: Write>(
+pub(crate) fn run_serve<S: Start, W: Write, E: Write>(
     rt: &HostRuntime,
     path: &str,
+    start: S,
     place: &str,
     count: &str,
     now: Option<&str>,
     out: &mut W,
     err: &mut E,
-) -> u8
-    ensures { (input : Option (List ℕ)) (failed : Bool) → RunsServe ⟦<FileStore<File> as Store>⟧ place.now count.now (option_map (λ now. now.now) now.entry)
+) -> (u8, Closed<S>)
+    ensures { (input : Option (List ℕ)) (failed : Bool) → RunsServe ⟦<FileFrom<S> as Disk>⟧ (image_at S.Start) result.1 place.now count.now (option_map (λ now. now.now) now.entry)
         (record { input = input; read_failed = failed; written = W.contents out.old; write_failed = W.failed out.old })
         (record { input = input; read_failed = failed; written = W.contents out.new; write_failed = W.failed out.new })
-        result }
+        result.0 }
 {
-    match serve(rt, path, place, count, now, out, err) {
+    let (served, closed) = serve(rt, path, start, place, count, now, out, err);
+    (serve_status(&served, err), closed)
+}
+
+fn serve_status<E: Write>(served: &Result<(), Failure>, err: &mut E) -> u8
+    ensures { result ≡ serve_status served.now }
+{
+    match served {
         Ok(()) => DONE,
-        Err(why) => messages::failure(&why, err),
+        Err(why) => messages::failure(why, err),
     }
 }
 
-/// Reads the fields, opens the register, and only then binds the address.
-fn serve<W: Write, E: Write>(
+/// Reads the fields, and only then opens the register.
+fn serve<S: Start, W: Write, E: Write>(
     rt: &HostRuntime,
     path: &str,
+    start: S,
     place: &str,
     count: &str,
     now: Option<&str>,
     out: &mut W,
     err: &mut E,
-) -> Result<(), Failure>
-    ensures { EndsServe ⟦<FileStore<File> as Store>⟧ place.now count.now (option_map (λ now. now.now) now.entry) (output_of W.contents W.failed out.old) (output_of W.contents W.failed out.new) result }
+) -> (Result<(), Failure>, Closed<S>)
+    ensures { EndsServe ⟦<FileFrom<S> as Disk>⟧ (image_at S.Start) result.1 place.now count.now (option_map (λ now. now.now) now.entry) (output_of W.contents W.failed out.old) (output_of W.contents W.failed out.new) result.0 }
+{
+    match read_serving(place, count, now) {
+        Ok(serving) => serve_all(rt, path, start, &serving, out, err),
+        Err(why) => (Err(Failure::from(why)), None),
+    }
+}
+
+/// The fields in the order of the words.
+fn read_serving(place: &str, count: &str, now: Option<&str>) -> Result<Serving, WordFault>
+    ensures ok { IfOk result (IsServing place.now count.now (option_map (λ now. now.now) now.entry)) }
+    ensures err { IfErr result (IsFaultIn (serve_fields place.now count.now (option_map (λ now. now.now) now.entry))) }
 {
     let endpoint = read_endpoint_field(place)?;
     let count = read_whole_field(WordField::Count, count)?;
-    let now = read_choice(now)?;
-    let mut office = open_office(rt, path)?;
-    let served = listen(rt, &mut office, endpoint, count, now, out, err);
-    close_office(office);
-    served
+    let moment = read_choice(now)?;
+    Ok(Serving {
+        endpoint,
+        count,
+        moment,
+    })
 }
 
-/// The moment of all requests, where one is given.
+// The moment of all requests, where one is given.
 fn read_choice(now: Option<&str>) -> Result<Option<u64>, WordFault>
     ensures { IsChoice (option_map (λ now. now.now) now.entry) result }
 {
@@ -117,43 +187,71 @@ fn read_choice(now: Option<&str>) -> Result<Option<u64>, WordFault>
     }
 }
 
-/// Tells that the address is bound, and serves so many connections.
-fn listen<W: Write, E: Write>(
+/// Opens the register in the file at this path, and only then binds the address and serves.
+fn serve_all<S: Start, W: Write, E: Write>(
     rt: &HostRuntime,
-    office: &mut Office<FileStore<File>>,
-    endpoint: (IpAddr, Port),
-    count: u64,
-    now: Option<u64>,
+    path: &str,
+    start: S,
+    serving: &Serving,
+    out: &mut W,
+    err: &mut E,
+) -> (Result<(), Failure>, Closed<S>)
+    ensures { ServesAll ⟦<FileFrom<S> as Disk>⟧ (image_at S.Start) result.1 serving.now (output_of W.contents W.failed out.old) (output_of W.contents W.failed out.new) result.0 }
+{
+    let mut office = match open_office(rt, path, start) {
+        Ok(office) => office,
+        Err(Unopened { fault, files }) => return (Err(Failure::Register(fault)), files),
+    };
+    let served = listen(rt, &mut office, serving, out, err);
+    (served, close_office(office))
+}
+
+/// Tells that the address is bound, and serves so many connections.
+fn listen<S: Start, W: Write, E: Write>(
+    rt: &HostRuntime,
+    office: &mut Office<FileStore<FileFrom<S>>>,
+    serving: &Serving,
     out: &mut W,
     err: &mut E,
 ) -> Result<(), Failure>
-    ensures { Listens ⟦<FileStore<File> as Store>⟧ office.old office.new count now (output_of W.contents W.failed out.old) (output_of W.contents W.failed out.new) result }
+    ensures { Listens office.old office.new serving.now.count serving.now.moment (output_of W.contents W.failed out.old) (output_of W.contents W.failed out.new) result }
 {
-    let (address, port) = endpoint;
+    let (address, port) = serving.endpoint;
     let Ok(listener) = TcpListener::bind(rt, (address, port.number())) else {
         return Err(Failure::Device);
     };
     if write_all(out, b"listening\n").is_err() {
         return Err(Failure::Device);
     }
-    serve_connections(rt, office, &listener, count, now, err);
+    serve_connections(rt, office, &listener, serving.count, serving.moment, err);
     Ok(())
 }
 
 /// An office over the register in the file at this path.
-fn open_office(rt: &HostRuntime, path: &str) -> Result<Office<FileStore<File>>, RegisterFault>
-    ensures { IfOk result (IsOpen ⟦<FileStore<File> as Store>⟧) }
+fn open_office<S: Start>(
+    rt: &HostRuntime,
+    path: &str,
+    start: S,
+) -> Result<Office<FileStore<FileFrom<S>>>, Unopened<S>>
+    ensures open { IfOk result (IsOpen (image_at S.Start)) }
+    ensures kept { IfErr result (λ e. Stays ⟦<FileFrom<S> as Disk>⟧ (image_at S.Start) e.files) }
 {
-    let register = open_register(rt, path)?;
+    let register = open_register(rt, path, start)?;
     match Office::new(rt.alloc(), register) {
         Ok(office) => Ok(office),
         Err(register) => {
-            database::close(register.into_connection());
-            Err(RegisterFault::NoMemory)
+            register.tell_rules();
+            Err(Unopened {
+                fault: RegisterFault::NoMemory,
+                files: close(register.into_connection()),
+            })
         }
     }
 }
 
-fn close_office(office: Office<FileStore<File>>) {
-    database::close(office.into_register().into_connection());
+fn close_office<S: Start>(office: Office<FileStore<FileFrom<S>>>) -> Closed<S>
+    ensures { IsClosedTo ⟦<FileFrom<S> as Disk>⟧ result office }
+{
+    office.tell_rules();
+    close(office.into_register().into_connection())
 }

@@ -152,6 +152,6 @@ module _ {S : Type 0} (g : Ghosts S) (shown : GivenValue → Bytes) (conn : Held
     pending = Replaced id (applied change (holding_of (tables_of db) found.row).network) ∷ pending;
     stands = stands;
     consistent = consistent;
-    steps = steps_late (tables_of db) pending late event (Replaced id (applied change (holding_of (tables_of db) found.row).network))
+    steps = steps_late (tables_of db) pending late event (Replaced id (applied change (holding_of (tables_of db) found.row).network)) proper
         (λ u made. (Replied reply (applied change n), changed_rows (tables_of db) consistent digest name now command id n found u reply change meets made)) steps;
   }

@@ -5,3 +5,6 @@ pub mod OrderLemmas
 pub mod NetworkLemmas
 pub mod ListLemmas
 pub mod LoadedLemmas
+pub mod LeftLemmas
+-- The definitions on small cases, by computation.
+pub mod Examples

@@ -36,12 +36,12 @@ use Rattle.wgr_register.specs.declared.fault.OrderFault.{OrderFault}
 use Rattle.wgr_register.specs.declared.fault.OrderFault.TheVariants as order_fault
 
 steps_more : (t : Tables) (pending : List Written) (late : List Event) (event : Event) → AreSteps t pending late → AreSteps t pending (event ∷ late)
-steps_more t pending late event steps one here u made = let is = steps one here u made in (is.0, inr is.1, is.2, is.3)
+steps_more t pending late event steps one here u made = let is = steps one here u made in (is.0, inr is.1, is.2, is.3, is.4)
 
-pub steps_late : (t : Tables) (pending : List Written) (late : List Event) (event : Event) (one : Written) → ((u : Tables) → Changes one t u → (answer : Answer) × IsRowStep t event answer u) → AreSteps t pending late
+pub steps_late : (t : Tables) (pending : List Written) (late : List Event) (event : Event) (one : Written) → IsProper event → ((u : Tables) → Changes one t u → (answer : Answer) × IsRowStep t event answer u) → AreSteps t pending late
     → AreSteps t (one ∷ pending) (event ∷ late)
-steps_late t pending late event one is steps other (inl same) u made = let step = is u (subst (λ o. Changes o t u) same made) in (event, inl refl, step.0, step.1)
-steps_late t pending late event one is steps other (inr here) u made = steps_more t pending late event steps other here u made
+steps_late t pending late event one proper is steps other (inl same) u made = let step = is u (subst (λ o. Changes o t u) same made) in (event, inl refl, proper, step.0, step.1)
+steps_late t pending late event one proper is steps other (inr here) u made = steps_more t pending late event steps other here u made
 
 module _ {S : Type 0} (g : Ghosts S) where
   -- on a disk that has failed, nothing more is said
@@ -148,12 +148,12 @@ module _ {S : Type 0} (g : Ghosts S) where
   order_refused conn db late event (Err (order_fault.Fault other)) (order_fault.Refused why) is at refuses = cc
 
   -- its commit fails
-  pub order_unwritten : (old new : Held S) (db : Database) (late : List Event) (event : Event) (r : Result Done OrderFault) (why : Fault) (one : Written) → IsErrAnd r (λ e. e ≡ order_fault.Fault why) → new.in_transaction ≡ false
+  pub order_unwritten : (old new : Held S) (db : Database) (late : List Event) (event : Event) → IsProper event → (r : Result Done OrderFault) (why : Fault) (one : Written) → IsErrAnd r (λ e. e ≡ order_fault.Fault why) → new.in_transaction ≡ false
       → (HasCleanDisk (state g new) → (u : Tables) → Changes one (tables_of db) u → IsRowStep (tables_of db) event answered.Done u)
       → (at : StandsAt g old db late) → Stands g new db (one ∷ at.pending) → OrderEnds g new db late event r
-  order_unwritten old new db late event r why one is idle makes at stands = order_late new db late event r why is
+  order_unwritten old new db late event proper r why one is idle makes at stands = order_late new db late event r why is
       (at_if new db (event ∷ late) idle stands.sound at.consistent
-      (λ clean. record { pending = one ∷ at.pending; stands = stands; consistent = at.consistent; steps = steps_late (tables_of db) at.pending late event one (λ u made. (answered.Done, makes clean u made)) at.steps }))
+      (λ clean. record { pending = one ∷ at.pending; stands = stands; consistent = at.consistent; steps = steps_late (tables_of db) at.pending late event one proper (λ u made. (answered.Done, makes clean u made)) at.steps }))
 
   -- it is done
   pub order_done : (new : Held S) (db : Database) (late : List Event) (event : Event) (one : Written) → IsProper event → AreConsistent (tables_of db)

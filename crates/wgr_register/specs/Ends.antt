@@ -63,7 +63,7 @@ OrderEnds g conn db late event (Err (order_fault.Fault why)) = EndsLate g conn d
 abbrev pub Admits : Register → ℕ → Bytes → Settings → Result ℕ OrderFault → Type 0
 Admits r tenant name settings (Ok new) = IsAdmitted r tenant name settings (Ok new)
 Admits r tenant name settings (Err (order_fault.Refused why)) = IsAdmitted r tenant name settings (Err why)
-Admits r tenant name settings (Err (order_fault.Fault why)) = Unit {0}
+Admits r tenant name settings (Err (order_fault.Fault why)) = why ≡ NoMemory
 
 -- why a command isn't done, as a fault of an ask
 abbrev pub ask_fault : ActFault → AskFault

@@ -3,3 +3,4 @@ pub mod Standing
 pub mod Ends
 pub mod Listing
 pub mod Loaded
+pub mod Left

@@ -5,16 +5,17 @@ use Rattle.sqlite.specs.State.{HasCleanDisk}
 use Rattle.sqlite.specs.Store.{Ghosts}
 use Rattle.sqlite.specs.Held.{Held, state}
 use Rattle.sqlite_rules.specs.Lists.{Has}
+use Rattle.wgr_model.specs.Laws as model
 use Rattle.wgr_model.specs.RowLaws.{AreConsistent, IsRowStep}
 use Rattle.wgr_model.specs.Rows.{Tables}
-use Rattle.wgr_model.specs.Steps.{Answer, Event}
+use Rattle.wgr_model.specs.Steps.{Answer, Event, IsProper}
 use Rattle.wgr_tables.specs.Decode.{tables_of}
 use Rattle.wgr_tables.specs.Standing.{Stands}
 use Rattle.wgr_tables.specs.Writes.{Changes, Written}
 
--- each of these writes is a step of one of these events
+-- each of these writes is a step of one of these events, which is proper
 abbrev pub AreSteps : Tables → List Written → List Event → Type 0
-AreSteps t pending late = (one : Written) → Has pending one → (u : Tables) → Changes one t u → (event : Event) × Has late event × (answer : Answer) × IsRowStep t event answer u
+AreSteps t pending late = (one : Written) → Has pending one → (u : Tables) → Changes one t u → (event : Event) × model.Has late event × IsProper event × (answer : Answer) × IsRowStep t event answer u
 
 -- The register stands at the consistent rows of this database. A stop at this moment leaves them, or
 -- those after one of these events: the ones that were answered by a fault since the last that was

@@ -13,5 +13,5 @@ pub use fault::{AskFault, Done, OpenFault, OrderFault};
 pub use given::{Given, Render};
 pub use register::Register;
 pub use wgr_model::{Order, OrderRefusal};
-pub use wgr_store::RegisterFault;
+pub use wgr_store::{RegisterFault, register_fault};
 pub use wgr_tables::Fault;

@@ -1,14 +1,15 @@
 //! The register.
 ghost use Rattle.std.specs.Prelude.{◌≡◌, ◌↔◌, ℕ, List, [], true, false, IfErr, IfOk, OnOk};
 ghost use Rattle.sqlite.specs.Effect.{Database};
-ghost use Rattle.sqlite.specs.State.{HasCleanDisk};
+ghost use Rattle.sqlite.specs.State.{HasCleanDisk, Survives};
 ghost use Rattle.sqlite.specs.Held.{state};
 ghost use Rattle.wgr_model.specs.Calls.{order_event};
 ghost use Rattle.wgr_model.specs.Steps.{Ask, Event, Networks};
 ghost use Rattle.wgr_register.specs.Ends.{AskEnds, OrderEnds};
+ghost use Rattle.wgr_register.specs.Left.{LeavesGood};
 ghost use Rattle.wgr_register.specs.Standing.{IsAtRest, StandsAt};
 ghost use Rattle.wgr_sql.specs.Calls.{IsKept};
-ghost use Rattle.wgr_store.specs.Fresh.{IsFresh, is_any_taken, no_schema};
+ghost use Rattle.wgr_store.specs.Fresh.{IsFresh, LeavesFresh, is_any_taken, no_schema};
 ghost use Rattle.wgr_store.specs.FirstVersion.{IsFirstVersion};
 ghost use Rattle.wgr_store.specs.declared.fault.RegisterFault.TheVariants.{NotARegister, NotEmpty, NotGood};
 ghost use Rattle.wgr_whole.specs.Good.{IsGood};
@@ -63,6 +64,8 @@ impl<S: Alter> Register<S> {
         ensures taken { IfErr result (λ e. e.fault ≡ NotEmpty ↔ is_any_taken (state S.Store conn).now.schema ≡ true) }
         ensures foreign { IfErr result (λ e. e.fault ≡ NotARegister ↔ ((is_any_taken (state S.Store conn).now.schema ≡ false) × ((state S.Store conn).now.schema ≡ no_schema → ⊥))) }
         ensures good { IfErr result (λ e. e.fault ≡ NotGood → ⊥) }
+        ensures clean { IfOk result (λ register. HasCleanDisk (state S.Store register) → HasCleanDisk (state S.Store conn)) }
+        ensures crash { IfErr result (λ e. Survives (state S.Store conn) (state S.Store e.connection) LeavesFresh) }
         ensures kept { IfErr result (λ e. IsKept (state S.Store conn) (state S.Store e.connection)) }
         ensures idle { IfErr result (λ e. e.connection.in_transaction ≡ false) }
     {
@@ -85,6 +88,9 @@ impl<S: Alter> Register<S> {
         ensures foreign { IfErr result (λ e. HasCleanDisk (state S.Store e.connection) → e.fault ≡ NotARegister → IsFirstVersion (state S.Store conn).now → ⊥) }
         ensures bad { IfErr result (λ e. HasCleanDisk (state S.Store e.connection) → e.fault ≡ NotGood → IsGood (state S.Store conn).now → ⊥) }
         ensures taken { IfErr result (λ e. e.fault ≡ NotEmpty → ⊥) }
+        ensures clean { IfOk result (λ register. HasCleanDisk (state S.Store register) → HasCleanDisk (state S.Store conn)) }
+        ensures unharmed { IfErr result (λ e. HasCleanDisk (state S.Store e.connection) → HasCleanDisk (state S.Store conn)) }
+        ensures crash { IfErr result (λ e. Survives (state S.Store conn) (state S.Store e.connection) (λ _. ⊥)) }
         ensures kept { IfErr result (λ e. IsKept (state S.Store conn) (state S.Store e.connection)) }
         ensures idle { IfErr result (λ e. e.connection.in_transaction ≡ false) }
     {
@@ -100,6 +106,14 @@ impl<S: Alter> Register<S> {
     /// Does nothing. Every register is at rest: while its disk is clean, there are rows at which it stands.
     pub fn tell_rules(&self)
         ensures { IsAtRest S.Store self.now }
+    {
+        let _rest = &self.conn;
+    }
+
+    /// Does nothing. Whatever a stop at this moment leaves is a good register: at the rows at which this
+    /// one is, or at those after one event that was answered by a fault since the last acknowledged change.
+    pub fn tell_left(&self)
+        ensures { (db : Database) (late : List Event) → LeavesGood S.Store self.now db late }
     {
         let _rest = &self.conn;
     }

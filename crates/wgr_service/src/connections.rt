@@ -1,5 +1,6 @@
 //! Connections, one after the other.
-ghost use Rattle.std.specs.Prelude.{◌≡◌, false, List, flat_map, IfSome};
+ghost use Rattle.std.specs.Prelude.{◌≡◌, ◌/◌, false, List, flat_map, IfSome};
+ghost use Rattle.std.specs.Time.{system_time_nanos};
 ghost use Rattle.sqlite.specs.Effect.{Database};
 ghost use Rattle.sqlite.specs.Held.{state};
 ghost use Rattle.sqlite.specs.State.{HasCleanDisk};
@@ -106,12 +107,16 @@ fn moment_of<C: Clock>(clock: &C, now: Option<u64>) -> Option<u64>
 {
     match now {
         Some(now) => Some(now),
-        None => {
-            let time = SystemTime::now(clock).ok()?;
-            let since = time.duration_since(UNIX_EPOCH).ok()?;
-            Some(since.as_secs())
-        }
+        None => seconds_of(SystemTime::now(clock).ok()?),
     }
+}
+
+// The whole seconds from 1970-01-01 to this time, if it isn't before.
+fn seconds_of(time: SystemTime) -> Option<u64>
+    ensures { IfSome result (λ seconds. seconds ≡ system_time_nanos time / 1_000_000_000) }
+{
+    let since = time.duration_since(UNIX_EPOCH).ok()?;
+    Some(since.as_secs())
 }
 
 // Serves a connection at this moment, and ends it.

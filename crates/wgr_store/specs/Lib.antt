@@ -3,3 +3,4 @@ pub mod LaidOut
 pub mod Fresh
 pub mod FirstVersion
 pub mod Laws
+pub mod Faults

@@ -1,5 +1,6 @@
 //! Why no register was made or opened.
 ghost use Rattle.std.specs.Prelude.{◌≡◌};
+ghost use Rattle.wgr_store.specs.Faults.{as_register_fault};
 ghost use Rattle.wgr_store.specs.declared.fault.RegisterFault.TheVariants.{NotARegister, NotEmpty, NotGood};
 
 use wgr_sql::Fault;
@@ -19,8 +20,10 @@ pub enum RegisterFault {
     NotEmpty,
 }
 
-/// A fault of a statement tells nothing of what the database holds.
-pub(crate) fn register_fault(fault: Fault) -> RegisterFault
+/// A fault of a statement as the reason why no register was made or opened; it says nothing of what the
+/// database holds.
+pub fn register_fault(fault: Fault) -> RegisterFault
+    ensures value { result ≡ as_register_fault fault }
     ensures foreign { result ≡ NotARegister → ⊥ }
     ensures bad { result ≡ NotGood → ⊥ }
     ensures taken { result ≡ NotEmpty → ⊥ }

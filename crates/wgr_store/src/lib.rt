@@ -11,7 +11,7 @@ mod making;
 mod tables;
 mod version;
 
-pub use fault::RegisterFault;
+pub use fault::{RegisterFault, register_fault};
 pub use laws::{fresh_is_consistent, version_is_read};
 pub use layout::holds_register;
 pub use making::make;

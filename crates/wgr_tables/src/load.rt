@@ -2,7 +2,7 @@
 ghost use Rattle.std.specs.Prelude.{◌≡◌, ℕ, List, [], ◌∷◌, IfErr, IfOk, IfSome, IfNone, IsPermutation, map, not, ◌&&◌, nat_eq, false};
 ghost use Rattle.std.specs.List.{filter};
 ghost use Rattle.sqlite.specs.Effect.{Database};
-ghost use Rattle.sqlite.specs.State.{HasCleanDisk};
+ghost use Rattle.sqlite.specs.State.{HasCleanDisk, Survives};
 ghost use Rattle.sqlite.specs.Held.{state};
 ghost use Rattle.wgr_core.specs.Network.{IsNetwork, NetworkValue};
 ghost use Rattle.wgr_core.specs.Parts.{network_of};
@@ -37,6 +37,7 @@ pub(crate) fn peer_rows<S: Alter>(conn: &mut Connection<S>, network: u32) -> Res
         → IfOk result (λ rows. AreStored stored_peer peer_in rows.items) }
     ensures rising { (db : Database) (pending : List Written) → Stands S.Store conn.old db pending → HasCleanDisk (state S.Store conn.new)
         → IfOk result (λ rows. AreRising (λ p. p.id) peer_in rows.items) }
+    ensures survives { Survives (state S.Store conn.old) (state S.Store conn.new) (λ _. ⊥) }
 {
     query(
         conn,
@@ -55,6 +56,7 @@ fn unsorted_addresses<S: Alter>(conn: &mut Connection<S>, network: u32) -> Resul
         → IfOk result (λ rows. ShowAddresses network (tables_of db) rows.items) }
     ensures stored { (db : Database) (pending : List Written) → Stands S.Store conn.old db pending → HasCleanDisk (state S.Store conn.new)
         → IfOk result (λ rows. AreStored stored_allowed allowed_in rows.items) }
+    ensures survives { Survives (state S.Store conn.old) (state S.Store conn.new) (λ _. ⊥) }
 {
     query(
         conn,
@@ -86,6 +88,7 @@ pub(crate) fn address_rows<S: Alter>(
         → IfOk result (λ rows. AreStored stored_allowed allowed_in rows.items) }
     ensures rising { (db : Database) (pending : List Written) → Stands S.Store conn.old db pending → HasCleanDisk (state S.Store conn.new)
         → IfOk result (λ rows. AreRising (λ a. a.peer) allowed_in rows.items) }
+    ensures survives { Survives (state S.Store conn.old) (state S.Store conn.new) (λ _. ⊥) }
 {
     let mut rows = unsorted_addresses(conn, network)?;
     sort_by_peer(&mut rows);
@@ -105,6 +108,7 @@ pub(crate) fn route_rows<S: Alter>(
         → IfOk result (λ rows. ShowRoutes network (tables_of db) rows.items) }
     ensures stored { (db : Database) (pending : List Written) → Stands S.Store conn.old db pending → HasCleanDisk (state S.Store conn.new)
         → IfOk result (λ rows. AreStored stored_allowed allowed_in rows.items) }
+    ensures survives { Survives (state S.Store conn.old) (state S.Store conn.new) (λ _. ⊥) }
 {
     query(
         conn,
@@ -123,6 +127,7 @@ fn network_rows<S: Alter>(conn: &mut Connection<S>, network: u32) -> Result<Vec<
         → IfOk result (λ rows. ShowNetwork network (tables_of db) rows.items) }
     ensures stored { (db : Database) (pending : List Written) → Stands S.Store conn.old db pending → HasCleanDisk (state S.Store conn.new)
         → IfOk result (λ rows. AreStored stored_network network_in rows.items) }
+    ensures survives { Survives (state S.Store conn.old) (state S.Store conn.new) (λ _. ⊥) }
 {
     query(
         conn,
@@ -269,6 +274,7 @@ pub(crate) fn network_row<S: Alter>(
         → IfOk result (λ found. IfSome found (λ row. (w : NetworkRow) → Has (tables_of db).networks w → w.id ≡ network → network_in row ≡ w)) }
     ensures none { (db : Database) (pending : List Written) → Stands S.Store conn.old db pending → HasCleanDisk (state S.Store conn.new)
         → IfOk result (λ found. IfNone found ((w : NetworkRow) → Has (tables_of db).networks w → nat_eq w.id network ≡ false)) }
+    ensures survives { Survives (state S.Store conn.old) (state S.Store conn.new) (λ _. ⊥) }
 {
     let rows = network_rows(conn, network)?;
     only(rows)

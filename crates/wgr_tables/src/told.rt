@@ -1,7 +1,7 @@
 //! A network that its rows tell, if they tell one.
 ghost use Rattle.std.specs.Prelude.{◌≡◌, Ok, Err, IfOk, IfSome, IfNone, IsPermutation, filter, map, not, ◌&&◌, nat_eq, false, List};
 ghost use Rattle.sqlite.specs.Effect.{Database};
-ghost use Rattle.sqlite.specs.State.{HasCleanDisk};
+ghost use Rattle.sqlite.specs.State.{HasCleanDisk, Survives};
 ghost use Rattle.sqlite.specs.Held.{state};
 ghost use Rattle.wgr_core.specs.Network.{NetworkValue};
 ghost use Rattle.wgr_model.specs.Rows.{address_row, peer_row, route_row};
@@ -50,6 +50,7 @@ fn told_peers<S: Alter>(
         → IfOk result (λ found. IfSome found (λ peers. (n : NetworkValue) → IsTold (tables_of db) network n → peers.items ≡ n.peers)) }
     ensures none { (db : Database) (pending : List Written) → Stands S.Store conn.old db pending → HasCleanDisk (state S.Store conn.new)
         → IfOk result (λ found. IfNone found ((n : NetworkValue) → IsTold (tables_of db) network n → ⊥)) }
+    ensures survives { Survives (state S.Store conn.old) (state S.Store conn.new) (λ _. ⊥) }
 {
     let rows = peer_rows(conn, network)?;
     let addresses = address_rows(conn, network)?;
@@ -70,6 +71,7 @@ fn told_routes<S: Alter>(
         → IfOk result (λ found. IfSome found (λ routes. IsPermutation (filter (λ a. a.is_route && nat_eq a.network network) (tables_of db).allowed) (map (route_row network) routes.items))) }
     ensures none { (db : Database) (pending : List Written) → Stands S.Store conn.old db pending → HasCleanDisk (state S.Store conn.new)
         → IfOk result (λ found. IfNone found ((n : NetworkValue) → IsTold (tables_of db) network n → ⊥)) }
+    ensures survives { Survives (state S.Store conn.old) (state S.Store conn.new) (λ _. ⊥) }
 {
     let rows = route_rows(conn, network)?;
     told(routes_of(alloc, rows.as_slice(), network))
@@ -90,6 +92,7 @@ pub fn told_network<S: Alter>(
         → IfOk result (λ found. IfSome found (λ n. IsTold (tables_of db) network n)) }
     ensures none { (db : Database) (pending : List Written) → Stands S.Store conn.old db pending → HasCleanDisk (state S.Store conn.new)
         → IfOk result (λ found. IfNone found ((n : NetworkValue) → IsTold (tables_of db) network n → ⊥)) }
+    ensures survives { Survives (state S.Store conn.old) (state S.Store conn.new) (λ _. ⊥) }
 {
     let Some(row) = network_row(conn, network)? else {
         return Ok(None);

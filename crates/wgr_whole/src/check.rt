@@ -1,6 +1,6 @@
 //! Whether a database is a register whose rows are good.
 ghost use Rattle.std.specs.Prelude.{◌≡◌, [], false, Err, IsTrue, IfOk, OnOk};
-ghost use Rattle.sqlite.specs.State.{HasCleanDisk};
+ghost use Rattle.sqlite.specs.State.{HasCleanDisk, Survives};
 ghost use Rattle.sqlite.specs.Held.{state};
 ghost use Rattle.wgr_sql.specs.Calls.{IsKept};
 ghost use Rattle.wgr_store.specs.FirstVersion.{IsFirstVersion};
@@ -13,7 +13,7 @@ use crate::told::networks_are_told;
 use sqlite::{Alter, Connection};
 use std::alloc::Global;
 use wgr_sql::Fault;
-use wgr_store::{RegisterFault, check_layout};
+use wgr_store::{RegisterFault, check_layout, register_fault};
 
 /// Whether the rows of a database that has the register's tables are good.
 fn rows_are_good<S: Alter>(alloc: Global, conn: &mut Connection<S>) -> Result<bool, Fault>
@@ -25,6 +25,7 @@ fn rows_are_good<S: Alter>(alloc: Global, conn: &mut Connection<S>) -> Result<bo
         → IfOk result (λ is. IsTrue (state S.Store conn.old).is_open × (IsGood (state S.Store conn.old).now → IsTrue is)) }
     ensures kept { (HasCleanDisk (state S.Store conn.new) → IsTrue (state S.Store conn.old).is_open → IsFirstVersion (state S.Store conn.old).now) → IsKept (state S.Store conn.old) (state S.Store conn.new) }
     ensures clean { HasCleanDisk (state S.Store conn.new) → HasCleanDisk (state S.Store conn.old) }
+    ensures survives { Survives (state S.Store conn.old) (state S.Store conn.new) (λ _. ⊥) }
 {
     let _live = conn.schema();
     let _settled = conn.is_autocommit();
@@ -47,12 +48,13 @@ pub fn check_register<S: Alter>(
     ensures bad { HasCleanDisk (state S.Store conn.new) → result ≡ Err NotGood → IsGood (state S.Store conn.old).now → ⊥ }
     ensures full { result ≡ Err NotEmpty → ⊥ }
     ensures kept { IsKept (state S.Store conn.old) (state S.Store conn.new) }
+    ensures clean { HasCleanDisk (state S.Store conn.new) → HasCleanDisk (state S.Store conn.old) }
+    ensures survives { Survives (state S.Store conn.old) (state S.Store conn.new) (λ _. ⊥) }
 {
     check_layout(conn)?;
     match rows_are_good(alloc, conn) {
         Ok(true) => Ok(()),
         Ok(false) => Err(RegisterFault::NotGood),
-        Err(Fault::NoMemory) => Err(RegisterFault::NoMemory),
-        Err(Fault::Store) => Err(RegisterFault::Store),
+        Err(fault) => Err(register_fault(fault)),
     }
 }

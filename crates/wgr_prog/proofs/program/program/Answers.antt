@@ -5,10 +5,12 @@ use Rattle.clap.specs.declared.error.Error.{Error}
 use Rattle.clap.specs.declared.error.kind.ErrorKind.{ErrorKind}
 use Rattle.clap.specs.declared.error.kind.ErrorKind.TheVariants.{OutOfMemory}
 use Rattle.wgr_prog.specs.declared.messages.TheConstants.{DONE, FAULT}
-use Rattle.sqlite.specs.Store.{Ghosts}
-use Rattle.wgr_command_line.specs.Words.{Asked}
+use Rattle.sqlite.specs.Recovery.{Image}
+use Rattle.sqlite_disk.specs.declared.Disk as disk
+use Rattle.sqlite_disk.specs.declared.Files.{Files}
+use Rattle.wgr_command_line.specs.Words.{Asked, asked_by}
 use Rattle.wgr_plan.specs.PlanFault.{Streams}
-use Rattle.wgr_prog.specs.Status.{ReadsNothing, ServesAsked, TellsError, kind_status, streams}
+use Rattle.wgr_prog.specs.Status.{ReadsNothing, Runs, Serves, ServesAsked, TellsError, kind_status, streams}
 use Rattle.wgr_prog.proofs.program.program.Goals as goal
 
 -- how the status of an error goes with its kind
@@ -20,11 +22,11 @@ follows_memory kind status memory (inl fault) = fault
 follows_memory kind status memory (inr told) = told ∙ ap kind_status memory
 
 -- an error where a pool is asked for is want of memory
-lacks_memory : {S : Type 0} (g : Ghosts S) (asked : Option Asked) (old new : Streams) (kind : ErrorKind) (status : ℕ)
+lacks_memory : {D : Type 0} (g : disk.Ghosts D) (start : Image) (closed : Option (Files D)) (asked : Option Asked) (old new : Streams) (kind : ErrorKind) (status : ℕ)
     → (is_some asked ≡ true → kind ≡ OutOfMemory) → (kind_status kind ≢ DONE → new ≡ old) → Follows kind status
-    → IfSome asked (λ asked. ServesAsked g asked old new status)
-lacks_memory g None old new kind status memory kept told = tt
-lacks_memory g (Some asked) old new kind status memory kept told =
+    → IfSome asked (λ asked. ServesAsked g start closed asked old new status)
+lacks_memory g start closed None old new kind status memory kept told = tt
+lacks_memory g start closed (Some asked) old new kind status memory kept told =
     let is : kind_status kind ≡ FAULT = ap kind_status (memory refl) in
     inl (kept (λ done. cc (is, done)), follows_memory kind status (memory refl) told)
 
@@ -64,9 +66,25 @@ pub returns-in-Err : goal.returns-in-Err
 returns-in-Err g c =
     let kept = kept_streams g.R.Read.remaining g.R.Read.failed g.W.Write.contents g.W.Write.failed c.args.input.now _ _ in
     record {
-      served = lacks_memory _ _ _ _ _ _ c.in-Err.ensures.err (λ other. kept (c.no_invocation.ensures.kept other)) c.no_invocation.ensures.status;
+      served = lacks_memory _ _ _ _ _ _ _ _ c.in-Err.ensures.err (λ other. kept (c.no_invocation.ensures.kept other)) c.no_invocation.ensures.status;
       told = if_none _ (tells_error _ c.in-Err.answer _ _ _ (refl, refl) c.in-Err.ensures.kinds c.no_invocation.ensures.status
           (λ other. kept (c.no_invocation.ensures.kept other))
           (λ fault. left_of kept (c.no_invocation.ensures.fault fault))
           c.no_invocation.ensures.sound);
     }
+
+-- what is asked for is run
+serves : {D : Type 0} (g : disk.Ghosts D) (start : Image) (closed : Option (Files D)) (words : List Text) (asked : Asked) (old new : Streams) (status : ℕ) → asked_by words ≡ Some asked → Runs g start closed asked old new status → Serves g start closed words old new status
+serves g start closed words asked old new status is runs = record { served = rw is (inr runs); told = rw is tt }
+
+pub returns-in-Ok-Init : goal.returns-in-Ok-Init
+returns-in-Ok-Init g c =
+    serves _ _ _ _ _ _ _ _ (rw c.in-Ok-Init.field-0-is at c.in-Ok-Init.ensures.ok) (c.run_init.ensures (g.R.Read.remaining c.args.input.now) (g.R.Read.failed c.args.input.now))
+
+pub returns-in-Ok-Batch : goal.returns-in-Ok-Batch
+returns-in-Ok-Batch g c =
+    serves _ _ _ _ _ _ _ _ (rw c.in-Ok-Batch.field-0-is at c.in-Ok-Batch.ensures.ok) (rw c.deref.ensures.value at c.run_batch.ensures (g.R.Read.remaining c.args.input.now) (g.R.Read.failed c.args.input.now))
+
+pub returns-in-Ok-Serve : goal.returns-in-Ok-Serve
+returns-in-Ok-Serve g c =
+    serves _ _ _ _ _ _ _ _ (rw c.in-Ok-Serve.field-0-is at c.in-Ok-Serve.ensures.ok) (c.run_serve.ensures (g.R.Read.remaining c.args.input.now) (g.R.Read.failed c.args.input.now))

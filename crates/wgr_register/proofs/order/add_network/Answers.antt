@@ -54,7 +54,7 @@ returns-in_err-add_network-clause-ends g c db late at proper =
     let mid = c.tenant_id.ensures.stands db at.pending at.stands in
     let near = c.tenants.ensures.stands db at.pending mid in
     let last = c.settled_networks.ensures.stands db at.pending near in
-    order_unwritten g.S.Store c.args.conn.now c.add_network.new.conn db late (AddNetwork c.args.tenant.now c.args.name.now c.args.settings.now) c.from_residual-in_err-add_network.result c.in_err-add_network.field-0.0
+    order_unwritten g.S.Store c.args.conn.now c.add_network.new.conn db late (AddNetwork c.args.tenant.now c.args.name.now c.args.settings.now) proper c.from_residual-in_err-add_network.result c.in_err-add_network.field-0.0
     (NetworkGained (new_row c.in_ok-new.new c.in-Some.id c.args.name.now c.args.settings.now)) c.from_residual-in_err-add_network.ensures.1 c.add_network.ensures.idle
     (λ clean u made.
     let clean3 = c.add_network.ensures.clean clean in

@@ -39,7 +39,7 @@ pub returns-in_err-add_tenant-clause-ends : goal.returns-in_err-add_tenant-claus
 returns-in_err-add_tenant-clause-ends g c db late at proper =
     let mid = c.tenant_id.ensures.stands db at.pending at.stands in
     let near = c.tenant_ids.ensures.stands db at.pending mid in
-    order_unwritten g.S.Store c.args.conn.now c.add_tenant.new.conn db late (AddTenant c.args.name.now) c.from_residual-in_err-add_tenant.result c.in_err-add_tenant.field-0.0
+    order_unwritten g.S.Store c.args.conn.now c.add_tenant.new.conn db late (AddTenant c.args.name.now) proper c.from_residual-in_err-add_tenant.result c.in_err-add_tenant.field-0.0
     (TenantGained (record { id = c.unused_id.result; name = c.args.name.now })) c.from_residual-in_err-add_tenant.ensures.1 c.add_tenant.ensures.idle
     (λ clean u made.
     let clean2 = c.add_tenant.ensures.clean clean in

@@ -38,7 +38,7 @@ pub returns-in_err-end_network-clause-ends : goal.returns-in_err-end_network-cla
 returns-in_err-end_network-clause-ends g c db late at =
     let mid = c.tenant_id.ensures.stands db at.pending at.stands in
     let near = c.network_id.ensures.stands db at.pending mid in
-    order_unwritten g.S.Store c.args.conn.now c.end_network.new.conn db late (EndNetwork c.args.tenant.now c.args.name.now) c.from_residual-in_err-end_network.result c.in_err-end_network.field-0.0 (NetworkLost c.in-Some-2.network)
+    order_unwritten g.S.Store c.args.conn.now c.end_network.new.conn db late (EndNetwork c.args.tenant.now c.args.name.now) tt c.from_residual-in_err-end_network.result c.in_err-end_network.field-0.0 (NetworkLost c.in-Some-2.network)
     c.from_residual-in_err-end_network.ensures.1 c.end_network.ensures.idle
     (λ clean u made.
     let then_clean = c.end_network.ensures.clean clean in

@@ -21,7 +21,7 @@ returns-in_default-clause-ends g c db late at = (
 pub returns-in_err-end_token-clause-ends : goal.returns-in_err-end_token-clause-ends
 returns-in_err-end_token-clause-ends g c db late at =
     let mid = c.tenant_of_token.ensures.stands db at.pending at.stands in
-    order_unwritten g.S.Store c.args.conn.now c.end_token.new.conn db late (EndToken c.args.digest.now) c.from_residual-in_err-end_token.result c.in_err-end_token.field-0.0 (TokenLost c.args.digest.now)
+    order_unwritten g.S.Store c.args.conn.now c.end_token.new.conn db late (EndToken c.args.digest.now) tt c.from_residual-in_err-end_token.result c.in_err-end_token.field-0.0 (TokenLost c.args.digest.now)
     c.from_residual-in_err-end_token.ensures.1 c.end_token.ensures.idle
     (λ clean u made.
     let known : tenant_of_token (tables_of db).tokens c.args.digest.now ≡ Some c.in-Some._holder = sym (c.in_ok-_holder.ensures.found db at.pending at.stands (c.end_token.ensures.clean clean)) ∙ c.in-Some.is in

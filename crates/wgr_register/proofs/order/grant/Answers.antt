@@ -57,7 +57,7 @@ returns-in_err-add_token-clause-ends g c db late at proper =
     let mid = c.tenant_id.ensures.stands db at.pending at.stands in
     let near = c.tenant_of_token.ensures.stands db at.pending mid in
     let last = c.count_tokens.ensures.stands db at.pending near in
-    order_unwritten g.S.Store c.args.conn.now c.add_token.new.conn db late (Grant c.args.tenant.now c.args.digest.now) c.from_residual-in_err-add_token.result c.in_err-add_token.field-0.0
+    order_unwritten g.S.Store c.args.conn.now c.add_token.new.conn db late (Grant c.args.tenant.now c.args.digest.now) proper c.from_residual-in_err-add_token.result c.in_err-add_token.field-0.0
     (TokenGained (record { digest = c.args.digest.now; tenant = c.in-Some.id })) c.from_residual-in_err-add_token.ensures.1 c.add_token.ensures.idle
     (λ clean u made.
     let clean3 = c.add_token.ensures.clean clean in

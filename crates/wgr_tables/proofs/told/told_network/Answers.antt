@@ -5,6 +5,7 @@ use Rattle.wgr_core.specs.Network.{NetworkValue}
 use Rattle.wgr_model.specs.Rows.{NetworkRow, address_row, peer_row, route_row}
 use Rattle.wgr_model.proofs.GatherLemmas.{eqb_self}
 use Rattle.wgr_sql.specs.declared.fault.Fault.TheVariants.{Store}
+use Rattle.wgr_sql.proofs.SurvivesLemmas.{survives_next}
 use Rattle.wgr_tables.specs.Decode.{tables_of, network_in, number_at}
 use Rattle.wgr_tables.specs.Loads.{IsMade, network_with}
 use Rattle.wgr_tables.specs.Stored.{AreSettings, stored_network}
@@ -97,3 +98,6 @@ returns-in_default-4-clause-none g c db pending stood clean n told =
     let given = subst (λ o. IfNone o (c.make_network.result ≡ Err Store)) c.in_default-4.is c.in_ok-made.ensures.none in
     let only = subst (λ r. IfErr r (λ e. e ≡ Store → (m : NetworkValue) → IsMade (network_in row) peers routes m → AreSettings (network_in row) → row ≡ stored_network (network_in row) → ⊥)) given c.make_network.ensures.only in
     only refl n made (subst AreSettings (sym once) (told_settings t id n told)) stored
+
+pub returns-clause-survives : goal.returns-clause-survives
+returns-clause-survives g c = survives_next _ _ _ (survives_next _ _ _ c.network_row.ensures.survives c.told_peers.ensures.survives) c.told_routes.ensures.survives

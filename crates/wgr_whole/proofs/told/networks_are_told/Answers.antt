@@ -1,6 +1,7 @@
 use Rattle.std.proofs.Common.{rules, IfSome, IfNone, slice_index_or, refl, sym, subst, inl, inr, arith}
 use Rattle.std.proofs.Math.Nat.{eq-or-lt_of_le}
 use Rattle.wgr_core.specs.Network.{NetworkValue}
+use Rattle.wgr_sql.proofs.SurvivesLemmas.{survives_next}
 use Rattle.wgr_tables.specs.Decode.{tables_of}
 use Rattle.wgr_tables.specs.Told.{IsTold}
 use Rattle.wgr_audit.proofs.ListLemmas.{all_places, at_place}
@@ -26,6 +27,7 @@ loop-network-preserved g c =
             (c.in-Some.field-0, subst (λ o. IfSome o (λ n. IsTold (tables_of db) (slice_index_or ids at 0) n)) c.in-Some.is (c.in_ok-told_network.ensures.some db pending (before.1 db pending stood) clean))
         | inr below ↦ before.3 db pending stood (c.told_network.ensures.clean clean) k below
       ]),
+      survives_next _ _ _ before.4 c.told_network.ensures.survives,
     )
 
 pub returns-clause-told : goal.returns-clause-told

@@ -1,0 +1,148 @@
+-- A register in two files: what they held, and what they hold once they are closed.
+use Rattle.std.proofs.Common.{◌≡◌, ◌∙◌, [], ◌∷◌, List, Bool, not, Option, Some, None, Result, Ok, Err, IsTrue, false, sym, ap, subst, inl, inr}
+use Rattle.std.proofs.Math.Logic.{∥∥₁_elim}
+use Rattle.sqlite_trees.specs.Props.{Trees-set}
+use Rattle.sqlite_disk.specs.declared.Disk as disk
+use Rattle.sqlite_disk.specs.declared.Files.{Files}
+use Rattle.sqlite_store.specs.declared.store.FileStore.{FileStore}
+use Rattle.sqlite.specs.Closing.{HoldsAlone, IsCopied}
+use Rattle.sqlite.specs.Effect.{Database, IsDatabase}
+use Rattle.sqlite.specs.Files.{HoldsDatabase, IsOpened, file_state, over_files}
+use Rattle.sqlite.specs.Held.{Held}
+use Rattle.sqlite.specs.Recovery.{Image}
+use Rattle.sqlite.specs.Start.{FindsIn}
+use Rattle.sqlite.specs.State.{HasCleanDisk}
+use Rattle.sqlite.specs.WalFiles.{outcomes}
+use Rattle.sqlite.specs.WalReads.{AreClean}
+use Rattle.wgr_model.specs.Calls.{order_event}
+use Rattle.wgr_model.specs.RowLaws.{IsRowStep}
+use Rattle.wgr_model.specs.Steps.{Answer, Event}
+use Rattle.wgr_model.specs.declared.order.Order.{Order}
+use Rattle.wgr_register.specs.Ends.{OrderEnds}
+use Rattle.wgr_register.specs.Standing.{StandsAt}
+use Rattle.wgr_register.specs.declared.fault.Done as done
+use Rattle.wgr_register.specs.declared.fault.OrderFault.{OrderFault}
+use Rattle.wgr_register.specs.declared.fault.OrderFault.TheVariants as order_fault
+use Rattle.wgr_register.proofs.LeftLemmas.{one_database}
+use Rattle.wgr_sql.specs.Calls.{IsKept}
+use Rattle.wgr_store.specs.Fresh.{IsFresh, no_schema}
+use Rattle.wgr_tables.specs.Decode.{tables_of}
+use Rattle.wgr_whole.specs.Good.{IsGood}
+use Rattle.wgr_file.specs.OnFiles.{AreThoseOf, EndsIn, HasEnded, IsClosedIn, IsClosedTo, IsMade, IsOpen, StandIn, Stays, StoodIn}
+
+-- files that hold a good register are found to hold it
+held_is : (left db : Database) (next : Image) → IsGood left → ∥ HoldsDatabase next left.trees ∥₁ → StoodIn next db → db ≡ left
+held_is left db next good held stood =
+    one_database db left stood.good.register.sound good.register.sound (∥∥₁_elim held (Trees-set db.trees left.trees) (stood.found.0 left.trees))
+
+module _ {D : Type 0} {g : disk.Ghosts D} where
+  -- ---- what a new connection shows
+
+  pub those_of : (conn : Held (FileStore D g)) (start : Image) → (HasCleanDisk (file_state conn) → IsOpened conn) → (HasCleanDisk (file_state conn) → FindsIn start (file_state conn))
+      → HasCleanDisk (file_state conn) → AreThoseOf start (file_state conn).now.trees
+  those_of conn start opened found clean =
+      let finds = found clean in
+      subst (AreThoseOf start) (sym (ap (λ (d : Database). d.trees) (opened clean).0.clean)) (finds.holds, finds.reads)
+
+  pub sound_of : (conn : Held (FileStore D g)) → (HasCleanDisk (file_state conn) → IsOpened conn) → HasCleanDisk (file_state conn) → IsDatabase (file_state conn).now
+  sound_of conn opened clean = let is = opened clean in (is.1 is.0.is_open).0
+
+  pub open_in : (conn register : Held (FileStore D g)) (start : Image) → (HasCleanDisk (file_state conn) → AreThoseOf start (file_state conn).now.trees)
+      → (HasCleanDisk (file_state register) → HasCleanDisk (file_state conn)) → (HasCleanDisk (file_state register) → IsGood (file_state conn).now × StandsAt over_files register (file_state conn).now [])
+      → IsOpen start register
+  open_in conn register start those clean good now =
+      let is = good now in ((file_state conn).now, record { found = those (clean now); good = is.0 }, is.1)
+
+  -- ---- what both files hold once the connection is closed
+
+  pub closed_in : (conn : Held (FileStore D g)) (files : Files D) (settled : Bool) → settled ≡ not (file_state conn).in_transaction → conn.in_transaction ≡ false
+      → (IsTrue settled → IsTrue (file_state conn).is_open → (file_state conn).now ≡ (file_state conn).committed) → (AreClean g files.log files.db → IsCopied conn files) → AreClean g files.log files.db → IsClosedIn g files conn
+  closed_in conn files settled value idle same copied honest =
+      let is = copied honest in
+      let alike = same (value ∙ ap not idle) is.was_open in
+      record { clean = is.was_clean; live = is.was_open; holds = λ image may. subst (λ (d : Database). HoldsAlone image d.trees) (sym alike) (is.left image may) }
+
+  pub closed_as : (conn register : Held (FileStore D g)) (closed : Option (Files D)) → conn ≡ register → IsClosedTo g closed conn → IsClosedTo g closed register
+  closed_as conn register closed same is = subst (IsClosedTo g closed) same is
+
+  pub stays : (conn left : Held (FileStore D g)) (start : Image) (closed : Option (Files D)) → (HasCleanDisk (file_state conn) → AreThoseOf start (file_state conn).now.trees)
+      → (HasCleanDisk (file_state left) → HasCleanDisk (file_state conn)) → IsKept (file_state conn) (file_state left) → IsClosedTo g closed left → Stays g start closed
+  stays conn left start None those clean kept is = tt
+  stays conn left start (Some files) those clean kept is = λ honest.
+      let c = is honest in
+      let same = kept c.clean c.live in
+      ((file_state left).now.trees, subst (λ (d : Database). AreThoseOf start d.trees) (sym same.1) (those (clean c.clean)), c.holds)
+
+  -- a register that was opened and closed as it was
+  pub stays_open : (register left : Held (FileStore D g)) (start : Image) (closed : Option (Files D)) → IsOpen start register → left ≡ register → IsClosedTo g closed left → Stays g start closed
+  stays_open register left start None opened same is = tt
+  stays_open register left start (Some files) opened same is = λ honest.
+      let c = subst (IsClosedIn g files) same (is honest) in
+      let o = opened c.clean in
+      ((file_state register).now.trees, subst (λ (d : Database). AreThoseOf start d.trees) (sym (o.2.stands.shows c.clean c.live)) o.1.found, c.holds)
+
+  -- ---- words
+
+  pub made : (conn register : Held (FileStore D g)) (start : Image) (closed : Option (Files D)) → (HasCleanDisk (file_state conn) → IsDatabase (file_state conn).now)
+      → (HasCleanDisk (file_state conn) → AreThoseOf start (file_state conn).now.trees) → (HasCleanDisk (file_state register) → HasCleanDisk (file_state conn)) → (file_state conn).now.schema ≡ no_schema
+      → (HasCleanDisk (file_state register) → (db : Database) × IsFresh db × StandsAt over_files register db []) → IsClosedTo g closed register → IsMade g start closed
+  made conn register start closed sound those clean blank fresh is = record {
+    made = register;
+    closed_to = is;
+    blank = λ now. ((file_state conn).now, record { found = those (clean now); sound = sound (clean now); blank = blank });
+    fresh = fresh;
+  }
+
+  pub ended : (register left : Held (FileStore D g)) (start : Image) (closed : Option (Files D)) (order : Order) (r : Result done.Done OrderFault) → IsOpen start register
+      → (HasCleanDisk (file_state left) → HasCleanDisk (file_state register))
+      → ((db : Database) (late : List Event) → StandsAt over_files register db late → OrderEnds over_files left db late (order_event order) r) → IsClosedTo g closed left → HasEnded g start closed order r
+  ended register left start closed order r opened clean ends is = record {
+    left = left;
+    closed_to = is;
+    ends = λ now. let o = opened (clean now) in (o.0, o.1, ends o.0 [] o.2);
+  }
+
+  -- ---- laws
+
+  pub stand_in : (left : Held (FileStore D g)) (files : Files D) (db : Database) (late : List Event) → IsClosedIn g files left → StandsAt over_files left db late → StandIn g files db
+  stand_in left files db late is at = record {
+    good = record { register = at.stands.sound; consistent = at.consistent };
+    holds = λ image may. subst (λ (d : Database). HoldsAlone image d.trees) (at.stands.shows is.clean is.live) (is.holds image may);
+  }
+
+  pub ends_in : (files : Files D) (start : Image) (order : Order) (r : Result done.Done OrderFault) → HasEnded g start (Some files) order r → AreClean g files.log files.db → EndsIn g start files order r
+  ends_in files start order (Ok done) has honest =
+      let is = has.closed_to honest in
+      let o = has.ends is.clean in
+      let end = o.2 is.clean in
+      let step = subst (λ (a : Answer). IsRowStep (tables_of o.0) (order_event order) a (tables_of end.2)) end.1 end.3 in
+      let stood : StandIn g files end.2 = elim end.4 [
+        | inl at ↦ stand_in has.left files end.2 [] is at
+        | inr at ↦ subst (StandIn g files) (sym at.0) (stand_in has.left files o.0 [] is at.1)
+      ] in
+      (o.0, o.1, end.2, step, stood)
+  ends_in files start order (Err (order_fault.Refused why)) has honest =
+      let is = has.closed_to honest in
+      let o = has.ends is.clean in
+      (o.0, o.1, o.2.1 is.clean, stand_in has.left files o.0 [] is o.2.0)
+  ends_in files start order (Err (order_fault.Fault why)) has honest =
+      let is = has.closed_to honest in
+      let o = has.ends is.clean in
+      (o.0, o.1, stand_in has.left files o.0 (order_event order ∷ []) is o.2)
+
+  pub made_in : (files : Files D) (start : Image) → IsMade g start (Some files) → AreClean g files.log files.db → (db : Database) × StandIn g files db
+  made_in files start has honest =
+      let is = has.closed_to honest in
+      let fresh = has.fresh is.clean in
+      (fresh.0, stand_in has.made files fresh.0 [] is fresh.2)
+
+  -- the next word finds what the last one left
+  pub next_is : (files : Files D) (left db : Database) (next : Image) → StandIn g files left → outcomes g files.log files.db next → StoodIn next db → db ≡ left
+  next_is files left db next stands may stood = held_is left db next stands.good (stands.holds next may).both stood
+
+  pub copy_is : (files : Files D) (left db : Database) (next : Image) → StandIn g files left → outcomes g files.log files.db next → StoodIn (record next { log = [] }) db → db ≡ left
+  copy_is files left db next stands may stood = held_is left db (record next { log = [] }) stands.good (stands.holds next may).alone stood
+
+-- the good register that the files held is the one that is found
+pub found_is : (start : Image) (db held : Database) → StoodIn start db → IsGood held → HoldsDatabase start held.trees → db ≡ held
+found_is start db held stood good holds = one_database db held stood.good.register.sound good.register.sound (stood.found.0 held.trees holds)

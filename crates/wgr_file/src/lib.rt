@@ -1,0 +1,19 @@
+//! The register in two files of the system: it is found or made there, does an order, and is closed.
+//!
+//! Each function takes what the files held as they were opened (`start`), which a contract can name and
+//! the program can't know, and gives the files back as they were closed. So the contracts say what is in
+//! the files before and after, whatever they held.
+#![tactic(auto)]
+
+mod database;
+mod laws;
+mod opening;
+mod order;
+
+pub use database::{Closed, close};
+pub use laws::{
+    closed_is_in_files, copies_have_all, found_is_told, made_is_in_files, next_finds_the_last,
+    orders_end_in_files, tell_honest, unknown_is_empty,
+};
+pub use opening::{Unopened, make_register, open_register};
+pub use order::operate;

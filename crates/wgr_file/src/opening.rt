@@ -1,0 +1,72 @@
+//! A register that is found or made in files.
+ghost use Rattle.std.specs.Prelude.{◌≡◌, Err, IfErr, IfOk, None};
+ghost use Rattle.sqlite.specs.WalFiles.{image_at};
+ghost use Rattle.wgr_file.specs.OnFiles.{IsMade, IsOpen, Stays};
+
+use crate::database::{self, Closed};
+use sqlite::{Connection, FileFrom, FileStore, Start};
+use sqlite_disk::Disk;
+use wgr_register::{OpenFault, Register, RegisterFault, register_fault};
+
+/// Why no register was opened or made, and the files as they were closed, if there were any.
+#[derive(Drop)]
+pub struct Unopened<S: Start> {
+    pub fault: RegisterFault,
+    pub files: Closed<S>,
+}
+
+/// The register in the file at this path; none is one that is missing.
+pub fn open_register<S: Start>(
+    rt: &HostRuntime,
+    path: &str,
+    start: S,
+) -> Result<Register<FileStore<FileFrom<S>>>, Unopened<S>>
+    ensures open { IfOk result (IsOpen (image_at S.Start)) }
+    ensures kept { IfErr result (λ e. Stays ⟦<FileFrom<S> as Disk>⟧ (image_at S.Start) e.files) }
+{
+    let conn = match database::find(rt, path, start) {
+        Ok(Some(conn)) => conn,
+        Ok(None) => return nothing_opened(RegisterFault::NotARegister),
+        Err(why) => return nothing_opened(register_fault(why)),
+    };
+    match Register::open(rt.alloc(), conn) {
+        Ok(register) => Ok(register),
+        Err(OpenFault { fault, connection }) => Err(Unopened {
+            fault,
+            files: database::close(connection),
+        }),
+    }
+}
+
+/// Makes a register without entries in the file at this path, and gives the files back as they were
+/// closed.
+pub fn make_register<S: Start>(
+    rt: &HostRuntime,
+    path: &str,
+    start: S,
+) -> Result<Closed<S>, Unopened<S>>
+    ensures made { IfOk result (IsMade ⟦<FileFrom<S> as Disk>⟧ (image_at S.Start)) }
+    ensures kept { IfErr result (λ e. Stays ⟦<FileFrom<S> as Disk>⟧ (image_at S.Start) e.files) }
+{
+    let conn = match database::make(rt, path, start) {
+        Ok(conn) => conn,
+        Err(why) => return nothing_opened(register_fault(why)),
+    };
+    match Register::create(conn) {
+        Ok(register) => {
+            register.tell_rules();
+            Ok(database::close(register.into_connection()))
+        }
+        Err(OpenFault { fault, connection }) => Err(Unopened {
+            fault,
+            files: database::close(connection),
+        }),
+    }
+}
+
+// No file was opened, or what was is closed.
+fn nothing_opened<T, S: Start>(fault: RegisterFault) -> Result<T, Unopened<S>>
+    ensures { result ≡ Err (record { fault = fault; files = None }) }
+{
+    Err(Unopened { fault, files: None })
+}

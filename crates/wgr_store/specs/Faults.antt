@@ -1,0 +1,9 @@
+-- Faults of statements as reasons why no register was made or opened.
+use Rattle.wgr_sql.specs.declared.fault.Fault.{Fault}
+use Rattle.wgr_sql.specs.declared.fault.Fault.TheVariants as fault
+use Rattle.wgr_store.specs.declared.fault.RegisterFault.{RegisterFault}
+use Rattle.wgr_store.specs.declared.fault.RegisterFault.TheVariants as register_fault
+
+abbrev pub as_register_fault : Fault → RegisterFault
+as_register_fault fault.NoMemory = register_fault.NoMemory
+as_register_fault fault.Store = register_fault.Store

@@ -1,0 +1,162 @@
+"""`wgr serve` by the clock: leases that end while it runs, clients that pause, and what each costs the next.
+
+Each case waits for seconds. So each has a register and a service of its own, and they run side by side.
+"""
+
+import tempfile
+import time
+import unittest
+from concurrent.futures import ThreadPoolExecutor
+from pathlib import Path
+
+from serving import TOKEN, Server, done, key, make_register, peer, read_all, refused, reply, request
+
+PEERS = "/networks/office/peers"
+LIST, NOBODY = request("GET", PEERS), done({"peers": []})
+HEAD = f"GET {PEERS} HTTP/1.1\r\nAuthorization: Bearer {TOKEN}\r\n".encode()
+# Seconds after which an answer doesn't count as one at once; the service waits a quarter of one behind a reply.
+SOON = 2
+
+
+def wait_until(moment):
+    time.sleep(max(0, moment - time.time()))
+
+
+def add_until(server, end):
+    """Adds a peer whose lease ends then, and gives the peer."""
+    server.ask("POST", PEERS, {"key": key(1), "end": end})
+    return peer(1, 1, "10.8.0.2/32", end=end)
+
+
+def an_end_that_is_over(server):
+    now = int(time.time())
+    late = [("GET", PEERS, None, NOBODY)]
+    for end in [1, now - 3600, now - 60, now - 5, now]:
+        late.append(("POST", PEERS, {"key": key(1), "end": end}, refused(409, "lease_over")))
+    for method, path, body, due in late:
+        yield f"{method} {body}", server.ask(method, path, body), due
+
+
+def an_end_that_comes(server):
+    end = int(time.time()) + 4
+    own = add_until(server, end)
+    yield "added", server.ask("GET", PEERS), done({"peers": [own]})
+    yield "its address", server.ask("GET", "/networks/office/owner/10.8.0.2"), done({"number": 1})
+    # No request comes between this one and the end.
+    wait_until(end - 1)
+    yield "before its end", server.ask("GET", PEERS), done({"peers": [own]})
+    wait_until(end + 0.1)
+    yield "at its end", server.ask("GET", PEERS), NOBODY
+    yield "its address then", server.ask("GET", "/networks/office/owner/10.8.0.2"), refused(404, "nobodys_address")
+    yield "its file then", server.ask("GET", f"{PEERS}/1/file/wg"), refused(404, "no_such_peer")
+    file = reply(200, b"[Interface]\nListenPort = 51820\n", "text/plain")
+    yield "the server's file then", server.ask("GET", "/networks/office/server/wg"), file
+
+
+def the_moment_of_a_connection(server):
+    """It is that at which the service takes it: of the second, once the first is answered."""
+    end = int(time.time()) + 3
+    own = add_until(server, end)
+    with server.connect() as first, server.connect() as second:
+        second.sendall(LIST)
+        wait_until(end + 0.2)
+        first.sendall(LIST)
+        yield "taken before the end", read_all(first), done({"peers": [own]})
+        yield "taken after the end", read_all(second), NOBODY
+
+
+def a_pause(*parts):
+    """A client that stops in its request for three seconds."""
+
+    def ask(server):
+        with server.connect() as link:
+            for part in parts[:-1]:
+                link.sendall(part)
+                time.sleep(3)
+            link.sendall(parts[-1])
+            yield "answered", read_all(link), NOBODY
+        yield "and the next", server.ask("GET", PEERS), NOBODY
+
+    return ask
+
+
+def within(server, message):
+    """What is answered to a client that keeps its side open, and whether it came soon."""
+    with server.connect() as link:
+        link.settimeout(SOON)
+        link.sendall(message)
+        try:
+            return read_all(link)
+        except TimeoutError:
+            return b"nothing in time"
+
+
+def an_open_side(server):
+    """A message is answered once it is decided, though its client could send more."""
+    for length in [200, 4_096, 4_097, 5_000, 8_191, 8_192]:
+        message = HEAD + b"X: " + (length - len(HEAD) - 7) * b"x" + b"\r\n\r\n"
+        yield f"a head of {length} bytes", within(server, message), NOBODY
+    for length in [0, 2, 4_096, 5_000, 100_000]:
+        message = request("POST", PEERS, length * b"x")
+        yield f"a body of {length} bytes", within(server, message), refused(400, "bad_field", field="body")
+    yield "a head that is too long", within(server, HEAD + 9_000 * b"x"), refused(413, "too_large")
+
+
+def a_client_that_stays(server):
+    """Behind its reply it costs the next one less than two seconds."""
+    with server.connect() as first:
+        first.sendall(LIST)
+        begin = time.monotonic()
+        yield "the one that stays", read_all(first), NOBODY
+        yield "the next", within(server, LIST), NOBODY
+        yield "seconds", time.monotonic() - begin < SOON, True
+
+
+def a_reply_read_late(server):
+    """A client that is refused by its head, but sends all of its body first, can send it, and gets its reply."""
+    large = f"POST {PEERS} HTTP/1.1\r\nAuthorization: Bearer {TOKEN}\r\nContent-Length: 3145728\r\n\r\n".encode()
+    for pieces, pause in [(1, 0), (1, 0.1), (24, 0.01)]:
+        with server.connect() as link:
+            link.sendall(large)
+            try:
+                for _ in range(pieces):
+                    # By then the reply is on its way.
+                    time.sleep(pause)
+                    link.sendall(3_145_728 // pieces * b" ")
+                time.sleep(1)
+                told = read_all(link)
+            except OSError as fault:
+                told = str(fault)
+            yield f"3 MiB in {pieces} pieces, {pause} seconds apart", told, refused(413, "too_large")
+
+
+CASES = [
+    ("an end that is over", an_end_that_is_over),
+    ("an end that comes", an_end_that_comes),
+    ("the moment of a connection", the_moment_of_a_connection),
+    ("a pause in the head", a_pause(HEAD, b"\r\n")),
+    ("a pause in the first line", a_pause(HEAD[:7], HEAD[7:] + b"\r\n")),
+    ("a pause in a body", a_pause(HEAD + b"Content-Length: 4\r\n\r\n12", b"34")),
+    ("an open side", an_open_side),
+    ("a client that stays", a_client_that_stays),
+    ("a reply that is read late", a_reply_read_late),
+]
+
+
+class Clock(unittest.TestCase):
+    def test_cases(self):
+        folder = tempfile.TemporaryDirectory()
+        self.addCleanup(folder.cleanup)
+        servers = []
+        for place, _ in enumerate(CASES):
+            own = Path(folder.name) / str(place)
+            own.mkdir()
+            servers.append(Server(make_register(own)))
+            servers[-1].__enter__()
+            self.addCleanup(servers[-1].__exit__)
+        with ThreadPoolExecutor(len(CASES)) as pool:
+            seen = pool.map(lambda case, server: list(case[1](server)), CASES, servers)
+            for (name, _), rows in zip(CASES, seen, strict=True):
+                for what, given, due in rows:
+                    with self.subTest(name, what=what):
+                        self.assertEqual(given, due)

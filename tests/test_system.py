@@ -1,0 +1,158 @@
+"""Where the program meets the system: where it listens, which fault it tells first, and what it leaves in files."""
+
+import os
+import shutil
+import socket
+import sqlite3
+import unittest
+from contextlib import closing
+from pathlib import Path
+
+from program import Left, run, without_room
+from register_file import ACME, DONE, NETWORK, Files, failed
+from serving import Server, done, free_port, key, make_register, peer, refused, request
+from test_batch import batch
+from test_serve import has_ipv6
+
+PEERS = "/networks/office/peers"
+LIST, NOBODY = request("GET", PEERS), done({"peers": []})
+# The state of a socket that listens, in /proc/net/tcp.
+LISTENS = "0A"
+
+
+def own_address():
+    """An IPv4 address of this machine by which it reaches others, or none."""
+    with socket.socket(socket.AF_INET, socket.SOCK_DGRAM) as probe:
+        try:
+            # Nothing is sent: the system only chooses the address.
+            probe.connect(("192.0.2.1", 9))
+        except OSError:
+            return None
+        return probe.getsockname()[0]
+
+
+def listeners(process):
+    """The addresses and ports at which a process listens, as the kernel writes them."""
+    folder, found = f"/proc/{process}/fd", []
+    sockets = {os.readlink(f"{folder}/{name}") for name in os.listdir(folder)}
+    for table in ["tcp", "tcp6", "udp", "udp6"]:
+        for line in Path(f"/proc/{process}/net/{table}").read_text().splitlines()[1:]:
+            fields = line.split()
+            if f"socket:[{fields[9]}]" in sockets and (fields[3] == LISTENS or table.startswith("udp")):
+                found.append((table, fields[1]))
+    return found
+
+
+class Listening(Files):
+    def serve(self, host):
+        server = Server(make_register(self.folder), host=host)
+        server.__enter__()
+        self.addCleanup(server.__exit__)
+        self.assertEqual(server.send(LIST), NOBODY)
+        return server
+
+    def refuses(self, host, port):
+        family = socket.AF_INET6 if ":" in host else socket.AF_INET
+        with socket.socket(family) as link, self.assertRaises(ConnectionRefusedError):
+            link.connect((host, port))
+
+    def test_at_its_address_alone(self):
+        server = self.serve("127.0.0.1")
+        self.assertEqual(listeners(server.process.pid), [("tcp", f"0100007F:{server.port:04X}")])
+        self.refuses("127.0.0.2", server.port)
+        if own_address():
+            self.refuses(own_address(), server.port)
+
+    @unittest.skipUnless(has_ipv6(), "this machine has no ::1")
+    def test_at_its_ipv6_address_alone(self):
+        server = self.serve("::1")
+        self.assertEqual(listeners(server.process.pid), [("tcp6", f"{24 * '0'}01000000:{server.port:04X}")])
+        self.refuses("127.0.0.1", server.port)
+
+    @unittest.skipUnless(own_address(), "this machine has no address but the loopback's")
+    def test_clients_that_are_not_on_the_loopback(self):
+        self.serve(own_address())
+
+
+class FirstFault(Files):
+    """Of two faults that meet, the first in the order of the words' work is told."""
+
+    def bad_registers(self):
+        """Paths that hold no good register, and what is told of each."""
+        Path(self.path("empty.db")).touch()
+        self.init(ACME, NETWORK)
+        self.change("UPDATE network SET port = 0")
+        return [("missing", self.path("none.db"), "not_a_register"), ("empty", self.path("empty.db"), "not_a_register"), ("not good", self.db, "not_good")]
+
+    def test_a_register_before_its_address(self):
+        with socket.socket() as used:
+            used.bind(("127.0.0.1", 0))
+            used.listen()
+            place = f"127.0.0.1:{used.getsockname()[1]}"
+            for name, database, why in self.bad_registers():
+                with self.subTest(name):
+                    self.assertEqual(run(["serve", database, place, "--count", "1"]), failed(why))
+
+    def test_a_file_of_requests_before_the_register(self):
+        Path(self.path("list")).write_bytes(LIST)
+        for name, database, why in self.bad_registers():
+            for files, told in [(["no"], "device"), (["list", "no"], "device"), (["list"], why)]:
+                with self.subTest(name, files=files):
+                    words = ["batch", database, "--now", "7", *map(self.path, files)]
+                    self.assertEqual(run(words), failed(told))
+
+    def test_init_that_has_no_room(self):
+        with self.subTest("a missing file"):
+            self.assertEqual(run(["init", self.db], prepare=without_room), failed("store"))
+        with self.subTest("an empty database"):
+            self.db = self.path("empty.db")
+            self.change("CREATE TABLE note (text TEXT)", "DROP TABLE note")
+            self.assertEqual(run(["init", self.db], prepare=without_room), failed("store"))
+            self.assertEqual(self.query("SELECT * FROM sqlite_schema"), [])
+            self.assertEqual(run(["init", self.db]), DONE)
+
+
+# A new peer and its end, which leave something else where they are done twice.
+ASKED = [request("POST", PEERS, {"key": key(1)}), request("DELETE", f"{PEERS}/1"), request("POST", PEERS, {"key": key(2)})]
+ANSWERS = [done(peer(1, 1, "10.8.0.2/32")), done({"revoked": 1}), done(peer(2, 2, "10.8.0.2/32"))]
+
+
+class Ends(Files):
+    """What the file alone has, without its log, once a word has ended by itself."""
+
+    def setUp(self):
+        super().setUp()
+        self.db = make_register(self.folder)
+        self.before = self.alone()
+
+    def alone(self):
+        """All rows that a copy of the file shows."""
+        copy = self.path("copy.db")
+        shutil.copyfile(self.db, copy)
+        names = ["meta", "tenant", "token", "network", "peer", "allowed"]
+        with closing(sqlite3.connect(copy)) as file:
+            return {name: file.execute(f"SELECT * FROM {name}").fetchall() for name in names}
+
+    def has_peer_2(self):
+        rows = self.alone()
+        key_and_number = [(row[0] & 0xFFFFF, row[2]) for row in rows["peer"]]
+        self.assertEqual(key_and_number, [(2, bytes([2] * 32))])
+        self.assertEqual([row[5] & 0xFFFFF for row in rows["allowed"]], [2])
+        self.assertEqual(rows["network"][0][:-1], self.before["network"][0][:-1])
+        self.assertEqual(rows["network"][0][-1], 3)
+        for table in ["meta", "tenant", "token"]:
+            self.assertEqual(rows[table], self.before[table])
+
+    def test_batch(self):
+        self.assertEqual(batch(self.db, 7, ASKED), Left(0, b"".join(ANSWERS)))
+        self.has_peer_2()
+
+    def test_serve(self):
+        with Server(self.db, count=3) as server:
+            self.assertEqual([server.send(message) for message in ASKED], ANSWERS)
+            self.assertEqual(server.ended(), Left(0))
+        self.has_peer_2()
+
+    def test_readings_leave_all_rows(self):
+        self.assertEqual(batch(self.db, 7, [LIST, b""]), Left(0, NOBODY + refused(400, "truncated")))
+        self.assertEqual(self.alone(), self.before)
