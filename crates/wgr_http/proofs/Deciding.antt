@@ -1,6 +1,6 @@
 -- Which beginnings of a message decide it.
 use Rattle.std.proofs.Common.{◌≡◌, ℕ, ◌+◌, ◌<◌, ◌≤◌, List, ◌++◌, length, drop, arith, refl, sym, ◌∙◌, ap, subst, append-nil, length-append, false, inl, inr, ◌⊎◌, codes}
-use Rattle.std.specs.Prelude.{Option, Some, None, Result, Ok, Err, ◌==◌}
+use Rattle.std.specs.Prelude.{Option, Some, None, Err, ◌==◌}
 use Rattle.std.specs.Io.KnownBytes.{Consumes, IsAtEnd}
 use Rattle.std.proofs.lemmas.Bool.{lt-ltb}
 use Rattle.httparse.specs.Grammar.{RequestHead, print_request}
@@ -8,9 +8,8 @@ use Rattle.httparse.proofs.GrammarLemmas.{request_unique}
 use Rattle.wgr_http.specs.Extent.{wanted, extent, HasExtent}
 use Rattle.wgr_http.specs.Field.{Occurrence, in_head}
 use Rattle.wgr_http.specs.Head.{HasHead, HasNoHead}
-use Rattle.wgr_http.specs.Message.{MessageView, message_of, headless, Answers, headed, unheaded}
+use Rattle.wgr_http.specs.Message.{message_of, headless, Answers, headed, unheaded}
 use Rattle.wgr_http.specs.Reading.{IsDecided, AnswersAs, IsNoMore}
-use Rattle.wgr_http.specs.declared.message.MessageFault.{MessageFault}
 use Rattle.wgr_http.specs.declared.message.MessageFault.TheVariants.{TooLarge}
 use Rattle.wgr_http.proofs.Growing.{head_grows, no_head_grows, answers_unique, judged_grows}
 
@@ -33,7 +32,7 @@ extent_decides bytes more n e le =
     let has = head_grows bytes more e.0 (drop (length (print_request e.0)) bytes) e.1 in
     head_decides (bytes ++ more) e.0 (drop (length (print_request e.0)) bytes ++ more) has (omega (arith, le, e.2))
 
-too_large : (bytes : List ℕ) → 8192 < length bytes → headless bytes ≡ TooLarge
+pub too_large : (bytes : List ℕ) → 8192 < length bytes → headless bytes ≡ TooLarge
 too_large bytes lt =
     let some : (length bytes == 0) ≡ false = grind (arith, lt) in
     rw (some, lt-ltb 8192 (length bytes) lt) refl

@@ -1,8 +1,10 @@
+pub mod Deciding
+pub mod DigitLemmas
 pub mod Ending
 pub mod Examples
 pub mod FieldLemmas
-pub mod Deciding
-pub mod DigitLemmas
 pub mod Growing
 pub mod HeadLemmas
+pub mod InTime
 pub mod ReadLemmas
+pub mod Undecided

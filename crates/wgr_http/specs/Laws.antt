@@ -1,5 +1,5 @@
 -- What follows of the definition of a message.
-use Rattle.std.specs.Prelude.{◌≡◌, ℕ, ◌≤◌, ◌++◌, List, length, Result, Ok}
+use Rattle.std.specs.Prelude.{◌≡◌, ℕ, ◌<◌, ◌≤◌, ◌++◌, List, length, Result, Ok}
 use Rattle.httparse.specs.Grammar.{RequestHead}
 use Rattle.wgr_http.specs.Extent.{extent}
 use Rattle.wgr_http.specs.Head.{HasHead, HasNoHead}
@@ -22,3 +22,11 @@ HeadsDecide = (bytes : List ℕ) (h : RequestHead) (rest : List ℕ) → HasHead
 -- and so do 8,193 bytes without a head
 abbrev pub LongHeadsDecide : Type 0
 LongHeadsDecide = (bytes : List ℕ) → HasNoHead bytes → 8193 ≤ length bytes → IsDecided bytes
+
+-- one of the bytes that a head wants is missing: the answer is open
+abbrev pub ShortBodiesAreOpen : Type 0
+ShortBodiesAreOpen = (bytes : List ℕ) (h : RequestHead) (rest : List ℕ) → HasHead bytes h rest → length bytes < extent h → ¬ (IsDecided bytes)
+
+-- and so it is after 8,192 bytes at most without a head
+abbrev pub ShortHeadsAreOpen : Type 0
+ShortHeadsAreOpen = (bytes : List ℕ) → HasNoHead bytes → length bytes ≤ 8192 → ¬ (IsDecided bytes)

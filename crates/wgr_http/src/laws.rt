@@ -1,6 +1,6 @@
 //! What follows of the definition of a message. Each function does nothing: its contract is the
 //! law.
-ghost use Rattle.wgr_http.specs.Laws.{HeadsDecide, LongHeadsDecide, MessagesEnd, OneAnswer};
+ghost use Rattle.wgr_http.specs.Laws.{HeadsDecide, LongHeadsDecide, MessagesEnd, OneAnswer, ShortBodiesAreOpen, ShortHeadsAreOpen};
 
 /// Bytes are one message at most, or have one first fault.
 pub fn answers_are_unique()
@@ -17,4 +17,10 @@ pub fn messages_end()
 pub fn beginnings_decide()
     ensures head { HeadsDecide }
     ensures no_head { LongHeadsDecide }
+{}
+
+/// And nothing shorter decides it: a message is read just until its bytes do.
+pub fn shorter_beginnings_are_open()
+    ensures head { ShortBodiesAreOpen }
+    ensures no_head { ShortHeadsAreOpen }
 {}

@@ -1,10 +1,10 @@
 //! A message from a reader.
-ghost use Rattle.std.specs.Prelude.{◌≡◌, ◌<◌, ◌≤◌, ◌+◌, ◌⊎◌, ◌++◌, ℕ, List, Option, true, length, IfOk, IfSome, IfNone, OnOk, OnErr};
+ghost use Rattle.std.specs.Prelude.{◌≡◌, ◌<◌, ◌≤◌, ◌+◌, ◌⊎◌, ◌++◌, ℕ, List, Option, true, length, IfOk, IfSome, IfNone, OnOk, OnErr, OnSome};
 ghost use Rattle.std.specs.Io.KnownBytes.{Consumes, IsAtEnd};
 ghost use Rattle.wgr_io.specs.declared.whole.ReadFault.TheVariants as faults;
 ghost use Rattle.wgr_http.specs.Extent.{HasExtent};
 ghost use Rattle.wgr_http.specs.Head.{HasNoHead};
-ghost use Rattle.wgr_http.specs.Reading.{AnswersAs, IsNoMore};
+ghost use Rattle.wgr_http.specs.Reading.{AnswersAs, IsDecided, IsNoMore, IsReadInTime, IsReadOn};
 
 use crate::head::{MAX_HEAD, extent_of};
 use wgr_io::{Read, ReadFault};
@@ -19,6 +19,8 @@ pub fn read_message<R: Read>(input: &mut R, message: &mut Vec<u8>) -> Result<(),
     ensures bytes { Consumes (R.remaining input.old) (R.remaining input.new) message.new.items }
     ensures whole { OnOk result (AnswersAs message.new.items (R.remaining input.old)) }
     ensures no_more { IsNoMore message.new.items }
+    // No read is made once the bytes so far decide the answer: a client may keep its side open.
+    ensures in_time { IsReadInTime (R.pieces input.old) (R.pieces input.new) message.new.items }
     ensures sound { OnOk result (R.failed input.new ≡ R.failed input.old) }
 
     ensures no_memory { result ≡ Err faults.NoMemory → R.failed input.new ≡ R.failed input.old }
@@ -42,6 +44,10 @@ fn read_head<R: Read>(
     requires short { length message.old.items ≤ 8193 }
     ensures bytes { (start : Option (List ℕ)) → Consumes start (R.remaining input.old) message.old.items
         → Consumes start (R.remaining input.new) message.new.items }
+    ensures on { IfOk result (λ found. OnSome found ((start : Option (List (List ℕ))) → IsReadOn start (R.pieces input.old) message.old.items
+        → IsReadOn start (R.pieces input.new) message.new.items)) }
+    ensures in_time { (start : Option (List (List ℕ))) → IsReadOn start (R.pieces input.old) message.old.items
+        → IsReadInTime start (R.pieces input.new) message.new.items }
     ensures some { IfOk result (λ found. IfSome found (HasExtent message.new.items)) }
     ensures none { IfOk result (λ found. IfNone found (HasNoHead message.new.items
         × ((8192 < length message.new.items) ⊎ IsAtEnd (R.remaining input.new)))) }
@@ -72,8 +78,11 @@ fn read_body<R: Read>(
     extent: usize,
 ) -> Result<(), ReadFault>
     requires room { 0 < length chunk.old }
+    requires head { HasExtent message.old.items extent }
     ensures bytes { (start : Option (List ℕ)) → Consumes start (R.remaining input.old) message.old.items
         → Consumes start (R.remaining input.new) message.new.items }
+    ensures in_time { (start : Option (List (List ℕ))) → IsReadOn start (R.pieces input.old) message.old.items
+        → IsReadInTime start (R.pieces input.new) message.new.items }
     ensures grown { (more : List ℕ) × (message.new.items ≡ message.old.items ++ more) }
     ensures most { length message.old.items < length message.new.items → length message.new.items ≤ extent }
     ensures whole { OnOk result ((extent ≤ length message.new.items) ⊎ IsAtEnd (R.remaining input.new)) }
@@ -104,6 +113,10 @@ fn read_some<R: Read>(
     requires some { 0 < most }
     ensures bytes { (start : Option (List ℕ)) → Consumes start (R.remaining input.old) message.old.items
         → Consumes start (R.remaining input.new) message.new.items }
+    ensures in_time { (start : Option (List (List ℕ))) → IsReadOn start (R.pieces input.old) message.old.items → ¬ (IsDecided message.old.items)
+        → IsReadInTime start (R.pieces input.new) message.new.items }
+    ensures on { IfOk result (λ n. 0 < n → (start : Option (List (List ℕ))) → IsReadOn start (R.pieces input.old) message.old.items → ¬ (IsDecided message.old.items)
+        → IsReadOn start (R.pieces input.new) message.new.items) }
     ensures grown { (more : List ℕ) × (message.new.items ≡ message.old.items ++ more) }
     ensures count { IfOk result (λ n. (n ≤ most) × (length message.new.items ≡ length message.old.items + n)) }
     ensures end { IfOk result (λ n. n ≡ 0 → IsAtEnd (R.remaining input.new) × (message.new.items ≡ message.old.items)) }

@@ -1,10 +1,12 @@
 //! Messages at their limits, readers in pieces and readers that fail, and replies. The rows follow
 //! from RFC 9112; no row is what this crate has answered.
+ghost use Rattle.std.specs.Prelude.{◌<◌, map, Some};
+
 use crate::{Kind, Message, MessageFault, StatusCode, is_token, read_message, write_reply};
 use std::alloc::AllocGlobal;
 use std::io;
 use std::process::Abort;
-use wgr_io::{Device, ReadFault};
+use wgr_io::{Device, DeviceError, Read, ReadFault};
 
 /// Whether the bytes are a message, or else have the fault of this name.
 fn check(rt: &(impl Abort + AllocGlobal), bytes: &[u8], wanted: &str) {
@@ -180,6 +182,61 @@ fn read_up_to_the_failure(rt: HostRuntime) -> io::Result<()> {
         }
     }
     Ok(())
+}
+
+/// Gives at most `piece` bytes at a time, and records what each call gave.
+#[derive(Drop)]
+struct Recorded<'a, A: Abort + AllocGlobal> {
+    rt: &'a A,
+    bytes: &'a [u8],
+    piece: usize,
+    given: Vec<Vec<u8>>,
+    failed: bool,
+    ghost some: { 0 < piece },
+}
+
+impl<'a, A: Abort + AllocGlobal> Read for Recorded<'a, A> {
+    ghost remaining = { λ r. Some r.bytes.now };
+
+    ghost pieces = { λ r. Some (map (λ piece. piece.items) r.given.items) };
+
+    ghost failed = { λ r. r.failed };
+
+    fn read(&mut self, buf: &mut [u8]) -> Result<usize, DeviceError> {
+        let count = self.piece.min(buf.len()).min(self.bytes.len());
+        let (first, rest) = self.bytes.split_at(count);
+        buf[..count].copy_from_slice(first);
+        self.bytes = rest;
+        let mut given = Vec::new(self.rt.alloc());
+        given.extend_from_slice(first).expect(self.rt, "memory");
+        self.given.push(given).expect(self.rt, "memory");
+        Ok(count)
+    }
+}
+
+/// No call is made once a head of 5,000 bytes is there: a client may keep its side open.
+#[test]
+fn reads_stop_with_the_message(rt: HostRuntime) {
+    let bytes = head(&rt, 1, 4977);
+    let mut message = Vec::new(rt.alloc());
+    for (piece, calls) in [
+        (1usize, 5000usize),
+        (999, 6),
+        (4999, 2),
+        (5000, 1),
+        (9999, 1),
+    ] {
+        let mut input = Recorded {
+            rt: &rt,
+            bytes: &bytes,
+            piece,
+            given: Vec::new(rt.alloc()),
+            failed: false,
+        };
+        assert!(rt; read_message(&mut input, &mut message).is_ok());
+        assert_eq!(rt; message, bytes);
+        assert_eq!(rt; input.given.len(), calls);
+    }
 }
 
 #[test]

@@ -1,5 +1,5 @@
--- What a read and a write say of their count and of a failure.
-use Rattle.std.specs.Prelude.{◌≡◌, Bool, true, ℕ, ◌<◌, ◌≤◌, Result, Ok, Err}
+-- What a read and a write say of their count, of their bytes and of a failure.
+use Rattle.std.specs.Prelude.{◌≡◌, Bool, true, ℕ, ◌+◌, ◌<◌, ◌≤◌, ◌++◌, List, [], length, take, slice_index_or, All, Option, Some, None, Result, Ok, Err}
 
 -- a call that fails is marked, and one that does not leaves the mark as it was
 abbrev pub MarksError : {A E : Type 0} → Bool → Bool → Result A E → Type 0
@@ -10,3 +10,22 @@ MarksError was now (Err e) = now ≡ true
 abbrev pub TakesSome : {E : Type 0} → Result ℕ E → ℕ → Type 0
 TakesSome (Ok n) room = (n ≤ room) × (0 < room → 0 < n)
 TakesSome (Err e) room = Unit {0}
+
+-- what a call of `read` gave
+abbrev pub piece_of : {E : Type 0} → Result ℕ E → List ℕ → List ℕ
+piece_of (Ok n) buf = take n buf
+piece_of (Err e) buf = []
+
+-- known pieces stay, and these come behind them
+abbrev pub AddsPieces : Option (List (List ℕ)) → Option (List (List ℕ)) → List (List ℕ) → Type 0
+AddsPieces None new added = Unit {0}
+AddsPieces (Some xs) None added = ⊥
+AddsPieces (Some xs) (Some ys) added = ys ≡ xs ++ added
+
+-- each call gave some bytes
+abbrev pub AllGave : List (List ℕ) → Type 0
+AllGave pieces = All (λ (piece : List ℕ). 0 < length piece) pieces
+
+-- each call but the last gave some bytes: none was made after the end or a failure
+abbrev pub EndAtNothing : List (List ℕ) → Type 0
+EndAtNothing pieces = (k : ℕ) → k + 1 < length pieces → 0 < length (slice_index_or pieces k [])

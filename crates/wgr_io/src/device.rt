@@ -1,8 +1,8 @@
 //! The two traits, and std's readers and writers under them.
-ghost use Rattle.std.specs.Prelude.{List, Option, Bool, length, false, ℕ, ◌≡◌};
+ghost use Rattle.std.specs.Prelude.{List, [], ◌∷◌, Option, None, Bool, length, false, ℕ, ◌≡◌};
 ghost use Rattle.std.specs.Io.{ReadsAtMost};
 ghost use Rattle.std.specs.Io.KnownBytes.{ReadConsumes, WriteAppends};
-ghost use Rattle.wgr_io.specs.Device.{MarksError, TakesSome};
+ghost use Rattle.wgr_io.specs.Device.{AddsPieces, MarksError, TakesSome, piece_of};
 
 use std::io;
 
@@ -14,6 +14,8 @@ pub struct DeviceError;
 pub trait Read {
     /// The bytes that are still to come, where they are known.
     ghost remaining: { Self → Option (List ℕ) };
+    /// What each call so far gave, the newest last, where it is known: nothing, if it failed.
+    ghost pieces: { Self → Option (List (List ℕ)) };
     /// Whether a read has failed.
     ghost failed: { Self → Bool };
 
@@ -21,6 +23,7 @@ pub trait Read {
     fn read(&mut self, buf: &mut [u8]) -> Result<usize, DeviceError>
         ensures within { ReadsAtMost result buf.new }
         ensures bytes { ReadConsumes (remaining self.old) (remaining self.new) result buf.new }
+        ensures piece { AddsPieces (pieces self.old) (pieces self.new) (piece_of result buf.new ∷ []) }
         ensures marked { MarksError (failed self.old) (failed self.new) result };
 }
 
@@ -62,6 +65,9 @@ impl<D> Device<D> {
 
 impl<R: io::Read> Read for Device<R> {
     ghost remaining = { λ d. R.remaining d.inner };
+
+    // Std keeps no record of its calls.
+    ghost pieces = { λ d. None };
 
     ghost failed = { λ d. d.failed };
 

@@ -1,6 +1,8 @@
 //! Reading to the end, and writing all.
-ghost use Rattle.std.specs.Prelude.{◌≡◌, ◌<◌, true, length, take, IfOk, IfErr, OnOk, OnErr};
+ghost use Rattle.std.specs.Prelude.{◌≡◌, ◌<◌, ℕ, List, true, length, take, IfOk, IfErr, OnOk, OnErr};
 ghost use Rattle.std.specs.Io.KnownBytes.{Appends, Consumes, IsAtEnd};
+ghost use Rattle.std.specs.List.{concat};
+ghost use Rattle.wgr_io.specs.Device.{AddsPieces, EndAtNothing};
 
 use super::{Read, Write};
 use std::alloc::Global;
@@ -26,6 +28,8 @@ pub fn read_to_end<R: Read>(alloc: Global, input: &mut R) -> Result<Vec<u8>, Rea
     // At the end nothing is left, so these are all the bytes of a reader that knows them.
     ensures bytes { IfOk result (λ v. Consumes (R.remaining input.old) (R.remaining input.new) v.items) }
     ensures end { OnOk result (IsAtEnd (R.remaining input.new)) }
+    // No read is made after one that gave nothing.
+    ensures pieces { (pieces : List (List ℕ)) × AddsPieces (R.pieces input.old) (R.pieces input.new) pieces × EndAtNothing pieces × IfOk result (λ v. v.items ≡ concat pieces) }
     ensures sound { OnOk result (R.failed input.new ≡ R.failed input.old) }
 
     ensures no_memory { result ≡ Err ReadFault.NoMemory → R.failed input.new ≡ R.failed input.old }

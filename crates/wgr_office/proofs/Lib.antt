@@ -5,3 +5,4 @@ pub mod WorldLemmas
 pub mod ServeLemmas
 pub mod SecretLemmas
 pub mod TenantExamples
+pub mod BetweenLemmas

@@ -8,10 +8,15 @@ use Rattle.sqlite.specs.Held.{Held}
 use Rattle.wgr_model.specs.Register.{Bytes}
 use Rattle.wgr_model.specs.Steps.{Event}
 use Rattle.wgr_office.specs.Pages.{IsAnswered}
-use Rattle.wgr_office.specs.Serving.{IsAnsweredAt, Takes}
+use Rattle.wgr_office.specs.Serving.{AsksAll, IsAnsweredAt, Takes}
 use Rattle.wgr_office.specs.declared.answer.Answer as given
 use Rattle.wgr_office.specs.declared.answer.Answer.TheVariants as givens
 use Rattle.wgr_request.specs.Laws.{RequestsAs}
+
+asks_all : (message : Bytes) (input : Option Bytes) (answer : given.Answer) → RequestsAs message input → AsksAll message input answer
+asks_all message input (givens.Bytes bytes) alike = alike
+asks_all message input (givens.Order done) alike = alike
+asks_all message input givens.Unavailable alike = tt
 
 module _ {S : Type 0} (g : Ghosts S) (now : ℕ) where
   all_answered : (conn : Held S) (db : Database) (late : List Event) (message all : Bytes) (answer : given.Answer) → RequestsAs message (Some all) → IsAnswered g conn db late now message answer → IsAnswered g conn db late now all answer
@@ -21,10 +26,10 @@ module _ {S : Type 0} (g : Ghosts S) (now : ℕ) where
   all_answered conn db late message all (givens.Order done) alike bad = absurd bad
 
   pub taken : (old new : Held S) (message : Vec ℕ Global) (input : Option Bytes) (answer : given.Answer) → RequestsAs message.items input → IsAnsweredAt g old new now message.items answer → Takes g old new now input answer
-  taken old new message None answer alike is = record { message = message; held = is; all = tt }
-  taken old new message (Some all) answer alike is = record { message = message; held = is; all = λ db late at. all_answered new db late message.items all answer alike (is db late at) }
+  taken old new message None answer alike is = record { message = message; held = is; all = tt; asks = asks_all message.items None answer alike }
+  taken old new message (Some all) answer alike is = record { message = message; held = is; all = λ db late at. all_answered new db late message.items all answer alike (is db late at); asks = asks_all message.items (Some all) answer alike }
 
   -- for want of memory nothing was read, and the register stands as it did
   pub untaken : (conn : Held S) (message : Vec ℕ Global) (input : Option Bytes) → Takes g conn conn now input givens.Unavailable
-  untaken conn message None = record { message = message; held = λ db late at. inl at; all = tt }
-  untaken conn message (Some all) = record { message = message; held = λ db late at. inl at; all = λ db late at. inl at }
+  untaken conn message None = record { message = message; held = λ db late at. inl at; all = tt; asks = tt }
+  untaken conn message (Some all) = record { message = message; held = λ db late at. inl at; all = λ db late at. inl at; asks = tt }

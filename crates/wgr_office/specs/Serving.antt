@@ -2,10 +2,11 @@
 use Rattle.std.specs.Prelude.{◌≡◌, ◌<◌, ℕ, Bool, true, List, length, take, Option, IfSome}
 use Rattle.std.specs.declared.vec.Vec.{Vec}
 use Rattle.std.specs.declared.alloc.Global.{Global}
-use Rattle.std.specs.Io.KnownBytes.{Appends}
+use Rattle.std.specs.Io.KnownBytes.{Appends, Consumes}
 use Rattle.sqlite.specs.Effect.{Database}
 use Rattle.sqlite.specs.Store.{Ghosts}
 use Rattle.sqlite.specs.Held.{Held}
+use Rattle.wgr_http.specs.Reading.{IsNoMore, IsReadInTime}
 use Rattle.wgr_model.specs.Register.{Bytes}
 use Rattle.wgr_model.specs.Steps.{Event}
 use Rattle.wgr_office.specs.Pages.{IsAnswered}
@@ -15,6 +16,7 @@ use Rattle.wgr_office.specs.declared.answer.Answer.TheVariants as givens
 use Rattle.wgr_office.specs.declared.serve.ServeFault.{ServeFault}
 use Rattle.wgr_office.specs.declared.serve.ServeFault.TheVariants as fault
 use Rattle.wgr_register.specs.Standing.{StandsAt}
+use Rattle.wgr_request.specs.Laws.{RequestsAs}
 
 -- the bytes that are written for an answer
 abbrev pub reply_of : given.Answer → Bytes
@@ -26,12 +28,30 @@ reply_of (givens.Order done) = shown_bytes unavailable_shown
 abbrev pub IsAnsweredAt : {S : Type 0} → Ghosts S → Held S → Held S → ℕ → Bytes → given.Answer → Type 0
 IsAnsweredAt g old new now message answer = (db : Database) (late : List Event) → StandsAt g old db late → IsAnswered g new db late now message answer
 
+-- what a message asks, all bytes of the reader ask, where they are known; want of memory is answered whatever they ask
+abbrev pub AsksAll : Bytes → Option Bytes → given.Answer → Type 0
+AsksAll message input (givens.Bytes bytes) = RequestsAs message input
+AsksAll message input (givens.Order done) = RequestsAs message input
+AsksAll message input givens.Unavailable = Unit {0}
+
 -- A message that memory holds was answered; and so were all bytes that the reader has, where they are
 -- known.
 pub record Takes {S : Type 0} (g : Ghosts S) (old new : Held S) (now : ℕ) (input : Option Bytes) (answer : given.Answer) : Type 0 where
   pub message : Vec ℕ Global
   pub held : IsAnsweredAt g old new now message.items answer
   pub all : IfSome input (λ bytes. IsAnsweredAt g old new now bytes answer)
+  pub asks : AsksAll message.items input answer
+
+-- The message was taken of a reader, and no more than decides its answer. No read was made once that was there,
+-- so a client that keeps its side open is answered. The last but one are what the reader's calls gave.
+pub record IsTaken (before after : Option Bytes) (was now : Option (List Bytes)) (message : Bytes) : Type 0 where
+  pub taken : Consumes before after message
+  pub no_more : IsNoMore message
+  pub in_time : IsReadInTime was now message
+
+-- the message was answered, and the reply written
+abbrev pub IsReplied : {S : Type 0} → Ghosts S → Held S → Held S → ℕ → Bytes → Option Bytes → Option Bytes → Type 0
+IsReplied g old new now message before after = (answer : given.Answer) × IsAnsweredAt g old new now message answer × Appends before after (reply_of answer)
 
 -- a reader and a writer at a moment
 pub record Ends : Type 0 where

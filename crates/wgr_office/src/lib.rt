@@ -16,7 +16,9 @@ mod serve;
 mod tests;
 
 pub use answer::Answer;
-pub use laws::{secrets_are_unanswered, worlds_are_alike};
+pub use laws::{
+    a_stop_in_a_run_leaves_what_was_acknowledged, secrets_are_unanswered, worlds_are_alike,
+};
 pub use office::Office;
 pub use response::{Response, unavailable, write_response};
 pub use run::Event;

@@ -1,13 +1,16 @@
 //! Requests of tenants, from their bytes to those of the replies.
-ghost use Rattle.std.specs.Prelude.{◌≡◌, List, length, IfErr, IfOk, OnErr, OnOk};
+ghost use Rattle.std.specs.Prelude.{◌≡◌, ℕ, List, length, IfErr, IfOk, OnErr, OnOk};
+ghost use Rattle.std.specs.declared.vec.Vec.{Vec};
+ghost use Rattle.std.specs.declared.alloc.Global.{Global};
 ghost use Rattle.std.specs.Io.KnownBytes.{Appends};
 ghost use Rattle.sqlite.specs.Effect.{Database};
 ghost use Rattle.sqlite.specs.State.{HasCleanDisk};
 ghost use Rattle.sqlite.specs.Held.{state};
 ghost use Rattle.wgr_model.specs.Steps.{Event, IsProper};
 ghost use Rattle.wgr_model.specs.Calls.{order_event};
+ghost use Rattle.wgr_office.specs.Between.{HasPassed};
 ghost use Rattle.wgr_office.specs.Events.{HasRun};
-ghost use Rattle.wgr_office.specs.Serving.{IsServeFault, Takes, reply_of};
+ghost use Rattle.wgr_office.specs.Serving.{IsReplied, IsServeFault, IsTaken, Takes, reply_of};
 ghost use Rattle.wgr_office.specs.declared.answer.Answer as given;
 ghost use Rattle.wgr_register.specs.Ends.{OrderEnds};
 ghost use Rattle.wgr_office.specs.Pages.{IsAnswered, Responds, event_of};
@@ -102,6 +105,8 @@ impl<S: Alter> Office<S> {
         ensures clean { HasCleanDisk (state S.Store self.new) → HasCleanDisk (state S.Store self.old) }
         ensures run { IfOk result (λ answers. (db : Database) (late : List Event) → StandsAt S.Store self.old db late → HasCleanDisk (state S.Store self.new) → HasRun S.Store self.new db late events.now answers.items) }
         ensures isolated { IfOk result (λ answers. HasCleanDisk (state S.Store self.new) → (db : Database) × (late : List Event) × StandsAt S.Store self.old db late × HasRun S.Store self.new db late events.now answers.items) }
+        // Between the events too: the connection after each, and the rows at which the register stands there.
+        ensures between { IfOk result (λ answers. (db : Database) (late : List Event) → StandsAt S.Store self.old db late → HasCleanDisk (state S.Store self.new) → HasPassed S.Store self.old self.new db late events.now answers.items) }
         ensures undone { OnErr result (self.new ≡ self.old) }
     {
         self.register.tell_rules();
@@ -120,6 +125,10 @@ impl<S: Alter> Office<S> {
     ) -> Result<(), ServeFault>
         ensures clean { HasCleanDisk (state S.Store self.new) → HasCleanDisk (state S.Store self.old) }
         ensures ok { OnOk result ((answer : given.Answer) × Takes S.Store self.old self.new now (R.remaining input.old) answer × Appends (W.contents out.old) (W.contents out.new) (reply_of answer)) }
+        // No read is made once the message is decided: a client may keep its side open.
+        ensures taken { (message : Vec ℕ Global)
+            × IsTaken (R.remaining input.old) (R.remaining input.new) (R.pieces input.old) (R.pieces input.new) message.items
+            × OnOk result (IsReplied S.Store self.old self.new now message.items (W.contents out.old) (W.contents out.new)) }
         ensures sound { OnOk result ((R.failed input.new ≡ R.failed input.old) × (W.failed out.new ≡ W.failed out.old)) }
         ensures fault { IfErr result (λ fault. IsServeFault S.Store self.old self.new now
             (record { input = R.remaining input.old; read_failed = R.failed input.old; written = W.contents out.old; write_failed = W.failed out.old })

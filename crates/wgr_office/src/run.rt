@@ -4,6 +4,7 @@ ghost use Rattle.sqlite.specs.Effect.{Database};
 ghost use Rattle.sqlite.specs.State.{HasCleanDisk};
 ghost use Rattle.sqlite.specs.Held.{state};
 ghost use Rattle.wgr_model.specs.Steps as model;
+ghost use Rattle.wgr_office.specs.Between.{HasPassed};
 ghost use Rattle.wgr_office.specs.Events.{HasRun, IsServed, IsSettled};
 ghost use Rattle.wgr_register.specs.Standing.{StandsAt};
 
@@ -32,6 +33,7 @@ pub(crate) fn run<S: Alter>(
     ensures each { IfOk result (λ answers. length answers.items ≡ length events.now) }
     ensures clean { HasCleanDisk (state S.Store office.new) → HasCleanDisk (state S.Store office.old) }
     ensures run { IfOk result (λ answers. (db : Database) (late : List model.Event) → StandsAt S.Store office.old db late → HasCleanDisk (state S.Store office.new) → HasRun S.Store office.new db late events.now answers.items) }
+    ensures between { IfOk result (λ answers. (db : Database) (late : List model.Event) → StandsAt S.Store office.old db late → HasCleanDisk (state S.Store office.new) → HasPassed S.Store office.old office.new db late events.now answers.items) }
     ensures undone { OnErr result (office.new ≡ office.old) }
 {
     let mut answers = Vec::with_capacity(alloc, events.len())?;

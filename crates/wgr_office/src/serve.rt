@@ -1,9 +1,11 @@
 //! One connection: a message is read and answered, and the reply written.
-ghost use Rattle.std.specs.Prelude.{◌≡◌, true, IfErr, IfOk, OnErr, OnOk};
+ghost use Rattle.std.specs.Prelude.{◌≡◌, ℕ, true, IfErr, IfOk, OnErr, OnOk};
 ghost use Rattle.std.specs.Io.KnownBytes.{Appends};
 ghost use Rattle.sqlite.specs.State.{HasCleanDisk};
 ghost use Rattle.sqlite.specs.Held.{state};
-ghost use Rattle.wgr_office.specs.Serving.{IsServeFault, Takes, reply_of};
+ghost use Rattle.std.specs.declared.vec.Vec.{Vec};
+ghost use Rattle.std.specs.declared.alloc.Global.{Global};
+ghost use Rattle.wgr_office.specs.Serving.{IsAnsweredAt, IsReplied, IsServeFault, IsTaken, Takes, reply_of};
 ghost use Rattle.wgr_office.specs.declared.answer.Answer as given;
 
 use crate::answer::Answer;
@@ -33,6 +35,9 @@ pub(crate) fn serve_one<S: Alter, R: Read, W: Write>(
 ) -> Result<(), ServeFault>
     ensures clean { HasCleanDisk (state S.Store office.new) → HasCleanDisk (state S.Store office.old) }
     ensures ok { OnOk result ((answer : given.Answer) × Takes S.Store office.old office.new now (R.remaining input.old) answer × Appends (W.contents out.old) (W.contents out.new) (reply_of answer)) }
+    ensures taken { (message : Vec ℕ Global)
+        × IsTaken (R.remaining input.old) (R.remaining input.new) (R.pieces input.old) (R.pieces input.new) message.items
+        × OnOk result (IsReplied S.Store office.old office.new now message.items (W.contents out.old) (W.contents out.new)) }
     ensures sound { OnOk result ((R.failed input.new ≡ R.failed input.old) × (W.failed out.new ≡ W.failed out.old)) }
     ensures fault { IfErr result (λ fault. IsServeFault S.Store office.old office.new now
         (record { input = R.remaining input.old; read_failed = R.failed input.old; written = W.contents out.old; write_failed = W.failed out.old })
@@ -58,6 +63,9 @@ fn answered<S: Alter, R: Read>(
 ) -> Result<Answer, DeviceError>
     ensures clean { HasCleanDisk (state S.Store office.new) → HasCleanDisk (state S.Store office.old) }
     ensures ok { IfOk result (λ answer. Takes S.Store office.old office.new now (R.remaining input.old) answer) }
+    ensures taken { (message : Vec ℕ Global)
+        × IsTaken (R.remaining input.old) (R.remaining input.new) (R.pieces input.old) (R.pieces input.new) message.items
+        × IfOk result (λ answer. IsAnsweredAt S.Store office.old office.new now message.items answer) }
     ensures sound { OnOk result (R.failed input.new ≡ R.failed input.old) }
     ensures failed { OnErr result (R.failed input.new ≡ true) }
     ensures undone { OnErr result (office.new ≡ office.old) }

@@ -14,6 +14,7 @@ mod events;
 mod lines;
 mod many;
 mod messages;
+mod streams;
 
 /// The text of the key for which this letter stands in tables.
 fn key_text(letter: u8) -> Option<&'static [u8]> {

@@ -1,10 +1,12 @@
 use Rattle.std.proofs.Common.{◌≡◌, ◌++◌, ◌≤◌, ◌<◌, ◌-◌, ℕ, List, Option, length}
 use Rattle.std.specs.Io.KnownBytes.{Consumes}
+use Rattle.wgr_http.specs.Reading.{IsReadOn}
 use Rattle.wgr_http.proofs.reading.read_body.Given as goal
 
 abbrev pub invariant-loop-message : goal.invariant-loop-message
 invariant-loop-message g l = record {
   bytes : (start : Option (List ℕ)) → Consumes start (g.R.Read.remaining l.fn.input) l.fn.message.items → Consumes start (g.R.Read.remaining l.input) l.message.items;
+  on : (start : Option (List (List ℕ))) → IsReadOn start (g.R.Read.pieces l.fn.input) l.fn.message.items → IsReadOn start (g.R.Read.pieces l.input) l.message.items;
   grown : (more : List ℕ) × (l.message.items ≡ l.fn.message.items ++ more);
   most : length l.fn.message.items < length l.message.items → length l.message.items ≤ l.extent;
   sound : g.R.Read.failed l.input ≡ g.R.Read.failed l.fn.input;
