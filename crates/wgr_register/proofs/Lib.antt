@@ -5,6 +5,7 @@ pub mod OrderLemmas
 pub mod NetworkLemmas
 pub mod ListLemmas
 pub mod LoadedLemmas
+pub mod CauseLemmas
 pub mod LeftLemmas
 -- The definitions on small cases, by computation.
 pub mod Examples

@@ -4,3 +4,4 @@ pub mod Ends
 pub mod Listing
 pub mod Loaded
 pub mod Left
+pub mod Causes

@@ -1,18 +1,22 @@
 //! Requests of tenants.
-ghost use Rattle.std.specs.Prelude.{◌≡◌, ℕ, List, false, None, IfOk, IfSome, IfNone, OnErr, OnOk, nat_eq};
+ghost use Rattle.std.specs.Prelude.{◌≡◌, ℕ, List, true, false, None, IfErr, IfOk, IfSome, IfNone, OnErr, OnOk, is_some, nat_eq, ⊤};
 ghost use Rattle.std.specs.Map.{remove_entry};
 ghost use Rattle.sqlite.specs.Effect.{Database};
-ghost use Rattle.sqlite.specs.State.{HasCleanDisk};
+ghost use Rattle.sqlite.specs.State.{HasCleanDisk, Survives};
 ghost use Rattle.sqlite.specs.Held.{state};
+ghost use Rattle.wgr_core.specs.Outcome.{is_reading};
 ghost use Rattle.wgr_model.specs.Laws.{Has};
 ghost use Rattle.wgr_model.specs.Register.{Bytes};
 ghost use Rattle.wgr_model.specs.RowLaws.{AreConsistent};
 ghost use Rattle.wgr_model.specs.Rows.{NetworkRow, holding_of, register_of};
 ghost use Rattle.wgr_model.specs.Steps.{Ask, Event, network_at};
+ghost use Rattle.wgr_sql.specs.Causes.{HasCause, HasCauseOr};
+ghost use Rattle.wgr_sql.specs.declared.fault.Fault.TheVariants.{NoMemory};
 ghost use Rattle.wgr_tables.specs.Decode.{tables_of};
 ghost use Rattle.wgr_tables.specs.Lookups.{IsSlotOf};
 ghost use Rattle.wgr_tables.specs.Standing.{Stands};
 ghost use Rattle.wgr_tables.specs.Writes.{Written};
+ghost use Rattle.wgr_register.specs.Causes.{AskStops, IfFault, StopsIf};
 ghost use Rattle.wgr_register.specs.Ends.{AskEnds, CommitsIf, FailsIf, IsFound};
 ghost use Rattle.wgr_register.specs.Loaded.{AreFormed, AreOthersFormed, IsFormed, Shows, UnlessFault, entries_of};
 ghost use Rattle.wgr_register.specs.Standing.{StandsAt};
@@ -39,6 +43,8 @@ fn take_network<S: Alter>(
     ensures taken { entries_of loaded.new ≡ remove_entry (nat_eq id) (entries_of loaded.old) }
     ensures formed { (db : Database) (pending : List Written) → Stands S.Store conn.old db pending → AreConsistent (tables_of db) → AreFormed (entries_of loaded.old) (tables_of db) → HasCleanDisk (state S.Store conn.new)
         → IfOk result (λ n. IsFormed (tables_of db) id n) }
+    ensures survives { Survives (state S.Store conn.old) (state S.Store conn.new) (λ _. ⊥) }
+    ensures cause { (db : Database) (pending : List Written) → Stands S.Store conn.old db pending → AreConsistent (tables_of db) → (HasCleanDisk (state S.Store conn.new) → (w : NetworkRow) × Has (tables_of db).networks w × (w.id ≡ id)) → IfErr result (HasCause (state S.Store conn.old) (state S.Store conn.new)) }
 {
     if let Some(network) = take(loaded, id) {
         return Ok(network);
@@ -64,6 +70,8 @@ fn find_id<S: Alter>(
         → IfOk result (λ found. IfSome found (λ id. (w : NetworkRow) × Has (tables_of db).networks w × IsSlotOf w tenant name.now × (w.id ≡ id))) }
     ensures none { (db : Database) (pending : List Written) → Stands S.Store conn.old db pending → AreConsistent (tables_of db) → HasCleanDisk (state S.Store conn.new)
         → IfOk result (λ found. IfNone found (network_at (register_of (tables_of db)).networks tenant name.now ≡ None)) }
+    ensures survives { Survives (state S.Store conn.old) (state S.Store conn.new) (λ _. ⊥) }
+    ensures cause { (db : Database) (pending : List Written) → Stands S.Store conn.old db pending → AreConsistent (tables_of db) → IfErr result (HasCause (state S.Store conn.old) (state S.Store conn.new)) }
 {
     let Ok(read) = Name::read(alloc, name) else {
         return Err(Fault::NoMemory);
@@ -87,6 +95,9 @@ fn commit_if<S: Alter>(
         → OnOk result (CommitsIf S.Store conn.new db pending id (holding_of (tables_of db) w).network change.now) }
     ensures fault { (db : Database) (pending : List Written) (w : NetworkRow) → Stands S.Store conn.old db pending → AreConsistent (tables_of db) → Has (tables_of db).networks w → w.id ≡ id
         → OnErr result (FailsIf S.Store conn.new db pending id (holding_of (tables_of db) w).network change.now) }
+    ensures changes { OnErr result (is_some change.now ≡ true) }
+    ensures survives { Survives (state S.Store conn.old) (state S.Store conn.new) (λ _. ⊤) }
+    ensures cause { (db : Database) (pending : List Written) → Stands S.Store conn.old db pending → IfErr result (HasCauseOr (StopsIf id change.now (tables_of db)) (state S.Store conn.old) (state S.Store conn.new)) }
 {
     match change {
         Some(change) => commit_change(conn, id, change),
@@ -113,6 +124,9 @@ fn act_on<S: Alter, R: Render>(
         → AskEnds S.Store R.shown conn.new db late (Ask digest name now command.now) now result }
     ensures formed { (db : Database) (late : List Event) (digest name : Bytes) → StandsAt S.Store conn.old db late → IsFound (tables_of db) digest name id network → AreOthersFormed id (entries_of loaded.old) (tables_of db)
         → UnlessFault result (Shows S.Store conn.new (AreFormed (entries_of loaded.new))) }
+    ensures memory { is_reading command.now ≡ true → IfFault (λ why. why ≡ NoMemory) result }
+    ensures survives { Survives (state S.Store conn.old) (state S.Store conn.new) (λ _. ⊤) }
+    ensures stops { (db : Database) (late : List Event) (digest name : Bytes) → StandsAt S.Store conn.old db late → IsFound (tables_of db) digest name id network → IfFault (HasCauseOr (AskStops (tables_of db) digest name now command.now) (state S.Store conn.old) (state S.Store conn.new)) result }
 {
     command.tell_forms();
     let (reply, change) = match network.act(alloc, now, command) {
@@ -145,6 +159,8 @@ pub(crate) fn ask<S: Alter, R: Render>(
     ensures clean { HasCleanDisk (state S.Store conn.new) → HasCleanDisk (state S.Store conn.old) }
     ensures ends { (db : Database) (late : List Event) → StandsAt S.Store conn.old db late → AskEnds S.Store R.shown conn.new db late (Ask digest.now name.now now command.now) now result }
     ensures formed { (db : Database) (late : List Event) → StandsAt S.Store conn.old db late → UnlessFault result (Shows S.Store conn.new (AreFormed (entries_of loaded.new))) }
+    ensures cause { (db : Database) (late : List Event) → StandsAt S.Store conn.old db late → is_reading command.now ≡ true → IfFault (HasCause (state S.Store conn.old) (state S.Store conn.new)) result }
+    ensures stops { (db : Database) (late : List Event) → StandsAt S.Store conn.old db late → IfFault (HasCauseOr (AskStops (tables_of db) digest.now name.now now command.now) (state S.Store conn.old) (state S.Store conn.new)) result }
 {
     let Some(tenant) = tenant_of_token(conn, digest)? else {
         return Err(AskFault::UnknownToken);

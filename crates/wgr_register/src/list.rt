@@ -1,15 +1,22 @@
 //! The list of a tenant's networks.
-ghost use Rattle.std.specs.Prelude.{◌≡◌, ℕ, List, map, false, IfOk, IsTrue, OnOk};
+ghost use Rattle.std.specs.Prelude.{◌≡◌, ℕ, List, map, false, IfErr, IfOk, IsTrue, OnOk};
 ghost use Rattle.sqlite.specs.Effect.{Database};
-ghost use Rattle.sqlite.specs.State.{HasCleanDisk};
+ghost use Rattle.sqlite.specs.State.{HasCleanDisk, Survives};
 ghost use Rattle.sqlite.specs.Held.{state};
 ghost use Rattle.wgr_model.specs.Listing.{put_entry};
 ghost use Rattle.wgr_model.specs.RowLaws.{AreConsistent};
+ghost use Rattle.wgr_model.specs.Rows.{NetworkRow};
 ghost use Rattle.wgr_model.specs.Steps.{Event, Networks};
+ghost use Rattle.sqlite_rules.specs.Lists.{Has as HasRow};
+ghost use Rattle.sqlite_value.specs.Order.{Row};
+ghost use Rattle.wgr_sql.specs.Causes.{HasCause};
+ghost use Rattle.wgr_sql.specs.declared.fault.Fault.TheVariants.{NoMemory, Store};
 ghost use Rattle.wgr_tables.specs.Decode.{network_in, tables_of};
 ghost use Rattle.wgr_tables.specs.Lookups.{settled};
 ghost use Rattle.wgr_tables.specs.Standing.{Stands};
+ghost use Rattle.wgr_tables.specs.Stored.{AreStored, IsKeptNetwork, stored_network};
 ghost use Rattle.wgr_tables.specs.Writes.{Written};
+ghost use Rattle.wgr_register.specs.Causes.{IfFault};
 ghost use Rattle.wgr_register.specs.Ends.{AskEnds};
 ghost use Rattle.wgr_register.specs.Given.{as_added};
 ghost use Rattle.wgr_register.specs.Listing.{ShowNetworksOf, by_name, seen_by};
@@ -33,6 +40,9 @@ fn network_rows<S: Alter>(conn: &mut Connection<S>, tenant: u32) -> Result<Vec<R
     ensures clean { HasCleanDisk (state S.Store conn.new) → HasCleanDisk (state S.Store conn.old) }
     ensures listed { (db : Database) (pending : List Written) → Stands S.Store conn.old db pending → HasCleanDisk (state S.Store conn.new)
         → IfOk result (λ rows. ShowNetworksOf tenant (tables_of db) rows.items) }
+    ensures survives { Survives (state S.Store conn.old) (state S.Store conn.new) (λ _. ⊥) }
+    ensures cause { (db : Database) (pending : List Written) → Stands S.Store conn.old db pending → IfErr result (HasCause (state S.Store conn.old) (state S.Store conn.new)) }
+    ensures stored { (db : Database) (pending : List Written) → Stands S.Store conn.old db pending → HasCleanDisk (state S.Store conn.new) → IfOk result (λ rows. AreStored stored_network network_in rows.items) }
 {
     query(
         conn,
@@ -43,7 +53,8 @@ fn network_rows<S: Alter>(conn: &mut Connection<S>, tenant: u32) -> Result<Vec<R
 
 // Puts a network in the place that its name has.
 fn put(entries: &mut Vec<(Name, Network)>, name: Name, network: Network) -> Result<(), Fault>
-    ensures { OnOk result (entries.new.items ≡ put_entry name network entries.old.items) }
+    ensures put { OnOk result (entries.new.items ≡ put_entry name network entries.old.items) }
+    ensures memory { IfErr result (λ why. why ≡ NoMemory) }
 {
     match put_entry(entries, name, network) {
         Ok(()) => Ok(()),
@@ -53,7 +64,8 @@ fn put(entries: &mut Vec<(Name, Network)>, name: Name, network: Network) -> Resu
 
 // The networks of these rows in the order of their names, as they were added.
 fn entries_in(alloc: Global, rows: &[Row]) -> Result<Vec<(Name, Network)>, Fault>
-    ensures { IfOk result (λ entries. entries.items ≡ by_name (map (λ r. settled (network_in r)) rows.now)) }
+    ensures entries { IfOk result (λ entries. entries.items ≡ by_name (map (λ r. settled (network_in r)) rows.now)) }
+    ensures only { IfErr result (λ why. why ≡ Store → ((r : Row) → HasRow rows.now r → (w : NetworkRow) × IsKeptNetwork w × (r ≡ stored_network w)) → ⊥) }
 {
     let mut entries = Vec::new(alloc);
     let mut rest = rows.len();
@@ -77,6 +89,8 @@ fn added_networks<S: Alter>(
     ensures clean { HasCleanDisk (state S.Store conn.new) → HasCleanDisk (state S.Store conn.old) }
     ensures listed { (db : Database) (pending : List Written) → Stands S.Store conn.old db pending → AreConsistent (tables_of db) → HasCleanDisk (state S.Store conn.new)
         → IfOk result (λ networks. networks.items ≡ map as_added (seen_by (tables_of db) tenant)) }
+    ensures survives { Survives (state S.Store conn.old) (state S.Store conn.new) (λ _. ⊥) }
+    ensures cause { (db : Database) (pending : List Written) → Stands S.Store conn.old db pending → AreConsistent (tables_of db) → IfErr result (HasCause (state S.Store conn.old) (state S.Store conn.new)) }
 {
     let rows = network_rows(conn, tenant)?;
     entries_in(alloc, rows.as_slice())
@@ -95,6 +109,7 @@ pub(crate) fn networks<S: Alter, R: Render>(
     ensures stands { (db : Database) (pending : List Written) → Stands S.Store conn.old db pending → Stands S.Store conn.new db pending }
     ensures open { HasCleanDisk (state S.Store conn.new) → UnlessFault result (IsTrue (state S.Store conn.old).is_open) }
     ensures ends { (db : Database) (late : List Event) (now : ℕ) → StandsAt S.Store conn.old db late → AskEnds S.Store R.shown conn.new db late (Networks digest.now) now result }
+    ensures cause { (db : Database) (late : List Event) → StandsAt S.Store conn.old db late → IfFault (HasCause (state S.Store conn.old) (state S.Store conn.new)) result }
 {
     let Some(tenant) = tenant_of_token(conn, digest)? else {
         return Err(AskFault::UnknownToken);

@@ -5,13 +5,17 @@ ghost use Rattle.sqlite.specs.State.{HasCleanDisk, Survives};
 ghost use Rattle.sqlite.specs.Held.{state};
 ghost use Rattle.wgr_model.specs.Calls.{order_event};
 ghost use Rattle.wgr_model.specs.Steps.{Ask, Event, Networks};
+ghost use Rattle.wgr_core.specs.Outcome.{is_reading};
+ghost use Rattle.wgr_register.specs.Causes.{AskStops, IfFault};
 ghost use Rattle.wgr_register.specs.Ends.{AskEnds, OrderEnds};
 ghost use Rattle.wgr_register.specs.Left.{LeavesGood};
 ghost use Rattle.wgr_register.specs.Standing.{IsAtRest, StandsAt};
 ghost use Rattle.wgr_sql.specs.Calls.{IsKept};
+ghost use Rattle.wgr_sql.specs.Causes.{HasCause, HasCauseOr};
 ghost use Rattle.wgr_store.specs.Fresh.{IsFresh, LeavesFresh, is_any_taken, no_schema};
 ghost use Rattle.wgr_store.specs.FirstVersion.{IsFirstVersion};
 ghost use Rattle.wgr_store.specs.declared.fault.RegisterFault.TheVariants.{NotARegister, NotEmpty, NotGood};
+ghost use Rattle.wgr_tables.specs.Decode.{tables_of};
 ghost use Rattle.wgr_whole.specs.Good.{IsGood};
 
 use crate::fault::{AskFault, Done, OpenFault, OrderFault};
@@ -143,7 +147,8 @@ impl<S: Alter> Register<S> {
     /// tenant of the token with this digest (SHA-256) has.
     ///
     /// What the command changes is committed once the text is made; a reading or a refusal writes
-    /// nothing. A fault leaves the rows as they are.
+    /// nothing. A fault leaves the rows as they are; it is want of memory, or it has a cause:
+    /// that of a change may also be a statement that the database refuses.
     pub fn ask<R: Render>(
         &mut self,
         alloc: Global,
@@ -155,6 +160,8 @@ impl<S: Alter> Register<S> {
     ) -> Result<Vec<u8>, AskFault>
         ensures clean { HasCleanDisk (state S.Store self.new) → HasCleanDisk (state S.Store self.old) }
         ensures ends { (db : Database) (late : List Event) → StandsAt S.Store self.old db late → AskEnds S.Store R.shown self.new db late (Ask digest.now name.now now command.now) now result }
+        ensures cause { is_reading command.now ≡ true → IfFault (HasCause (state S.Store self.old) (state S.Store self.new)) result }
+        ensures stops { (db : Database) (late : List Event) → StandsAt S.Store self.old db late → IfFault (HasCauseOr (AskStops (tables_of db) digest.now name.now now command.now) (state S.Store self.old) (state S.Store self.new)) result }
     {
         let answered = ask::ask(
             alloc,
@@ -173,7 +180,7 @@ impl<S: Alter> Register<S> {
     /// The text of the list of the networks that the tenant of the token with this digest (SHA-256)
     /// has, in the byte order of their names. The moment is of no account.
     ///
-    /// It writes nothing.
+    /// It writes nothing. A fault is want of memory, or it has a cause.
     pub fn networks<R: Render>(
         &mut self,
         alloc: Global,
@@ -182,6 +189,7 @@ impl<S: Alter> Register<S> {
     ) -> Result<Vec<u8>, AskFault>
         ensures clean { HasCleanDisk (state S.Store self.new) → HasCleanDisk (state S.Store self.old) }
         ensures ends { (db : Database) (late : List Event) (now : ℕ) → StandsAt S.Store self.old db late → AskEnds S.Store R.shown self.new db late (Networks digest.now) now result }
+        ensures cause { IfFault (HasCause (state S.Store self.old) (state S.Store self.new)) result }
     {
         let answered = list::networks(alloc, &mut self.conn, digest, render);
         drop_after_fault(&mut self.loaded, &answered);

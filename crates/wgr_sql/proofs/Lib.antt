@@ -12,3 +12,4 @@ pub mod SurvivesLemmas
 pub mod StepLemmas
 pub mod StandingLemmas
 pub mod CommitLemmas
+pub mod CauseLemmas

@@ -1,5 +1,6 @@
 pub mod Effects
 pub mod Keyed
 pub mod Calls
+pub mod Causes
 pub mod Steps
 pub mod Standing

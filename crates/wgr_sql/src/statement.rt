@@ -1,11 +1,12 @@
 //! A reading in a transaction of its own, and a statement in its caller's.
-ghost use Rattle.std.specs.Prelude.{◌≡◌, false, true, IsTrue, Ok, IfOk};
+ghost use Rattle.std.specs.Prelude.{◌≡◌, false, true, IsTrue, Ok, IfErr, IfOk};
 ghost use Rattle.sqlite.specs.Values.{bound};
 ghost use Rattle.sqlite.specs.State.{HasCleanDisk, Survives, Executes, KeepsCommit, Shows};
 ghost use Rattle.sqlite.specs.Held.{state};
 ghost use Rattle.sqlite.specs.Given.{IsPlain};
 ghost use Rattle.sqlite.specs.Listing.{understood};
 ghost use Rattle.wgr_sql.specs.Calls.{IsKept, Answered};
+ghost use Rattle.wgr_sql.specs.Causes.{HasCause, HasCauseOr, IsAnswered, IsWriting, Refuses};
 
 use crate::fault::{Fault, fault_of};
 use sqlite::types::ValueRef;
@@ -23,6 +24,7 @@ pub fn query<S: Alter>(
     ensures kept { (IsTrue (state S.Store conn.old).is_open → HasCleanDisk (state S.Store conn.new) → IsPlain (understood conn.old.schema sql.now)) → IsKept (state S.Store conn.old) (state S.Store conn.new) }
     ensures idle { conn.new.in_transaction ≡ false }
     ensures survives { Survives (state S.Store conn.old) (state S.Store conn.new) (λ _. ⊥) }
+    ensures cause { (IsTrue (state S.Store conn.old).is_open → HasCleanDisk (state S.Store conn.new) → IsAnswered conn.old.schema sql.now (bound values.now)) → IfErr result (HasCause (state S.Store conn.old) (state S.Store conn.new)) }
 {
     let _settled = conn.is_autocommit();
     let mut tx = conn.transaction();
@@ -41,6 +43,8 @@ pub fn execute<S: Alter>(
         × Shows (state S.Store tx.old.conn.now) (state S.Store tx.new.conn.now) (state S.Store tx.new.conn.now).now (state S.Store tx.old.conn.now).committed true) }
     ensures kept { HasCleanDisk (state S.Store tx.new.conn.now) → IsTrue (state S.Store tx.old.conn.now).in_transaction → KeepsCommit (state S.Store tx.old.conn.now) (state S.Store tx.new.conn.now) }
     ensures survives { Survives (state S.Store tx.old.conn.now) (state S.Store tx.new.conn.now) (λ _. ⊥) }
+    ensures cause { IsTrue (state S.Store tx.old.conn.now).in_transaction → (IsTrue (state S.Store tx.old.conn.now).is_open → HasCleanDisk (state S.Store tx.new.conn.now) → IsWriting (state S.Store tx.old.conn.now).now.schema sql.now (bound values.now))
+        → IfErr result (HasCauseOr (Refuses (state S.Store tx.old.conn.now).step_limit (state S.Store tx.old.conn.now).now sql.now (bound values.now)) (state S.Store tx.old.conn.now) (state S.Store tx.new.conn.now)) }
 {
     tx.execute(sql, values).map_err(fault_of)
 }

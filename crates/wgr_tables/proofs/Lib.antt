@@ -40,3 +40,7 @@ pub mod LookupLemmas
 pub mod ArrangeLemmas
 pub mod LoadLemmas
 pub mod ToldLemmas
+pub mod AskedLemmas
+pub mod WordLemmas
+pub mod StopLemmas
+pub mod CommitFails

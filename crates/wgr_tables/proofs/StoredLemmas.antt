@@ -25,6 +25,7 @@ use Rattle.wgr_sql.specs.Effects.{Lists, plain_query}
 use Rattle.wgr_sql.proofs.Answers.{answers, map-both}
 use Rattle.wgr_sql.proofs.KeyedLemmas.{has_moved}
 use Rattle.wgr_sql.proofs.RowLemmas.{map_alike}
+use Rattle.wgr_sql.proofs.TableLemmas.{unmapped}
 use Rattle.wgr_sql.proofs.TextLemmas.{text_at}
 use Rattle.wgr_sql.proofs.Values.{blob_at}
 use Rattle.wgr_tables.specs.Layout.{schema_with, network_at, peer_at}
@@ -66,6 +67,12 @@ module _ (old new : State) (register : IsRegister old.now) (text : List ℕ) (pa
 
   from_table : (r : Row) → Has listing.chosen r → Has (old.now.trees tree) r
   from_table r here = (has_filtered (λ x. list_all (holds (params ∷ x ∷ [])) terms) (old.now.trees tree) r (has_moved listing.chosen _ r (IsPermutation-sym _ _ listing.same) here)).0
+
+  -- what is true of all places of each row of the table
+  pub each_shown : (P : Row → Type 0) → ((r : Row) → Has (old.now.trees tree) r → P (eval_all places (params ∷ r ∷ []))) → (r : Row) → Has rows r → P r
+  each_shown P each r here =
+      let it = unmapped (λ x. eval_all places (params ∷ x ∷ [])) listing.chosen r (subst (λ l. Has l r) listing.shown here) in
+      subst P (sym it.2) (each it.0 (from_table it.0 it.1))
 
   module _ {T : Type 0} (read : Row → T) (same : (r : Row) → read (eval_all places (params ∷ r ∷ [])) ≡ read r) where
     all_read : map read rows ≡ map read listing.chosen
@@ -150,7 +157,7 @@ module _ (old new : State) (register : IsRegister old.now) (n : ℕ) (rows : Lis
   pub routes_stored : Shown routes_text params old new rows → AreStored stored_allowed allowed_in rows
   routes_stored shown = stored_rows old new register routes_text params 10 of_routes allowed_places (rising 2 ∷ rising 3 ∷ rising 4 ∷ []) _ (routes_asks register.others) rows shown allowed_in (λ r. refl) stored_allowed allowed_is
 
-  network_is : (r : Row) → Has (old.now.trees 5) r → eval_all network_places (params ∷ r ∷ []) ≡ stored_network (network_in r)
+  pub network_is : (r : Row) → Has (old.now.trees 5) r → eval_all network_places (params ∷ r ∷ []) ≡ stored_network (network_in r)
   network_is r here =
       let good = register.written.networks in
       let number = good.numbers_are r here in

@@ -9,3 +9,4 @@ pub mod Lookups
 pub mod Writes
 pub mod Standing
 pub mod Told
+pub mod Stops

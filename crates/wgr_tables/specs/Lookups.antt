@@ -1,7 +1,8 @@
 -- What queries by a key show.
-use Rattle.std.specs.Prelude.{◌≡◌, ℕ, List, [], ◌∷◌, filter, map, Option, Some, None}
+use Rattle.std.specs.Prelude.{◌≡◌, ◌<◌, ℕ, pos, ⊤, List, [], ◌∷◌, filter, map, Option, Some, None}
 use Rattle.std.specs.List.Sorted.{IsPermutation}
-use Rattle.sqlite_value.specs.Order.{Row}
+use Rattle.sqlite_value.specs.Order.{Row, column}
+use Rattle.sqlite.specs.declared.types.Value.TheVariants.{Int}
 use Rattle.wgr_model.specs.Consistent.{same_slot}
 use Rattle.wgr_model.specs.Register.{Bytes, Holding, is_same}
 use Rattle.wgr_model.specs.Rows.{NetworkRow, Tables}
@@ -22,6 +23,18 @@ ShowSlot slot t rows = IsPermutation (filter (λ w. same_slot slot (w.tenant, w.
 abbrev pub IsIn : List Row → ℕ → Option ℕ → Type 0
 IsIn rows at (Some number) = (row : Row) × (rows ≡ row ∷ []) × (number_at row at ≡ number)
 IsIn rows at None = rows ≡ []
+
+-- no row, or one with a number below 2 ^ 32 at this place
+abbrev pub HasWordAt : List Row → ℕ → Type 0
+HasWordAt [] at = ⊤
+HasWordAt (row ∷ []) at = (n : ℕ) × (n < 4294967296) × (column row at ≡ Int (pos n))
+HasWordAt (row ∷ next ∷ more) at = ⊥
+
+-- more rows than one
+abbrev pub AreMany : List Row → Type 0
+AreMany [] = ⊥
+AreMany (row ∷ []) = ⊥
+AreMany (row ∷ next ∷ more) = ⊤
 
 -- the network has the name, and is of the tenant of this id
 abbrev pub IsSlotOf : NetworkRow → ℕ → Bytes → Type 0

@@ -11,6 +11,8 @@ use Rattle.wgr_peers.specs.declared.peer.Status.{Status}
 use Rattle.wgr_peers.specs.Host.{IsHost}
 use Rattle.wgr_peers.specs.Limits.{IsCapacity, IsPort}
 use Rattle.wgr_core.specs.Forms.{IsFormed, IsKey}
+use Rattle.wgr_model.specs.Consistent.{IsName}
+use Rattle.wgr_model.specs.Register.{Tenant}
 use Rattle.wgr_model.specs.Rows.{AllowedRow, NetworkRow, PeerRow, family_number}
 use Rattle.wgr_tables.specs.Decode.{address_kind, bytes_of, route_kind}
 
@@ -31,6 +33,9 @@ stored_allowed a = Null ∷ Int (pos a.network) ∷ Int (pos (family_number a.pr
 
 abbrev pub stored_network : NetworkRow → Row
 stored_network w = Int (pos w.id) ∷ Null ∷ Int (pos w.tenant) ∷ Text w.name ∷ Int (pos (family_number w.pool.address.family)) ∷ Blob (bytes_of w.pool.address.number) ∷ Int (pos w.pool.length) ∷ Text w.host ∷ Int (pos w.port) ∷ Blob w.server.0 ∷ Int (pos w.capacity) ∷ Int (pos w.next) ∷ []
+
+abbrev pub stored_tenant : Tenant → Row
+stored_tenant x = Int (pos x.id) ∷ Null ∷ Text x.name ∷ []
 
 -- the family and the bytes of the address stand at these places
 abbrev pub HasAddress : Row → ℕ → ℕ → AddrValue → Type 0
@@ -71,3 +76,10 @@ pub record AreSettings (w : NetworkRow) : Type 0 where
   pub server : IsKey w.server
   pub capacity : IsCapacity w.capacity
   pub next : w.next < 4294967296
+
+-- with an id and a tenant's id below 2 ^ 32, and a name
+pub record IsKeptNetwork (w : NetworkRow) : Type 0 where
+  pub settings : AreSettings w
+  pub id : w.id < 4294967296
+  pub tenant : w.tenant < 4294967296
+  pub name : IsName w.name

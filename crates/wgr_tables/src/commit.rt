@@ -1,13 +1,18 @@
 //! A change of a network, in one commit.
-ghost use Rattle.std.specs.Prelude.{◌≡◌, ◌∷◌, List, false, OnErr, OnOk};
+ghost use Rattle.std.specs.Prelude.{◌≡◌, ◌↔◌, ◌∷◌, List, false, IfErr, OnErr, OnOk, ⊤};
 ghost use Rattle.sqlite.specs.Effect.{Database};
+ghost use Rattle.sqlite.specs.declared.error.Error.TheVariants.{SqliteFailure};
+ghost use Rattle.sqlite.specs.declared.error.ErrorCode.TheVariants.{OutOfMemory};
 ghost use Rattle.sqlite.specs.State.{HasCleanDisk, Survives};
 ghost use Rattle.sqlite.specs.Held.{state};
 ghost use Rattle.wgr_core.specs.Change.{applied};
 ghost use Rattle.wgr_model.specs.Laws.{Has};
 ghost use Rattle.wgr_model.specs.RowLaws.{AreConsistent};
 ghost use Rattle.wgr_model.specs.Rows.{NetworkRow, holding_of};
+ghost use Rattle.wgr_sql.specs.Causes.{HasCauseOr};
 ghost use Rattle.wgr_tables.specs.Decode.{tables_of};
+ghost use Rattle.wgr_sql.specs.declared.fault.Fault.TheVariants.{NoMemory};
+ghost use Rattle.wgr_tables.specs.Stops.{ChangeStops, FailsBy, NextStays};
 ghost use Rattle.wgr_tables.specs.TableSteps.{NextSets, ChangeMakes};
 ghost use Rattle.wgr_tables.specs.Writes.{Written, Replaced};
 ghost use Rattle.wgr_tables.specs.Standing.{IsDone, Stands, StepsOn};
@@ -25,6 +30,7 @@ fn set_next<S: Alter>(tx: &mut Transaction<'_, S>, network: u32, next: u32) -> R
     ensures same_reference { tx.new.conn.ghost_name ≡ tx.old.conn.ghost_name }
     ensures step { HasCleanDisk (state S.Store tx.new.conn.now) → StepsOn (NextSets network next) (state S.Store tx.old.conn.now) (state S.Store tx.new.conn.now) result }
     ensures survives { Survives (state S.Store tx.old.conn.now) (state S.Store tx.new.conn.now) (λ _. ⊥) }
+    ensures cause { FailsBy (NextStays network next) (state S.Store tx.old.conn.now) (state S.Store tx.new.conn.now) result }
 {
     execute(
         tx,
@@ -43,6 +49,7 @@ fn write_change<S: Alter>(
     ensures same_reference { tx.new.conn.ghost_name ≡ tx.old.conn.ghost_name }
     ensures step { HasCleanDisk (state S.Store tx.new.conn.now) → StepsOn (ChangeMakes network change.now) (state S.Store tx.old.conn.now) (state S.Store tx.new.conn.now) result }
     ensures survives { Survives (state S.Store tx.old.conn.now) (state S.Store tx.new.conn.now) (λ _. ⊥) }
+    ensures cause { FailsBy (ChangeStops network change.now) (state S.Store tx.old.conn.now) (state S.Store tx.new.conn.now) result }
 {
     remove_peers(tx, network, change.removed.as_slice())?;
     drop_routes(tx, network, change.routes_gone.as_slice())?;
@@ -66,9 +73,15 @@ pub fn commit_change<S: Alter>(
         → OnOk result (IsDone S.Store conn.new db (Replaced network (applied change.now (holding_of (tables_of db) w).network))) }
     ensures fault { (db : Database) (pending : List Written) (w : NetworkRow) → Stands S.Store conn.old db pending → AreConsistent (tables_of db) → Has (tables_of db).networks w → w.id ≡ network
         → OnErr result (Stands S.Store conn.new db (Replaced network (applied change.now (holding_of (tables_of db) w).network) ∷ pending)) }
+    ensures survives { Survives (state S.Store conn.old) (state S.Store conn.new) (λ _. ⊤) }
+    ensures cause { (db : Database) (pending : List Written) → Stands S.Store conn.old db pending → IfErr result (HasCauseOr (ChangeStops network change.now (tables_of db)) (state S.Store conn.old) (state S.Store conn.new)) }
 {
     let _settled = conn.is_autocommit();
     let mut tx = conn.transaction();
     write_change(&mut tx, network, change)?;
-    tx.commit().map_err(|error| fault_of(error))
+    tx.commit().map_err(
+        |error|
+            ensures { (result ≡ NoMemory) ↔ (error ≡ SqliteFailure OutOfMemory) }
+        { fault_of(error) },
+    )
 }

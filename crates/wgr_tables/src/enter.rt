@@ -6,6 +6,7 @@ ghost use Rattle.sqlite.specs.Held.{state};
 ghost use Rattle.wgr_model.specs.Rows.{peer_id, peer_row, address_row};
 ghost use Rattle.wgr_sql.specs.Steps.{Each};
 ghost use Rattle.wgr_tables.specs.Parameters.{status_value};
+ghost use Rattle.wgr_tables.specs.Stops.{AddressStays, AddressStaysOut, AllRowsStay, FailsBy, OneOfEach, PeerRowStaysOut, PeerRowsStay, PeerStaysOut, PeersStayOut};
 ghost use Rattle.wgr_tables.specs.TableSteps.{AllowedGoes, AllowedComes, PeerRowsGo, PeerRowComes, PeerComes, PeersPut, is_address_of};
 ghost use Rattle.wgr_tables.specs.Standing.{StepsOn, StepsFrom};
 
@@ -58,6 +59,7 @@ fn drop_address<S: Alter>(
     ensures same_reference { tx.new.conn.ghost_name ≡ tx.old.conn.ghost_name }
     ensures step { HasCleanDisk (state S.Store tx.new.conn.now) → StepsOn (AllowedGoes (is_address_of network (peer_id network number))) (state S.Store tx.old.conn.now) (state S.Store tx.new.conn.now) result }
     ensures survives { Survives (state S.Store tx.old.conn.now) (state S.Store tx.new.conn.now) (λ _. ⊥) }
+    ensures cause { FailsBy (AddressStays network (peer_id network number)) (state S.Store tx.old.conn.now) (state S.Store tx.new.conn.now) result }
 {
     execute(
         tx,
@@ -75,6 +77,7 @@ fn drop_rows<S: Alter>(
     ensures same_reference { tx.new.conn.ghost_name ≡ tx.old.conn.ghost_name }
     ensures step { HasCleanDisk (state S.Store tx.new.conn.now) → StepsOn (PeerRowsGo network number) (state S.Store tx.old.conn.now) (state S.Store tx.new.conn.now) result }
     ensures survives { Survives (state S.Store tx.old.conn.now) (state S.Store tx.new.conn.now) (λ _. ⊥) }
+    ensures cause { FailsBy (PeerRowsStay network number) (state S.Store tx.old.conn.now) (state S.Store tx.new.conn.now) result }
 {
     drop_peer_row(tx, network, number)?;
     drop_address(tx, network, number)
@@ -89,6 +92,7 @@ fn drop_one_by_one<S: Alter>(
     ensures same_reference { tx.new.conn.ghost_name ≡ tx.old.conn.ghost_name }
     ensures step { HasCleanDisk (state S.Store tx.new.conn.now) → StepsFrom (Each (λ p. PeerRowsGo network p.number) peers.now) (state S.Store tx.old.conn.now) (state S.Store tx.new.conn.now) result }
     ensures survives { Survives (state S.Store tx.old.conn.now) (state S.Store tx.new.conn.now) (λ _. ⊥) }
+    ensures cause { FailsBy (OneOfEach (λ p. PeerRowsGo network p.number) (λ p. PeerRowsStay network p.number) peers.now) (state S.Store tx.old.conn.now) (state S.Store tx.new.conn.now) result }
 {
     for peer in peers {
         drop_rows(tx, network, peer.number)?;
@@ -105,6 +109,7 @@ fn drop_all_rows<S: Alter>(
     ensures same_reference { tx.new.conn.ghost_name ≡ tx.old.conn.ghost_name }
     ensures step { HasCleanDisk (state S.Store tx.new.conn.now) → StepsFrom (Each (λ p. PeerRowsGo network p.number) peers.now) (state S.Store tx.old.conn.now) (state S.Store tx.new.conn.now) result }
     ensures survives { Survives (state S.Store tx.old.conn.now) (state S.Store tx.new.conn.now) (λ _. ⊥) }
+    ensures cause { FailsBy (AllRowsStay network peers.now) (state S.Store tx.old.conn.now) (state S.Store tx.new.conn.now) result }
 {
     if let Some((first, last)) = range_of(peers) {
         drop_range(tx, network, first, last)?;
@@ -122,6 +127,7 @@ fn add_peer_row<S: Alter>(
     ensures same_reference { tx.new.conn.ghost_name ≡ tx.old.conn.ghost_name }
     ensures step { HasCleanDisk (state S.Store tx.new.conn.now) → StepsOn (PeerRowComes (peer_row network peer.now)) (state S.Store tx.old.conn.now) (state S.Store tx.new.conn.now) result }
     ensures survives { Survives (state S.Store tx.old.conn.now) (state S.Store tx.new.conn.now) (λ _. ⊥) }
+    ensures cause { FailsBy (PeerRowStaysOut (peer_row network peer.now)) (state S.Store tx.old.conn.now) (state S.Store tx.new.conn.now) result }
 {
     let status = status_values(peer.status);
     execute(
@@ -150,6 +156,7 @@ fn add_address<S: Alter>(
     ensures same_reference { tx.new.conn.ghost_name ≡ tx.old.conn.ghost_name }
     ensures step { HasCleanDisk (state S.Store tx.new.conn.now) → StepsOn (AllowedComes (address_row network peer.now)) (state S.Store tx.old.conn.now) (state S.Store tx.new.conn.now) result }
     ensures survives { Survives (state S.Store tx.old.conn.now) (state S.Store tx.new.conn.now) (λ _. ⊥) }
+    ensures cause { FailsBy (AddressStaysOut (address_row network peer.now)) (state S.Store tx.old.conn.now) (state S.Store tx.new.conn.now) result }
 {
     let family = peer.address.family();
     let bytes = bytes_of(peer.address.number());
@@ -176,6 +183,7 @@ fn add_peer<S: Alter>(
     ensures same_reference { tx.new.conn.ghost_name ≡ tx.old.conn.ghost_name }
     ensures step { HasCleanDisk (state S.Store tx.new.conn.now) → StepsOn (PeerComes network peer.now) (state S.Store tx.old.conn.now) (state S.Store tx.new.conn.now) result }
     ensures survives { Survives (state S.Store tx.old.conn.now) (state S.Store tx.new.conn.now) (λ _. ⊥) }
+    ensures cause { FailsBy (PeerStaysOut network peer.now) (state S.Store tx.old.conn.now) (state S.Store tx.new.conn.now) result }
 {
     add_peer_row(tx, network, peer)?;
     add_address(tx, network, peer)
@@ -190,6 +198,7 @@ fn add_peers<S: Alter>(
     ensures same_reference { tx.new.conn.ghost_name ≡ tx.old.conn.ghost_name }
     ensures step { HasCleanDisk (state S.Store tx.new.conn.now) → StepsFrom (Each (PeerComes network) peers.now) (state S.Store tx.old.conn.now) (state S.Store tx.new.conn.now) result }
     ensures survives { Survives (state S.Store tx.old.conn.now) (state S.Store tx.new.conn.now) (λ _. ⊥) }
+    ensures cause { FailsBy (OneOfEach (PeerComes network) (PeerStaysOut network) peers.now) (state S.Store tx.old.conn.now) (state S.Store tx.new.conn.now) result }
 {
     for peer in peers {
         add_peer(tx, network, peer)?;
@@ -207,6 +216,7 @@ pub(crate) fn put_peers<S: Alter>(
     ensures same_reference { tx.new.conn.ghost_name ≡ tx.old.conn.ghost_name }
     ensures step { HasCleanDisk (state S.Store tx.new.conn.now) → StepsFrom (PeersPut network peers.now) (state S.Store tx.old.conn.now) (state S.Store tx.new.conn.now) result }
     ensures survives { Survives (state S.Store tx.old.conn.now) (state S.Store tx.new.conn.now) (λ _. ⊥) }
+    ensures cause { FailsBy (PeersStayOut network peers.now) (state S.Store tx.old.conn.now) (state S.Store tx.new.conn.now) result }
 {
     drop_all_rows(tx, network, peers)?;
     add_peers(tx, network, peers)

@@ -4,6 +4,7 @@ ghost use Rattle.sqlite.specs.State.{HasCleanDisk, Survives};
 ghost use Rattle.sqlite.specs.Held.{state};
 ghost use Rattle.wgr_model.specs.Rows.{peer_id};
 ghost use Rattle.wgr_sql.specs.Steps.{Each};
+ghost use Rattle.wgr_tables.specs.Stops.{AllowedStays, FailsBy, OneOfEach, PeerRowStays, PeerStays};
 ghost use Rattle.wgr_tables.specs.TableSteps.{PeerGoes, AllowedGoes, PeerLeaves, is_of_peer};
 ghost use Rattle.wgr_tables.specs.Standing.{StepsOn, StepsFrom};
 
@@ -20,6 +21,7 @@ pub(crate) fn drop_peer_row<S: Alter>(
     ensures same_reference { tx.new.conn.ghost_name ≡ tx.old.conn.ghost_name }
     ensures step { HasCleanDisk (state S.Store tx.new.conn.now) → StepsOn (PeerGoes network (peer_id network number)) (state S.Store tx.old.conn.now) (state S.Store tx.new.conn.now) result }
     ensures survives { Survives (state S.Store tx.old.conn.now) (state S.Store tx.new.conn.now) (λ _. ⊥) }
+    ensures cause { FailsBy (PeerRowStays network (peer_id network number)) (state S.Store tx.old.conn.now) (state S.Store tx.new.conn.now) result }
 {
     execute(
         tx,
@@ -37,6 +39,7 @@ fn drop_allowed_rows<S: Alter>(
     ensures same_reference { tx.new.conn.ghost_name ≡ tx.old.conn.ghost_name }
     ensures step { HasCleanDisk (state S.Store tx.new.conn.now) → StepsOn (AllowedGoes (is_of_peer network (peer_id network number))) (state S.Store tx.old.conn.now) (state S.Store tx.new.conn.now) result }
     ensures survives { Survives (state S.Store tx.old.conn.now) (state S.Store tx.new.conn.now) (λ _. ⊥) }
+    ensures cause { FailsBy (AllowedStays network (peer_id network number)) (state S.Store tx.old.conn.now) (state S.Store tx.new.conn.now) result }
 {
     execute(
         tx,
@@ -54,6 +57,7 @@ fn remove_peer<S: Alter>(
     ensures same_reference { tx.new.conn.ghost_name ≡ tx.old.conn.ghost_name }
     ensures step { HasCleanDisk (state S.Store tx.new.conn.now) → StepsOn (PeerLeaves network number) (state S.Store tx.old.conn.now) (state S.Store tx.new.conn.now) result }
     ensures survives { Survives (state S.Store tx.old.conn.now) (state S.Store tx.new.conn.now) (λ _. ⊥) }
+    ensures cause { FailsBy (PeerStays network number) (state S.Store tx.old.conn.now) (state S.Store tx.new.conn.now) result }
 {
     drop_peer_row(tx, network, number)?;
     drop_allowed_rows(tx, network, number)
@@ -68,6 +72,7 @@ pub(crate) fn remove_peers<S: Alter>(
     ensures same_reference { tx.new.conn.ghost_name ≡ tx.old.conn.ghost_name }
     ensures step { HasCleanDisk (state S.Store tx.new.conn.now) → StepsFrom (Each (PeerLeaves network) numbers.now) (state S.Store tx.old.conn.now) (state S.Store tx.new.conn.now) result }
     ensures survives { Survives (state S.Store tx.old.conn.now) (state S.Store tx.new.conn.now) (λ _. ⊥) }
+    ensures cause { FailsBy (OneOfEach (PeerLeaves network) (PeerStays network) numbers.now) (state S.Store tx.old.conn.now) (state S.Store tx.new.conn.now) result }
 {
     for number in numbers {
         remove_peer(tx, network, *number)?;

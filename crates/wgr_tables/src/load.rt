@@ -1,6 +1,6 @@
 //! A network, loaded from its rows.
-ghost use Rattle.std.specs.Prelude.{◌≡◌, ℕ, List, [], ◌∷◌, IfErr, IfOk, IfSome, IfNone, IsPermutation, map, not, ◌&&◌, nat_eq, false};
-ghost use Rattle.std.specs.List.{filter};
+ghost use Rattle.std.specs.Prelude.{◌≡◌, ℕ, List, [], ◌∷◌, IfErr, OnErr, IfOk, IfSome, IfNone, IsPermutation, map, not, ◌&&◌, nat_eq, false};
+ghost use Rattle.std.specs.List.{IsDistinct, filter};
 ghost use Rattle.sqlite.specs.Effect.{Database};
 ghost use Rattle.sqlite.specs.State.{HasCleanDisk, Survives};
 ghost use Rattle.sqlite.specs.Held.{state};
@@ -8,9 +8,12 @@ ghost use Rattle.wgr_core.specs.Network.{IsNetwork, NetworkValue};
 ghost use Rattle.wgr_core.specs.Parts.{network_of};
 ghost use Rattle.wgr_model.specs.Laws.{Has};
 ghost use Rattle.wgr_model.specs.Rows.{AreKeyed, NetworkRow, address_row, holding_of, peer_row, route_row};
+ghost use Rattle.wgr_sql.specs.Causes.{HasCause};
 ghost use Rattle.wgr_sql.specs.declared.fault.Fault.TheVariants.{Store};
 ghost use Rattle.wgr_tables.specs.Decode.{tables_of, allowed_in, network_in, number_at, peer_in};
 ghost use Rattle.wgr_tables.specs.Stored.{AreRising, AreSettings, AreStored, stored_allowed, stored_network, stored_peer};
+ghost use Rattle.wgr_tables.specs.Lookups.{AreMany};
+ghost use Rattle.wgr_tables.specs.Told.{IsTold};
 ghost use Rattle.wgr_tables.specs.Loads.{IsMade, ShowAddresses, ShowNetwork, ShowPeers, ShowRoutes, network_with};
 ghost use Rattle.wgr_tables.specs.Writes.{Written};
 ghost use Rattle.wgr_tables.specs.Standing.{Stands};
@@ -38,6 +41,7 @@ pub(crate) fn peer_rows<S: Alter>(conn: &mut Connection<S>, network: u32) -> Res
     ensures rising { (db : Database) (pending : List Written) → Stands S.Store conn.old db pending → HasCleanDisk (state S.Store conn.new)
         → IfOk result (λ rows. AreRising (λ p. p.id) peer_in rows.items) }
     ensures survives { Survives (state S.Store conn.old) (state S.Store conn.new) (λ _. ⊥) }
+    ensures cause { (db : Database) (pending : List Written) → Stands S.Store conn.old db pending → IfErr result (HasCause (state S.Store conn.old) (state S.Store conn.new)) }
 {
     query(
         conn,
@@ -57,6 +61,7 @@ fn unsorted_addresses<S: Alter>(conn: &mut Connection<S>, network: u32) -> Resul
     ensures stored { (db : Database) (pending : List Written) → Stands S.Store conn.old db pending → HasCleanDisk (state S.Store conn.new)
         → IfOk result (λ rows. AreStored stored_allowed allowed_in rows.items) }
     ensures survives { Survives (state S.Store conn.old) (state S.Store conn.new) (λ _. ⊥) }
+    ensures cause { (db : Database) (pending : List Written) → Stands S.Store conn.old db pending → IfErr result (HasCause (state S.Store conn.old) (state S.Store conn.new)) }
 {
     query(
         conn,
@@ -89,6 +94,7 @@ pub(crate) fn address_rows<S: Alter>(
     ensures rising { (db : Database) (pending : List Written) → Stands S.Store conn.old db pending → HasCleanDisk (state S.Store conn.new)
         → IfOk result (λ rows. AreRising (λ a. a.peer) allowed_in rows.items) }
     ensures survives { Survives (state S.Store conn.old) (state S.Store conn.new) (λ _. ⊥) }
+    ensures cause { (db : Database) (pending : List Written) → Stands S.Store conn.old db pending → IfErr result (HasCause (state S.Store conn.old) (state S.Store conn.new)) }
 {
     let mut rows = unsorted_addresses(conn, network)?;
     sort_by_peer(&mut rows);
@@ -109,6 +115,7 @@ pub(crate) fn route_rows<S: Alter>(
     ensures stored { (db : Database) (pending : List Written) → Stands S.Store conn.old db pending → HasCleanDisk (state S.Store conn.new)
         → IfOk result (λ rows. AreStored stored_allowed allowed_in rows.items) }
     ensures survives { Survives (state S.Store conn.old) (state S.Store conn.new) (λ _. ⊥) }
+    ensures cause { (db : Database) (pending : List Written) → Stands S.Store conn.old db pending → IfErr result (HasCause (state S.Store conn.old) (state S.Store conn.new)) }
 {
     query(
         conn,
@@ -128,6 +135,7 @@ fn network_rows<S: Alter>(conn: &mut Connection<S>, network: u32) -> Result<Vec<
     ensures stored { (db : Database) (pending : List Written) → Stands S.Store conn.old db pending → HasCleanDisk (state S.Store conn.new)
         → IfOk result (λ rows. AreStored stored_network network_in rows.items) }
     ensures survives { Survives (state S.Store conn.old) (state S.Store conn.new) (λ _. ⊥) }
+    ensures cause { (db : Database) (pending : List Written) → Stands S.Store conn.old db pending → IfErr result (HasCause (state S.Store conn.old) (state S.Store conn.new)) }
 {
     query(
         conn,
@@ -150,6 +158,9 @@ fn load_peers<S: Alter>(
         → IfOk result (λ peers. IsPermutation (filter (λ p. nat_eq p.network network) (tables_of db).peers) (map (peer_row network) peers.items)) }
     ensures addresses { (db : Database) (pending : List Written) → Stands S.Store conn.old db pending → HasCleanDisk (state S.Store conn.new)
         → IfOk result (λ peers. IsPermutation (filter (λ a. nat_eq a.network network && not a.is_route) (tables_of db).allowed) (map (address_row network) peers.items)) }
+    ensures own { (db : Database) (pending : List Written) (n : NetworkValue) → Stands S.Store conn.old db pending → IsTold (tables_of db) network n → HasCleanDisk (state S.Store conn.new) → IfOk result (λ peers. peers.items ≡ n.peers) }
+    ensures survives { Survives (state S.Store conn.old) (state S.Store conn.new) (λ _. ⊥) }
+    ensures cause { (db : Database) (pending : List Written) (n : NetworkValue) → Stands S.Store conn.old db pending → IsTold (tables_of db) network n → IfErr result (HasCause (state S.Store conn.old) (state S.Store conn.new)) }
 {
     let rows = peer_rows(conn, network)?;
     let addresses = address_rows(conn, network)?;
@@ -168,6 +179,8 @@ fn load_routes<S: Alter>(
     ensures clean { HasCleanDisk (state S.Store conn.new) → HasCleanDisk (state S.Store conn.old) }
     ensures rows { (db : Database) (pending : List Written) → Stands S.Store conn.old db pending → HasCleanDisk (state S.Store conn.new)
         → IfOk result (λ routes. IsPermutation (filter (λ a. a.is_route && nat_eq a.network network) (tables_of db).allowed) (map (route_row network) routes.items)) }
+    ensures survives { Survives (state S.Store conn.old) (state S.Store conn.new) (λ _. ⊥) }
+    ensures cause { (db : Database) (pending : List Written) (n : NetworkValue) → Stands S.Store conn.old db pending → IsTold (tables_of db) network n → IfErr result (HasCause (state S.Store conn.old) (state S.Store conn.new)) }
 {
     let rows = route_rows(conn, network)?;
     routes_of(alloc, rows.as_slice(), network)
@@ -239,6 +252,8 @@ fn load_row<S: Alter>(
     ensures clean { HasCleanDisk (state S.Store conn.new) → HasCleanDisk (state S.Store conn.old) }
     ensures read { (db : Database) (pending : List Written) → Stands S.Store conn.old db pending → AreKeyed (tables_of db) → HasCleanDisk (state S.Store conn.new) → number_at row.now 0 ≡ network
         → IfOk result (λ n. n ≡ (holding_of (tables_of db) (network_in row.now)).network) }
+    ensures survives { Survives (state S.Store conn.old) (state S.Store conn.new) (λ _. ⊥) }
+    ensures cause { (db : Database) (pending : List Written) (n : NetworkValue) → Stands S.Store conn.old db pending → (told : IsTold (tables_of db) network n) → (HasCleanDisk (state S.Store conn.new) → (network_in row.now ≡ told.row) × (row.now ≡ stored_network (network_in row.now))) → IfErr result (HasCause (state S.Store conn.old) (state S.Store conn.new)) }
 {
     let peers = load_peers(alloc, conn, network)?;
     let routes = load_routes(alloc, conn, network)?;
@@ -249,6 +264,7 @@ fn load_row<S: Alter>(
 pub(crate) fn only(mut rows: Vec<Row>) -> Result<Option<Row>, Fault>
     ensures some { IfOk result (λ found. IfSome found (λ row. rows.items ≡ row ∷ [])) }
     ensures none { IfOk result (λ found. IfNone found (rows.items ≡ [])) }
+    ensures only { OnErr result (AreMany rows.items) }
 {
     let row = rows.pop();
     if !rows.is_empty() {
@@ -275,6 +291,7 @@ pub(crate) fn network_row<S: Alter>(
     ensures none { (db : Database) (pending : List Written) → Stands S.Store conn.old db pending → HasCleanDisk (state S.Store conn.new)
         → IfOk result (λ found. IfNone found ((w : NetworkRow) → Has (tables_of db).networks w → nat_eq w.id network ≡ false)) }
     ensures survives { Survives (state S.Store conn.old) (state S.Store conn.new) (λ _. ⊥) }
+    ensures cause { (db : Database) (pending : List Written) → Stands S.Store conn.old db pending → IsDistinct nat_eq (map (λ w. w.id) (tables_of db).networks) → IfErr result (HasCause (state S.Store conn.old) (state S.Store conn.new)) }
 {
     let rows = network_rows(conn, network)?;
     only(rows)
@@ -295,6 +312,8 @@ pub fn load_network<S: Alter>(
         → IfOk result (λ found. IfSome found (λ n. (w : NetworkRow) × Has (tables_of db).networks w × (w.id ≡ network) × (n ≡ (holding_of (tables_of db) w).network))) }
     ensures none { (db : Database) (pending : List Written) → Stands S.Store conn.old db pending → HasCleanDisk (state S.Store conn.new)
         → IfOk result (λ found. IfNone found ((w : NetworkRow) → Has (tables_of db).networks w → nat_eq w.id network ≡ false)) }
+    ensures survives { Survives (state S.Store conn.old) (state S.Store conn.new) (λ _. ⊥) }
+    ensures cause { (db : Database) (pending : List Written) (n : NetworkValue) → Stands S.Store conn.old db pending → IsDistinct nat_eq (map (λ w. w.id) (tables_of db).networks) → IsTold (tables_of db) network n → IfErr result (HasCause (state S.Store conn.old) (state S.Store conn.new)) }
 {
     let Some(row) = network_row(conn, network)? else {
         return Ok(None);

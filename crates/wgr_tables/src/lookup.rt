@@ -1,15 +1,17 @@
 //! Tenants and networks, found by a key.
-ghost use Rattle.std.specs.Prelude.{◌≡◌, List, IfOk, IfSome, IfNone, IsTrue, OnOk, false};
+ghost use Rattle.std.specs.Prelude.{◌≡◌, List, IfErr, IfOk, IfSome, IfNone, IsTrue, OnErr, OnOk, false};
 ghost use Rattle.sqlite.specs.Effect.{Database};
-ghost use Rattle.sqlite.specs.State.{HasCleanDisk};
+ghost use Rattle.sqlite.specs.State.{HasCleanDisk, Survives};
 ghost use Rattle.sqlite.specs.Held.{state};
 ghost use Rattle.wgr_model.specs.Consistent.{same_slot};
 ghost use Rattle.wgr_model.specs.Laws.{Has};
 ghost use Rattle.wgr_model.specs.Register.{id_of};
+ghost use Rattle.wgr_model.specs.RowLaws.{AreConsistent};
 ghost use Rattle.wgr_model.specs.Rows.{NetworkRow};
 ghost use Rattle.wgr_model.specs.Steps.{tenant_of_token};
+ghost use Rattle.wgr_sql.specs.Causes.{HasCause};
 ghost use Rattle.wgr_tables.specs.Decode.{tables_of};
-ghost use Rattle.wgr_tables.specs.Lookups.{IsIn, IsSlotOf, ShowSlot, ShowTenant, ShowToken};
+ghost use Rattle.wgr_tables.specs.Lookups.{HasWordAt, IsIn, IsSlotOf, ShowSlot, ShowTenant, ShowToken};
 ghost use Rattle.wgr_tables.specs.Writes.{Written};
 ghost use Rattle.wgr_tables.specs.Standing.{Stands};
 
@@ -30,6 +32,9 @@ fn token_rows<S: Alter>(conn: &mut Connection<S>, digest: &[u8; 32]) -> Result<V
     ensures listed { (db : Database) (pending : List Written) → Stands S.Store conn.old db pending → HasCleanDisk (state S.Store conn.new)
         → IfOk result (λ rows. ShowToken digest.now (tables_of db) rows.items) }
     ensures open { HasCleanDisk (state S.Store conn.new) → OnOk result (IsTrue (state S.Store conn.old).is_open) }
+    ensures survives { Survives (state S.Store conn.old) (state S.Store conn.new) (λ _. ⊥) }
+    ensures cause { (db : Database) (pending : List Written) → Stands S.Store conn.old db pending → IfErr result (HasCause (state S.Store conn.old) (state S.Store conn.new)) }
+    ensures word { (db : Database) (pending : List Written) → Stands S.Store conn.old db pending → AreConsistent (tables_of db) → HasCleanDisk (state S.Store conn.new) → IfOk result (λ rows. HasWordAt rows.items 2) }
 {
     query(
         conn,
@@ -46,6 +51,9 @@ fn tenant_rows<S: Alter>(conn: &mut Connection<S>, name: &Name) -> Result<Vec<Ro
     ensures clean { HasCleanDisk (state S.Store conn.new) → HasCleanDisk (state S.Store conn.old) }
     ensures listed { (db : Database) (pending : List Written) → Stands S.Store conn.old db pending → HasCleanDisk (state S.Store conn.new)
         → IfOk result (λ rows. ShowTenant name.now (tables_of db) rows.items) }
+    ensures survives { Survives (state S.Store conn.old) (state S.Store conn.new) (λ _. ⊥) }
+    ensures cause { (db : Database) (pending : List Written) → Stands S.Store conn.old db pending → IfErr result (HasCause (state S.Store conn.old) (state S.Store conn.new)) }
+    ensures word { (db : Database) (pending : List Written) → Stands S.Store conn.old db pending → AreConsistent (tables_of db) → HasCleanDisk (state S.Store conn.new) → IfOk result (λ rows. HasWordAt rows.items 0) }
 {
     query(
         conn,
@@ -66,6 +74,9 @@ fn slot_rows<S: Alter>(
     ensures clean { HasCleanDisk (state S.Store conn.new) → HasCleanDisk (state S.Store conn.old) }
     ensures listed { (db : Database) (pending : List Written) → Stands S.Store conn.old db pending → HasCleanDisk (state S.Store conn.new)
         → IfOk result (λ rows. ShowSlot (tenant, name.now) (tables_of db) rows.items) }
+    ensures survives { Survives (state S.Store conn.old) (state S.Store conn.new) (λ _. ⊥) }
+    ensures cause { (db : Database) (pending : List Written) → Stands S.Store conn.old db pending → IfErr result (HasCause (state S.Store conn.old) (state S.Store conn.new)) }
+    ensures word { (db : Database) (pending : List Written) → Stands S.Store conn.old db pending → AreConsistent (tables_of db) → HasCleanDisk (state S.Store conn.new) → IfOk result (λ rows. HasWordAt rows.items 0) }
 {
     query(
         conn,
@@ -79,7 +90,8 @@ fn slot_rows<S: Alter>(
 
 /// The number at this place of the one row, if there is one.
 fn number_in(rows: Vec<Row>, at: usize) -> Result<Option<u32>, Fault>
-    ensures { IfOk result (λ found. IsIn rows.items at found) }
+    ensures found { IfOk result (λ found. IsIn rows.items at found) }
+    ensures only { OnErr result (HasWordAt rows.items at → ⊥) }
 {
     let Some(row) = only(rows)? else {
         return Ok(None);
@@ -99,6 +111,8 @@ pub fn tenant_of_token<S: Alter>(
     ensures found { (db : Database) (pending : List Written) → Stands S.Store conn.old db pending → HasCleanDisk (state S.Store conn.new)
         → IfOk result (λ id. id ≡ tenant_of_token (tables_of db).tokens digest.now) }
     ensures open { HasCleanDisk (state S.Store conn.new) → OnOk result (IsTrue (state S.Store conn.old).is_open) }
+    ensures survives { Survives (state S.Store conn.old) (state S.Store conn.new) (λ _. ⊥) }
+    ensures cause { (db : Database) (pending : List Written) → Stands S.Store conn.old db pending → AreConsistent (tables_of db) → IfErr result (HasCause (state S.Store conn.old) (state S.Store conn.new)) }
 {
     let rows = token_rows(conn, digest)?;
     number_in(rows, 2)
@@ -112,6 +126,8 @@ pub fn tenant_id<S: Alter>(conn: &mut Connection<S>, name: &Name) -> Result<Opti
     ensures clean { HasCleanDisk (state S.Store conn.new) → HasCleanDisk (state S.Store conn.old) }
     ensures found { (db : Database) (pending : List Written) → Stands S.Store conn.old db pending → HasCleanDisk (state S.Store conn.new)
         → IfOk result (λ id. id ≡ id_of (tables_of db).tenants name.now) }
+    ensures survives { Survives (state S.Store conn.old) (state S.Store conn.new) (λ _. ⊥) }
+    ensures cause { (db : Database) (pending : List Written) → Stands S.Store conn.old db pending → AreConsistent (tables_of db) → IfErr result (HasCause (state S.Store conn.old) (state S.Store conn.new)) }
 {
     let rows = tenant_rows(conn, name)?;
     number_in(rows, 0)
@@ -131,6 +147,8 @@ pub fn network_id<S: Alter>(
         → IfOk result (λ found. IfSome found (λ id. (w : NetworkRow) × Has (tables_of db).networks w × IsSlotOf w tenant name.now × (w.id ≡ id))) }
     ensures none { (db : Database) (pending : List Written) → Stands S.Store conn.old db pending → HasCleanDisk (state S.Store conn.new)
         → IfOk result (λ found. IfNone found ((w : NetworkRow) → Has (tables_of db).networks w → same_slot (tenant, name.now) (w.tenant, w.name) ≡ false)) }
+    ensures survives { Survives (state S.Store conn.old) (state S.Store conn.new) (λ _. ⊥) }
+    ensures cause { (db : Database) (pending : List Written) → Stands S.Store conn.old db pending → AreConsistent (tables_of db) → IfErr result (HasCause (state S.Store conn.old) (state S.Store conn.new)) }
 {
     let rows = slot_rows(conn, tenant, name)?;
     number_in(rows, 0)

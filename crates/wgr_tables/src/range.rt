@@ -5,6 +5,7 @@ ghost use Rattle.sqlite.specs.State.{HasCleanDisk, Survives};
 ghost use Rattle.sqlite.specs.Held.{state};
 ghost use Rattle.wgr_model.specs.Rows.{peer_id};
 ghost use Rattle.wgr_peers.specs.declared.peer.Peer.{Peer};
+ghost use Rattle.wgr_tables.specs.Stops.{AddressRangeStays, FailsBy, PeerRangeStays, RangeStays};
 ghost use Rattle.wgr_tables.specs.TableSteps.{AllowedGoes, AreFrom, PeersGo, RangeGoes, is_address_within};
 ghost use Rattle.wgr_tables.specs.Standing.{StepsOn};
 
@@ -41,6 +42,7 @@ fn drop_peer_range<S: Alter>(
     ensures same_reference { tx.new.conn.ghost_name ≡ tx.old.conn.ghost_name }
     ensures step { HasCleanDisk (state S.Store tx.new.conn.now) → StepsOn (PeersGo network (peer_id network first) (peer_id network last)) (state S.Store tx.old.conn.now) (state S.Store tx.new.conn.now) result }
     ensures survives { Survives (state S.Store tx.old.conn.now) (state S.Store tx.new.conn.now) (λ _. ⊥) }
+    ensures cause { FailsBy (PeerRangeStays network (peer_id network first) (peer_id network last)) (state S.Store tx.old.conn.now) (state S.Store tx.new.conn.now) result }
 {
     execute(
         tx,
@@ -63,6 +65,7 @@ fn drop_address_range<S: Alter>(
     ensures same_reference { tx.new.conn.ghost_name ≡ tx.old.conn.ghost_name }
     ensures step { HasCleanDisk (state S.Store tx.new.conn.now) → StepsOn (AllowedGoes (is_address_within network (peer_id network first) (peer_id network last))) (state S.Store tx.old.conn.now) (state S.Store tx.new.conn.now) result }
     ensures survives { Survives (state S.Store tx.old.conn.now) (state S.Store tx.new.conn.now) (λ _. ⊥) }
+    ensures cause { FailsBy (AddressRangeStays network (peer_id network first) (peer_id network last)) (state S.Store tx.old.conn.now) (state S.Store tx.new.conn.now) result }
 {
     execute(
         tx,
@@ -86,6 +89,7 @@ pub(crate) fn drop_range<S: Alter>(
     ensures same_reference { tx.new.conn.ghost_name ≡ tx.old.conn.ghost_name }
     ensures step { HasCleanDisk (state S.Store tx.new.conn.now) → StepsOn (RangeGoes network first last) (state S.Store tx.old.conn.now) (state S.Store tx.new.conn.now) result }
     ensures survives { Survives (state S.Store tx.old.conn.now) (state S.Store tx.new.conn.now) (λ _. ⊥) }
+    ensures cause { FailsBy (RangeStays network first last) (state S.Store tx.old.conn.now) (state S.Store tx.new.conn.now) result }
 {
     drop_peer_range(tx, network, first, last)?;
     drop_address_range(tx, network, first, last)

@@ -1,9 +1,13 @@
 //! Routes of a network that come and go.
-ghost use Rattle.std.specs.Prelude.{◌≡◌, [], IfOk, IsTrue};
+ghost use Rattle.std.specs.Prelude.{◌≡◌, ◌↔◌, [], IfOk, IsTrue};
+ghost use Rattle.sqlite.specs.declared.error.Error.TheVariants.{SqliteFailure};
+ghost use Rattle.sqlite.specs.declared.error.ErrorCode.TheVariants.{OutOfMemory};
 ghost use Rattle.sqlite.specs.State.{HasCleanDisk, Survives};
 ghost use Rattle.sqlite.specs.Held.{state};
 ghost use Rattle.wgr_peers.specs.Routes.{AreOrdered};
 ghost use Rattle.wgr_sql.specs.Steps.{Each};
+ghost use Rattle.wgr_sql.specs.declared.fault.Fault.TheVariants.{NoMemory};
+ghost use Rattle.wgr_tables.specs.Stops.{FailsBy, OneOfEach, RouteIsNotPut, RouteStays, RouteStaysOut, RoutesAreNotPut};
 ghost use Rattle.wgr_tables.specs.TableSteps.{HasNoRoute, RouteGoes, RouteComes, RoutePuts};
 ghost use Rattle.wgr_tables.specs.Standing.{StepsOn, StepsFrom};
 
@@ -26,6 +30,7 @@ fn drop_route<S: Alter>(
     ensures same_reference { tx.new.conn.ghost_name ≡ tx.old.conn.ghost_name }
     ensures step { HasCleanDisk (state S.Store tx.new.conn.now) → StepsOn (RouteGoes network prefix.now) (state S.Store tx.old.conn.now) (state S.Store tx.new.conn.now) result }
     ensures survives { Survives (state S.Store tx.old.conn.now) (state S.Store tx.new.conn.now) (λ _. ⊥) }
+    ensures cause { FailsBy (RouteStays network prefix.now) (state S.Store tx.old.conn.now) (state S.Store tx.new.conn.now) result }
 {
     let address = prefix.address();
     let lo = bytes_of(address.number());
@@ -51,6 +56,7 @@ fn add_route<S: Alter>(
     ensures same_reference { tx.new.conn.ghost_name ≡ tx.old.conn.ghost_name }
     ensures step { HasCleanDisk (state S.Store tx.new.conn.now) → StepsOn (RouteComes network (prefix.now, number)) (state S.Store tx.old.conn.now) (state S.Store tx.new.conn.now) result }
     ensures survives { Survives (state S.Store tx.old.conn.now) (state S.Store tx.new.conn.now) (λ _. ⊥) }
+    ensures cause { FailsBy (RouteStaysOut network (prefix.now, number)) (state S.Store tx.old.conn.now) (state S.Store tx.new.conn.now) result }
 {
     let address = prefix.address();
     let lo = bytes_of(address.number());
@@ -78,6 +84,7 @@ fn put_route<S: Alter>(
     ensures same_reference { tx.new.conn.ghost_name ≡ tx.old.conn.ghost_name }
     ensures step { HasCleanDisk (state S.Store tx.new.conn.now) → StepsOn (RoutePuts network route.now) (state S.Store tx.old.conn.now) (state S.Store tx.new.conn.now) result }
     ensures survives { Survives (state S.Store tx.old.conn.now) (state S.Store tx.new.conn.now) (λ _. ⊥) }
+    ensures cause { FailsBy (RouteIsNotPut network route.now) (state S.Store tx.old.conn.now) (state S.Store tx.new.conn.now) result }
 {
     drop_route(tx, network, &route.0)?;
     add_route(tx, network, &route.0, route.1)
@@ -92,6 +99,7 @@ fn replace_routes<S: Alter>(
     ensures same_reference { tx.new.conn.ghost_name ≡ tx.old.conn.ghost_name }
     ensures step { HasCleanDisk (state S.Store tx.new.conn.now) → StepsFrom (Each (RoutePuts network) routes.now) (state S.Store tx.old.conn.now) (state S.Store tx.new.conn.now) result }
     ensures survives { Survives (state S.Store tx.old.conn.now) (state S.Store tx.new.conn.now) (λ _. ⊥) }
+    ensures cause { FailsBy (OneOfEach (RoutePuts network) (RouteIsNotPut network) routes.now) (state S.Store tx.old.conn.now) (state S.Store tx.new.conn.now) result }
 {
     for route in routes {
         put_route(tx, network, route)?;
@@ -108,6 +116,7 @@ fn add_routes<S: Alter>(
     ensures same_reference { tx.new.conn.ghost_name ≡ tx.old.conn.ghost_name }
     ensures step { HasCleanDisk (state S.Store tx.new.conn.now) → StepsFrom (Each (RouteComes network) routes.now) (state S.Store tx.old.conn.now) (state S.Store tx.new.conn.now) result }
     ensures survives { Survives (state S.Store tx.old.conn.now) (state S.Store tx.new.conn.now) (λ _. ⊥) }
+    ensures cause { FailsBy (OneOfEach (RouteComes network) (RouteStaysOut network) routes.now) (state S.Store tx.old.conn.now) (state S.Store tx.new.conn.now) result }
 {
     for route in routes {
         add_route(tx, network, &route.0, route.1)?;
@@ -120,12 +129,17 @@ fn first_route<S: Alter>(tx: &mut Transaction<'_, S>, network: u32) -> Result<Ve
     ensures same_reference { tx.new.conn.ghost_name ≡ tx.old.conn.ghost_name }
     ensures step { HasCleanDisk (state S.Store tx.new.conn.now) → StepsOn (λ t u. (t ≡ u) × IfOk result (λ rows. rows.items ≡ [] → HasNoRoute network t)) (state S.Store tx.old.conn.now) (state S.Store tx.new.conn.now) result }
     ensures survives { Survives (state S.Store tx.old.conn.now) (state S.Store tx.new.conn.now) (λ _. ⊥) }
+    ensures cause { FailsBy (λ _. ⊥) (state S.Store tx.old.conn.now) (state S.Store tx.new.conn.now) result }
 {
     tx.query_all(
         "SELECT peer FROM allowed WHERE network = ?1 AND kind = 'route' LIMIT 1",
         &[number_value(network)],
     )
-    .map_err(|error| fault_of(error))
+    .map_err(
+        |error|
+            ensures { (result ≡ NoMemory) ↔ (error ≡ SqliteFailure OutOfMemory) }
+        { fault_of(error) },
+    )
 }
 
 /// Whether each prefix comes before the next one.
@@ -145,6 +159,7 @@ fn are_new<S: Alter>(
     ensures step { HasCleanDisk (state S.Store tx.new.conn.now) → StepsFrom (λ t u. (t ≡ u) × IfOk result (λ new. IsTrue new → HasNoRoute network t)) (state S.Store tx.old.conn.now) (state S.Store tx.new.conn.now) result }
     ensures ordered { IfOk result (λ new. IsTrue new → AreOrdered routes.now) }
     ensures survives { Survives (state S.Store tx.old.conn.now) (state S.Store tx.new.conn.now) (λ _. ⊥) }
+    ensures cause { FailsBy (λ _. ⊥) (state S.Store tx.old.conn.now) (state S.Store tx.new.conn.now) result }
 {
     if routes.len() < MANY || !are_ordered(routes) {
         return Ok(false);
@@ -163,6 +178,7 @@ pub(crate) fn put_routes<S: Alter>(
     ensures same_reference { tx.new.conn.ghost_name ≡ tx.old.conn.ghost_name }
     ensures step { HasCleanDisk (state S.Store tx.new.conn.now) → StepsFrom (Each (RoutePuts network) routes.now) (state S.Store tx.old.conn.now) (state S.Store tx.new.conn.now) result }
     ensures survives { Survives (state S.Store tx.old.conn.now) (state S.Store tx.new.conn.now) (λ _. ⊥) }
+    ensures cause { FailsBy (RoutesAreNotPut network routes.now) (state S.Store tx.old.conn.now) (state S.Store tx.new.conn.now) result }
 {
     if are_new(tx, network, routes)? {
         add_routes(tx, network, routes)
@@ -180,6 +196,7 @@ pub(crate) fn drop_routes<S: Alter>(
     ensures same_reference { tx.new.conn.ghost_name ≡ tx.old.conn.ghost_name }
     ensures step { HasCleanDisk (state S.Store tx.new.conn.now) → StepsFrom (Each (RouteGoes network) prefixes.now) (state S.Store tx.old.conn.now) (state S.Store tx.new.conn.now) result }
     ensures survives { Survives (state S.Store tx.old.conn.now) (state S.Store tx.new.conn.now) (λ _. ⊥) }
+    ensures cause { FailsBy (OneOfEach (RouteGoes network) (RouteStays network) prefixes.now) (state S.Store tx.old.conn.now) (state S.Store tx.new.conn.now) result }
 {
     for prefix in prefixes {
         drop_route(tx, network, prefix)?;

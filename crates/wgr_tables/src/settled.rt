@@ -1,7 +1,14 @@
 //! Tenants, and networks as they were added, read from their rows.
-ghost use Rattle.std.specs.Prelude.{◌≡◌, IfOk};
+ghost use Rattle.std.specs.Prelude.{◌≡◌, IfErr, IfOk};
+ghost use Rattle.sqlite.specs.declared.types.Value.TheVariants.{Text};
+ghost use Rattle.sqlite_value.specs.Order.{column};
+ghost use Rattle.wgr_model.specs.Consistent.{IsName, IsTenant};
+ghost use Rattle.wgr_model.specs.Register.{Bytes, Tenant};
+ghost use Rattle.wgr_model.specs.Rows.{NetworkRow};
+ghost use Rattle.wgr_sql.specs.declared.fault.Fault.TheVariants.{Store};
 ghost use Rattle.wgr_tables.specs.Decode.{bytes_at, network_in, tenant_in};
 ghost use Rattle.wgr_tables.specs.Lookups.{settled};
+ghost use Rattle.wgr_tables.specs.Stored.{AreSettings, IsKeptNetwork, stored_network, stored_tenant};
 
 use crate::field::{host_at, key_at, pool_in, short_at, text_at, word_at};
 use sqlite::Row;
@@ -13,7 +20,8 @@ use wgr_sql::Fault;
 
 /// The name at this place.
 fn name_at(alloc: Global, row: &Row, at: usize) -> Result<Name, Fault>
-    ensures { IfOk result (λ name. name ≡ bytes_at row.now at) }
+    ensures value { IfOk result (λ name. name ≡ bytes_at row.now at) }
+    ensures only { IfErr result (λ e. e ≡ Store → (name : Bytes) → IsName name → column row.now at ≡ Text name → ⊥) }
 {
     match Name::read(alloc, text_at(row, at)?) {
         Ok(Some(name)) => Ok(name),
@@ -24,7 +32,8 @@ fn name_at(alloc: Global, row: &Row, at: usize) -> Result<Name, Fault>
 
 /// The tenant whose row this is.
 pub fn read_tenant(alloc: Global, row: &Row) -> Result<Tenant, Fault>
-    ensures { IfOk result (λ tenant. tenant ≡ tenant_in row.now) }
+    ensures value { IfOk result (λ tenant. tenant ≡ tenant_in row.now) }
+    ensures only { IfErr result (λ e. e ≡ Store → (x : Tenant) → IsTenant x → row.now ≡ stored_tenant x → ⊥) }
 {
     let id = word_at(row, 0)?;
     let name = name_at(alloc, row, 2)?;
@@ -33,7 +42,8 @@ pub fn read_tenant(alloc: Global, row: &Row) -> Result<Tenant, Fault>
 
 /// The network whose row this is, as it was added: without peers, and with the first number next.
 pub fn read_settled(alloc: Global, row: &Row) -> Result<Holding, Fault>
-    ensures { IfOk result (λ holding. holding ≡ settled (network_in row.now)) }
+    ensures value { IfOk result (λ holding. holding ≡ settled (network_in row.now)) }
+    ensures only { IfErr result (λ e. e ≡ Store → (w : NetworkRow) → IsKeptNetwork w → row.now ≡ stored_network w → ⊥) }
 {
     let id = word_at(row, 0)?;
     let tenant = word_at(row, 2)?;
@@ -49,7 +59,8 @@ pub fn read_settled(alloc: Global, row: &Row) -> Result<Holding, Fault>
 
 /// A network of the settings of this row, without peers.
 fn new_in(alloc: Global, row: &Row) -> Result<Network, Fault>
-    ensures { IfOk result (λ network. network ≡ (settled (network_in row.now)).network) }
+    ensures value { IfOk result (λ network. network ≡ (settled (network_in row.now)).network) }
+    ensures only { IfErr result (λ e. e ≡ Store → (w : NetworkRow) → AreSettings w → row.now ≡ stored_network w → ⊥) }
 {
     let pool = pool_in(row)?;
     let Some(port) = Port::new(short_at(row, 8)?) else {

@@ -1,11 +1,13 @@
 //! A network that its rows tell, if they tell one.
-ghost use Rattle.std.specs.Prelude.{◌≡◌, Ok, Err, IfOk, IfSome, IfNone, IsPermutation, filter, map, not, ◌&&◌, nat_eq, false, List};
+ghost use Rattle.std.specs.Prelude.{◌≡◌, Ok, Err, IfErr, IfOk, IfSome, IfNone, IsPermutation, filter, map, not, ◌&&◌, nat_eq, false, List};
+ghost use Rattle.std.specs.List.{IsDistinct};
 ghost use Rattle.sqlite.specs.Effect.{Database};
 ghost use Rattle.sqlite.specs.State.{HasCleanDisk, Survives};
 ghost use Rattle.sqlite.specs.Held.{state};
 ghost use Rattle.wgr_core.specs.Network.{NetworkValue};
 ghost use Rattle.wgr_model.specs.Rows.{address_row, peer_row, route_row};
-ghost use Rattle.wgr_sql.specs.declared.fault.Fault.TheVariants.{Store};
+ghost use Rattle.wgr_sql.specs.Causes.{HasCause};
+ghost use Rattle.wgr_sql.specs.declared.fault.Fault.TheVariants.{NoMemory, Store};
 ghost use Rattle.wgr_tables.specs.Decode.{tables_of};
 ghost use Rattle.wgr_tables.specs.Told.{IsTold};
 ghost use Rattle.wgr_tables.specs.Writes.{Written};
@@ -24,6 +26,7 @@ use wgr_text::Prefix;
 fn told<T>(read: Result<T, Fault>) -> Result<Option<T>, Fault>
     ensures some { IfOk result (λ found. IfSome found (λ x. read ≡ Ok x)) }
     ensures none { IfOk result (λ found. IfNone found (read ≡ Err Store)) }
+    ensures memory { IfErr result (λ e. e ≡ NoMemory) }
 {
     match read {
         Ok(x) => Ok(Some(x)),
@@ -51,6 +54,7 @@ fn told_peers<S: Alter>(
     ensures none { (db : Database) (pending : List Written) → Stands S.Store conn.old db pending → HasCleanDisk (state S.Store conn.new)
         → IfOk result (λ found. IfNone found ((n : NetworkValue) → IsTold (tables_of db) network n → ⊥)) }
     ensures survives { Survives (state S.Store conn.old) (state S.Store conn.new) (λ _. ⊥) }
+    ensures cause { (db : Database) (pending : List Written) → Stands S.Store conn.old db pending → IfErr result (HasCause (state S.Store conn.old) (state S.Store conn.new)) }
 {
     let rows = peer_rows(conn, network)?;
     let addresses = address_rows(conn, network)?;
@@ -72,6 +76,7 @@ fn told_routes<S: Alter>(
     ensures none { (db : Database) (pending : List Written) → Stands S.Store conn.old db pending → HasCleanDisk (state S.Store conn.new)
         → IfOk result (λ found. IfNone found ((n : NetworkValue) → IsTold (tables_of db) network n → ⊥)) }
     ensures survives { Survives (state S.Store conn.old) (state S.Store conn.new) (λ _. ⊥) }
+    ensures cause { (db : Database) (pending : List Written) → Stands S.Store conn.old db pending → IfErr result (HasCause (state S.Store conn.old) (state S.Store conn.new)) }
 {
     let rows = route_rows(conn, network)?;
     told(routes_of(alloc, rows.as_slice(), network))
@@ -93,6 +98,7 @@ pub fn told_network<S: Alter>(
     ensures none { (db : Database) (pending : List Written) → Stands S.Store conn.old db pending → HasCleanDisk (state S.Store conn.new)
         → IfOk result (λ found. IfNone found ((n : NetworkValue) → IsTold (tables_of db) network n → ⊥)) }
     ensures survives { Survives (state S.Store conn.old) (state S.Store conn.new) (λ _. ⊥) }
+    ensures cause { (db : Database) (pending : List Written) → Stands S.Store conn.old db pending → IsDistinct nat_eq (map (λ w. w.id) (tables_of db).networks) → IfErr result (HasCause (state S.Store conn.old) (state S.Store conn.new)) }
 {
     let Some(row) = network_row(conn, network)? else {
         return Ok(None);

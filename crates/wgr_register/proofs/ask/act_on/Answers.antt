@@ -1,4 +1,4 @@
-use Rattle.std.proofs.Common.{Err, subst}
+use Rattle.std.proofs.Common.{Err, subst, true≢false, sym, ◌∙◌, ap, not, refl, ◌≡◌}
 use Rattle.wgr_core.specs.Change.{Meets}
 use Rattle.wgr_core.specs.Outcome.{outcome_of}
 use Rattle.wgr_core.specs.declared.fault.ActFault.{ActFault}
@@ -9,6 +9,11 @@ use Rattle.wgr_register.specs.Loaded.{AreFormed, entries_of}
 use Rattle.wgr_register.proofs.AskLemmas.{acts_done, acts_late, refused_rows}
 use Rattle.wgr_register.proofs.LoadedLemmas.{committed_so, found_formed, shown_so, unless}
 use Rattle.wgr_register.proofs.StandLemmas.{at_more, late_ends, undone_ends}
+use Rattle.wgr_register.proofs.CauseLemmas.{fault_handed, undone_memory, ask_stops, memory_stops, survives_as_is}
+use Rattle.sqlite.specs.Held.{state}
+use Rattle.wgr_sql.specs.Causes.{HasCauseOr}
+use Rattle.wgr_register.specs.Causes.{AskStops, StopsIf}
+use Rattle.wgr_sql.proofs.CauseLemmas.{cause_weaker}
 use Rattle.wgr_register.proofs.ask.act_on.Goals as goal
 
 -- ---- the command isn't done
@@ -48,3 +53,35 @@ pub returns-clause-formed : goal.returns-clause-formed
 returns-clause-formed g c db late digest name at found others clean live =
     committed_so g.S.Store c.commit_if.new.conn db at.pending at.consistent digest name c.args.now c.args.command.now (c.tell_forms.ensures.asked, c.tell_forms.ensures.forms) c.args.id c.args.network found c.in-Ok.done.0
     (entries_of c.args.loaded.now) (entries_of c.keep_changed.new.loaded) others c.in-Ok.done.1 c.in-Ok.ensures.outcome (c.in_ok-commit_if.ensures.done db at.pending found.row at.stands at.consistent found.there found.at clean) c.keep_changed.ensures clean live
+
+-- ---- a reading meets no fault but want of memory
+
+pub returns-in-Err-clause-memory : goal.returns-in-Err-clause-memory
+returns-in-Err-clause-memory g c reads = undone_memory c.from.result c.in-Err.why c.from.ensures
+
+pub returns-in_err-text-clause-memory : goal.returns-in_err-text-clause-memory
+returns-in_err-text-clause-memory g c reads = fault_handed (λ why. why ≡ NoMemory) c.from_residual.result NoMemory c.from_residual.ensures.1 refl
+
+pub returns-in_err-commit_if-clause-memory : goal.returns-in_err-commit_if-clause-memory
+returns-in_err-commit_if-clause-memory g c reads = absurd (true≢false (sym c.in_err-commit_if.ensures.changes ∙ c.in-Ok.ensures.change ∙ ap not reads))
+
+-- ---- why it ends by a fault
+
+pub returns-in-Err-clause-stops : goal.returns-in-Err-clause-stops
+returns-in-Err-clause-stops g c db late digest name at found = memory_stops (AskStops (tables_of db) digest name c.args.now c.args.command.now) (state g.S.Store c.args.conn.now) (state g.S.Store c.args.conn.now) (Err c.from.result) (undone_memory c.from.result c.in-Err.why c.from.ensures)
+
+pub returns-in_err-text-clause-stops : goal.returns-in_err-text-clause-stops
+returns-in_err-text-clause-stops g c db late digest name at found = fault_handed (HasCauseOr (AskStops (tables_of db) digest name c.args.now c.args.command.now) (state g.S.Store c.args.conn.now) (state g.S.Store c.args.conn.now)) c.from_residual.result NoMemory c.from_residual.ensures.1 tt
+
+pub returns-in_err-commit_if-clause-stops : goal.returns-in_err-commit_if-clause-stops
+returns-in_err-commit_if-clause-stops g c db late digest name at found =
+    let why = c.in_err-commit_if.field-0.0 in
+    fault_handed (HasCauseOr (AskStops (tables_of db) digest name c.args.now c.args.command.now) (state g.S.Store c.args.conn.now) (state g.S.Store c.commit_if.new.conn)) c.from_residual-in_err-commit_if.result why c.from_residual-in_err-commit_if.ensures.1
+    (cause_weaker (StopsIf c.args.id c.in-Ok.done.1 (tables_of db)) (AskStops (tables_of db) digest name c.args.now c.args.command.now) (state g.S.Store c.args.conn.now) (state g.S.Store c.commit_if.new.conn)
+    (ask_stops (tables_of db) digest name c.args.now c.args.command.now c.args.id c.args.network found c.in-Ok.done.0 c.in-Ok.done.1 c.in-Ok.ensures.outcome c.in-Ok.ensures.change) why (c.in_err-commit_if.ensures.cause db at.pending at.stands))
+
+pub returns-in-Err-clause-survives : goal.returns-in-Err-clause-survives
+returns-in-Err-clause-survives g c = survives_as_is (state g.S.Store c.args.conn.now)
+
+pub returns-in_err-text-clause-survives : goal.returns-in_err-text-clause-survives
+returns-in_err-text-clause-survives g c = survives_as_is (state g.S.Store c.args.conn.now)

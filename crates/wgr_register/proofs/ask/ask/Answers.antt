@@ -1,10 +1,19 @@
 use Rattle.std.proofs.Common.{◌≡◌, None, Some, sym, subst, ◌∙◌}
+use Rattle.wgr_model.specs.Laws.{Has}
+use Rattle.wgr_model.specs.Rows.{NetworkRow}
 use Rattle.wgr_model.specs.Steps.{Ask, tenant_of_token}
 use Rattle.wgr_tables.specs.Decode.{tables_of}
 use Rattle.wgr_register.specs.Loaded.{AreFormed, AreOthersFormed, entries_of}
 use Rattle.wgr_register.proofs.AskLemmas.{nowhere, stranger}
 use Rattle.wgr_register.proofs.LoadedLemmas.{found_so, known_so, others_left, shown_so, shows_if, unless_late}
 use Rattle.wgr_register.proofs.StandLemmas.{ask_if, at_more, at_read, late_ends}
+use Rattle.sqlite.specs.Held.{state}
+use Rattle.wgr_sql.specs.Causes.{HasCause, HasCauseOr}
+use Rattle.sqlite.specs.State.{HasCleanDisk}
+use Rattle.wgr_sql.proofs.CauseLemmas.{cause_after, cause_weaker}
+use Rattle.wgr_sql.proofs.SurvivesLemmas.{survives_next}
+use Rattle.wgr_register.proofs.CauseLemmas.{fault_handed, memory_alone, stopped_after, stopped_clean}
+use Rattle.wgr_register.specs.Causes.{AskStops}
 use Rattle.wgr_register.proofs.ask.ask.Goals as goal
 
 -- ---- the token
@@ -106,3 +115,69 @@ returns-clause-formed g c db late at =
     c.act_on.ensures.formed db late c.args.digest.now c.args.name.now here
     (found_so (tables_of db) c.args.digest.now c.args.name.now c.in-Some.tenant c.in-Some-2.id c.in_ok-network.network at.consistent known named taken)
     (subst (λ l. AreOthersFormed c.in-Some-2.id l (tables_of db)) (sym c.take_network.ensures.taken) (others_left c.in-Some-2.id (entries_of c.args.loaded.now) (tables_of db) formed)))
+
+-- ---- why a reading ends by a fault
+
+pub returns-in_err-tenant-clause-cause : goal.returns-in_err-tenant-clause-cause
+returns-in_err-tenant-clause-cause g c db late at reads =
+    fault_handed (HasCause (state g.S.Store c.args.conn.now) (state g.S.Store c.tenant_of_token.new.conn)) c.from_residual.result c.in_err-tenant.field-0.0 c.from_residual.ensures.1 (c.in_err-tenant.ensures.cause db at.pending at.stands at.consistent)
+
+pub returns-in_err-id-clause-cause : goal.returns-in_err-id-clause-cause
+returns-in_err-id-clause-cause g c db late at reads =
+    let named_at = c.tenant_of_token.ensures.stands db at.pending at.stands in
+    fault_handed (HasCause (state g.S.Store c.args.conn.now) (state g.S.Store c.find_id.new.conn)) c.from_residual-in_err-id.result c.in_err-id.field-0.0 c.from_residual-in_err-id.ensures.1
+    (cause_after (state g.S.Store c.args.conn.now) (state g.S.Store c.tenant_of_token.new.conn) (state g.S.Store c.find_id.new.conn) ⊥ ⊥ (λ _. ⊥) (λ _. ⊥) c.tenant_of_token.ensures.survives c.find_id.ensures.survives (λ h. h) c.in_err-id.field-0.0 (c.in_err-id.ensures.cause db at.pending named_at at.consistent))
+
+pub returns-in_err-network-clause-cause : goal.returns-in_err-network-clause-cause
+returns-in_err-network-clause-cause g c db late at reads =
+    let named_at = c.tenant_of_token.ensures.stands db at.pending at.stands in
+    let taken_at = c.find_id.ensures.stands db at.pending named_at in
+    let there : HasCleanDisk (state g.S.Store c.take_network.new.conn) → (w : NetworkRow) × Has (tables_of db).networks w × (w.id ≡ c.in-Some-2.id) = λ clean.
+    let it = rw c.in-Some-2.is at c.in_ok-id.ensures.some db at.pending named_at (c.take_network.ensures.clean clean) in
+    (it.0, it.1, it.3) in
+    fault_handed (HasCause (state g.S.Store c.args.conn.now) (state g.S.Store c.take_network.new.conn)) c.from_residual-in_err-network.result c.in_err-network.field-0.0 c.from_residual-in_err-network.ensures.1
+    (cause_after (state g.S.Store c.args.conn.now) (state g.S.Store c.find_id.new.conn) (state g.S.Store c.take_network.new.conn) ⊥ ⊥ (λ _. ⊥) (λ _. ⊥) (survives_next _ _ _ c.tenant_of_token.ensures.survives c.find_id.ensures.survives) c.take_network.ensures.survives (λ h. h) c.in_err-network.field-0.0
+    (c.in_err-network.ensures.cause db at.pending taken_at at.consistent there))
+
+pub returns-clause-cause : goal.returns-clause-cause
+returns-clause-cause g c db late at reads = memory_alone (state g.S.Store c.args.conn.now) (state g.S.Store c.act_on.new.conn) c.act_on.result (c.act_on.ensures.memory reads)
+
+-- ---- why any ends by a fault
+
+pub returns-in_err-tenant-clause-stops : goal.returns-in_err-tenant-clause-stops
+returns-in_err-tenant-clause-stops g c db late at =
+    let why = c.in_err-tenant.field-0.0 in
+    fault_handed (HasCauseOr (AskStops (tables_of db) c.args.digest.now c.args.name.now c.args.now c.args.command.now) (state g.S.Store c.args.conn.now) (state g.S.Store c.tenant_of_token.new.conn)) c.from_residual.result why c.from_residual.ensures.1 (cause_weaker ⊥ (AskStops (tables_of db) c.args.digest.now c.args.name.now c.args.now c.args.command.now) (state g.S.Store c.args.conn.now) (state g.S.Store c.tenant_of_token.new.conn) (λ none. absurd none) why (c.in_err-tenant.ensures.cause db at.pending at.stands at.consistent))
+
+pub returns-in_err-id-clause-stops : goal.returns-in_err-id-clause-stops
+returns-in_err-id-clause-stops g c db late at =
+    let named_at = c.tenant_of_token.ensures.stands db at.pending at.stands in
+    fault_handed (HasCauseOr (AskStops (tables_of db) c.args.digest.now c.args.name.now c.args.now c.args.command.now) (state g.S.Store c.args.conn.now) (state g.S.Store c.find_id.new.conn)) c.from_residual-in_err-id.result c.in_err-id.field-0.0 c.from_residual-in_err-id.ensures.1
+    (cause_after (state g.S.Store c.args.conn.now) (state g.S.Store c.tenant_of_token.new.conn) (state g.S.Store c.find_id.new.conn) ⊥ (AskStops (tables_of db) c.args.digest.now c.args.name.now c.args.now c.args.command.now) (λ _. ⊥) (λ _. ⊥) c.tenant_of_token.ensures.survives c.find_id.ensures.survives (λ none. absurd none) c.in_err-id.field-0.0 (c.in_err-id.ensures.cause db at.pending named_at at.consistent))
+
+pub returns-in_err-network-clause-stops : goal.returns-in_err-network-clause-stops
+returns-in_err-network-clause-stops g c db late at =
+    let named_at = c.tenant_of_token.ensures.stands db at.pending at.stands in
+    let taken_at = c.find_id.ensures.stands db at.pending named_at in
+    let there : HasCleanDisk (state g.S.Store c.take_network.new.conn) → (w : NetworkRow) × Has (tables_of db).networks w × (w.id ≡ c.in-Some-2.id) = λ clean.
+    let it = rw c.in-Some-2.is at c.in_ok-id.ensures.some db at.pending named_at (c.take_network.ensures.clean clean) in
+    (it.0, it.1, it.3) in
+    fault_handed (HasCauseOr (AskStops (tables_of db) c.args.digest.now c.args.name.now c.args.now c.args.command.now) (state g.S.Store c.args.conn.now) (state g.S.Store c.take_network.new.conn)) c.from_residual-in_err-network.result c.in_err-network.field-0.0 c.from_residual-in_err-network.ensures.1
+    (cause_after (state g.S.Store c.args.conn.now) (state g.S.Store c.find_id.new.conn) (state g.S.Store c.take_network.new.conn) ⊥ (AskStops (tables_of db) c.args.digest.now c.args.name.now c.args.now c.args.command.now) (λ _. ⊥) (λ _. ⊥) (survives_next _ _ _ c.tenant_of_token.ensures.survives c.find_id.ensures.survives) c.take_network.ensures.survives (λ none. absurd none) c.in_err-network.field-0.0
+    (c.in_err-network.ensures.cause db at.pending taken_at at.consistent there))
+
+pub returns-clause-stops : goal.returns-clause-stops
+returns-clause-stops g c db late at =
+    let named_at = c.tenant_of_token.ensures.stands db at.pending at.stands in
+    let taken_at = c.find_id.ensures.stands db at.pending named_at in
+    let here = at_read g.S.Store c.args.conn.now c.take_network.new.conn db late (λ pending stood. c.take_network.ensures.stands db pending (c.find_id.ensures.stands db pending (c.tenant_of_token.ensures.stands db pending stood))) at in
+    stopped_clean (AskStops (tables_of db) c.args.digest.now c.args.name.now c.args.now c.args.command.now) (state g.S.Store c.args.conn.now) (state g.S.Store c.act_on.new.conn) c.act_on.result (λ clean.
+    let taken_clean = c.act_on.ensures.clean clean in
+    let named_clean = c.take_network.ensures.clean taken_clean in
+    let first_clean = c.find_id.ensures.clean named_clean in
+    let formed = known_so g.S.Store c.args.conn.now db at.pending (AreFormed (entries_of c.args.loaded.now)) at.stands c.requires.formed (c.tenant_of_token.ensures.clean first_clean) (c.in_ok-tenant.ensures.open first_clean) in
+    let known : tenant_of_token (tables_of db).tokens c.args.digest.now ≡ Some c.in-Some.tenant = sym (c.in_ok-tenant.ensures.found db at.pending at.stands first_clean) ∙ c.in-Some.is in
+    let named = rw c.in-Some-2.is at c.in_ok-id.ensures.some db at.pending named_at named_clean in
+    let taken = c.in_ok-network.ensures.formed db at.pending taken_at at.consistent formed taken_clean in
+    stopped_after (AskStops (tables_of db) c.args.digest.now c.args.name.now c.args.now c.args.command.now) (state g.S.Store c.args.conn.now) (state g.S.Store c.take_network.new.conn) (state g.S.Store c.act_on.new.conn) c.act_on.result (survives_next _ _ _ (survives_next _ _ _ c.tenant_of_token.ensures.survives c.find_id.ensures.survives) c.take_network.ensures.survives) c.act_on.ensures.survives
+    (c.act_on.ensures.stops db late c.args.digest.now c.args.name.now here (found_so (tables_of db) c.args.digest.now c.args.name.now c.in-Some.tenant c.in-Some-2.id c.in_ok-network.network at.consistent known named taken)))

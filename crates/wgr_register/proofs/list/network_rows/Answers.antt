@@ -3,7 +3,10 @@ use Rattle.sqlite.specs.declared.types.Value.TheVariants.{Int}
 use Rattle.wgr_sql.proofs.ResultLemmas.{if_ok}
 use Rattle.wgr_tables.proofs.ReadLemmas.{stands_read, rows_read}
 use Rattle.wgr_register.specs.Listing.{ShowNetworksOf}
-use Rattle.wgr_register.proofs.ListLemmas.{networks_asks, networks_shown, networks_text}
+use Rattle.wgr_register.proofs.ListLemmas.{networks_asks, networks_shown, networks_text, networks_answered, networks_stored}
+use Rattle.wgr_tables.specs.Decode.{network_in}
+use Rattle.wgr_tables.specs.Stored.{AreStored, stored_network}
+use Rattle.wgr_tables.proofs.AskedLemmas.{answered_here}
 use Rattle.wgr_register.proofs.list.network_rows.Goals as goal
 
 pub returns-clause-stands : goal.returns-clause-stands
@@ -12,4 +15,12 @@ returns-clause-stands g c db pending stood = stands_read g.S.Store c.args.conn.n
 pub returns-clause-listed : goal.returns-clause-listed
 returns-clause-listed g c db pending stood clean =
     if_ok c.query.result _ _ (λ rows given. rows_read g.S.Store c.args.conn.now c.query.new.conn db pending stood networks_text c.query.ensures.survives (ShowNetworksOf c.args.tenant) (Int (pos c.args.tenant) ∷ []) (λ a b register found shown. networks_shown a b register c.args.tenant found shown) clean rows.items
+    (rw c.number_value.ensures at given)) (c.query.ensures.shown clean)
+
+pub returns-clause-cause : goal.returns-clause-cause
+returns-clause-cause g c db pending stood = (rw (c.number_value.ensures) at c.query.ensures.cause) (answered_here g.S.Store c.args.conn.now c.query.new.conn db pending stood c.query.ensures.survives networks_text (Int (pos c.args.tenant) ∷ []) (λ others. networks_answered others c.args.tenant))
+
+pub returns-clause-stored : goal.returns-clause-stored
+returns-clause-stored g c db pending stood clean =
+    if_ok c.query.result _ _ (λ rows given. rows_read g.S.Store c.args.conn.now c.query.new.conn db pending stood networks_text c.query.ensures.survives (λ t. AreStored stored_network network_in) (Int (pos c.args.tenant) ∷ []) (λ a b register found shown. networks_stored a b register c.args.tenant found shown) clean rows.items
     (rw c.number_value.ensures at given)) (c.query.ensures.shown clean)

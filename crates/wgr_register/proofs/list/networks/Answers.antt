@@ -7,6 +7,10 @@ use Rattle.wgr_register.specs.Listing.{seen_by}
 use Rattle.wgr_register.proofs.ListLemmas.{holder_lists, nobody_lists}
 use Rattle.wgr_register.proofs.LoadedLemmas.{unless_late}
 use Rattle.wgr_register.proofs.StandLemmas.{at_more, at_read, ends_still, late_ends}
+use Rattle.sqlite.specs.Held.{state}
+use Rattle.wgr_sql.specs.Causes.{HasCause}
+use Rattle.wgr_sql.proofs.CauseLemmas.{cause_after}
+use Rattle.wgr_register.proofs.CauseLemmas.{fault_handed}
 use Rattle.wgr_register.proofs.list.networks.Goals as goal
 
 pub returns-in_err-tenant-clause-ends : goal.returns-in_err-tenant-clause-ends
@@ -66,3 +70,18 @@ returns-in_err-text-clause-open g c clean = unless_late c.from_residual-in_err-t
 
 pub returns-clause-open : goal.returns-clause-open
 returns-clause-open g c clean = c.in_ok-tenant.ensures.open (c.added_networks.ensures.clean clean)
+
+-- ---- why it ends by a fault
+
+pub returns-in_err-tenant-clause-cause : goal.returns-in_err-tenant-clause-cause
+returns-in_err-tenant-clause-cause g c db late at =
+    fault_handed (HasCause (state g.S.Store c.args.conn.now) (state g.S.Store c.tenant_of_token.new.conn)) c.from_residual.result c.in_err-tenant.field-0.0 c.from_residual.ensures.1 (c.in_err-tenant.ensures.cause db at.pending at.stands at.consistent)
+
+pub returns-in_err-networks-clause-cause : goal.returns-in_err-networks-clause-cause
+returns-in_err-networks-clause-cause g c db late at =
+    let mid = c.tenant_of_token.ensures.stands db at.pending at.stands in
+    fault_handed (HasCause (state g.S.Store c.args.conn.now) (state g.S.Store c.added_networks.new.conn)) c.from_residual-in_err-networks.result c.in_err-networks.field-0.0 c.from_residual-in_err-networks.ensures.1
+    (cause_after (state g.S.Store c.args.conn.now) (state g.S.Store c.tenant_of_token.new.conn) (state g.S.Store c.added_networks.new.conn) ⊥ ⊥ (λ _. ⊥) (λ _. ⊥) c.tenant_of_token.ensures.survives c.added_networks.ensures.survives (λ h. h) c.in_err-networks.field-0.0 (c.in_err-networks.ensures.cause db at.pending mid at.consistent))
+
+pub returns-in_err-text-clause-cause : goal.returns-in_err-text-clause-cause
+returns-in_err-text-clause-cause g c db late at = fault_handed (HasCause (state g.S.Store c.args.conn.now) (state g.S.Store c.added_networks.new.conn)) c.from_residual-in_err-text.result NoMemory c.from_residual-in_err-text.ensures.1 tt

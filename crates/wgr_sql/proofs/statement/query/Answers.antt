@@ -1,7 +1,8 @@
 use Rattle.std.proofs.Common.{rules, ◌≡◌, true, IsTrue, sym, subst, ◌∙◌, arith}
 use Rattle.sqlite.specs.Values.{bound}
-use Rattle.sqlite.specs.State.{HasCleanDisk}
+use Rattle.sqlite.specs.State.{HasCleanDisk, Survives}
 use Rattle.sqlite.specs.Held.{state}
+use Rattle.wgr_sql.proofs.CauseLemmas.{mapped_cause, query_cause}
 use Rattle.wgr_sql.proofs.ResultLemmas.{if_ok}
 use Rattle.wgr_sql.proofs.QueryLemmas.{shown_open, committed_same, query_open}
 use Rattle.wgr_sql.proofs.statement.query.Goals as goal
@@ -35,3 +36,13 @@ returns-clause-kept g c plain clean live =
     let was_open : IsTrue old.is_open = stays.0 in
     let whole : (state g.S.Store end).now ≡ old.now = (back.undone open_end).0 ∙ stays.1 ∙ sym (c.is_autocommit-settled.ensures.settled yes was_open) in
     (opened, subst (λ h. (state g.S.Store h).now ≡ old.now) same whole)
+
+pub returns-clause-cause : goal.returns-clause-cause
+returns-clause-cause g c answered =
+    let mid = state g.S.Store c.query_all.new.self.conn.now in
+    let start = state g.S.Store (record c.args.conn.now { in_transaction = true }) in
+    let same : c.drop-tx.new.self.0 ≡ c.conn-1.given.0 = search rules in
+    let begun = c.transaction-tx.ensures.begun in
+    let ended = subst (λ h. Survives mid (state g.S.Store h) (λ _. ⊥)) same c.drop-tx.ensures.survives in
+    mapped_cause ⊥ start (state g.S.Store c.conn-1.given.0) c.query_all.result c.map_err.result c.map_err.ensures.cases
+    (query_cause c.args.sql.now (bound c.args.values.now) start mid (state g.S.Store c.conn-1.given.0) (λ _. ⊥) ended c.query_all.result (rw begun at c.query_all.ensures.err) answered)

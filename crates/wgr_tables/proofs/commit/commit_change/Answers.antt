@@ -1,6 +1,9 @@
-use Rattle.std.proofs.Common.{rules, ◌≡◌, ℕ, ◌∷◌, sym, subst}
-use Rattle.sqlite.specs.State.{HasCleanDisk}
+use Rattle.std.proofs.Common.{rules, ◌≡◌, ℕ, ◌∷◌, sym, subst, IfErr}
+use Rattle.std.specs.Bool.{⊤}
+use Rattle.sqlite.specs.State.{HasCleanDisk, Survives}
 use Rattle.sqlite.specs.Held.{state}
+use Rattle.sqlite.proofs.StateLemmas.{survives_then}
+use Rattle.sqlite.proofs.Callers.{survives_begin}
 use Rattle.wgr_core.specs.Change.{applied}
 use Rattle.wgr_core.specs.declared.change.Change.{Change}
 use Rattle.wgr_model.specs.Laws.{Has}
@@ -13,6 +16,10 @@ use Rattle.wgr_tables.specs.Writes.{Written, Replaced}
 use Rattle.wgr_tables.specs.Standing.{IsDone, Stands}
 use Rattle.wgr_tables.proofs.Commits.{undone, done, left}
 use Rattle.wgr_tables.proofs.CommitRows.{change_replaces}
+use Rattle.wgr_sql.specs.Causes.{HasCauseOr}
+use Rattle.wgr_sql.proofs.CauseLemmas.{handed}
+use Rattle.wgr_tables.specs.Stops.{ChangeStops}
+use Rattle.wgr_tables.proofs.CommitFails.{commit_fails, undone_fails}
 use Rattle.wgr_tables.proofs.commit.commit_change.Goals as goal
 
 replaces_it : (c : Change) (t u : Tables) (w : NetworkRow) → AreConsistent t → Has t.networks w → (network : ℕ) → w.id ≡ network → ChangeMakes network c t u → Replaces network (applied c (holding_of t w).network) t u
@@ -53,3 +60,41 @@ returns-clause-fault g c db pending w stood good here is =
     (left g.S.Store c.args.conn.now c.write_change.new.tx.conn.now end db pending stood settled (rw begun at c.write_change.ensures.survives) c.commit.ensures.ended (ChangeMakes c.args.network c.args.change.now) one
     c.in_ok-write_change.field-0 (rw begun at c.in_ok-write_change.ensures.step) (λ next made. replaces_it c.args.change.now (tables_of db) (tables_of next) w good here c.args.network is made) c.commit.ensures.survives e fails))
     (push_if c.commit.result _ _ c.commit.ensures.err) c.map_err.ensures.variant
+
+pub returns-in_err-write_change-clause-cause : goal.returns-in_err-write_change-clause-cause
+returns-in_err-write_change-clause-cause g c db pending stood =
+    let end = c.drop-tx.new.self.0 in
+    let begun = c.transaction-tx.ensures.begun in
+    let same : end ≡ c.conn-1.given.0 = search rules in
+    let stops = ChangeStops c.args.network c.args.change.now in
+    handed (HasCauseOr (stops (tables_of db)) (state g.S.Store c.args.conn.now) (state g.S.Store c.conn-1.given.0)) c.from_residual.result c.in_err-write_change.field-0.0 c.from_residual.ensures.1
+    (subst (λ h. HasCauseOr (stops (tables_of db)) (state g.S.Store c.args.conn.now) (state g.S.Store h) c.in_err-write_change.field-0.0) same
+    (undone_fails g.S.Store c.args.conn.now c.write_change.new.tx.conn.now end db pending stood stops (rw begun at c.write_change.ensures.survives) c.in_err-write_change.field-0.0 c.drop-tx.ensures.survives (rw begun at c.in_err-write_change.ensures.cause)))
+
+pub returns-clause-cause : goal.returns-clause-cause
+returns-clause-cause g c db pending stood =
+    let end = c.commit.new.self.0 in
+    let begun = c.transaction-tx.ensures.begun in
+    let same : end ≡ c.conn-2-1.given.0 = search rules in
+    let stops = ChangeStops c.args.network c.args.change.now in
+    subst (λ h. IfErr c.map_err.result (HasCauseOr (stops (tables_of db)) (state g.S.Store c.args.conn.now) (state g.S.Store h))) same
+    (commit_fails g.S.Store c.args.conn.now c.write_change.new.tx.conn.now end db pending stood stops (rw begun at c.write_change.ensures.survives) (ChangeMakes c.args.network c.args.change.now) c.in_ok-write_change.field-0 (rw begun at c.in_ok-write_change.ensures.step)
+    _ c.commit.ensures.survives c.commit.result c.map_err.result c.map_err.ensures.cases c.commit.ensures.err)
+
+pub returns-in_err-write_change-clause-survives : goal.returns-in_err-write_change-clause-survives
+returns-in_err-write_change-clause-survives g c =
+    let end = c.drop-tx.new.self.0 in
+    let begun = c.transaction-tx.ensures.begun in
+    let same : end ≡ c.conn-1.given.0 = search rules in
+    let mid = state g.S.Store c.write_change.new.tx.conn.now in
+    subst (λ h. Survives (state g.S.Store c.args.conn.now) (state g.S.Store h) (λ _. ⊤)) same
+    (survives_then (state g.S.Store c.args.conn.now) mid (state g.S.Store end) (λ _. ⊥) (λ _. ⊥) (λ _. ⊤) (λ _ trees none. tt) (λ _ trees none. tt) (survives_begin g.S.Store c.args.conn.now mid (λ _. ⊥) (rw begun at c.write_change.ensures.survives)) c.drop-tx.ensures.survives)
+
+pub returns-clause-survives : goal.returns-clause-survives
+returns-clause-survives g c =
+    let end = c.commit.new.self.0 in
+    let begun = c.transaction-tx.ensures.begun in
+    let same : end ≡ c.conn-2-1.given.0 = search rules in
+    let mid = state g.S.Store c.write_change.new.tx.conn.now in
+    subst (λ h. Survives (state g.S.Store c.args.conn.now) (state g.S.Store h) (λ _. ⊤)) same
+    (survives_then (state g.S.Store c.args.conn.now) mid (state g.S.Store end) (λ _. ⊥) _ (λ _. ⊤) (λ _ trees none. tt) (λ _ trees is. tt) (survives_begin g.S.Store c.args.conn.now mid (λ _. ⊥) (rw begun at c.write_change.ensures.survives)) c.commit.ensures.survives)

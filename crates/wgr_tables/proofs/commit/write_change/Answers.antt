@@ -1,11 +1,16 @@
-use Rattle.std.proofs.Common.{arith}
+use Rattle.std.proofs.Common.{arith, Err, ℕ}
 use Rattle.sqlite.specs.State.{HasCleanDisk}
 use Rattle.sqlite.specs.Held.{state}
 use Rattle.wgr_sql.specs.Steps.{Then, Each}
 use Rattle.wgr_sql.specs.declared.fault.Fault.{Fault}
-use Rattle.wgr_sql.proofs.StepLemmas.{chain_then_step}
+use Rattle.wgr_sql.proofs.StepLemmas.{chain_then_chain, chain_then_step}
 use Rattle.wgr_tables.specs.Decode.{IsRegister, tables_of}
-use Rattle.wgr_tables.specs.TableSteps.{PeerLeaves, RouteGoes, PeersPut, RoutePuts, NextSets}
+use Rattle.wgr_tables.specs.TableSteps.{ChangeMakes, PeerLeaves, RouteGoes, PeersPut, RoutePuts, NextSets}
+use Rattle.wgr_sql.specs.Causes.{HasCauseOr}
+use Rattle.wgr_sql.proofs.CauseLemmas.{handed}
+use Rattle.wgr_tables.specs.Stops.{ChangeStops, NextStays, OneOfEach, OneOfTwo, PeerStays, PeersStayOut, RouteStays, RoutesAreNotPut}
+use Rattle.wgr_sql.proofs.SurvivesLemmas.{survives_next}
+use Rattle.wgr_tables.proofs.StopLemmas.{failed_step, first_fails, next_fails}
 use Rattle.wgr_tables.proofs.commit.write_change.Goals as goal
 
 pub returns-clause-step : goal.returns-clause-step
@@ -30,3 +35,47 @@ returns-clause-step g c clean =
     let three = chain_then_step IsRegister tables_of Fault C (Then D F) gone put end c.in_ok-put_peers.field-0 c.set_next.result (rw c.as_slice-3.ensures at (c.in_ok-put_peers.ensures.step third)) four in
     let two = chain_then_step IsRegister tables_of Fault B (Then C (Then D F)) removed gone end c.in_ok-drop_routes.field-0 c.set_next.result (rw c.as_slice-2.ensures at (c.in_ok-drop_routes.ensures.step second)) three in
     chain_then_step IsRegister tables_of Fault A (Then B (Then C (Then D F))) start removed end c.in_ok-remove_peers.field-0 c.set_next.result (rw c.as_slice.ensures at (c.in_ok-remove_peers.ensures.step first)) two
+
+pub returns-in_err-remove_peers-clause-cause : goal.returns-in_err-remove_peers-clause-cause
+returns-in_err-remove_peers-clause-cause g c inside register =
+    handed (HasCauseOr (ChangeStops c.args.network c.args.change.now (tables_of (state g.S.Store c.args.tx.now.conn.now).now)) (state g.S.Store c.args.tx.now.conn.now) (state g.S.Store c.remove_peers.new.tx.conn.now)) c.from_residual.result c.in_err-remove_peers.field-0.0 c.from_residual.ensures.1
+    ((first_fails (OneOfEach (PeerLeaves c.args.network) (PeerStays c.args.network) c.args.change.now.removed) (Each (PeerLeaves c.args.network) c.args.change.now.removed) (OneOfTwo (OneOfEach (RouteGoes c.args.network) (RouteStays c.args.network) c.args.change.now.routes_gone) (Each (RouteGoes c.args.network) c.args.change.now.routes_gone) (OneOfTwo (PeersStayOut c.args.network c.args.change.now.peers) (PeersPut c.args.network c.args.change.now.peers) (OneOfTwo (RoutesAreNotPut c.args.network c.args.change.now.routes_put) (Each (RoutePuts c.args.network) c.args.change.now.routes_put) (NextStays c.args.network c.args.change.now.next)))) (state g.S.Store c.args.tx.now.conn.now) (state g.S.Store c.args.tx.now.conn.now) (state g.S.Store c.remove_peers.new.tx.conn.now) c.in_err-remove_peers.field-0.0 (rw c.as_slice.ensures at c.in_err-remove_peers.ensures.cause)) inside register)
+
+pub returns-in_err-drop_routes-clause-cause : goal.returns-in_err-drop_routes-clause-cause
+returns-in_err-drop_routes-clause-cause g c inside register =
+    handed (HasCauseOr (ChangeStops c.args.network c.args.change.now (tables_of (state g.S.Store c.args.tx.now.conn.now).now)) (state g.S.Store c.args.tx.now.conn.now) (state g.S.Store c.drop_routes.new.tx.conn.now)) c.from_residual-in_err-drop_routes.result c.in_err-drop_routes.field-0.0 c.from_residual-in_err-drop_routes.ensures.1
+    ((next_fails (OneOfEach (PeerLeaves c.args.network) (PeerStays c.args.network) c.args.change.now.removed) (Each (PeerLeaves c.args.network) c.args.change.now.removed) (OneOfTwo (OneOfEach (RouteGoes c.args.network) (RouteStays c.args.network) c.args.change.now.routes_gone) (Each (RouteGoes c.args.network) c.args.change.now.routes_gone) (OneOfTwo (PeersStayOut c.args.network c.args.change.now.peers) (PeersPut c.args.network c.args.change.now.peers) (OneOfTwo (RoutesAreNotPut c.args.network c.args.change.now.routes_put) (Each (RoutePuts c.args.network) c.args.change.now.routes_put) (NextStays c.args.network c.args.change.now.next)))) (state g.S.Store c.args.tx.now.conn.now) (state g.S.Store c.remove_peers.new.tx.conn.now) (state g.S.Store c.drop_routes.new.tx.conn.now) {Y = ℕ} c.in_ok-remove_peers.field-0 (Err c.in_err-drop_routes.field-0.0) (λ clean. rw c.as_slice.ensures at (c.in_ok-remove_peers.ensures.step clean)) c.remove_peers.ensures.survives c.drop_routes.ensures.survives (first_fails (OneOfEach (RouteGoes c.args.network) (RouteStays c.args.network) c.args.change.now.routes_gone) (Each (RouteGoes c.args.network) c.args.change.now.routes_gone) (OneOfTwo (PeersStayOut c.args.network c.args.change.now.peers) (PeersPut c.args.network c.args.change.now.peers) (OneOfTwo (RoutesAreNotPut c.args.network c.args.change.now.routes_put) (Each (RoutePuts c.args.network) c.args.change.now.routes_put) (NextStays c.args.network c.args.change.now.next))) (state g.S.Store c.remove_peers.new.tx.conn.now) (state g.S.Store c.remove_peers.new.tx.conn.now) (state g.S.Store c.drop_routes.new.tx.conn.now) c.in_err-drop_routes.field-0.0 (rw c.as_slice-2.ensures at c.in_err-drop_routes.ensures.cause))) inside register)
+
+pub returns-in_err-put_peers-clause-cause : goal.returns-in_err-put_peers-clause-cause
+returns-in_err-put_peers-clause-cause g c inside register =
+    handed (HasCauseOr (ChangeStops c.args.network c.args.change.now (tables_of (state g.S.Store c.args.tx.now.conn.now).now)) (state g.S.Store c.args.tx.now.conn.now) (state g.S.Store c.put_peers.new.tx.conn.now)) c.from_residual-in_err-put_peers.result c.in_err-put_peers.field-0.0 c.from_residual-in_err-put_peers.ensures.1
+    ((next_fails (OneOfEach (PeerLeaves c.args.network) (PeerStays c.args.network) c.args.change.now.removed) (Each (PeerLeaves c.args.network) c.args.change.now.removed) (OneOfTwo (OneOfEach (RouteGoes c.args.network) (RouteStays c.args.network) c.args.change.now.routes_gone) (Each (RouteGoes c.args.network) c.args.change.now.routes_gone) (OneOfTwo (PeersStayOut c.args.network c.args.change.now.peers) (PeersPut c.args.network c.args.change.now.peers) (OneOfTwo (RoutesAreNotPut c.args.network c.args.change.now.routes_put) (Each (RoutePuts c.args.network) c.args.change.now.routes_put) (NextStays c.args.network c.args.change.now.next)))) (state g.S.Store c.args.tx.now.conn.now) (state g.S.Store c.remove_peers.new.tx.conn.now) (state g.S.Store c.put_peers.new.tx.conn.now) {Y = ℕ} c.in_ok-remove_peers.field-0 (Err c.in_err-put_peers.field-0.0) (λ clean. rw c.as_slice.ensures at (c.in_ok-remove_peers.ensures.step clean)) c.remove_peers.ensures.survives (survives_next _ _ _ c.drop_routes.ensures.survives c.put_peers.ensures.survives) (next_fails (OneOfEach (RouteGoes c.args.network) (RouteStays c.args.network) c.args.change.now.routes_gone) (Each (RouteGoes c.args.network) c.args.change.now.routes_gone) (OneOfTwo (PeersStayOut c.args.network c.args.change.now.peers) (PeersPut c.args.network c.args.change.now.peers) (OneOfTwo (RoutesAreNotPut c.args.network c.args.change.now.routes_put) (Each (RoutePuts c.args.network) c.args.change.now.routes_put) (NextStays c.args.network c.args.change.now.next))) (state g.S.Store c.remove_peers.new.tx.conn.now) (state g.S.Store c.drop_routes.new.tx.conn.now) (state g.S.Store c.put_peers.new.tx.conn.now) {Y = ℕ} c.in_ok-drop_routes.field-0 (Err c.in_err-put_peers.field-0.0) (λ clean. rw c.as_slice-2.ensures at (c.in_ok-drop_routes.ensures.step clean)) c.drop_routes.ensures.survives c.put_peers.ensures.survives (first_fails (PeersStayOut c.args.network c.args.change.now.peers) (PeersPut c.args.network c.args.change.now.peers) (OneOfTwo (RoutesAreNotPut c.args.network c.args.change.now.routes_put) (Each (RoutePuts c.args.network) c.args.change.now.routes_put) (NextStays c.args.network c.args.change.now.next)) (state g.S.Store c.drop_routes.new.tx.conn.now) (state g.S.Store c.drop_routes.new.tx.conn.now) (state g.S.Store c.put_peers.new.tx.conn.now) c.in_err-put_peers.field-0.0 (rw c.as_slice-3.ensures at c.in_err-put_peers.ensures.cause)))) inside register)
+
+pub returns-in_err-put_routes-clause-cause : goal.returns-in_err-put_routes-clause-cause
+returns-in_err-put_routes-clause-cause g c inside register =
+    handed (HasCauseOr (ChangeStops c.args.network c.args.change.now (tables_of (state g.S.Store c.args.tx.now.conn.now).now)) (state g.S.Store c.args.tx.now.conn.now) (state g.S.Store c.put_routes.new.tx.conn.now)) c.from_residual-in_err-put_routes.result c.in_err-put_routes.field-0.0 c.from_residual-in_err-put_routes.ensures.1
+    ((next_fails (OneOfEach (PeerLeaves c.args.network) (PeerStays c.args.network) c.args.change.now.removed) (Each (PeerLeaves c.args.network) c.args.change.now.removed) (OneOfTwo (OneOfEach (RouteGoes c.args.network) (RouteStays c.args.network) c.args.change.now.routes_gone) (Each (RouteGoes c.args.network) c.args.change.now.routes_gone) (OneOfTwo (PeersStayOut c.args.network c.args.change.now.peers) (PeersPut c.args.network c.args.change.now.peers) (OneOfTwo (RoutesAreNotPut c.args.network c.args.change.now.routes_put) (Each (RoutePuts c.args.network) c.args.change.now.routes_put) (NextStays c.args.network c.args.change.now.next)))) (state g.S.Store c.args.tx.now.conn.now) (state g.S.Store c.remove_peers.new.tx.conn.now) (state g.S.Store c.put_routes.new.tx.conn.now) {Y = ℕ} c.in_ok-remove_peers.field-0 (Err c.in_err-put_routes.field-0.0) (λ clean. rw c.as_slice.ensures at (c.in_ok-remove_peers.ensures.step clean)) c.remove_peers.ensures.survives (survives_next _ _ _ c.drop_routes.ensures.survives (survives_next _ _ _ c.put_peers.ensures.survives c.put_routes.ensures.survives)) (next_fails (OneOfEach (RouteGoes c.args.network) (RouteStays c.args.network) c.args.change.now.routes_gone) (Each (RouteGoes c.args.network) c.args.change.now.routes_gone) (OneOfTwo (PeersStayOut c.args.network c.args.change.now.peers) (PeersPut c.args.network c.args.change.now.peers) (OneOfTwo (RoutesAreNotPut c.args.network c.args.change.now.routes_put) (Each (RoutePuts c.args.network) c.args.change.now.routes_put) (NextStays c.args.network c.args.change.now.next))) (state g.S.Store c.remove_peers.new.tx.conn.now) (state g.S.Store c.drop_routes.new.tx.conn.now) (state g.S.Store c.put_routes.new.tx.conn.now) {Y = ℕ} c.in_ok-drop_routes.field-0 (Err c.in_err-put_routes.field-0.0) (λ clean. rw c.as_slice-2.ensures at (c.in_ok-drop_routes.ensures.step clean)) c.drop_routes.ensures.survives (survives_next _ _ _ c.put_peers.ensures.survives c.put_routes.ensures.survives) (next_fails (PeersStayOut c.args.network c.args.change.now.peers) (PeersPut c.args.network c.args.change.now.peers) (OneOfTwo (RoutesAreNotPut c.args.network c.args.change.now.routes_put) (Each (RoutePuts c.args.network) c.args.change.now.routes_put) (NextStays c.args.network c.args.change.now.next)) (state g.S.Store c.drop_routes.new.tx.conn.now) (state g.S.Store c.put_peers.new.tx.conn.now) (state g.S.Store c.put_routes.new.tx.conn.now) {Y = ℕ} c.in_ok-put_peers.field-0 (Err c.in_err-put_routes.field-0.0) (λ clean. rw c.as_slice-3.ensures at (c.in_ok-put_peers.ensures.step clean)) c.put_peers.ensures.survives c.put_routes.ensures.survives (first_fails (RoutesAreNotPut c.args.network c.args.change.now.routes_put) (Each (RoutePuts c.args.network) c.args.change.now.routes_put) (NextStays c.args.network c.args.change.now.next) (state g.S.Store c.put_peers.new.tx.conn.now) (state g.S.Store c.put_peers.new.tx.conn.now) (state g.S.Store c.put_routes.new.tx.conn.now) c.in_err-put_routes.field-0.0 (rw c.as_slice-4.ensures at c.in_err-put_routes.ensures.cause))))) inside register)
+
+pub returns-clause-cause : goal.returns-clause-cause
+returns-clause-cause g c = (next_fails (OneOfEach (PeerLeaves c.args.network) (PeerStays c.args.network) c.args.change.now.removed) (Each (PeerLeaves c.args.network) c.args.change.now.removed) (OneOfTwo (OneOfEach (RouteGoes c.args.network) (RouteStays c.args.network) c.args.change.now.routes_gone) (Each (RouteGoes c.args.network) c.args.change.now.routes_gone) (OneOfTwo (PeersStayOut c.args.network c.args.change.now.peers) (PeersPut c.args.network c.args.change.now.peers) (OneOfTwo (RoutesAreNotPut c.args.network c.args.change.now.routes_put) (Each (RoutePuts c.args.network) c.args.change.now.routes_put) (NextStays c.args.network c.args.change.now.next)))) (state g.S.Store c.args.tx.now.conn.now) (state g.S.Store c.remove_peers.new.tx.conn.now) (state g.S.Store c.set_next.new.tx.conn.now) c.in_ok-remove_peers.field-0 c.set_next.result (λ clean. rw c.as_slice.ensures at (c.in_ok-remove_peers.ensures.step clean)) c.remove_peers.ensures.survives (survives_next _ _ _ c.drop_routes.ensures.survives (survives_next _ _ _ c.put_peers.ensures.survives (survives_next _ _ _ c.put_routes.ensures.survives c.set_next.ensures.survives))) (next_fails (OneOfEach (RouteGoes c.args.network) (RouteStays c.args.network) c.args.change.now.routes_gone) (Each (RouteGoes c.args.network) c.args.change.now.routes_gone) (OneOfTwo (PeersStayOut c.args.network c.args.change.now.peers) (PeersPut c.args.network c.args.change.now.peers) (OneOfTwo (RoutesAreNotPut c.args.network c.args.change.now.routes_put) (Each (RoutePuts c.args.network) c.args.change.now.routes_put) (NextStays c.args.network c.args.change.now.next))) (state g.S.Store c.remove_peers.new.tx.conn.now) (state g.S.Store c.drop_routes.new.tx.conn.now) (state g.S.Store c.set_next.new.tx.conn.now) c.in_ok-drop_routes.field-0 c.set_next.result (λ clean. rw c.as_slice-2.ensures at (c.in_ok-drop_routes.ensures.step clean)) c.drop_routes.ensures.survives (survives_next _ _ _ c.put_peers.ensures.survives (survives_next _ _ _ c.put_routes.ensures.survives c.set_next.ensures.survives)) (next_fails (PeersStayOut c.args.network c.args.change.now.peers) (PeersPut c.args.network c.args.change.now.peers) (OneOfTwo (RoutesAreNotPut c.args.network c.args.change.now.routes_put) (Each (RoutePuts c.args.network) c.args.change.now.routes_put) (NextStays c.args.network c.args.change.now.next)) (state g.S.Store c.drop_routes.new.tx.conn.now) (state g.S.Store c.put_peers.new.tx.conn.now) (state g.S.Store c.set_next.new.tx.conn.now) c.in_ok-put_peers.field-0 c.set_next.result (λ clean. rw c.as_slice-3.ensures at (c.in_ok-put_peers.ensures.step clean)) c.put_peers.ensures.survives (survives_next _ _ _ c.put_routes.ensures.survives c.set_next.ensures.survives) (next_fails (RoutesAreNotPut c.args.network c.args.change.now.routes_put) (Each (RoutePuts c.args.network) c.args.change.now.routes_put) (NextStays c.args.network c.args.change.now.next) (state g.S.Store c.put_peers.new.tx.conn.now) (state g.S.Store c.put_routes.new.tx.conn.now) (state g.S.Store c.set_next.new.tx.conn.now) c.in_ok-put_routes.field-0 c.set_next.result (λ clean. rw c.as_slice-4.ensures at (c.in_ok-put_routes.ensures.step clean)) c.put_routes.ensures.survives c.set_next.ensures.survives c.set_next.ensures.cause))))
+
+pub returns-in_err-put_routes-clause-step : goal.returns-in_err-put_routes-clause-step
+returns-in_err-put_routes-clause-step g c clean =
+    let start = state g.S.Store c.args.tx.now.conn.now in
+    let removed = state g.S.Store c.remove_peers.new.tx.conn.now in
+    let gone = state g.S.Store c.drop_routes.new.tx.conn.now in
+    let put = state g.S.Store c.put_peers.new.tx.conn.now in
+    let led = state g.S.Store c.put_routes.new.tx.conn.now in
+    let third : HasCleanDisk put = omega (arith, c.put_routes.ensures.survives.clean, clean) in
+    let second : HasCleanDisk gone = omega (arith, c.put_peers.ensures.survives.clean, third) in
+    let first : HasCleanDisk removed = omega (arith, c.drop_routes.ensures.survives.clean, second) in
+    let change = c.args.change.now in
+    let A = Each (PeerLeaves c.args.network) change.removed in
+    let B = Each (RouteGoes c.args.network) change.routes_gone in
+    let C = PeersPut c.args.network change.peers in
+    let D = Each (RoutePuts c.args.network) change.routes_put in
+    let why = c.in_err-put_routes.field-0.0 in
+    let three = chain_then_chain IsRegister tables_of {Y = ℕ} Fault C D gone put led c.in_ok-put_peers.field-0 (Err why) (rw c.as_slice-3.ensures at (c.in_ok-put_peers.ensures.step third)) (c.in_err-put_routes.ensures.step clean) in
+    let two = chain_then_chain IsRegister tables_of {Y = ℕ} Fault B (Then C D) removed gone led c.in_ok-drop_routes.field-0 (Err why) (rw c.as_slice-2.ensures at (c.in_ok-drop_routes.ensures.step second)) three in
+    let one = chain_then_chain IsRegister tables_of {Y = ℕ} Fault A (Then B (Then C D)) start removed led c.in_ok-remove_peers.field-0 (Err why) (rw c.as_slice.ensures at (c.in_ok-remove_peers.ensures.step first)) two in
+    failed_step (Then A (Then B (Then C D))) (ChangeMakes c.args.network change) start led c.from_residual-in_err-put_routes.result why c.from_residual-in_err-put_routes.ensures.1 one

@@ -1,13 +1,17 @@
-use Rattle.std.proofs.Common.{◌≡◌, ◌+◌, ◌-◌, ℕ, refl, inl, arith}
+use Rattle.std.proofs.Common.{◌≡◌, ◌+◌, ◌-◌, ℕ, subst, refl, inl, arith, [], ◌∷◌, pos}
 use Rattle.wgr_text.specs.Prefix.{block, width}
 use Rattle.wgr_text.specs.declared.addr.Family.{Family}
 use Rattle.wgr_text.specs.declared.addr.Family.TheVariants.{V4, V6}
 use Rattle.wgr_pool.specs.PrefixTests.{full}
 use Rattle.sqlite.specs.Held.{state}
 use Rattle.wgr_sql.proofs.ResultLemmas.{if_ok}
-use Rattle.wgr_tables.specs.Decode.{address_kind}
+use Rattle.wgr_tables.specs.Decode.{address_kind, bytes_of}
 use Rattle.wgr_tables.proofs.AllowedLemmas.{allowed_came, fits_128}
 use Rattle.wgr_tables.proofs.Meanings.{insert_address_text, insert_address_means}
+use Rattle.sqlite.specs.declared.types.Value.TheVariants.{Blob, Int}
+use Rattle.wgr_tables.proofs.StopLemmas.{written_fails, insert_address_writes}
+use Rattle.wgr_tables.specs.Stops.{FailsBy, IsRefused}
+use Rattle.wgr_model.specs.Rows.{family_number, peer_id}
 use Rattle.wgr_tables.proofs.enter.add_address.Goals as goal
 
 -- an address at full length is the last of its prefix
@@ -28,3 +32,13 @@ returns-clause-step g c clean inside register =
         h.1,
       )) (c.execute.ensures.ran clean inside),
     )
+
+pub returns-clause-cause : goal.returns-clause-cause
+returns-clause-cause g c =
+    let network = c.args.network in
+    let address = c.args.peer.now.address in
+    let old = state g.S.Store c.args.tx.now.conn.now in
+    let new = state g.S.Store c.execute.new.tx.conn.now in
+    subst (λ hi. FailsBy (IsRefused insert_address_text (Int (pos network) ∷ Int (pos (family_number address.family)) ∷ Blob (bytes_of address.number) ∷ Int (pos (width address.family)) ∷ Blob (bytes_of hi) ∷ Int (pos (peer_id network c.args.peer.now.number)) ∷ [])) old new c.execute.result) (last_itself address.family address.number)
+    (written_fails old new insert_address_text (Int (pos network) ∷ Int (pos (family_number address.family)) ∷ Blob (bytes_of address.number) ∷ Int (pos (width address.family)) ∷ Blob (bytes_of address.number) ∷ Int (pos (peer_id network c.args.peer.now.number)) ∷ [])
+    c.execute.result (λ others. insert_address_writes others _ _ _ _ _ _) (rw (c.bytes_of-bytes.ensures, c.number.ensures.value, c.number_value.ensures, c.family_value.ensures, c.peer_id_value.ensures, c.number_value-2.ensures, c.from.ensures, c.width.ensures, c.family-family.ensures.value) at c.execute.ensures.cause))

@@ -1,7 +1,9 @@
 use Rattle.sqlite.specs.Held.{state}
 use Rattle.wgr_model.specs.Rows.{peer_row}
 use Rattle.wgr_sql.proofs.ResultLemmas.{if_ok}
-use Rattle.wgr_tables.proofs.PeerLemmas.{peer_came}
+use Rattle.wgr_tables.proofs.PeerLemmas.{peer_came, peer_params}
+use Rattle.wgr_tables.proofs.Meanings.{insert_peer_text}
+use Rattle.wgr_tables.proofs.StopLemmas.{written_fails, insert_peer_writes}
 use Rattle.wgr_tables.proofs.enter.add_peer_row.Goals as goal
 
 pub returns-clause-step : goal.returns-clause-step
@@ -15,3 +17,7 @@ returns-clause-step g c clean inside register =
         h.1,
       )) (c.execute.ensures.ran clean inside),
     )
+
+pub returns-clause-cause : goal.returns-clause-cause
+returns-clause-cause g c =
+    written_fails (state g.S.Store c.args.tx.now.conn.now) (state g.S.Store c.execute.new.tx.conn.now) insert_peer_text (peer_params (peer_row c.args.network c.args.peer.now)) c.execute.result (λ others. insert_peer_writes others _ _ _ _ _ _ _ _ _) (rw (c.peer_id_value.ensures, c.number_value.ensures, c.as_bytes.ensures.value, c.as_str.ensures.value, c.end_value.ensures, c.number_value-2.ensures, c.from.ensures, c.status_values-status.ensures.handshake, c.status_values-status.ensures.received, c.status_values-status.ensures.sent) at c.execute.ensures.cause)

@@ -1,9 +1,23 @@
 use Rattle.std.proofs.Common.{map, filter, nat_eq, ◌&&◌, sym, ap, ◌∙◌, subst, IsPermutation}
 use Rattle.wgr_sql.proofs.ResultLemmas.{if_ok}
 use Rattle.wgr_tables.specs.Decode.{tables_of, allowed_in}
+use Rattle.sqlite.specs.Held.{state}
+use Rattle.wgr_sql.specs.Causes.{HasCause}
+use Rattle.wgr_sql.proofs.CauseLemmas.{handed, never_stores}
+use Rattle.wgr_tables.specs.Stored.{stored_allowed}
+use Rattle.wgr_tables.proofs.ArrangeLemmas.{arranged_routes}
 use Rattle.wgr_tables.proofs.load.load_routes.Goals as goal
 
 pub returns-clause-rows : goal.returns-clause-rows
 returns-clause-rows g c db pending stood clean =
     let rows = c.in_ok-rows.ensures.listed db pending stood clean in
     if_ok c.routes_of.result _ _ (λ routes p. subst (IsPermutation (filter (λ a. a.is_route && nat_eq a.network c.args.network) (tables_of db).allowed)) (sym (p ∙ ap (map allowed_in) c.as_slice.ensures.value)) rows) c.routes_of.ensures.value
+
+pub returns-in_err-rows-clause-cause : goal.returns-in_err-rows-clause-cause
+returns-in_err-rows-clause-cause g c db pending n stood told = handed (HasCause (state g.S.Store c.args.conn.now) (state g.S.Store c.route_rows.new.conn)) c.from_residual.result c.in_err-rows.field-0.0 c.from_residual.ensures.1 (c.in_err-rows.ensures.cause db pending stood)
+
+pub returns-clause-cause : goal.returns-clause-cause
+returns-clause-cause g c db pending n stood told = never_stores _ (state g.S.Store c.args.conn.now) (state g.S.Store c.route_rows.new.conn) c.routes_of.result c.routes_of.ensures.only (λ clean only.
+    let id = c.args.network in
+    let found = arranged_routes id n told.rules (map allowed_in c.in_ok-rows.rows.items) (filter (λ a. a.is_route && nat_eq a.network id) (tables_of db).allowed) told.routes (c.in_ok-rows.ensures.listed db pending stood clean) in
+    only found.0 found.1 (c.as_slice.ensures.value ∙ c.in_ok-rows.ensures.stored db pending stood clean ∙ ap (map stored_allowed) found.2))

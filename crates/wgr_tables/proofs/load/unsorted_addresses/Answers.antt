@@ -8,6 +8,7 @@ use Rattle.wgr_tables.proofs.ListedLemmas.{addresses_listed}
 use Rattle.wgr_tables.proofs.Meanings.{addresses_text, addresses_asks}
 use Rattle.wgr_tables.proofs.StoredLemmas.{addresses_stored}
 use Rattle.wgr_tables.proofs.ReadLemmas.{stands_read, rows_read}
+use Rattle.wgr_tables.proofs.AskedLemmas.{answered_here, addresses_answered}
 use Rattle.wgr_tables.proofs.load.unsorted_addresses.Goals as goal
 
 pub returns-clause-stands : goal.returns-clause-stands
@@ -22,3 +23,6 @@ pub returns-clause-stored : goal.returns-clause-stored
 returns-clause-stored g c db pending stood clean =
     if_ok c.query.result _ _ (λ rows given. rows_read g.S.Store c.args.conn.now c.query.new.conn db pending stood addresses_text c.query.ensures.survives (λ t. AreStored stored_allowed allowed_in) (Int (pos c.args.network) ∷ []) (λ a b register found. addresses_stored a b register c.args.network found) clean rows.items
     (rw c.number_value.ensures at given)) (c.query.ensures.shown clean)
+
+pub returns-clause-cause : goal.returns-clause-cause
+returns-clause-cause g c db pending stood = (rw (c.number_value.ensures) at c.query.ensures.cause) (answered_here g.S.Store c.args.conn.now c.query.new.conn db pending stood c.query.ensures.survives addresses_text (Int (pos c.args.network) ∷ []) (λ others. addresses_answered others c.args.network))

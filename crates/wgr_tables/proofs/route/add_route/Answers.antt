@@ -1,11 +1,13 @@
-use Rattle.std.proofs.Common.{◌≡◌, subst, refl, inr, arith}
+use Rattle.std.proofs.Common.{◌≡◌, subst, refl, inr, arith, [], ◌∷◌, pos}
 use Rattle.wgr_text.specs.Prefix.{IsAddr}
-use Rattle.wgr_model.specs.Rows.{last_of}
+use Rattle.wgr_model.specs.Rows.{last_of, family_number, peer_id}
 use Rattle.sqlite.specs.Held.{state}
 use Rattle.wgr_sql.proofs.ResultLemmas.{if_ok}
-use Rattle.wgr_tables.specs.Decode.{route_kind}
+use Rattle.wgr_tables.specs.Decode.{route_kind, bytes_of}
 use Rattle.wgr_tables.proofs.AllowedLemmas.{allowed_came, fits_128}
 use Rattle.wgr_tables.proofs.Meanings.{insert_route_text, insert_route_means}
+use Rattle.sqlite.specs.declared.types.Value.TheVariants.{Int, Blob}
+use Rattle.wgr_tables.proofs.StopLemmas.{written_fails, insert_route_writes}
 use Rattle.wgr_tables.proofs.route.add_route.Goals as goal
 
 pub returns-clause-step : goal.returns-clause-step
@@ -22,3 +24,8 @@ returns-clause-step g c clean inside register =
           (rw (c.bytes_of-lo.ensures, c.number.ensures.value, c.number_value.ensures, c.family_value.ensures, c.family.ensures.value, c.bytes_of-hi.ensures, c.number-2.ensures.value, c.peer_id_value.ensures, c.number_value-2.ensures, c.from.ensures, c.length.ensures.value, c.address-address.ensures.value) at h.0) in
           (record { sound = came.sound; made = (real, came.made) }, h.1)) (c.execute.ensures.ran clean inside),
     )
+
+pub returns-clause-cause : goal.returns-clause-cause
+returns-clause-cause g c =
+    let last : c.span.result.hi.number ≡ (last_of c.args.prefix.now).number = omega (arith, c.span.ensures.ends.last) in
+    written_fails (state g.S.Store c.args.tx.now.conn.now) (state g.S.Store c.execute.new.tx.conn.now) insert_route_text (Int (pos c.args.network) ∷ Int (pos (family_number c.args.prefix.now.address.family)) ∷ Blob (bytes_of c.args.prefix.now.address.number) ∷ Int (pos c.args.prefix.now.length) ∷ Blob (bytes_of (last_of c.args.prefix.now).number) ∷ Int (pos (peer_id c.args.network c.args.number)) ∷ []) c.execute.result (λ others. insert_route_writes others _ _ _ _ _ _) (rw (c.bytes_of-lo.ensures, c.number.ensures.value, c.number_value.ensures, c.family_value.ensures, c.family.ensures.value, c.bytes_of-hi.ensures, c.number-2.ensures.value, c.peer_id_value.ensures, c.number_value-2.ensures, c.from.ensures, c.length.ensures.value, c.address-address.ensures.value, last) at c.execute.ensures.cause)

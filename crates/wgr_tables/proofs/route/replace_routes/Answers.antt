@@ -1,4 +1,4 @@
-use Rattle.std.proofs.Common.{◌≡◌, ℕ, [], ◌∷◌, ◌++◌, ◌+◌, take, Ok, sym, ap, subst, ◌∙◌, arith}
+use Rattle.std.proofs.Common.{◌≡◌, ℕ, [], ◌∷◌, ◌++◌, ◌+◌, take, Ok, sym, ap, subst, ◌∙◌, arith, Err}
 use Rattle.std.proofs.lemmas.List.{take_more}
 use Rattle.sqlite.specs.State.{HasCleanDisk}
 use Rattle.sqlite.specs.Held.{state}
@@ -10,6 +10,10 @@ use Rattle.wgr_text.specs.Prefix.{PrefixValue}
 use Rattle.wgr_sql.proofs.SurvivesLemmas.{survives_next}
 use Rattle.wgr_sql.proofs.StepLemmas.{loop_more}
 use Rattle.wgr_tables.specs.Decode.{IsRegister, tables_of}
+use Rattle.wgr_sql.specs.Causes.{HasCauseOr}
+use Rattle.wgr_sql.proofs.CauseLemmas.{handed}
+use Rattle.wgr_tables.specs.Stops.{RouteIsNotPut, OneOfEach}
+use Rattle.wgr_tables.proofs.StopLemmas.{loop_fails}
 use Rattle.wgr_tables.proofs.route.replace_routes.Goals as goal
 
 pub loop-route-preserved : goal.loop-route-preserved
@@ -27,3 +31,12 @@ loop-route-preserved g c =
           subst (λ l. StepsFrom {X = ℕ} {E = Fault} (Each (RoutePuts c.args.network) l) start after (Ok 0)) (sym more)
           (loop_more IsRegister tables_of Fault (RoutePuts c.args.network) (take at c.args.routes.now) d start before after c.in_ok-put_route.field-0 (c.loop-route.invariant.2 was) (c.in_ok-put_route.ensures.step clean)),
     )
+
+pub returns-in_err-put_route-clause-cause : goal.returns-in_err-put_route-clause-cause
+returns-in_err-put_route-clause-cause g c inside register =
+    let at = c.loop-route.route-index in
+    let d : PrefixValue × ℕ = c.route-item.result in
+    let before = state g.S.Store c.loop-route.tx.conn.now in
+    let more : take (at + 1) c.args.routes.now ≡ take at c.args.routes.now ++ d ∷ [] = take_more c.args.routes.now at d c.loop-route-test.true ∙ ap (λ x. take at c.args.routes.now ++ x ∷ []) (sym c.route-item.is) in
+    handed (HasCauseOr (OneOfEach (RoutePuts c.args.network) (RouteIsNotPut c.args.network) c.args.routes.now (tables_of (state g.S.Store c.args.tx.now.conn.now).now)) (state g.S.Store c.args.tx.now.conn.now) (state g.S.Store c.put_route.new.tx.conn.now)) c.from_residual.result c.in_err-put_route.field-0.0 c.from_residual.ensures.1
+    (loop_fails (RoutePuts c.args.network) (RouteIsNotPut c.args.network) c.args.routes.now at d more (state g.S.Store c.args.tx.now.conn.now) before (state g.S.Store c.put_route.new.tx.conn.now) (Err c.in_err-put_route.field-0.0) c.loop-route.invariant.2 c.loop-route.invariant.1 c.put_route.ensures.survives c.in_err-put_route.ensures.cause inside register)

@@ -12,6 +12,9 @@ use Rattle.wgr_tables.specs.Stored.{AreSettings, stored_network}
 use Rattle.wgr_tables.specs.Told.{IsTold}
 use Rattle.wgr_tables.proofs.ArrangeLemmas.{same_routes}
 use Rattle.wgr_tables.proofs.ToldLemmas.{told_settings}
+use Rattle.sqlite.specs.Held.{state}
+use Rattle.wgr_sql.specs.Causes.{HasCause}
+use Rattle.wgr_sql.proofs.CauseLemmas.{handed, cause_after}
 use Rattle.wgr_tables.proofs.told.told_network.Goals as goal
 
 pub returns-in_err-peers-clause-stands : goal.returns-in_err-peers-clause-stands
@@ -101,3 +104,12 @@ returns-in_default-4-clause-none g c db pending stood clean n told =
 
 pub returns-clause-survives : goal.returns-clause-survives
 returns-clause-survives g c = survives_next _ _ _ (survives_next _ _ _ c.network_row.ensures.survives c.told_peers.ensures.survives) c.told_routes.ensures.survives
+
+pub returns-in_err-row-clause-cause : goal.returns-in_err-row-clause-cause
+returns-in_err-row-clause-cause g c db pending stood apart = handed (HasCause (state g.S.Store c.args.conn.now) (state g.S.Store c.network_row.new.conn)) c.from_residual.result c.in_err-row.field-0.0 c.from_residual.ensures.1 (c.in_err-row.ensures.cause db pending stood apart)
+
+pub returns-in_err-peers-clause-cause : goal.returns-in_err-peers-clause-cause
+returns-in_err-peers-clause-cause g c db pending stood apart = handed (HasCause (state g.S.Store c.args.conn.now) (state g.S.Store c.told_peers.new.conn)) c.from_residual-in_err-peers.result c.in_err-peers.field-0.0 c.from_residual-in_err-peers.ensures.1 (cause_after (state g.S.Store c.args.conn.now) (state g.S.Store c.network_row.new.conn) (state g.S.Store c.told_peers.new.conn) ⊥ ⊥ (λ _. ⊥) (λ _. ⊥) c.network_row.ensures.survives c.told_peers.ensures.survives (λ h. h) c.in_err-peers.field-0.0 (c.in_err-peers.ensures.cause db pending (c.network_row.ensures.stands db pending stood)))
+
+pub returns-in_err-routes-clause-cause : goal.returns-in_err-routes-clause-cause
+returns-in_err-routes-clause-cause g c db pending stood apart = handed (HasCause (state g.S.Store c.args.conn.now) (state g.S.Store c.told_routes.new.conn)) c.from_residual-in_err-routes.result c.in_err-routes.field-0.0 c.from_residual-in_err-routes.ensures.1 (cause_after (state g.S.Store c.args.conn.now) (state g.S.Store c.network_row.new.conn) (state g.S.Store c.told_routes.new.conn) ⊥ ⊥ (λ _. ⊥) (λ _. ⊥) c.network_row.ensures.survives (survives_next _ _ _ c.told_peers.ensures.survives c.told_routes.ensures.survives) (λ h. h) c.in_err-routes.field-0.0 (cause_after (state g.S.Store c.network_row.new.conn) (state g.S.Store c.told_peers.new.conn) (state g.S.Store c.told_routes.new.conn) ⊥ ⊥ (λ _. ⊥) (λ _. ⊥) c.told_peers.ensures.survives c.told_routes.ensures.survives (λ h. h) c.in_err-routes.field-0.0 (c.in_err-routes.ensures.cause db pending (c.told_peers.ensures.stands db pending (c.network_row.ensures.stands db pending stood)))))

@@ -8,6 +8,9 @@ use Rattle.wgr_tables.specs.Stored.{stored_allowed, stored_peer}
 use Rattle.wgr_tables.specs.Told.{IsTold}
 use Rattle.wgr_tables.proofs.ArrangeLemmas.{arranged_peers, kept_peers, peers_once}
 use Rattle.wgr_tables.proofs.ToldLemmas.{err_as, none_as, told_as}
+use Rattle.sqlite.specs.Held.{state}
+use Rattle.wgr_sql.specs.Causes.{HasCause}
+use Rattle.wgr_sql.proofs.CauseLemmas.{handed, cause_after}
 use Rattle.wgr_tables.proofs.told.told_peers.Goals as goal
 
 pub returns-in_err-addresses-clause-stands : goal.returns-in_err-addresses-clause-stands
@@ -55,3 +58,9 @@ returns-clause-none g c db pending stood clean =
     (c.as_slice.ensures.value ∙ c.in_ok-rows.ensures.stored db pending stood before ∙ ap (map stored_peer) (typed n told))
     (c.as_slice-2.ensures.value ∙ c.in_ok-addresses.ensures.stored db pending next clean ∙ ap (map stored_allowed) (owned n told))) c.peers_of.ensures.only)
     c.told.ensures.none
+
+pub returns-in_err-rows-clause-cause : goal.returns-in_err-rows-clause-cause
+returns-in_err-rows-clause-cause g c db pending stood = handed (HasCause (state g.S.Store c.args.conn.now) (state g.S.Store c.peer_rows.new.conn)) c.from_residual.result c.in_err-rows.field-0.0 c.from_residual.ensures.1 (c.in_err-rows.ensures.cause db pending stood)
+
+pub returns-in_err-addresses-clause-cause : goal.returns-in_err-addresses-clause-cause
+returns-in_err-addresses-clause-cause g c db pending stood = handed (HasCause (state g.S.Store c.args.conn.now) (state g.S.Store c.address_rows.new.conn)) c.from_residual-in_err-addresses.result c.in_err-addresses.field-0.0 c.from_residual-in_err-addresses.ensures.1 (cause_after (state g.S.Store c.args.conn.now) (state g.S.Store c.peer_rows.new.conn) (state g.S.Store c.address_rows.new.conn) ⊥ ⊥ (λ _. ⊥) (λ _. ⊥) c.peer_rows.ensures.survives c.address_rows.ensures.survives (λ h. h) c.in_err-addresses.field-0.0 (c.in_err-addresses.ensures.cause db pending (c.peer_rows.ensures.stands db pending stood)))

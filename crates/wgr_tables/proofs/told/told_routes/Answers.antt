@@ -8,6 +8,9 @@ use Rattle.wgr_tables.specs.Stored.{stored_allowed}
 use Rattle.wgr_tables.specs.Told.{IsTold}
 use Rattle.wgr_tables.proofs.ArrangeLemmas.{arranged_routes}
 use Rattle.wgr_tables.proofs.ToldLemmas.{err_as, none_as, told_as}
+use Rattle.sqlite.specs.Held.{state}
+use Rattle.wgr_sql.specs.Causes.{HasCause}
+use Rattle.wgr_sql.proofs.CauseLemmas.{handed}
 use Rattle.wgr_tables.proofs.told.told_routes.Goals as goal
 
 pub returns-clause-rows : goal.returns-clause-rows
@@ -26,3 +29,6 @@ returns-clause-none g c db pending stood clean =
     let found = arranged_routes id n told.rules (map allowed_in c.in_ok-rows.rows.items) (filter (λ a. a.is_route && nat_eq a.network id) t.allowed) told.routes (c.in_ok-rows.ensures.listed db pending stood clean) in
     only is found.0 found.1 (c.as_slice.ensures.value ∙ c.in_ok-rows.ensures.stored db pending stood clean ∙ ap (map stored_allowed) found.2)) c.routes_of.ensures.only)
     c.told.ensures.none
+
+pub returns-in_err-rows-clause-cause : goal.returns-in_err-rows-clause-cause
+returns-in_err-rows-clause-cause g c db pending stood = handed (HasCause (state g.S.Store c.args.conn.now) (state g.S.Store c.route_rows.new.conn)) c.from_residual.result c.in_err-rows.field-0.0 c.from_residual.ensures.1 (c.in_err-rows.ensures.cause db pending stood)

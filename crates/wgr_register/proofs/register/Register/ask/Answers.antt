@@ -6,6 +6,9 @@ use Rattle.wgr_register.specs.Loaded.{AreFormed, Shows, entries_of}
 use Rattle.wgr_register.specs.Standing.{StandsAt}
 use Rattle.wgr_register.proofs.LoadedLemmas.{unless_map}
 use Rattle.wgr_register.proofs.StandLemmas.{ask_somewhere}
+use Rattle.wgr_sql.specs.Causes.{HasCause, HasCauseOr}
+use Rattle.wgr_register.specs.Causes.{IfFault, AskStops}
+use Rattle.wgr_register.proofs.CauseLemmas.{asked_clean}
 use Rattle.wgr_register.proofs.register.Register.ask.Goals as goal
 
 pub ask-answered-requires-clause-formed : goal.ask-answered-requires-clause-formed
@@ -29,3 +32,17 @@ invariant_of-self g c = (
 
 pub returns-clause-ends : goal.returns-clause-ends
 returns-clause-ends g c db late at = c.ask-answered.ensures.ends db late (subst (λ h. StandsAt g.S.Store h db late) (sym c.self.view_is) at)
+
+pub returns-clause-cause : goal.returns-clause-cause
+returns-clause-cause g c reads =
+    let new = state g.S.Store c.ask-answered.new.conn in
+    subst (λ h. IfFault (HasCause (state g.S.Store h) new) c.ask-answered.result) c.self.view_is
+    (asked_clean (state g.S.Store c.self.inside.conn) new c.ask-answered.result (λ clean.
+    let held = c.self.invariant.0.somewhere (c.ask-answered.ensures.clean clean) in
+    c.ask-answered.ensures.cause held.0 held.1 held.2 reads))
+
+pub returns-clause-stops : goal.returns-clause-stops
+returns-clause-stops g c db late at =
+    let new = state g.S.Store c.ask-answered.new.conn in
+    subst (λ h. IfFault (HasCauseOr (AskStops (tables_of db) c.args.digest.now c.args.name.now c.args.now c.args.command.now) (state g.S.Store h) new) c.ask-answered.result) c.self.view_is
+    (c.ask-answered.ensures.stops db late (subst (λ h. StandsAt g.S.Store h db late) (sym c.self.view_is) at))

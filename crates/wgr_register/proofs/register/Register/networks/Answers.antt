@@ -6,6 +6,9 @@ use Rattle.wgr_register.specs.Loaded.{AreFormed, entries_of}
 use Rattle.wgr_register.specs.Standing.{StandsAt}
 use Rattle.wgr_register.proofs.LoadedLemmas.{known_so, unless_map}
 use Rattle.wgr_register.proofs.StandLemmas.{ask_somewhere}
+use Rattle.wgr_sql.specs.Causes.{HasCause}
+use Rattle.wgr_register.specs.Causes.{IfFault}
+use Rattle.wgr_register.proofs.CauseLemmas.{asked_clean}
 use Rattle.wgr_register.proofs.register.Register.networks.Goals as goal
 
 pub invariant_of-self : goal.invariant_of-self
@@ -29,3 +32,11 @@ invariant_of-self g c = (
 
 pub returns-clause-ends : goal.returns-clause-ends
 returns-clause-ends g c db late now at = c.networks-answered.ensures.ends db late now (subst (λ h. StandsAt g.S.Store h db late) (sym c.self.view_is) at)
+
+pub returns-clause-cause : goal.returns-clause-cause
+returns-clause-cause g c =
+    let new = state g.S.Store c.networks-answered.new.conn in
+    subst (λ h. IfFault (HasCause (state g.S.Store h) new) c.networks-answered.result) c.self.view_is
+    (asked_clean (state g.S.Store c.self.inside.conn) new c.networks-answered.result (λ clean.
+    let held = c.self.invariant.0.somewhere (c.networks-answered.ensures.clean clean) in
+    c.networks-answered.ensures.cause held.0 held.1 held.2))

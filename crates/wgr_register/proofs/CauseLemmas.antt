@@ -1,0 +1,189 @@
+-- Causes of the faults of asks.
+use Rattle.std.proofs.Common.{◌≡◌, ◌<◌, ◌||◌, ℕ, zero, suc, length, slice_index_or, Bool, true, false, not, List, [], ◌∷◌, map, nat_eq, Option, Some, None, Ok, Err, Result, IfErr, IsErrAnd, is_some, inl, inr, refl, sym, ap, subst, ◌∙◌, arith, true≢false, eqb-true}
+use Rattle.std.specs.List.{AllByRecursion, IsDistinct}
+use Rattle.std.specs.declared.vec.Vec.{Vec}
+use Rattle.std.specs.declared.alloc.Global.{Global}
+use Rattle.std.proofs.lemmas.List.Sorted.{IsPermutation-sym}
+use Rattle.sqlite.specs.Order.{Row}
+use Rattle.sqlite.specs.State.{State, HasCleanDisk, Survives}
+use Rattle.sqlite_rules.specs.Lists as rules
+use Rattle.wgr_core.specs.Network.{NetworkValue}
+use Rattle.wgr_core.specs.declared.fault.ActFault.{ActFault}
+use Rattle.wgr_core.specs.declared.fault.ActFault.TheVariants as act_fault
+use Rattle.wgr_model.specs.Consistent.{IsTenant, has_tenant}
+use Rattle.wgr_model.specs.Laws.{Has}
+use Rattle.wgr_model.specs.Register.{Bytes, Tenant}
+use Rattle.wgr_model.specs.RowLaws.{AreConsistent}
+use Rattle.wgr_model.specs.Rows.{NetworkRow, Tables, holding_of}
+use Rattle.wgr_model.proofs.CollectLemmas.{has_map}
+use Rattle.wgr_model.proofs.GatherLemmas.{eqb_self}
+use Rattle.wgr_model.proofs.HolderLemmas.{one_or_apart}
+use Rattle.wgr_model.proofs.OrderLemmas.{from_filter}
+use Rattle.wgr_model.proofs.SameLemmas.{at_has, eqb_sym, has_permutation}
+use Rattle.wgr_sql.specs.Causes.{HasCause, HasCauseOr}
+use Rattle.wgr_sql.proofs.CauseLemmas.{cause_after}
+use Rattle.wgr_sql.proofs.SurvivesLemmas.{survives_still}
+use Rattle.sqlite.proofs.StateLemmas.{survives_weaker}
+use Rattle.std.specs.Bool.{⊤}
+use Rattle.wgr_core.specs.Change.{Meets}
+use Rattle.wgr_core.specs.Outcome.{is_reading, outcome_of}
+use Rattle.wgr_core.specs.declared.change.Change.{Change}
+use Rattle.wgr_core.specs.declared.command.Command.{Command}
+use Rattle.wgr_core.specs.declared.reply.Reply.{Reply}
+use Rattle.wgr_sql.specs.declared.fault.Fault.{Fault}
+use Rattle.wgr_sql.specs.declared.fault.Fault.TheVariants.{NoMemory, Store}
+use Rattle.wgr_tables.specs.Decode.{network_in}
+use Rattle.wgr_tables.specs.Stored.{AreSettings, AreStored, IsKeptNetwork, stored_network}
+use Rattle.wgr_tables.specs.Told.{IsTold}
+use Rattle.wgr_tables.proofs.ToldLemmas.{told_settings}
+use Rattle.wgr_whole.proofs.ConsistentLemmas.{consistent_is_whole, holding}
+use Rattle.wgr_register.specs.Causes.{AskStops, IfFault, StopsIf}
+use Rattle.wgr_register.specs.Ends.{IsFound, ask_fault}
+use Rattle.wgr_register.specs.Listing.{ShowNetworksOf}
+use Rattle.wgr_register.specs.declared.fault.AskFault.{AskFault}
+use Rattle.wgr_register.specs.declared.fault.AskFault.TheVariants as fault
+
+-- ---- results
+
+-- a fault of the store may be taken to come while the disk is clean
+pub if_clean : {X : Type 0} (old new : State) (r : Result X Fault) → (HasCleanDisk new → IfErr r (HasCause old new)) → IfErr r (HasCause old new)
+if_clean old new (Ok x) h = tt
+if_clean old new (Err NoMemory) h = tt
+if_clean old new (Err Store) h = λ clean. h clean clean
+
+pub asked_clean : (old new : State) (r : Result (Vec ℕ Global) AskFault) → (HasCleanDisk new → IfFault (HasCause old new) r) → IfFault (HasCause old new) r
+asked_clean old new (Ok text) h = tt
+asked_clean old new (Err (fault.Refused why)) h = tt
+asked_clean old new (Err fault.UnknownToken) h = tt
+asked_clean old new (Err fault.NoSuchNetwork) h = tt
+asked_clean old new (Err (fault.Fault NoMemory)) h = tt
+asked_clean old new (Err (fault.Fault Store)) h = λ clean. h clean clean
+
+-- a fault that is handed on
+pub fault_handed : (P : Fault → Type 0) (r : Result (Vec ℕ Global) AskFault) (why : Fault) → IsErrAnd r (λ e. e ≡ fault.Fault why) → P why → IfFault P r
+fault_handed P (Ok text) why is h = tt
+fault_handed P (Err (fault.Refused other)) why is h = tt
+fault_handed P (Err fault.UnknownToken) why is h = tt
+fault_handed P (Err fault.NoSuchNetwork) why is h = tt
+fault_handed P (Err (fault.Fault other)) why is h = let same : other ≡ why = cc in subst P (sym same) h
+
+-- want of memory is no fault of the store
+pub memory_alone : (old new : State) (r : Result (Vec ℕ Global) AskFault) → IfFault (λ why. why ≡ NoMemory) r → IfFault (HasCause old new) r
+memory_alone old new (Ok text) h = tt
+memory_alone old new (Err (fault.Refused why)) h = tt
+memory_alone old new (Err fault.UnknownToken) h = tt
+memory_alone old new (Err fault.NoSuchNetwork) h = tt
+memory_alone old new (Err (fault.Fault NoMemory)) h = tt
+memory_alone old new (Err (fault.Fault Store)) h = absurd (let e = h in cc)
+
+pub undone_memory : (e : AskFault) (why : ActFault) → e ≡ ask_fault why → IfFault (λ w. w ≡ NoMemory) (Err e)
+undone_memory (fault.Refused other) why is = tt
+undone_memory fault.UnknownToken why is = tt
+undone_memory fault.NoSuchNetwork why is = tt
+undone_memory (fault.Fault other) act_fault.NoMemory is = cc
+undone_memory (fault.Fault other) (act_fault.Refused why) is = absurd (let e = is in cc)
+
+-- the same where something else may stop it
+pub stopped_clean : (P : Type 0) (old new : State) (r : Result (Vec ℕ Global) AskFault) → (HasCleanDisk new → IfFault (HasCauseOr P old new) r) → IfFault (HasCauseOr P old new) r
+stopped_clean P old new (Ok text) h = tt
+stopped_clean P old new (Err (fault.Refused why)) h = tt
+stopped_clean P old new (Err fault.UnknownToken) h = tt
+stopped_clean P old new (Err fault.NoSuchNetwork) h = tt
+stopped_clean P old new (Err (fault.Fault NoMemory)) h = tt
+stopped_clean P old new (Err (fault.Fault Store)) h = λ clean. h clean clean
+
+pub stopped_after : (P : Type 0) (old mid new : State) (r : Result (Vec ℕ Global) AskFault) → Survives old mid (λ _. ⊥) → Survives mid new (λ _. ⊤) → IfFault (HasCauseOr P mid new) r → IfFault (HasCauseOr P old new) r
+stopped_after P old mid new (Ok text) s t h = tt
+stopped_after P old mid new (Err (fault.Refused why)) s t h = tt
+stopped_after P old mid new (Err fault.UnknownToken) s t h = tt
+stopped_after P old mid new (Err fault.NoSuchNetwork) s t h = tt
+stopped_after P old mid new (Err (fault.Fault why)) s t h = cause_after old mid new P P (λ _. ⊥) (λ _. ⊤) s t (λ p. p) why h
+
+pub memory_stops : (P : Type 0) (old new : State) (r : Result (Vec ℕ Global) AskFault) → IfFault (λ why. why ≡ NoMemory) r → IfFault (HasCauseOr P old new) r
+memory_stops P old new (Ok text) h = tt
+memory_stops P old new (Err (fault.Refused why)) h = tt
+memory_stops P old new (Err fault.UnknownToken) h = tt
+memory_stops P old new (Err fault.NoSuchNetwork) h = tt
+memory_stops P old new (Err (fault.Fault NoMemory)) h = tt
+memory_stops P old new (Err (fault.Fault Store)) h = absurd (let e = h in cc)
+
+pub survives_as_is : (a : State) → Survives a a (λ _. ⊤)
+survives_as_is a = survives_weaker a a (λ _. ⊥) (λ _. ⊤) (λ _ trees none. tt) (survives_still a)
+
+pub ask_stops : (t : Tables) (digest name : Bytes) (now : ℕ) (command : Command) (id : ℕ) (network : NetworkValue) (found : IsFound t digest name id network) (reply : Reply) (change : Option Change)
+    → Meets network (Ok (reply, change)) (outcome_of network now command) → is_some change ≡ not (is_reading command) → StopsIf id change t → AskStops t digest name now command
+ask_stops t digest name now command id network found reply None made changes stops = absurd stops
+ask_stops t digest name now command id network found reply (Some change) made changes stops = record {
+  changes = reads (is_reading command) (sym changes);
+  id = id;
+  network = network;
+  found = found;
+  reply = reply;
+  change = change;
+  made = made;
+  stops = stops;
+}
+  where
+    reads : (b : Bool) → not b ≡ true → b ≡ false
+    reads true is = absurd (true≢false (sym is))
+    reads false is = refl
+
+-- ---- rows of a consistent register
+
+pub has_at : {X : Type 0} (xs : List X) (k : ℕ) (x : X) → k < length xs → x ≡ slice_index_or xs k x → rules.Has xs x
+has_at [] k x low is = absurd (omega (arith, low))
+has_at (y ∷ xs) zero x low is = inl is
+has_at (y ∷ xs) (suc k) x low is = inr (has_at xs k x (omega (arith, low)) is)
+
+module _ (t : Tables) (good : AreConsistent t) where
+  pub ids_apart : IsDistinct nat_eq (map (λ w. w.id) t.networks)
+  ids_apart = (consistent_is_whole t good).networks.ids
+
+  pub one_network : (w x : NetworkRow) → Has t.networks w → Has t.networks x → w.id ≡ x.id → w ≡ x
+  one_network w x here there same = elim (one_or_apart (λ (y : NetworkRow). y.id) nat_eq eqb_sym t.networks w x ids_apart here there) [
+    | inl equal ↦ equal
+    | inr other ↦ absurd (true≢false (sym (eqb_self x.id) ∙ sym (ap (λ i. nat_eq i x.id) same) ∙ other))
+  ]
+
+  settings_at : (w : NetworkRow) → Has t.networks w → AreSettings w
+  settings_at w here =
+      let told = (consistent_is_whole t good).told w here in
+      subst AreSettings (one_network told.1.row w told.1.there here told.1.id_is) (told_settings t w.id told.0 told.1)
+
+  holder_low : (ts : List Tenant) (id : ℕ) → AllByRecursion IsTenant ts → has_tenant ts id ≡ true → id < 4294967296
+  holder_low [] id all h = absurd cc
+  holder_low (x ∷ ts) id all h = go (nat_eq id x.id) refl h (holder_low ts id all.1)
+    where
+      go : (b : Bool) → nat_eq id x.id ≡ b → (b || has_tenant ts id) ≡ true → (has_tenant ts id ≡ true → id < 4294967296) → id < 4294967296
+      go true is h later = subst (λ n. n < 4294967296) (sym (eqb-true id x.id is)) (omega (arith, all.0.id.1))
+      go false is h later = later h
+
+  kept : (w : NetworkRow) → Has t.networks w → IsKeptNetwork w
+  kept w here =
+      let it = holding t good w here in
+      record {
+        settings = settings_at w here;
+        id = omega (arith, it.id.1);
+        tenant = holder_low t.tenants w.tenant good.consistent.tenants (at_has (λ x. has_tenant t.tenants x.tenant ≡ true) (map (holding_of t) t.networks) (holding_of t w) good.consistent.network_tenants (has_map (holding_of t) t.networks w here));
+        name = it.name;
+      }
+
+  stored_each : (rows : List Row) → AreStored stored_network network_in rows → (r : Row) → rules.Has rows r → r ≡ stored_network (network_in r)
+  stored_each [] are r h = absurd h
+  stored_each (x ∷ rows) are r (inl same) = let first : x ≡ stored_network (network_in x) = cc in same ∙ first ∙ ap (λ y. stored_network (network_in y)) (sym same)
+  stored_each (x ∷ rows) are r (inr h) = stored_each rows (let rest : rows ≡ map stored_network (map network_in rows) = cc in rest) r h
+
+  in_map : (rows : List Row) (r : Row) → rules.Has rows r → Has (map network_in rows) (network_in r)
+  in_map [] r h = absurd h
+  in_map (x ∷ rows) r (inl same) = inl (ap network_in (sym same))
+  in_map (x ∷ rows) r (inr h) = inr (in_map rows r h)
+
+  -- each row of a tenant's networks is stored as the register writes it
+  pub rows_kept : (tenant : ℕ) (rows : List Row) → ShowNetworksOf tenant t rows → AreStored stored_network network_in rows → (r : Row) → rules.Has rows r → (w : NetworkRow) × IsKeptNetwork w × (r ≡ stored_network w)
+  rows_kept tenant rows shows stored r h =
+      let there = from_filter (λ w. nat_eq w.tenant tenant) t.networks (network_in r) (has_permutation (map network_in rows) _ (network_in r) (IsPermutation-sym _ _ shows) (in_map rows r h)) in
+      (network_in r, kept (network_in r) there.0, stored_each rows stored r h)
+
+  -- the rows of a network that is there tell it
+  pub told_at : (w : NetworkRow) → Has t.networks w → (id : ℕ) → w.id ≡ id → (n : NetworkValue) × IsTold t id n
+  told_at w here id is = subst (λ i. (n : NetworkValue) × IsTold t i n) is ((consistent_is_whole t good).told w here)
