@@ -54,7 +54,7 @@ pub(crate) fn make<S: Start>(
 
 /// Puts all that was committed into the file of the database itself, and gives both files back; none
 /// where that fails.
-pub fn close<D: Disk + Drop>(conn: Connection<FileStore<D>>) -> Option<Files<D>>
+pub(crate) fn close<D: Disk + Drop>(conn: Connection<FileStore<D>>) -> Option<Files<D>>
     requires idle { conn.in_transaction ≡ false }
     ensures { IsClosedTo D.Disk result conn }
 {

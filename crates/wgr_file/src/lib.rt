@@ -10,10 +10,10 @@ mod laws;
 mod opening;
 mod order;
 
-pub use database::{Closed, close};
+pub use database::Closed;
 pub use laws::{
     closed_is_in_files, copies_have_all, found_is_told, made_is_in_files, next_finds_the_last,
     orders_end_in_files, tell_honest, unknown_is_empty,
 };
-pub use opening::{Unopened, make_register, open_register};
+pub use opening::{Unopened, close, make_register, open_register};
 pub use order::operate;

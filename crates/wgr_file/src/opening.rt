@@ -1,10 +1,10 @@
-//! A register that is found or made in files.
+//! A register that is found or made in files, and closed.
 ghost use Rattle.std.specs.Prelude.{◌≡◌, Err, IfErr, IfOk, None};
 ghost use Rattle.sqlite.specs.WalFiles.{image_at};
-ghost use Rattle.wgr_file.specs.OnFiles.{IsMade, IsOpen, Stays};
+ghost use Rattle.wgr_file.specs.OnFiles.{IsClosedTo, IsMade, IsOpen, Stays};
 
 use crate::database::{self, Closed};
-use sqlite::{Connection, FileFrom, FileStore, Start};
+use sqlite::{Connection, FileFrom, FileStore, Files, Start};
 use sqlite_disk::Disk;
 use wgr_register::{OpenFault, Register, RegisterFault, register_fault};
 
@@ -53,15 +53,21 @@ pub fn make_register<S: Start>(
         Err(why) => return nothing_opened(register_fault(why)),
     };
     match Register::create(conn) {
-        Ok(register) => {
-            register.tell_rules();
-            Ok(database::close(register.into_connection()))
-        }
+        Ok(register) => Ok(close(register)),
         Err(OpenFault { fault, connection }) => Err(Unopened {
             fault,
             files: database::close(connection),
         }),
     }
+}
+
+/// Puts all that was committed into the file of the database itself, and gives both files back; none
+/// where that fails.
+pub fn close<D: Disk + Drop>(register: Register<FileStore<D>>) -> Option<Files<D>>
+    ensures { IsClosedTo D.Disk result register }
+{
+    register.tell_rules();
+    database::close(register.into_connection())
 }
 
 // No file was opened, or what was is closed.

@@ -3,8 +3,8 @@ ghost use Rattle.std.specs.Prelude.{IfErr, IfOk};
 ghost use Rattle.sqlite.specs.WalFiles.{image_at};
 ghost use Rattle.wgr_file.specs.OnFiles.{HasEnded, Stays};
 
-use crate::database::{self, Closed};
-use crate::opening::{Unopened, open_register};
+use crate::database::Closed;
+use crate::opening::{Unopened, close, open_register};
 use sqlite::{FileFrom, Start};
 use sqlite_disk::Disk;
 use wgr_register::{Done, Order, OrderFault};
@@ -22,7 +22,5 @@ pub fn operate<S: Start>(
 {
     let mut register = open_register(rt, path, start)?;
     let ended = register.operate(rt.alloc(), order);
-    register.tell_rules();
-    let files = database::close(register.into_connection());
-    Ok((ended, files))
+    Ok((ended, close(register)))
 }

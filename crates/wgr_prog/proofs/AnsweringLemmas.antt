@@ -16,6 +16,7 @@ use Rattle.wgr_office.specs.declared.answer.Answer as given
 use Rattle.wgr_office.specs.declared.run.Event as event
 use Rattle.wgr_office.specs.Serving.{reply_of}
 use Rattle.wgr_service.specs.Batch.{IsBatch, IsCut, is_available}
+use Rattle.wgr_service.specs.Network.{Log}
 use Rattle.wgr_prog.specs.declared.register_words.Failure.{Failure}
 use Rattle.wgr_prog.specs.declared.register_words.Failure.TheVariants as failure
 use Rattle.wgr_prog.specs.declared.request_words.Serving.{Serving}
@@ -34,6 +35,8 @@ module _ {D : Type 0} (g : disk.Ghosts D) (start : Image) (closed : Option (File
     answered : (answers : List given.Answer) → IsBatch over_files register left asked answers → HasAnswered g start closed asked answers
     answered answers batch = record {
       each = batch.0;
+      register = register;
+      opened = is_open;
       left = left;
       closed_to = closed_to;
       run = λ is. let o = is_open (clean is) in (o.0, o.1, batch.1 o.0 [] o.2 is);
@@ -57,20 +60,20 @@ module _ {D : Type 0} (g : disk.Ghosts D) (start : Image) (closed : Option (File
 
   -- ---- connections
 
-  pub serves_all : (register left : Held (FileStore D g)) (s : Serving) (old new : Output) (r : Result (Unit {0}) Failure) → IsOpen start register → IsClosedTo g closed left
-      → Listens register left s.count s.moment old new r → ServesAll g start closed s old new r
-  serves_all register left s old new (Ok done) is_open closed_to listens =
-      (record { register = register; opened = is_open; left = left; closed_to = closed_to; clean = listens.0; outcomes = listens.1.0; served = listens.1.1 }, listens.2, listens.3)
-  serves_all register left s old new (Err (failure.Field f)) is_open closed_to listens = absurd listens
-  serves_all register left s old new (Err (failure.Refused why)) is_open closed_to listens = absurd listens
-  serves_all register left s old new (Err (failure.Register why)) is_open closed_to listens = absurd listens
-  serves_all register left s old new (Err failure.Device) is_open closed_to listens = (listens.1, stays_open register left start closed is_open listens.0 closed_to)
+  pub serves_all : (register left : Held (FileStore D g)) (s : Serving) (before after : Log) (old new : Output) (r : Result (Unit {0}) Failure) → IsOpen start register → IsClosedTo g closed left
+      → Listens register left s before after old new r → ServesAll g start closed s before after old new r
+  serves_all register left s before after old new (Ok done) is_open closed_to listens =
+      (record { register = register; opened = is_open; left = left; closed_to = closed_to; clean = listens.0; outcomes = listens.1.0; served = listens.1.1; listened = listens.1.2 }, listens.2, listens.3)
+  serves_all register left s before after old new (Err (failure.Field f)) is_open closed_to listens = absurd listens
+  serves_all register left s before after old new (Err (failure.Refused why)) is_open closed_to listens = absurd listens
+  serves_all register left s before after old new (Err (failure.Register why)) is_open closed_to listens = absurd listens
+  serves_all register left s before after old new (Err failure.Device) is_open closed_to listens = (listens.1, stays_open register left start closed is_open listens.0 closed_to)
 
   -- where the words spell what to serve
-  pub ends_serve : (place count : List ℕ) (now : Option (List ℕ)) (s : Serving) → IsServing place count now s → (old new : Output) (r : Result (Unit {0}) Failure) → ServesAll g start closed s old new r
-      → EndsServe g start closed place count now old new r
-  ends_serve place count now s spelled old new (Ok done) serves = (s, spelled, serves)
-  ends_serve place count now s spelled old new (Err (failure.Field f)) serves = absurd serves
-  ends_serve place count now s spelled old new (Err (failure.Refused why)) serves = absurd serves
-  ends_serve place count now s spelled old new (Err (failure.Register why)) serves = serves
-  ends_serve place count now s spelled old new (Err failure.Device) serves = serves
+  pub ends_serve : (place count : List ℕ) (now : Option (List ℕ)) (s : Serving) → IsServing place count now s → (before after : Log) (old new : Output) (r : Result (Unit {0}) Failure) → ServesAll g start closed s before after old new r
+      → EndsServe g start closed place count now before after old new r
+  ends_serve place count now s spelled before after old new (Ok done) serves = (s, spelled, serves)
+  ends_serve place count now s spelled before after old new (Err (failure.Field f)) serves = absurd serves
+  ends_serve place count now s spelled before after old new (Err (failure.Refused why)) serves = absurd serves
+  ends_serve place count now s spelled before after old new (Err (failure.Register why)) serves = serves
+  ends_serve place count now s spelled before after old new (Err failure.Device) serves = (s, spelled, serves)

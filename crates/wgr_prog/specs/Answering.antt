@@ -11,13 +11,14 @@ use Rattle.sqlite_disk.specs.declared.Disk as disk
 use Rattle.sqlite_disk.specs.declared.Files.{Files}
 use Rattle.sqlite_store.specs.declared.store.FileStore.{FileStore}
 use Rattle.wgr_file.specs.OnFiles.{IsClosedTo, IsOpen, Stays, StoodIn}
-use Rattle.wgr_office.specs.Events.{HasRun}
+use Rattle.wgr_office.specs.Between.{HasPassed}
 use Rattle.wgr_office.specs.Serving.{reply_of}
 use Rattle.wgr_office.specs.declared.answer.Answer as given
 use Rattle.wgr_office.specs.declared.run.Event as event
 use Rattle.wgr_office.specs.declared.run.Event.TheVariants as events
 use Rattle.wgr_service.specs.Batch.{IsCut, is_available}
-use Rattle.wgr_service.specs.Connections.{AreServed, Outcome}
+use Rattle.wgr_service.specs.Connections.{AreServed, Outcome, contacts_of}
+use Rattle.wgr_service.specs.Network.{Log, Logs, bound}
 use Rattle.wgr_prog.specs.declared.field.WordField.{WordField}
 use Rattle.wgr_prog.specs.declared.field.WordField.TheVariants as of
 use Rattle.wgr_prog.specs.declared.field.WordFault.{WordFault}
@@ -62,12 +63,15 @@ IsBatchFault now (word_fault.Field field) = IsFirst field ((of.Now, now) ∷ [])
 IsBatchFault now word_fault.NoMemory = Unit {0}
 IsBatchFault now word_fault.Device = Unit {0}
 
--- these requests were run, with these answers, on the register that was in the files, and nothing else
+-- These requests were run, with these answers, on the register that was in the files, and nothing else; and between any
+-- two of them it was somewhere.
 pub record HasAnswered {D : Type 0} (g : disk.Ghosts D) (start : Image) (closed : Option (Files D)) (asked : List event.Event) (answers : List given.Answer) : Type 0 where
   pub each : length answers ≡ length asked
+  pub register : Held (FileStore D g)
+  pub opened : IsOpen start register
   pub left : Held (FileStore D g)
   pub closed_to : IsClosedTo g closed left
-  pub run : HasCleanDisk (file_state left) → (db : Database) × StoodIn start db × HasRun over_files left db [] asked answers
+  pub run : HasCleanDisk (file_state left) → (db : Database) × StoodIn start db × HasPassed over_files register left db [] asked answers
 
 -- They were answered, and their replies written. It tells whether none was answered Unavailable.
 pub record HasReplied {D : Type 0} (g : disk.Ghosts D) (start : Image) (closed : Option (Files D)) (asked : List event.Event) (old new : Output) (whole : Bool) : Type 0 where
@@ -124,37 +128,46 @@ serve_fields place count now = (of.HostPort, place) ∷ (of.Count, count) ∷ ch
 abbrev pub IsServing : List ℕ → List ℕ → Option (List ℕ) → Serving → Type 0
 IsServing place count now s = SpellsEndpoint place s.endpoint × SpellsWhole count s.count × SpellsMoment now s.moment
 
--- so many connections were served by the register that was in the files
-pub record HasServed {D : Type 0} (g : disk.Ghosts D) (start : Image) (closed : Option (Files D)) (now : Option ℕ) (count : ℕ) : Type 0 where
+-- the address was bound, and these connections came
+abbrev pub HasListened : Serving → Log → Log → List Outcome → Type 0
+HasListened s before after outcomes = Logs before after (bound s.endpoint.0 s.endpoint.1 ∷ flat_map contacts_of outcomes)
+
+-- the address can't be had, and nothing is written; or it was bound, and a write failed before any connection came
+abbrev pub IsUnserved : Serving → Log → Log → Output → Output → Type 0
+IsUnserved s before after old new = ((after ≡ before) × (new ≡ old)) ⊎ (HasListened s before after [] × (new.failed ≡ true))
+
+-- so many connections were served, at this address, by the register that was in the files
+pub record HasServed {D : Type 0} (g : disk.Ghosts D) (start : Image) (closed : Option (Files D)) (s : Serving) (before after : Log) : Type 0 where
   pub register : Held (FileStore D g)
   pub opened : IsOpen start register
   pub left : Held (FileStore D g)
   pub closed_to : IsClosedTo g closed left
   pub clean : HasCleanDisk (file_state left) → HasCleanDisk (file_state register)
   pub outcomes : List Outcome
-  pub served : AreServed over_files register left now count outcomes
+  pub served : AreServed over_files register left s.moment s.count outcomes
+  pub listened : HasListened s before after outcomes
 
--- `listening` is written and so many connections are served; or none is served, and nothing is written, unless a write
--- has failed
-abbrev pub Listens : {D : Type 0} {g : disk.Ghosts D} → Held (FileStore D g) → Held (FileStore D g) → ℕ → Option ℕ → Output → Output → Result (Unit {0}) Failure → Type 0
-Listens register left count now old new (Ok done) =
-    (HasCleanDisk (file_state left) → HasCleanDisk (file_state register)) × ((outcomes : List Outcome) × AreServed over_files register left now count outcomes)
+-- `listening` is written and so many connections are served; or none is served
+abbrev pub Listens : {D : Type 0} {g : disk.Ghosts D} → Held (FileStore D g) → Held (FileStore D g) → Serving → Log → Log → Output → Output → Result (Unit {0}) Failure → Type 0
+Listens register left s before after old new (Ok done) =
+    (HasCleanDisk (file_state left) → HasCleanDisk (file_state register))
+    × ((outcomes : List Outcome) × AreServed over_files register left s.moment s.count outcomes × HasListened s before after outcomes)
     × Appends old.written new.written (codes "listening\n") × (new.failed ≡ old.failed)
-Listens register left count now old new (Err failure.Device) = (left ≡ register) × ((new ≡ old) ⊎ (new.failed ≡ true))
-Listens register left count now old new (Err other) = ⊥
+Listens register left s before after old new (Err failure.Device) = (left ≡ register) × IsUnserved s before after old new
+Listens register left s before after old new (Err other) = ⊥
 
 -- `listening` is written and so many connections are served; or the register isn't opened, or the address can't be had
-abbrev pub ServesAll : {D : Type 0} → disk.Ghosts D → Image → Option (Files D) → Serving → Output → Output → Result (Unit {0}) Failure → Type 0
-ServesAll g start closed s old new (Ok done) = HasServed g start closed s.moment s.count × Appends old.written new.written (codes "listening\n") × (new.failed ≡ old.failed)
-ServesAll g start closed s old new (Err (failure.Register why)) = (new ≡ old) × Stays g start closed
-ServesAll g start closed s old new (Err failure.Device) = ((new ≡ old) ⊎ (new.failed ≡ true)) × Stays g start closed
-ServesAll g start closed s old new (Err other) = ⊥
+abbrev pub ServesAll : {D : Type 0} → disk.Ghosts D → Image → Option (Files D) → Serving → Log → Log → Output → Output → Result (Unit {0}) Failure → Type 0
+ServesAll g start closed s before after old new (Ok done) = HasServed g start closed s before after × Appends old.written new.written (codes "listening\n") × (new.failed ≡ old.failed)
+ServesAll g start closed s before after old new (Err (failure.Register why)) = (after ≡ before) × (new ≡ old) × Stays g start closed
+ServesAll g start closed s before after old new (Err failure.Device) = IsUnserved s before after old new × Stays g start closed
+ServesAll g start closed s before after old new (Err other) = ⊥
 
--- How serving ends: `listening` is written and so many connections are served, or nothing is written, unless a write
--- has failed.
-abbrev pub EndsServe : {D : Type 0} → disk.Ghosts D → Image → Option (Files D) → List ℕ → List ℕ → Option (List ℕ) → Output → Output → Result (Unit {0}) Failure → Type 0
-EndsServe g start closed place count now old new (Ok done) = (s : Serving) × IsServing place count now s × ServesAll g start closed s old new (Ok done)
-EndsServe g start closed place count now old new (Err (failure.Field field)) = (new ≡ old) × IsFirst field (serve_fields place count now)
-EndsServe g start closed place count now old new (Err (failure.Refused why)) = ⊥
-EndsServe g start closed place count now old new (Err (failure.Register why)) = (new ≡ old) × Stays g start closed
-EndsServe g start closed place count now old new (Err failure.Device) = ((new ≡ old) ⊎ (new.failed ≡ true)) × Stays g start closed
+-- How serving ends: at the address that the words spell, `listening` is written and so many connections are served; or
+-- none is served.
+abbrev pub EndsServe : {D : Type 0} → disk.Ghosts D → Image → Option (Files D) → List ℕ → List ℕ → Option (List ℕ) → Log → Log → Output → Output → Result (Unit {0}) Failure → Type 0
+EndsServe g start closed place count now before after old new (Ok done) = (s : Serving) × IsServing place count now s × ServesAll g start closed s before after old new (Ok done)
+EndsServe g start closed place count now before after old new (Err (failure.Field field)) = (after ≡ before) × (new ≡ old) × IsFirst field (serve_fields place count now)
+EndsServe g start closed place count now before after old new (Err (failure.Refused why)) = ⊥
+EndsServe g start closed place count now before after old new (Err (failure.Register why)) = (after ≡ before) × (new ≡ old) × Stays g start closed
+EndsServe g start closed place count now before after old new (Err failure.Device) = (s : Serving) × IsServing place count now s × ServesAll g start closed s before after old new (Err failure.Device)

@@ -18,6 +18,7 @@ use Rattle.wgr_plan.specs.declared.planner.PlanFault.{PlanFault}
 use Rattle.wgr_plan.specs.declared.planner.PlanFault.TheVariants.{Refused, NoMemory, Read, Write}
 use Rattle.wgr_prog.specs.declared.messages.TheConstants.{DONE, FAULT, REFUSED}
 use Rattle.wgr_plan.specs.PlanFault.{Answers, Streams}
+use Rattle.wgr_service.specs.Network.{Log}
 use Rattle.wgr_prog.specs.Answering.{EndsBatch, EndsServe, Output}
 use Rattle.wgr_file.specs.OnFiles.{IsMade, Stays}
 use Rattle.wgr_prog.specs.OnRegister.{CarriesOut}
@@ -127,9 +128,9 @@ serve_status (Ok done) = DONE
 serve_status (Err why) = failure_status why
 
 -- connections are served
-pub record RunsServe {D : Type 0} (g : disk.Ghosts D) (start : Image) (closed : Option (Files D)) (place count : Text) (now : Option Text) (old new : Streams) (status : ℕ) : Type 0 where
+pub record RunsServe {D : Type 0} (g : disk.Ghosts D) (start : Image) (closed : Option (Files D)) (place count : Text) (now : Option Text) (before after : Log) (old new : Streams) (status : ℕ) : Type 0 where
   pub answer : Result (Unit {0}) Failure
-  pub ends : EndsServe g start closed place count now (output_in old) (output_in new) answer
+  pub ends : EndsServe g start closed place count now before after (output_in old) (output_in new) answer
   pub told : status ≡ serve_status answer
   pub unread : ReadsNothing old new
 
@@ -139,16 +140,16 @@ pub record RunsServe {D : Type 0} (g : disk.Ghosts D) (start : Image) (closed : 
 abbrev pub LacksMemory : Streams → Streams → ℕ → Type 0
 LacksMemory old new status = (new ≡ old) × (status ≡ FAULT)
 
-abbrev pub Runs : {D : Type 0} → disk.Ghosts D → Image → Option (Files D) → Asked → Streams → Streams → ℕ → Type 0
-Runs g start closed (Plan pool) old new status = RunsPlan pool old new status
-Runs g start closed (Init db) old new status = RunsInit g start closed old new status
-Runs g start closed (Operate db order) old new status = RunsOrder g start closed order old new status
-Runs g start closed (Batch db now files) old new status = RunsBatch g start closed now files old new status
-Runs g start closed (Serve db place count now) old new status = RunsServe g start closed place count now old new status
+abbrev pub Runs : {D : Type 0} → disk.Ghosts D → Image → Option (Files D) → Asked → Log → Log → Streams → Streams → ℕ → Type 0
+Runs g start closed (Plan pool) before after old new status = (after ≡ before) × RunsPlan pool old new status
+Runs g start closed (Init db) before after old new status = (after ≡ before) × RunsInit g start closed old new status
+Runs g start closed (Operate db order) before after old new status = (after ≡ before) × RunsOrder g start closed order old new status
+Runs g start closed (Batch db now files) before after old new status = (after ≡ before) × RunsBatch g start closed now files old new status
+Runs g start closed (Serve db place count now) before after old new status = RunsServe g start closed place count now before after old new status
 
 -- the words ask for something
-abbrev pub ServesAsked : {D : Type 0} → disk.Ghosts D → Image → Option (Files D) → Asked → Streams → Streams → ℕ → Type 0
-ServesAsked g start closed asked old new status = LacksMemory old new status ⊎ Runs g start closed asked old new status
+abbrev pub ServesAsked : {D : Type 0} → disk.Ghosts D → Image → Option (Files D) → Asked → Log → Log → Streams → Streams → ℕ → Type 0
+ServesAsked g start closed asked before after old new status = ((after ≡ before) × LacksMemory old new status) ⊎ Runs g start closed asked before after old new status
 
 -- help and the version were asked for, and are no mistake
 abbrev pub kind_status : ErrorKind → ℕ
@@ -174,10 +175,10 @@ pub record TellsKind (kinds : Kinds) (old new : Streams) (status : ℕ) : Type 0
 abbrev pub TellsError : Kinds → Streams → Streams → ℕ → Type 0
 TellsError kinds old new status = LacksMemory old new status ⊎ FailsToWrite old new status ⊎ TellsKind kinds old new status
 
--- the words ask for something, or for nothing
-pub record Serves {D : Type 0} (g : disk.Ghosts D) (start : Image) (closed : Option (Files D)) (words : List Text) (old new : Streams) (status : ℕ) : Type 0 where
-  pub served : IfSome (asked_by words) (λ asked. ServesAsked g start closed asked old new status)
-  pub told : IfNone (asked_by words) (TellsError (wrong_with words) old new status)
+-- The words ask for something, or for nothing. Only words that ask to serve meet the network.
+pub record Serves {D : Type 0} (g : disk.Ghosts D) (start : Image) (closed : Option (Files D)) (words : List Text) (before after : Log) (old new : Streams) (status : ℕ) : Type 0 where
+  pub served : IfSome (asked_by words) (λ asked. ServesAsked g start closed asked before after old new status)
+  pub told : IfNone (asked_by words) ((after ≡ before) × TellsError (wrong_with words) old new status)
 
 -- the words can't be had: they aren't UTF-8, or memory is wanting; nothing is read or printed
 pub record LacksWords (why : io.ErrorKind) (old new : Streams) (status : ℕ) : Type 0 where

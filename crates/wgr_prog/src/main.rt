@@ -15,6 +15,7 @@ use sqlite::Unknown;
 use std::process::ExitCode;
 use std::{env, io};
 use wgr_io::Device;
+use wgr_service::Sockets;
 
 /// The program's own name and the words behind it.
 fn arguments(rt: &HostRuntime) -> io::Result<Vec<String>> {
@@ -25,7 +26,16 @@ fn main(rt: HostRuntime) -> ExitCode {
     let mut input = Device::new(rt.stdin());
     let mut out = Device::new(rt.stdout());
     let mut err = Device::new(rt.stderr());
+    let mut network = Sockets::new(&rt);
     let arguments = arguments(&rt);
-    let (status, _files) = program::run(&rt, Unknown, &arguments, &mut input, &mut out, &mut err);
+    let (status, _files) = program::run(
+        &rt,
+        Unknown,
+        &arguments,
+        &mut network,
+        &mut input,
+        &mut out,
+        &mut err,
+    );
     ExitCode::from(status)
 }

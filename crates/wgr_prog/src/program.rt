@@ -22,28 +22,31 @@ use wgr_core::Pool;
 use wgr_file::Closed;
 use wgr_io::{Read, Write, write_all};
 use wgr_plan::{PlanFault, plan};
+use wgr_service::Network;
 use wgr_text::read_loose;
 
 /// Does what the program's arguments ask for, of which the first is its own name, and answers the
 /// exit status; or says why there are none. A register's files are given back as they were closed.
 ///
 /// `start` is what the files held as they were opened, which no system tells: `main` passes `Unknown`, and
-/// the contract says for each first contents what is in them afterwards.
+/// the contract says for each first contents what is in them afterwards. Only words that ask to serve
+/// meet the network.
 ///
 /// Where standard error fails there is nobody to tell, and the status stays.
-pub fn run<S: Start, R: Read, W: Write, E: Write>(
+pub fn run<S: Start, N: Network, R: Read, W: Write, E: Write>(
     rt: &HostRuntime,
     start: S,
     arguments: &io::Result<Vec<String>>,
+    network: &mut N,
     input: &mut R,
     out: &mut W,
     err: &mut E,
 ) -> (u8, Closed<S>)
-    ensures serves { IfOk arguments.now (λ all. Serves ⟦<FileFrom<S> as Disk>⟧ (image_at S.Start) result.1 (map string_bytes (drop 1 all.items)) (streams R.remaining R.failed W.contents W.failed input.old out.old) (streams R.remaining R.failed W.contents W.failed input.new out.new) result.0) }
-    ensures lacks { IfErr arguments.now (λ error. LacksWords (error_kind error) (streams R.remaining R.failed W.contents W.failed input.old out.old) (streams R.remaining R.failed W.contents W.failed input.new out.new) result.0) }
+    ensures serves { IfOk arguments.now (λ all. Serves ⟦<FileFrom<S> as Disk>⟧ (image_at S.Start) result.1 (map string_bytes (drop 1 all.items)) (N.log network.old) (N.log network.new) (streams R.remaining R.failed W.contents W.failed input.old out.old) (streams R.remaining R.failed W.contents W.failed input.new out.new) result.0) }
+    ensures lacks { IfErr arguments.now (λ error. (N.log network.new ≡ N.log network.old) × LacksWords (error_kind error) (streams R.remaining R.failed W.contents W.failed input.old out.old) (streams R.remaining R.failed W.contents W.failed input.new out.new) result.0) }
 {
     match arguments {
-        Ok(all) => program(rt, start, words_of(all), input, out, err),
+        Ok(all) => program(rt, start, words_of(all), network, input, out, err),
         Err(error) => (no_words(error, err), None),
     }
 }
@@ -59,15 +62,16 @@ fn words_of(arguments: &[String]) -> &[String]
 }
 
 /// Does what the words ask for, and answers the exit status.
-fn program<S: Start, T: AsStr, R: Read, W: Write, E: Write>(
+fn program<S: Start, T: AsStr, N: Network, R: Read, W: Write, E: Write>(
     rt: &HostRuntime,
     start: S,
     words: &[T],
+    network: &mut N,
     input: &mut R,
     out: &mut W,
     err: &mut E,
 ) -> (u8, Closed<S>)
-    ensures { Serves ⟦<FileFrom<S> as Disk>⟧ (image_at S.Start) result.1 (map T.text words.now) (streams R.remaining R.failed W.contents W.failed input.old out.old) (streams R.remaining R.failed W.contents W.failed input.new out.new) result.0 }
+    ensures { Serves ⟦<FileFrom<S> as Disk>⟧ (image_at S.Start) result.1 (map T.text words.now) (N.log network.old) (N.log network.new) (streams R.remaining R.failed W.contents W.failed input.old out.old) (streams R.remaining R.failed W.contents W.failed input.new out.new) result.0 }
 {
     let alloc = rt.alloc();
     match read_words(alloc, words) {
@@ -84,7 +88,7 @@ fn program<S: Start, T: AsStr, R: Read, W: Write, E: Write>(
                 count,
                 now,
             },
-        ) => run_serve(rt, db, start, place, count, now, out, err),
+        ) => run_serve(rt, db, start, place, count, now, network, out, err),
         Err(answer) => (no_invocation(alloc, &answer, out, err), None),
     }
 }

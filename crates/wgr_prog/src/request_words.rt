@@ -12,13 +12,14 @@ use crate::register_words::Failure;
 use crate::requests::read_requests;
 use sqlite::{FileFrom, FileStore, Start};
 use sqlite_disk::Disk;
-use std::net::{IpAddr, TcpListener};
+use std::alloc::Global;
+use std::net::IpAddr;
 use wgr_core::Port;
 use wgr_file::{Closed, Unopened, close, open_register};
 use wgr_io::{Write, write_all};
 use wgr_office::{Event, Office};
 use wgr_register::RegisterFault;
-use wgr_service::{BatchFault, answer_all, serve_connections};
+use wgr_service::{BatchFault, Network, answer_all, serve_connections};
 
 /// Answers the requests in files in turn, and answers the exit status.
 pub(crate) fn run_batch<S: Start, W: Write, E: Write>(
@@ -112,22 +113,23 @@ pub(crate) struct Serving {
 }
 
 /// Serves so many connections, and answers the exit status.
-pub(crate) fn run_serve<S: Start, W: Write, E: Write>(
+pub(crate) fn run_serve<S: Start, N: Network, W: Write, E: Write>(
     rt: &HostRuntime,
     path: &str,
     start: S,
     place: &str,
     count: &str,
     now: Option<&str>,
+    network: &mut N,
     out: &mut W,
     err: &mut E,
 ) -> (u8, Closed<S>)
-    ensures { (input : Option (List ℕ)) (failed : Bool) → RunsServe ⟦<FileFrom<S> as Disk>⟧ (image_at S.Start) result.1 place.now count.now (option_map (λ now. now.now) now.entry)
+    ensures { (input : Option (List ℕ)) (failed : Bool) → RunsServe ⟦<FileFrom<S> as Disk>⟧ (image_at S.Start) result.1 place.now count.now (option_map (λ now. now.now) now.entry) (N.log network.old) (N.log network.new)
         (record { input = input; read_failed = failed; written = W.contents out.old; write_failed = W.failed out.old })
         (record { input = input; read_failed = failed; written = W.contents out.new; write_failed = W.failed out.new })
         result.0 }
 {
-    let (served, closed) = serve(rt, path, start, place, count, now, out, err);
+    let (served, closed) = serve(rt, path, start, place, count, now, network, out, err);
     (serve_status(&served, err), closed)
 }
 
@@ -141,20 +143,21 @@ fn serve_status<E: Write>(served: &Result<(), Failure>, err: &mut E) -> u8
 }
 
 /// Reads the fields, and only then opens the register.
-fn serve<S: Start, W: Write, E: Write>(
+fn serve<S: Start, N: Network, W: Write, E: Write>(
     rt: &HostRuntime,
     path: &str,
     start: S,
     place: &str,
     count: &str,
     now: Option<&str>,
+    network: &mut N,
     out: &mut W,
     err: &mut E,
 ) -> (Result<(), Failure>, Closed<S>)
-    ensures { EndsServe ⟦<FileFrom<S> as Disk>⟧ (image_at S.Start) result.1 place.now count.now (option_map (λ now. now.now) now.entry) (output_of W.contents W.failed out.old) (output_of W.contents W.failed out.new) result.0 }
+    ensures { EndsServe ⟦<FileFrom<S> as Disk>⟧ (image_at S.Start) result.1 place.now count.now (option_map (λ now. now.now) now.entry) (N.log network.old) (N.log network.new) (output_of W.contents W.failed out.old) (output_of W.contents W.failed out.new) result.0 }
 {
     match read_serving(place, count, now) {
-        Ok(serving) => serve_all(rt, path, start, &serving, out, err),
+        Ok(serving) => serve_all(rt, path, start, &serving, network, out, err),
         Err(why) => (Err(Failure::from(why)), None),
     }
 }
@@ -188,42 +191,44 @@ fn read_choice(now: Option<&str>) -> Result<Option<u64>, WordFault>
 }
 
 /// Opens the register in the file at this path, and only then binds the address and serves.
-fn serve_all<S: Start, W: Write, E: Write>(
+fn serve_all<S: Start, N: Network, W: Write, E: Write>(
     rt: &HostRuntime,
     path: &str,
     start: S,
     serving: &Serving,
+    network: &mut N,
     out: &mut W,
     err: &mut E,
 ) -> (Result<(), Failure>, Closed<S>)
-    ensures { ServesAll ⟦<FileFrom<S> as Disk>⟧ (image_at S.Start) result.1 serving.now (output_of W.contents W.failed out.old) (output_of W.contents W.failed out.new) result.0 }
+    ensures { ServesAll ⟦<FileFrom<S> as Disk>⟧ (image_at S.Start) result.1 serving.now (N.log network.old) (N.log network.new) (output_of W.contents W.failed out.old) (output_of W.contents W.failed out.new) result.0 }
 {
     let mut office = match open_office(rt, path, start) {
         Ok(office) => office,
         Err(Unopened { fault, files }) => return (Err(Failure::Register(fault)), files),
     };
-    let served = listen(rt, &mut office, serving, out, err);
+    let served = listen(rt.alloc(), &mut office, serving, network, out, err);
     (served, close_office(office))
 }
 
-/// Tells that the address is bound, and serves so many connections.
-fn listen<S: Start, W: Write, E: Write>(
-    rt: &HostRuntime,
+/// Listens, tells so, and serves so many connections.
+fn listen<S: Start, N: Network, W: Write, E: Write>(
+    alloc: Global,
     office: &mut Office<FileStore<FileFrom<S>>>,
     serving: &Serving,
+    network: &mut N,
     out: &mut W,
     err: &mut E,
 ) -> Result<(), Failure>
-    ensures { Listens office.old office.new serving.now.count serving.now.moment (output_of W.contents W.failed out.old) (output_of W.contents W.failed out.new) result }
+    ensures { Listens office.old office.new serving.now (N.log network.old) (N.log network.new) (output_of W.contents W.failed out.old) (output_of W.contents W.failed out.new) result }
 {
     let (address, port) = serving.endpoint;
-    let Ok(listener) = TcpListener::bind(rt, (address, port.number())) else {
+    let Ok(()) = network.listen(address, port.number()) else {
         return Err(Failure::Device);
     };
     if write_all(out, b"listening\n").is_err() {
         return Err(Failure::Device);
     }
-    serve_connections(rt, office, &listener, serving.count, serving.moment, err);
+    serve_connections(alloc, office, network, serving.count, serving.moment, err);
     Ok(())
 }
 
@@ -239,19 +244,15 @@ fn open_office<S: Start>(
     let register = open_register(rt, path, start)?;
     match Office::new(rt.alloc(), register) {
         Ok(office) => Ok(office),
-        Err(register) => {
-            register.tell_rules();
-            Err(Unopened {
-                fault: RegisterFault::NoMemory,
-                files: close(register.into_connection()),
-            })
-        }
+        Err(register) => Err(Unopened {
+            fault: RegisterFault::NoMemory,
+            files: close(register),
+        }),
     }
 }
 
 fn close_office<S: Start>(office: Office<FileStore<FileFrom<S>>>) -> Closed<S>
     ensures { IsClosedTo ⟦<FileFrom<S> as Disk>⟧ result office }
 {
-    office.tell_rules();
-    close(office.into_register().into_connection())
+    close(office.into_register())
 }

@@ -7,7 +7,7 @@ use Rattle.sqlite.specs.Store.{Ghosts}
 use Rattle.sqlite.specs.Held.{Held, state}
 use Rattle.wgr_model.specs.Register.{Bytes}
 use Rattle.wgr_model.specs.Steps.{Event}
-use Rattle.wgr_office.specs.Events.{HasRun}
+use Rattle.wgr_office.specs.Between.{HasPassed}
 use Rattle.wgr_office.specs.declared.answer.Answer as given
 use Rattle.wgr_office.specs.declared.answer.Answer.TheVariants as givens
 use Rattle.wgr_office.specs.declared.run.Event as event
@@ -18,9 +18,9 @@ is_available (givens.Bytes bytes) = true
 is_available (givens.Order done) = true
 is_available givens.Unavailable = false
 
--- one answer for each request, and a run of them wherever the register stood
+-- one answer for each request, and a run of them wherever the register stood, with the places between them
 abbrev pub IsBatch : {S : Type 0} → Ghosts S → Held S → Held S → List event.Event → List given.Answer → Type 0
-IsBatch g old new asked answers = (length answers ≡ length asked) × ((db : Database) (late : List Event) → StandsAt g old db late → HasCleanDisk (state g new) → HasRun g new db late asked answers)
+IsBatch g old new asked answers = (length answers ≡ length asked) × ((db : Database) (late : List Event) → StandsAt g old db late → HasCleanDisk (state g new) → HasPassed g old new db late asked answers)
 
 -- a beginning of the bytes was written
 abbrev pub IsCut : Option Bytes → Option Bytes → Bytes → Type 0

@@ -1,5 +1,5 @@
 -- What becomes of connections that are served one after the other.
-use Rattle.std.specs.Prelude.{◌≡◌, ℕ, List, [], length, map, filter_map, codes, false, Bool, Option, Some, None, Result, Ok, Err, All}
+use Rattle.std.specs.Prelude.{◌≡◌, ◌⊎◌, ℕ, List, [], ◌∷◌, length, map, filter_map, codes, true, false, Bool, Option, Some, None, Result, Ok, Err, All}
 use Rattle.std.specs.declared.vec.Vec.{Vec}
 use Rattle.std.specs.declared.alloc.Global.{Global}
 use Rattle.std.specs.Io.KnownBytes.{Appends}
@@ -9,13 +9,16 @@ use Rattle.sqlite.specs.Store.{Ghosts}
 use Rattle.sqlite.specs.Held.{Held, state}
 use Rattle.wgr_model.specs.Register.{Bytes}
 use Rattle.wgr_model.specs.Steps.{Event}
+use Rattle.wgr_office.specs.Between.{HasPassed}
 use Rattle.wgr_office.specs.Events.{HasRun}
-use Rattle.wgr_office.specs.Serving.{IsAnsweredAt}
+use Rattle.wgr_office.specs.Serving.{AsksAll, IsAnsweredAt, reply_of}
 use Rattle.wgr_office.specs.declared.answer.Answer as given
 use Rattle.wgr_office.specs.declared.run.Event as event
 use Rattle.wgr_office.specs.declared.run.Event.TheVariants as events
 use Rattle.wgr_office.specs.declared.serve.ServeFault.TheVariants as serve_fault
 use Rattle.wgr_register.specs.Standing.{StandsAt}
+use Rattle.wgr_service.specs.Batch.{IsCut}
+use Rattle.wgr_service.specs.Network as network
 use Rattle.wgr_service.specs.declared.connections.ConnectionFault.{ConnectionFault}
 use Rattle.wgr_service.specs.declared.connections.ConnectionFault.TheVariants as fault
 
@@ -27,47 +30,83 @@ pub record Exchange : Type 0 where
   pub message : Vec ℕ Global
   pub answer : given.Answer
 
--- a message was answered and its reply written; it was answered, but writing the reply failed; or
--- nothing was done
+-- A connection that came: what the clock gave then, what was still to be read of it, what had been written to it when it
+-- came and when it was ended, and whether a read and a write had failed by then. Bytes are told where they are known.
+pub record Meeting : Type 0 where
+  pub clock : Option ℕ
+  pub input : Option Bytes
+  pub before : Option Bytes
+  pub after : Option Bytes
+  pub read_failed : Bool
+  pub write_failed : Bool
+
+-- a message was answered and its reply written; it was answered, but writing the reply failed; nothing
+-- was done; or no connection could be accepted
 pub data Outcome : Type 0 where
-  answered : Exchange → Outcome
-  cut : Exchange → Outcome
-  failed : Outcome
+  answered : Meeting → Exchange → Outcome
+  cut : Meeting → Exchange → Outcome
+  failed : Meeting → Outcome
+  missed : Outcome
 
 abbrev pub exchange_of : Outcome → Option Exchange
-exchange_of (answered x) = Some x
-exchange_of (cut x) = Some x
-exchange_of failed = None
+exchange_of (answered m x) = Some x
+exchange_of (cut m x) = Some x
+exchange_of (failed m) = None
+exchange_of missed = None
 
 -- what is written of it to standard error
 abbrev pub line_of : Outcome → Bytes
-line_of (answered x) = []
-line_of (cut x) = codes "wgr: connection\n"
-line_of failed = codes "wgr: connection\n"
+line_of (answered m x) = []
+line_of (cut m x) = codes "wgr: connection\n"
+line_of (failed m) = codes "wgr: connection\n"
+line_of missed = codes "wgr: connection\n"
 
--- the moment that is given, if one is
-abbrev pub IsMoment : Option ℕ → ℕ → Type 0
-IsMoment None moment = Unit {0}
-IsMoment (Some now) moment = moment ≡ now
+-- what comes to the network's log
+abbrev pub met : Meeting → List network.Contact
+met m = network.came m.clock m.input m.before ∷ network.ended m.after m.read_failed m.write_failed ∷ []
 
--- the message was answered, wherever the register stood
-abbrev pub IsExchange : {S : Type 0} → Ghosts S → Held S → Held S → Option ℕ → Exchange → Type 0
-IsExchange g old new now x = IsMoment now x.now × IsAnsweredAt g old new x.now x.message.items x.answer
+abbrev pub contacts_of : Outcome → List network.Contact
+contacts_of (answered m x) = met m
+contacts_of (cut m x) = met m
+contacts_of (failed m) = met m
+contacts_of missed = network.missed ∷ []
 
--- one message was answered, or nothing was done
+-- the moment that is given, if one is, else the clock's
+abbrev pub moment_of : Option ℕ → Option ℕ → Option ℕ
+moment_of None clock = clock
+moment_of (Some now) clock = Some now
+
+-- the message was answered at the connection's moment, and asks what all bytes that came ask
+pub record Suits (now : Option ℕ) (m : Meeting) (x : Exchange) : Type 0 where
+  pub moment : moment_of now m.clock ≡ Some x.now
+  pub asks : AsksAll x.message.items m.input x.answer
+
+-- The reply was written, or a beginning of it where a write failed. Nothing was written where a read failed or where
+-- there was no moment, and only there.
+abbrev pub IsServed : Option ℕ → Outcome → Type 0
+IsServed now (answered m x) = Suits now m x × Appends m.before m.after (reply_of x.answer) × (m.read_failed ≡ false) × (m.write_failed ≡ false)
+IsServed now (cut m x) = Suits now m x × IsCut m.before m.after (reply_of x.answer) × (m.read_failed ≡ false) × (m.write_failed ≡ true)
+IsServed now (failed m) = (m.after ≡ m.before) × (m.write_failed ≡ false) × ((m.read_failed ≡ true) ⊎ (moment_of now m.clock ≡ None))
+IsServed now missed = Unit {0}
+
+-- one message was answered, wherever the register stood, or nothing was done
+abbrev pub Moves : {S : Type 0} → Ghosts S → Held S → Held S → Outcome → Type 0
+Moves g old new (answered m x) = IsAnsweredAt g old new x.now x.message.items x.answer
+Moves g old new (cut m x) = IsAnsweredAt g old new x.now x.message.items x.answer
+Moves g old new (failed m) = new ≡ old
+Moves g old new missed = new ≡ old
+
 abbrev pub HasOutcome : {S : Type 0} → Ghosts S → Held S → Held S → Option ℕ → Outcome → Type 0
-HasOutcome g old new now (answered x) = IsExchange g old new now x
-HasOutcome g old new now (cut x) = IsExchange g old new now x
-HasOutcome g old new now failed = new ≡ old
+HasOutcome g old new now outcome = IsServed now outcome × Moves g old new outcome
 
--- which outcome a result tells
-abbrev pub Tells : Result (Unit {0}) ConnectionFault → Outcome → Type 0
-Tells (Ok done) (answered x) = Unit {0}
-Tells (Err (fault.Serve (serve_fault.Write sent))) (cut x) = Unit {0}
-Tells (Err fault.Accept) failed = Unit {0}
-Tells (Err fault.Clock) failed = Unit {0}
-Tells (Err (fault.Serve serve_fault.Read)) failed = Unit {0}
-Tells result outcome = ⊥
+-- which outcome a result tells, and why nothing was done
+abbrev pub Tells : Option ℕ → Result (Unit {0}) ConnectionFault → Outcome → Type 0
+Tells now (Ok done) (answered m x) = Unit {0}
+Tells now (Err (fault.Serve (serve_fault.Write sent))) (cut m x) = Unit {0}
+Tells now (Err fault.Accept) missed = Unit {0}
+Tells now (Err fault.Clock) (failed m) = moment_of now m.clock ≡ None
+Tells now (Err (fault.Serve serve_fault.Read)) (failed m) = m.read_failed ≡ true
+Tells now result outcome = ⊥
 
 -- ---- all of them
 
@@ -86,11 +125,12 @@ abbrev pub HasServed : {S : Type 0} → Ghosts S → Held S → Database → Lis
 HasServed g conn db late xs = HasRun g conn db late (map asked_of xs) (map answer_of xs)
 
 -- So many connections were served, each with one outcome: along the messages that were answered the
--- register ran as along a list of events.
+-- register ran as along a list of events, and between any two of them it was somewhere.
 pub record AreServed {S : Type 0} (g : Ghosts S) (old new : Held S) (now : Option ℕ) (count : ℕ) (outcomes : List Outcome) : Type 0 where
   pub each : length outcomes ≡ count
-  pub moments : All (λ x. IsMoment now x.now) (exchanges outcomes)
+  pub served : All (IsServed now) outcomes
   pub run : (db : Database) (late : List Event) → StandsAt g old db late → HasCleanDisk (state g new) → HasServed g new db late (exchanges outcomes)
+  pub between : (db : Database) (late : List Event) → StandsAt g old db late → HasCleanDisk (state g new) → HasPassed g old new db late (map asked_of (exchanges outcomes)) (map answer_of (exchanges outcomes))
 
 -- where no write failed, these bytes were written
 abbrev pub AreWritten : Bool → Option Bytes → Option Bytes → Bytes → Type 0

@@ -1,3 +1,4 @@
 pub mod Batch
 pub mod Connections
 pub mod Laws
+pub mod Network

@@ -1,29 +1,19 @@
 //! Connections, one after the other.
-ghost use Rattle.std.specs.Prelude.{◌≡◌, ◌/◌, false, List, flat_map, IfSome};
-ghost use Rattle.std.specs.Time.{system_time_nanos};
+ghost use Rattle.std.specs.Prelude.{◌≡◌, false, List, Option, flat_map};
 ghost use Rattle.sqlite.specs.Effect.{Database};
 ghost use Rattle.sqlite.specs.Held.{state};
 ghost use Rattle.sqlite.specs.State.{HasCleanDisk};
 ghost use Rattle.wgr_model.specs.Steps.{Event};
 ghost use Rattle.wgr_register.specs.Standing.{StandsAt};
-ghost use Rattle.wgr_service.specs.Connections.{AreServed, AreWritten, HasOutcome, IsMoment, Outcome, Tells, line_of};
+ghost use Rattle.wgr_service.specs.Connections.{AreServed, AreWritten, HasOutcome, Outcome, Tells, contacts_of, line_of, met, moment_of};
+ghost use Rattle.wgr_service.specs.Network.{Logs};
 
+use crate::network::{Arrival, Network};
 use sqlite::Alter;
-use std::alloc::{AllocGlobal, Global};
-use std::net::{Shutdown, TcpListener, TcpStream};
-use std::time::{Clock, Duration, SystemTime, UNIX_EPOCH};
-use wgr_io::{Device, Read, Write, write_all};
+use std::alloc::Global;
+use wgr_io::{Read, Write, write_all};
 use wgr_model::laws::rows_are_isolated;
 use wgr_office::{Office, ServeFault};
-
-/// How long each read waits for what a client still sends.
-const PATIENCE_MILLIS: u64 = 250;
-
-/// How many such reads are made at most.
-const REST_READS: usize = 128;
-
-/// How many bytes each of them takes at most.
-const REST_CHUNK: usize = 65536;
 
 /// Why a connection failed.
 #[derive(Clone, Copy, Debug)]
@@ -38,16 +28,16 @@ pub(crate) enum ConnectionFault {
 
 /// Serves so many connections: one message of each is read, answered and its reply written.
 ///
-/// A message's moment is `now`, else the clock's in whole seconds since 1970-01-01, taken before it is
-/// read. Of a connection that fails, `wgr: connection` is written to `err`, and it counts.
+/// A message's moment is `now`, else what the clock gave when its connection had come (seconds since
+/// 1970-01-01). Of a connection that fails, `wgr: connection` is written to `err`, and it counts.
 ///
 /// The register runs along the messages that were answered as along a list of events, so each tenant's
-/// replies and rows are those that its own requests give on its own rows alone. Which bytes came, and
-/// how many of a reply went out, no contract can say of a socket: the messages are some messages.
-pub fn serve_connections<H: AllocGlobal + Clock, S: Alter, E: Write>(
-    rt: &H,
+/// replies and rows are those that its own requests give on its own rows alone. Where the network's log
+/// is known, the message is what its connection brought and the reply is what was written to it.
+pub fn serve_connections<S: Alter, N: Network, E: Write>(
+    alloc: Global,
     office: &mut Office<S>,
-    listener: &TcpListener,
+    network: &mut N,
     count: u64,
     now: Option<u64>,
     err: &mut E,
@@ -55,119 +45,88 @@ pub fn serve_connections<H: AllocGlobal + Clock, S: Alter, E: Write>(
     ensures clean { HasCleanDisk (state S.Store office.new) → HasCleanDisk (state S.Store office.old) }
     // The register stood somewhere.
     ensures stood { HasCleanDisk (state S.Store office.new) → (db : Database) × (late : List Event) × StandsAt S.Store office.old db late }
-    ensures served { (outcomes : List Outcome) × AreServed S.Store office.old office.new now count outcomes × AreWritten (E.failed err.new) (E.contents err.old) (E.contents err.new) (flat_map line_of outcomes) }
+    ensures served { (outcomes : List Outcome) × AreServed S.Store office.old office.new now count outcomes
+        × AreWritten (E.failed err.new) (E.contents err.old) (E.contents err.new) (flat_map line_of outcomes)
+        × Logs (N.log network.old) (N.log network.new) (flat_map contacts_of outcomes) }
 {
     office.tell_rules();
     for _ in 0..count {
-        serve_next(rt, office, listener, now, err);
+        serve_next(alloc, office, network, now, err);
     }
     rows_are_isolated();
 }
 
 // Serves the next connection, and tells it if it fails.
-fn serve_next<H: AllocGlobal + Clock, S: Alter, E: Write>(
-    rt: &H,
+fn serve_next<S: Alter, N: Network, E: Write>(
+    alloc: Global,
     office: &mut Office<S>,
-    listener: &TcpListener,
+    network: &mut N,
     now: Option<u64>,
     err: &mut E,
 )
     ensures clean { HasCleanDisk (state S.Store office.new) → HasCleanDisk (state S.Store office.old) }
     ensures sound { E.failed err.new ≡ false → E.failed err.old ≡ false }
-    ensures served { (outcome : Outcome) × HasOutcome S.Store office.old office.new now outcome × AreWritten (E.failed err.new) (E.contents err.old) (E.contents err.new) (line_of outcome) }
+    ensures served { (outcome : Outcome) × HasOutcome S.Store office.old office.new now outcome
+        × AreWritten (E.failed err.new) (E.contents err.old) (E.contents err.new) (line_of outcome)
+        × Logs (N.log network.old) (N.log network.new) (contacts_of outcome) }
 {
-    if serve_one(rt, office, listener, now).is_err() {
+    if serve_one(alloc, office, network, now).is_err() {
         // Where standard error fails there is nobody to tell.
         let _ = write_all(err, b"wgr: connection\n");
     }
 }
 
-// Accepts a connection and serves it.
-fn serve_one<H: AllocGlobal + Clock, S: Alter>(
-    rt: &H,
+// Waits for a connection, serves it, and ends it.
+fn serve_one<S: Alter, N: Network>(
+    alloc: Global,
     office: &mut Office<S>,
-    listener: &TcpListener,
+    network: &mut N,
     now: Option<u64>,
 ) -> Result<(), ConnectionFault>
     ensures clean { HasCleanDisk (state S.Store office.new) → HasCleanDisk (state S.Store office.old) }
-    ensures outcome { (outcome : Outcome) × Tells result outcome × HasOutcome S.Store office.old office.new now outcome }
+    ensures outcome { (outcome : Outcome) × Tells now result outcome × HasOutcome S.Store office.old office.new now outcome
+        × Logs (N.log network.old) (N.log network.new) (contacts_of outcome) }
 {
-    let Ok((stream, _)) = listener.accept() else {
+    let Ok(Arrival {
+        mut reader,
+        mut writer,
+        clock,
+    }) = network.next() else {
         return Err(ConnectionFault::Accept);
     };
-    let Some(moment) = moment_of(rt, now) else {
-        return Err(ConnectionFault::Clock);
-    };
-    serve_stream(rt.alloc(), office, moment, &stream)
-}
-
-// The moment that is given, or the clock's.
-fn moment_of<C: Clock>(clock: &C, now: Option<u64>) -> Option<u64>
-    ensures { IfSome result (λ moment. IsMoment now moment) }
-{
-    match now {
-        Some(now) => Some(now),
-        None => seconds_of(SystemTime::now(clock).ok()?),
-    }
-}
-
-// The whole seconds from 1970-01-01 to this time, if it isn't before.
-fn seconds_of(time: SystemTime) -> Option<u64>
-    ensures { IfSome result (λ seconds. seconds ≡ system_time_nanos time / 1_000_000_000) }
-{
-    let since = time.duration_since(UNIX_EPOCH).ok()?;
-    Some(since.as_secs())
-}
-
-// Serves a connection at this moment, and ends it.
-fn serve_stream<S: Alter>(
-    alloc: Global,
-    office: &mut Office<S>,
-    moment: u64,
-    stream: &TcpStream,
-) -> Result<(), ConnectionFault>
-    ensures clean { HasCleanDisk (state S.Store office.new) → HasCleanDisk (state S.Store office.old) }
-    ensures outcome { (outcome : Outcome) × Tells result outcome × HasOutcome S.Store office.old office.new (Some moment) outcome }
-{
-    let mut input = Device::new(stream);
-    let mut out = Device::new(stream);
-    let served = serve_message(alloc, office, moment, &mut input, &mut out);
-    end(stream);
+    let served = serve_arrival(alloc, office, now, clock, &mut reader, &mut writer);
+    network.end(reader, writer);
     served
 }
 
-// Serves a message. What is said of the register is said here, where the reader and the writer are any.
-fn serve_message<S: Alter, R: Read, W: Write>(
+// Serves a connection that came when the clock gave this.
+fn serve_arrival<S: Alter, R: Read, W: Write>(
     alloc: Global,
     office: &mut Office<S>,
-    moment: u64,
+    now: Option<u64>,
+    clock: Option<u64>,
     input: &mut R,
     out: &mut W,
 ) -> Result<(), ConnectionFault>
     ensures clean { HasCleanDisk (state S.Store office.new) → HasCleanDisk (state S.Store office.old) }
-    ensures outcome { (outcome : Outcome) × Tells result outcome × HasOutcome S.Store office.old office.new (Some moment) outcome }
+    ensures outcome { R.failed input.old ≡ false → W.failed out.old ≡ false → (outcome : Outcome) × Tells now result outcome × HasOutcome S.Store office.old office.new now outcome
+        × (contacts_of outcome ≡ met (record { clock = clock; input = R.remaining input.old; before = W.contents out.old; after = W.contents out.new; read_failed = R.failed input.new; write_failed = W.failed out.new })) }
 {
+    let Some(moment) = moment_of(now, clock) else {
+        return Err(ConnectionFault::Clock);
+    };
     match office.serve_one(alloc, moment, input, out) {
         Ok(()) => Ok(()),
         Err(fault) => Err(ConnectionFault::Serve(fault)),
     }
 }
 
-// Says that no more is written, and reads past what the client still sends: the system resets a
-// connection that is closed with bytes unread, and the client may lose its reply by that.
-fn end(stream: &TcpStream) {
-    let patience = Duration::from_millis(PATIENCE_MILLIS);
-    if stream.shutdown(Shutdown::Write).is_err()
-        || stream.set_read_timeout(Some(patience)).is_err()
-    {
-        return;
-    }
-    let mut rest = Device::new(stream);
-    let mut chunk = [0; REST_CHUNK];
-    for _ in 0..REST_READS {
-        match rest.read(&mut chunk) {
-            Ok(0) | Err(_) => return,
-            Ok(_) => {}
-        }
+// The moment that is given, else the clock's.
+fn moment_of(now: Option<u64>, clock: Option<u64>) -> Option<u64>
+    ensures { result ≡ moment_of now clock }
+{
+    match now {
+        Some(now) => Some(now),
+        None => clock,
     }
 }

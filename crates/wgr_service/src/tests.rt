@@ -1,10 +1,10 @@
 //! Clients and the service in one thread, over a register in memory.
-use super::{answer_all, serve_connections};
+use super::{Network, Sockets, answer_all, serve_connections};
 use sqlite::{Connection, MemStore};
 use std::alloc::AllocGlobal;
 use std::io;
 use std::io::{Read as _, Write as _};
-use std::net::{Shutdown, TcpListener, TcpStream};
+use std::net::{Net, Shutdown, SocketAddr, TcpListener, TcpStream};
 use std::process::Abort;
 use wgr_io::Device;
 use wgr_model::Order;
@@ -64,10 +64,17 @@ fn add_acme(rt: &(impl Abort + AllocGlobal), office: &mut Office<MemStore>) {
     let _answers = office.run(rt.alloc(), &orders).expect(rt, "memory");
 }
 
+/// An address at which nobody listens.
+fn free_address<H: Net>(host: &H) -> io::Result<SocketAddr> {
+    TcpListener::bind(host, "127.0.0.1:0")?.local_addr()
+}
+
 #[test]
 fn clients_are_served_in_turn(rt: HostRuntime) -> io::Result<()> {
-    let listener = TcpListener::bind(&rt, "127.0.0.1:0")?;
-    let address = listener.local_addr()?;
+    let address = free_address(&rt)?;
+    let mut network = Sockets::new(&rt);
+    assert!(rt; network.next().is_err());
+    assert!(rt; network.listen(address.ip(), address.port()).is_ok());
     let mut first = TcpStream::connect(&rt, address)?;
     let mut second = TcpStream::connect(&rt, address)?;
     first.write_all(LIST)?;
@@ -75,9 +82,9 @@ fn clients_are_served_in_turn(rt: HostRuntime) -> io::Result<()> {
     let mut office = office(&rt);
     add_acme(&rt, &mut office);
     let mut err = Device::new(Vec::new(rt.alloc()));
-    serve_connections(&rt, &mut office, &listener, 0, Some(7), &mut err);
-    serve_connections(&rt, &mut office, &listener, 1, None, &mut err);
-    serve_connections(&rt, &mut office, &listener, 1, Some(7), &mut err);
+    serve_connections(rt.alloc(), &mut office, &mut network, 0, Some(7), &mut err);
+    serve_connections(rt.alloc(), &mut office, &mut network, 1, None, &mut err);
+    serve_connections(rt.alloc(), &mut office, &mut network, 1, Some(7), &mut err);
     let _conn = office.into_register().into_connection();
     assert!(rt; err.inner.is_empty());
     let mut reply = Vec::new(rt.alloc());

@@ -1,12 +1,12 @@
 use Rattle.std.proofs.Common.{arith}
 use Rattle.sqlite.specs.WalFiles.{image_at}
-use Rattle.wgr_file.proofs.FileLemmas.{closed_as, made, stays}
+use Rattle.wgr_file.proofs.FileLemmas.{made, stays}
 use Rattle.wgr_file.proofs.opening.make_register.Goals as goal
 
 pub returns-in-Ok-create-clause-made : goal.returns-in-Ok-create-clause-made
 returns-in-Ok-create-clause-made g c =
     made c.in-Ok.conn c.in-Ok-create.register (image_at g.S.Start) c.close.result c.in-Ok.ensures.sound c.in-Ok.ensures.found c.in-Ok-create.ensures.clean c.in-Ok-create.ensures.free c.in-Ok-create.ensures.done
-    (closed_as c.into_connection.result c.in-Ok-create.register c.close.result c.into_connection.ensures c.close.ensures)
+    c.close.ensures
 
 pub returns-in-Err-create-clause-kept : goal.returns-in-Err-create-clause-kept
 returns-in-Err-create-clause-kept g c =

@@ -10,6 +10,7 @@ use Rattle.sqlite_disk.specs.declared.Disk as disk
 use Rattle.sqlite_disk.specs.declared.Files.{Files}
 use Rattle.wgr_command_line.specs.Words.{Asked, asked_by}
 use Rattle.wgr_plan.specs.PlanFault.{Streams}
+use Rattle.wgr_service.specs.Network.{Log}
 use Rattle.wgr_prog.specs.Status.{ReadsNothing, Runs, Serves, ServesAsked, TellsError, kind_status, streams}
 use Rattle.wgr_prog.proofs.program.program.Goals as goal
 
@@ -22,13 +23,13 @@ follows_memory kind status memory (inl fault) = fault
 follows_memory kind status memory (inr told) = told ∙ ap kind_status memory
 
 -- an error where a pool is asked for is want of memory
-lacks_memory : {D : Type 0} (g : disk.Ghosts D) (start : Image) (closed : Option (Files D)) (asked : Option Asked) (old new : Streams) (kind : ErrorKind) (status : ℕ)
+lacks_memory : {D : Type 0} (g : disk.Ghosts D) (start : Image) (closed : Option (Files D)) (asked : Option Asked) (log : Log) (old new : Streams) (kind : ErrorKind) (status : ℕ)
     → (is_some asked ≡ true → kind ≡ OutOfMemory) → (kind_status kind ≢ DONE → new ≡ old) → Follows kind status
-    → IfSome asked (λ asked. ServesAsked g start closed asked old new status)
-lacks_memory g start closed None old new kind status memory kept told = tt
-lacks_memory g start closed (Some asked) old new kind status memory kept told =
+    → IfSome asked (λ asked. ServesAsked g start closed asked log log old new status)
+lacks_memory g start closed None log old new kind status memory kept told = tt
+lacks_memory g start closed (Some asked) log old new kind status memory kept told =
     let is : kind_status kind ≡ FAULT = ap kind_status (memory refl) in
-    inl (kept (λ done. cc (is, done)), follows_memory kind status (memory refl) told)
+    inl (refl, (kept (λ done. cc (is, done)), follows_memory kind status (memory refl) told))
 
 tells_fault : (kinds : Kinds) (old new : Streams) (status : ℕ) → ReadsNothing old new → status ≡ FAULT → (new ≡ old) ⊎ (new.write_failed ≡ true) → TellsError kinds old new status
 tells_fault kinds old new status unread fault (inl kept) = inl (kept, fault)
@@ -54,6 +55,10 @@ if_none : {P : Type 0} (asked : Option Asked) → P → IfNone asked P
 if_none None p = p
 if_none (Some pool) p = tt
 
+-- the network isn't met
+untouched : {Q : Type 0} (log : Log) → Q → (log ≡ log) × Q
+untouched log q = (refl, q)
+
 left_of : {A B C : Type 0} → (A → B) → A ⊎ C → B ⊎ C
 left_of f (inl a) = inl (f a)
 left_of f (inr c) = inr c
@@ -66,25 +71,26 @@ pub returns-in-Err : goal.returns-in-Err
 returns-in-Err g c =
     let kept = kept_streams g.R.Read.remaining g.R.Read.failed g.W.Write.contents g.W.Write.failed c.args.input.now _ _ in
     record {
-      served = lacks_memory _ _ _ _ _ _ _ _ c.in-Err.ensures.err (λ other. kept (c.no_invocation.ensures.kept other)) c.no_invocation.ensures.status;
-      told = if_none _ (tells_error _ c.in-Err.answer _ _ _ (refl, refl) c.in-Err.ensures.kinds c.no_invocation.ensures.status
+      served = lacks_memory _ _ _ _ _ _ _ _ _ c.in-Err.ensures.err (λ other. kept (c.no_invocation.ensures.kept other)) c.no_invocation.ensures.status;
+      told = if_none _ (untouched (g.N.Network.log c.args.network.now) (tells_error _ c.in-Err.answer _ _ _ (refl, refl) c.in-Err.ensures.kinds c.no_invocation.ensures.status
           (λ other. kept (c.no_invocation.ensures.kept other))
           (λ fault. left_of kept (c.no_invocation.ensures.fault fault))
-          c.no_invocation.ensures.sound);
+          c.no_invocation.ensures.sound));
     }
 
 -- what is asked for is run
-serves : {D : Type 0} (g : disk.Ghosts D) (start : Image) (closed : Option (Files D)) (words : List Text) (asked : Asked) (old new : Streams) (status : ℕ) → asked_by words ≡ Some asked → Runs g start closed asked old new status → Serves g start closed words old new status
-serves g start closed words asked old new status is runs = record { served = rw is (inr runs); told = rw is tt }
+serves : {D : Type 0} (g : disk.Ghosts D) (start : Image) (closed : Option (Files D)) (words : List Text) (asked : Asked) (before after : Log) (old new : Streams) (status : ℕ) → asked_by words ≡ Some asked
+    → Runs g start closed asked before after old new status → Serves g start closed words before after old new status
+serves g start closed words asked before after old new status is runs = record { served = rw is (inr runs); told = rw is tt }
 
 pub returns-in-Ok-Init : goal.returns-in-Ok-Init
 returns-in-Ok-Init g c =
-    serves _ _ _ _ _ _ _ _ (rw c.in-Ok-Init.field-0-is at c.in-Ok-Init.ensures.ok) (c.run_init.ensures (g.R.Read.remaining c.args.input.now) (g.R.Read.failed c.args.input.now))
+    serves _ _ _ _ _ _ _ _ _ _ (rw c.in-Ok-Init.field-0-is at c.in-Ok-Init.ensures.ok) (refl, c.run_init.ensures (g.R.Read.remaining c.args.input.now) (g.R.Read.failed c.args.input.now))
 
 pub returns-in-Ok-Batch : goal.returns-in-Ok-Batch
 returns-in-Ok-Batch g c =
-    serves _ _ _ _ _ _ _ _ (rw c.in-Ok-Batch.field-0-is at c.in-Ok-Batch.ensures.ok) (rw c.deref.ensures.value at c.run_batch.ensures (g.R.Read.remaining c.args.input.now) (g.R.Read.failed c.args.input.now))
+    serves _ _ _ _ _ _ _ _ _ _ (rw c.in-Ok-Batch.field-0-is at c.in-Ok-Batch.ensures.ok) (refl, rw c.deref.ensures.value at c.run_batch.ensures (g.R.Read.remaining c.args.input.now) (g.R.Read.failed c.args.input.now))
 
 pub returns-in-Ok-Serve : goal.returns-in-Ok-Serve
 returns-in-Ok-Serve g c =
-    serves _ _ _ _ _ _ _ _ (rw c.in-Ok-Serve.field-0-is at c.in-Ok-Serve.ensures.ok) (c.run_serve.ensures (g.R.Read.remaining c.args.input.now) (g.R.Read.failed c.args.input.now))
+    serves _ _ _ _ _ _ _ _ _ _ (rw c.in-Ok-Serve.field-0-is at c.in-Ok-Serve.ensures.ok) (c.run_serve.ensures (g.R.Read.remaining c.args.input.now) (g.R.Read.failed c.args.input.now))

@@ -3,12 +3,13 @@ use Rattle.sqlite.specs.Recovery.{Image}
 use Rattle.sqlite_disk.specs.declared.Disk as disk
 use Rattle.sqlite_disk.specs.declared.Files.{Files}
 use Rattle.wgr_plan.specs.PlanFault.{Streams}
+use Rattle.wgr_service.specs.Network.{Log}
 use Rattle.wgr_prog.specs.Status.{Serves}
 use Rattle.wgr_prog.proofs.program.run.Goals as goal
 
-serves_same : {A D : Type 0} (g : disk.Ghosts D) (start : Image) (closed : Option (Files D)) (text : A → List ℕ) (old new : Streams) (status : ℕ) (words same : List A) → words ≡ same → Serves g start closed (map text words) old new status → Serves g start closed (map text same) old new status
-serves_same g start closed text old new status words same is = subst (λ words. Serves g start closed (map text words) old new status) is
+serves_same : {A D : Type 0} (g : disk.Ghosts D) (start : Image) (closed : Option (Files D)) (text : A → List ℕ) (before after : Log) (old new : Streams) (status : ℕ) (words same : List A) → words ≡ same → Serves g start closed (map text words) before after old new status → Serves g start closed (map text same) before after old new status
+serves_same g start closed text before after old new status words same is = subst (λ words. Serves g start closed (map text words) before after old new status) is
 
 pub returns-in-Ok-clause-serves : goal.returns-in-Ok-clause-serves
 returns-in-Ok-clause-serves g c =
-    rw c.in-Ok.is (serves_same _ _ _ string_bytes _ _ _ _ _ (c.words_of.ensures ∙ ap (drop 1) c.deref.ensures.value) c.program.ensures)
+    rw c.in-Ok.is (serves_same _ _ _ string_bytes _ _ _ _ _ _ _ (c.words_of.ensures ∙ ap (drop 1) c.deref.ensures.value) c.program.ensures)

@@ -1,4 +1,4 @@
-use Rattle.std.proofs.Common.{◌∙◌, None}
+use Rattle.std.proofs.Common.{None}
 use Rattle.sqlite.specs.WalFiles.{image_at}
 use Rattle.wgr_file.proofs.FileLemmas.{stays_open}
 use Rattle.wgr_prog.proofs.AnsweringLemmas.{same_office}
@@ -9,4 +9,4 @@ returns-in-Ok-clause-open g c = same_office _ _ None c.in_ok-register.register c
 
 pub returns-in-Err-clause-kept : goal.returns-in-Err-clause-kept
 returns-in-Err-clause-kept g c =
-    stays_open c.in_ok-register.register c.into_connection.result (image_at g.S.Start) c.close.result c.in_ok-register.ensures.open (c.into_connection.ensures ∙ c.in-Err.ensures.err) c.close.ensures
+    stays_open c.in_ok-register.register c.in-Err.register (image_at g.S.Start) c.close.result c.in_ok-register.ensures.open c.in-Err.ensures.err c.close.ensures

@@ -1,0 +1,22 @@
+-- What happens at the network.
+use Rattle.std.specs.Prelude.{◌≡◌, ◌++◌, ℕ, Bool, List, Option, Some, None}
+use Rattle.std.specs.declared.net.ip_addr.IpAddr.{IpAddr}
+use Rattle.wgr_model.specs.Register.{Bytes}
+
+-- An address and a port were bound. No connection could be accepted; or one came: what the clock gave then, what was
+-- still to be read of it, and what had been written to it. It was ended: what had been written to it then, and whether a
+-- read and a write had failed. Bytes and moments are told where they are known.
+pub data Contact : Type 0 where
+  bound : IpAddr → ℕ → Contact
+  missed : Contact
+  came : Option ℕ → Option Bytes → Option Bytes → Contact
+  ended : Option Bytes → Bool → Bool → Contact
+
+-- what happened so far, oldest first, where it is known
+abbrev pub Log : Type 0
+Log = Option (List Contact)
+
+-- these came to the log
+abbrev pub Logs : Log → Log → List Contact → Type 0
+Logs None after contacts = Unit {0}
+Logs (Some log) after contacts = after ≡ Some (log ++ contacts)

@@ -1,0 +1,46 @@
+//! The network as a server meets it: connections that come, and the clock at which they come.
+ghost use Rattle.std.specs.Prelude.{◌≡◌, [], ◌∷◌, false, IfOk, OnErr, OnOk};
+ghost use Rattle.wgr_service.specs.Network.{Log, Logs, bound, came, ended, missed};
+
+use std::net::IpAddr;
+use wgr_io::{DeviceError, Read, Write};
+
+/// A connection that came.
+pub struct Arrival<R, W> {
+    /// What the client sends.
+    pub reader: R,
+    /// What the client is sent.
+    pub writer: W,
+    /// What the clock gave when it had come, in whole seconds since 1970-01-01 00:00 UTC; none where
+    /// the clock failed.
+    pub clock: Option<u64>,
+}
+
+/// The network as a server meets it.
+///
+/// [`Sockets`](crate::Sockets) is the system's, of which no log is known. What is proved of a server
+/// over any network holds for one that knows its log.
+pub trait Network {
+    /// The reader of a connection.
+    type Reader: Read;
+    /// The writer of a connection.
+    type Writer: Write;
+
+    /// What happened so far, where it is known.
+    ghost log: { Self → Log };
+
+    /// Listens at this address and port, and no longer at another.
+    fn listen(&mut self, address: IpAddr, port: u16) -> Result<(), DeviceError>
+        ensures bound { OnOk result (Logs (log self.old) (log self.new) (bound address port ∷ [])) }
+        ensures kept { OnErr result (log self.new ≡ log self.old) };
+
+    /// Waits for the next connection, and then reads the clock.
+    fn next(&mut self) -> Result<Arrival<Self::Reader, Self::Writer>, DeviceError>
+        ensures came { IfOk result (λ it. Logs (log self.old) (log self.new) (came it.clock (Self.Reader.remaining it.reader) (Self.Writer.contents it.writer) ∷ [])) }
+        ensures sound { IfOk result (λ it. (Self.Reader.failed it.reader ≡ false) × (Self.Writer.failed it.writer ≡ false)) }
+        ensures missed { OnErr result (Logs (log self.old) (log self.new) (missed ∷ [])) };
+
+    /// Says that no more is written, waits for what the client still sends, and closes the connection.
+    fn end(&mut self, reader: Self::Reader, writer: Self::Writer)
+        ensures ended { Logs (log self.old) (log self.new) (ended (Self.Writer.contents writer) (Self.Reader.failed reader) (Self.Writer.failed writer) ∷ []) };
+}
