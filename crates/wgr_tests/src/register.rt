@@ -13,6 +13,8 @@ mod answered;
 mod opened;
 mod orders;
 mod random;
+mod reopened;
+mod stops;
 mod stored;
 mod worlds;
 
