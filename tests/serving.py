@@ -3,6 +3,8 @@
 import json
 import socket
 import subprocess
+import tempfile
+import unittest
 from pathlib import Path
 
 import openapi
@@ -18,6 +20,16 @@ def key(byte):
 
 
 SERVER_KEY = key(9)
+
+# The network of `make_register`: the path to its peers, and what the list of networks shows of it.
+PEERS = "/networks/office/peers"
+OFFICE = {
+    "capacity": 4096,
+    "endpoint": "vpn.example.net:51820",
+    "name": "office",
+    "pool": "10.8.0.0/24",
+    "server": SERVER_KEY,
+}
 
 REASONS = {
     200: "OK",
@@ -62,8 +74,19 @@ def free_port(host="127.0.0.1"):
         return probe.getsockname()[1]
 
 
+def has_ipv6():
+    try:
+        free_port("::1")
+    except OSError:
+        return False
+    return True
+
+
 class Server:
     """`wgr serve` on a port of its own, until the block ends or its connections are counted down."""
+
+    # The variables of its environment, where they are others than those of the tests.
+    environment = None
 
     def __init__(self, database, count=100_000, now=None, host="127.0.0.1"):
         self.host, self.port = host, free_port(host)
@@ -74,7 +97,7 @@ class Server:
 
     def __enter__(self):
         self.process = subprocess.Popen(
-            [program.path, *self.words], stdout=subprocess.PIPE, stderr=subprocess.PIPE
+            [program.path, *self.words], stdout=subprocess.PIPE, stderr=subprocess.PIPE, env=self.environment
         )
         told = self.process.stdout.readline()
         assert told == b"listening\n", (told, self.process.stderr.read())
@@ -107,6 +130,23 @@ class Server:
         reply = self.send(request(method, path, body, token))
         openapi.check(method, path, reply)
         return reply
+
+
+class Serving(unittest.TestCase):
+    """A register for each test, and services over it that end with the test."""
+
+    maxDiff = None
+
+    def setUp(self):
+        folder = tempfile.TemporaryDirectory()
+        self.addCleanup(folder.cleanup)
+        self.database = make_register(folder.name)
+
+    def serve(self, **words):
+        server = Server(self.database, **words)
+        server.__enter__()
+        self.addCleanup(server.__exit__)
+        return server
 
 
 def read_all(link):
@@ -169,3 +209,7 @@ def peer(number, of, address, label="", end=0, keepalive=0, routes=(), status=No
         "routes": list(routes),
         "status": status,
     }
+
+
+# The list of the peers of `office`, and the reply where there are none.
+LIST, NOBODY = request("GET", PEERS), done({"peers": []})

@@ -1,5 +1,6 @@
 """`wgr batch`: requests from files; and that a tenant can't tell others' doings from their absence."""
 
+import os
 import sqlite3
 import tempfile
 import unittest
@@ -9,6 +10,7 @@ from pathlib import Path
 from keys import key_text
 from program import Left, run, without_room
 from serving import (
+    PEERS,
     SERVER_KEY,
     TOKEN,
     done,
@@ -22,12 +24,13 @@ from serving import (
     request,
 )
 
-PEERS = "/networks/office/peers"
+# Where files of requests are written: in memory, if the system has a folder there, since they are thousands.
+ROOM = "/dev/shm" if os.access("/dev/shm", os.W_OK) else None
 
 
 def batch(database, now, requests, prepare=None):
     """Runs the program on files of these requests."""
-    with tempfile.TemporaryDirectory() as folder:
+    with tempfile.TemporaryDirectory(dir=ROOM) as folder:
         files = []
         for place, message in enumerate(requests):
             file = Path(folder) / str(place)

@@ -9,10 +9,8 @@ import unittest
 from concurrent.futures import ThreadPoolExecutor
 from pathlib import Path
 
-from serving import TOKEN, Server, done, key, make_register, peer, read_all, refused, reply, request
+from serving import LIST, NOBODY, PEERS, TOKEN, Server, done, key, make_register, peer, read_all, refused, reply, request
 
-PEERS = "/networks/office/peers"
-LIST, NOBODY = request("GET", PEERS), done({"peers": []})
 HEAD = f"GET {PEERS} HTTP/1.1\r\nAuthorization: Bearer {TOKEN}\r\n".encode()
 # Seconds after which an answer doesn't count as one at once; the service waits a quarter of one behind a reply.
 SOON = 2

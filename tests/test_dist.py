@@ -12,11 +12,10 @@ import unittest
 from concurrent.futures import ThreadPoolExecutor
 from pathlib import Path
 
-from serving import TOKEN, Server, done, free_port, key, make_register, peer, request
+from serving import PEERS, TOKEN, Server, done, free_port, key, make_register, peer, request
 from tools import needs
 
 DIST = Path(__file__).resolve().parent.parent / "dist"
-PEERS = "/networks/office/peers"
 
 
 def body_of(reply):

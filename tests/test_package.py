@@ -88,8 +88,8 @@ def release():
 
 
 def make(folder, top=TOP, **environment):
-    """What tools/package leaves, and the package's path."""
-    done = subprocess.run([top / "tools/package", folder], capture_output=True, env={**os.environ, **environment})
+    """What tools/package leaves, and the package's path. The package's modes don't come from the user's umask."""
+    done = subprocess.run([top / "tools/package", folder], capture_output=True, env={**os.environ, **environment}, umask=0o077)
     return done, Path(folder) / f"wgr_{release()['version']}_amd64.deb"
 
 

@@ -1,21 +1,17 @@
 """Requests to `wgr serve`: which check of several tells, and a dump that is adopted twice."""
 
-import tempfile
-import unittest
-
 from serving import (
+    PEERS,
     SERVER_KEY,
     TOKEN,
-    Server,
+    Serving,
     done,
     key,
-    make_register,
     peer,
     refused,
     wrong_method,
 )
 
-PEERS = "/networks/office/peers"
 DUMP = "/networks/office/dump"
 MORE = {"key": key(1), "extra": 0}
 LIST = f"GET {PEERS} HTTP/1.1\r\n"
@@ -75,17 +71,7 @@ def text_of(lines):
     return "".join("\t".join(line) + "\n" for line in lines).encode()
 
 
-class Requests(unittest.TestCase):
-    maxDiff = None
-
-    def serve(self):
-        folder = tempfile.TemporaryDirectory()
-        self.addCleanup(folder.cleanup)
-        server = Server(make_register(folder.name))
-        server.__enter__()
-        self.addCleanup(server.__exit__)
-        return server
-
+class Requests(Serving):
     def test_the_first_check_tells(self):
         server = self.serve()
         for method, path, body, token, due in CHECKS:
@@ -99,6 +85,7 @@ class Requests(unittest.TestCase):
     def test_a_dump_is_adopted_once(self):
         for name, text in [("whole", text_of(LINES)), ("without its last newline", text_of(LINES)[:-1])]:
             with self.subTest(name):
+                self.setUp()
                 server = self.serve()
                 self.assertEqual(server.ask("POST", DUMP, text), done({"added": [1, 2, 3], "known": 0}))
                 self.assertEqual(server.ask("GET", PEERS), done({"peers": ADOPTED}))

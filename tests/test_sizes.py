@@ -2,12 +2,11 @@
 
 import hashlib
 import itertools
-import unittest
 from pathlib import Path
 
 from program import Left, run
 from register_file import ACME, DONE, S, Files, failed, network_row, options, pool_of, put, refused
-from serving import Server, done, key, make_register, peer, request
+from serving import PEERS, Server, done, key, make_register, peer, request
 from serving import refused as refused_reply
 from test_batch import batch, compare
 
@@ -121,7 +120,6 @@ class Full(Files):
         self.assertEqual(self.order("tenant-add", "bolt"), failed("not_good"))
 
 
-PEERS = "/networks/office/peers"
 LENGTHS = [4_096, 4_097, 65_536, 100_000, 500_000, 1_000_001, 1_999_999, 2_097_152]
 
 

@@ -10,12 +10,9 @@ from pathlib import Path
 
 from program import Left, run, without_room
 from register_file import ACME, DONE, NETWORK, Files, failed
-from serving import Server, done, free_port, key, make_register, peer, refused, request
+from serving import LIST, NOBODY, PEERS, Server, Serving, done, has_ipv6, key, make_register, peer, refused, request
 from test_batch import batch
-from test_serve import has_ipv6
 
-PEERS = "/networks/office/peers"
-LIST, NOBODY = request("GET", PEERS), done({"peers": []})
 # The state of a socket that listens, in /proc/net/tcp.
 LISTENS = "0A"
 
@@ -43,11 +40,9 @@ def listeners(process):
     return found
 
 
-class Listening(Files):
+class Listening(Serving):
     def serve(self, host):
-        server = Server(make_register(self.folder), host=host)
-        server.__enter__()
-        self.addCleanup(server.__exit__)
+        server = super().serve(host=host)
         self.assertEqual(server.send(LIST), NOBODY)
         return server
 

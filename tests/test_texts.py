@@ -4,12 +4,12 @@ taken, kept and shown. `WGR_SEED=N` takes other texts."""
 import hashlib
 import os
 import random
-import string
 import sqlite3
+import string
 from contextlib import closing
 
 from register_file import S, Files, network_row, pool_of, put
-from serving import SERVER_KEY, TOKEN, done, file_of, key, make_register, peer, refused, request
+from serving import OFFICE, TOKEN, done, file_of, key, make_register, peer, refused, request
 from test_batch import compare
 
 SEED = int(os.environ.get("WGR_SEED", "1"))
@@ -27,7 +27,6 @@ NUMBERS = [*range(1, 41), 255, 256, 999, 1_000, 1_001, 4_097, 65_536, 131_073, 9
 LAST = 2**53 - 1
 MOMENTS = [0, 1, 10**9, 1_893_456_000, 1_925_000_000, 2 * 10**9, 2**31, 4_000_000_001, 4_102_444_800, 2**32, LAST, 2**63 - 1]
 
-OFFICE = {"capacity": 4096, "endpoint": f"{HOSTED}:51820", "name": "office", "pool": "10.8.0.0/24", "server": SERVER_KEY}
 LAB = {"capacity": 4096, "endpoint": f"{HOSTED}:2", "name": "lab", "pool": pool_of(2)[0], "server": S}
 
 

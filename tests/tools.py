@@ -24,6 +24,7 @@ PACKAGES = {
     "xz": "xz-utils",
     "lintian": "lintian",
     "bash": "bash",
+    "cc": "gcc",
 }
 
 

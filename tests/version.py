@@ -1,4 +1,4 @@
-"""The version, from the one place that it is written at: the sources."""
+"""The version that the sources give the program."""
 
 import re
 from pathlib import Path
