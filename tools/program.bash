@@ -122,6 +122,8 @@ unpack_anew() (
     trap 'rm -f "$fresh"' EXIT
     if ! why=$(xz -dc <"$top/$packed" 2>&1 >"$fresh"); then
         say "$packed can't be unpacked: $why"
+        # Where the archive itself is whole, there is no room for the program here, and a build has none either.
+        ! xz -t <"$top/$packed" 2>/dev/null || return 2
         return 1
     fi
     if [[ $(sha256_of "$fresh") != "$1" ]]; then
