@@ -87,11 +87,14 @@ fn serve_one<S: Alter, N: Network>(
     ensures outcome { (outcome : Outcome) × Tells now result outcome × HasOutcome S.Store office.old office.new now outcome
         × Logs (N.log network.old) (N.log network.new) (contacts_of outcome) }
 {
-    let Ok(Arrival {
-        mut reader,
-        mut writer,
-        clock,
-    }) = network.next() else {
+    let Ok(
+        Arrival {
+            mut reader,
+            mut writer,
+            clock,
+        },
+    ) = network.next()
+    else {
         return Err(ConnectionFault::Accept);
     };
     let served = serve_arrival(alloc, office, now, clock, &mut reader, &mut writer);

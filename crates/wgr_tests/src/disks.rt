@@ -9,21 +9,16 @@ pub(crate) fn in_memory(rt: &(impl Abort + AllocGlobal)) -> Connection<MemStore>
     Connection::open_in_memory(rt.alloc()).expect(rt, "memory")
 }
 
-/// A log is copied into its database as soon as it has four pages.
-pub(crate) fn options() -> Options {
-    let mut options = Options::new(7);
-    options.checkpoint_frames = 4;
-    options
-}
-
-/// The database in these files.
+/// The database in these files, whose log is copied into it as soon as it has four pages.
 pub(crate) fn in_files<D: Disk + Drop>(
     rt: &(impl Abort + AllocGlobal),
     files: Files<D>,
 ) -> Connection<FileStore<D>> {
+    let mut options = Options::new(7);
+    options.checkpoint_frames = 4;
     assert!(rt; files.log.may_be_used());
     assert!(rt; files.db.may_be_used());
-    match Connection::open_files(rt.alloc(), files, options()) {
+    match Connection::open_files(rt.alloc(), files, options) {
         Ok(conn) => conn,
         Err(_) => panic!(rt; "files"),
     }
@@ -38,8 +33,8 @@ pub(crate) fn in_new_files(rt: &(impl Abort + AllocGlobal)) -> Connection<FileSt
     in_files(rt, files)
 }
 
-/// A file of these bytes, which no stop loses.
-pub(crate) fn file_of(rt: &(impl Abort + AllocGlobal), bytes: &[u8]) -> Memory {
+// A file of these bytes, which no stop loses.
+fn file_of(rt: &(impl Abort + AllocGlobal), bytes: &[u8]) -> Memory {
     let mut file = Memory::new(rt.alloc());
     assert!(rt; file.may_be_used());
     file.write_at(0, bytes).expect(rt, "memory");

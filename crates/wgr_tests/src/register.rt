@@ -13,8 +13,6 @@ mod answered;
 mod opened;
 mod orders;
 mod random;
-mod reopened;
-mod stops;
 mod stored;
 mod worlds;
 

@@ -64,7 +64,8 @@ impl io::Write for Narrow {
     }
 }
 
-const ADD: &[u8] = b"POST /networks/office/peers HTTP/1.1\r\nAuthorization: Bearer abc\r\nContent-Length: 54\r\n\r\n{\"key\":\"@\"}";
+const ADD: &[u8] =
+    b"POST /networks/office/peers HTTP/1.1\r\nAuthorization: Bearer abc\r\nContent-Length: 54\r\n\r\n{\"key\":\"@\"}";
 
 const LIST: &[u8] = b"GET /networks/office/peers HTTP/1.1\r\nAuthorization: Bearer abc\r\n\r\n";
 
@@ -139,8 +140,16 @@ fn peer_until(rt: &(impl Abort + AllocGlobal), lease: usize) -> Vec<u8> {
 // The reply of a renewal and the list then; the leases have four digits.
 fn renewal_and_list(rt: &(impl Abort + AllocGlobal), lease: usize) -> (Vec<u8>, Vec<u8>) {
     let peer = peer_until(rt, lease);
-    let reply = joined(rt, "HTTP/1.1 200 OK\r\nContent-Type: application/json\r\nContent-Length: 151\r\nConnection: close\r\n\r\n", &peer);
-    let list = joined(rt, "HTTP/1.1 200 OK\r\nContent-Type: application/json\r\nContent-Length: 163\r\nConnection: close\r\n\r\n{\"peers\":[", &peer);
+    let reply = joined(
+        rt,
+        "HTTP/1.1 200 OK\r\nContent-Type: application/json\r\nContent-Length: 151\r\nConnection: close\r\n\r\n",
+        &peer,
+    );
+    let list = joined(
+        rt,
+        "HTTP/1.1 200 OK\r\nContent-Type: application/json\r\nContent-Length: 163\r\nConnection: close\r\n\r\n{\"peers\":[",
+        &peer,
+    );
     let list = joined(rt, str::from_utf8(&list).expect(rt, "a text"), b"]}");
     (reply, list)
 }

@@ -9,8 +9,7 @@ pub returns : goal.returns
 returns g c =
     let (outcomes, served, written, logged) = c.serve_connections.ensures.served in
     let place = c.args.serving.now.endpoint in
-    let listened = subst (λ port. Logs (g.N.Network.log c.args.network.now) (g.N.Network.log c.listen.new.self) (bound place.0 port ∷ [])) c.number.ensures.value c.in-Ok.ensures.bound in
-    (
+    let listened = subst (λ port. Logs (g.N.Network.log c.args.network.now) (g.N.Network.log c.listen.new.self) (bound place.0 port ∷ [])) c.number.ensures.value c.in-Ok.ensures.bound in (
       c.serve_connections.ensures.clean,
       (
         outcomes,
