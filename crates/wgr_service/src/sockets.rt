@@ -25,7 +25,7 @@ pub struct Sockets<'a, H: Net> {
 }
 
 impl<'a, H: Net> Sockets<'a, H> {
-    /// Sockets that listen nowhere yet.
+    /// Sockets that listen nowhere yet. No log of theirs is known, so no clause can say more.
     pub fn new(host: &'a H) -> Sockets<'a, H> {
         Sockets {
             host,
