@@ -1,5 +1,5 @@
 -- A run grows at its end.
-use Rattle.std.proofs.Common.{◌≡◌, ◌⊎◌, ℕ, List, [], ◌∷◌, ◌++◌, Option, Some, None, Result, Ok, Err, refl, sym, ap, subst, inl, inr}
+use Rattle.std.proofs.Common.{◌≡◌, ◌⊎◌, ℕ, Bool, true, false, List, [], ◌∷◌, ◌++◌, Option, Some, None, Result, Ok, Err, refl, sym, ap, subst, inl, inr}
 use Rattle.std.specs.Prelude.{IfOk}
 use Rattle.std.specs.declared.vec.Vec.{Vec}
 use Rattle.std.specs.declared.alloc.Global.{Global}
@@ -15,13 +15,13 @@ use Rattle.wgr_model.specs.Runs.{Served, acknowledged}
 use Rattle.wgr_model.specs.Steps.{Answer, Event, IsProper, Refused}
 use Rattle.wgr_model.specs.Tenants.{Agree, Fits}
 use Rattle.wgr_model.proofs.ServeLemmas.{proper_more}
-use Rattle.wgr_office.specs.Events.{AgreeAsGiven, AreServed, Goes, GoesAll, HasRun, HaveBeenServed, IsAnswerTo, IsServed, IsSettled, Serves, Tells, unread}
+use Rattle.wgr_office.specs.Events.{AgreeAsGiven, AreServed, Goes, GoesAll, HasRun, HaveBeenServed, IsAnswerTo, IsServed, IsSettled, Serves, Settles, Tells, unread}
 use Rattle.wgr_office.specs.Pages.{IsAnswered, event_of}
 use Rattle.wgr_office.specs.declared.answer.Answer as given
 use Rattle.wgr_office.specs.declared.answer.Answer.TheVariants as givens
 use Rattle.wgr_office.specs.declared.run.Event as event
 use Rattle.wgr_office.specs.declared.run.Event.TheVariants as events
-use Rattle.wgr_register.specs.Ends.{OrderEnds}
+use Rattle.wgr_register.specs.Ends.{EndsAt, OrderEnds, is_change}
 use Rattle.wgr_register.specs.Standing.{IsAtRest, StandsAt}
 use Rattle.wgr_register.specs.declared.fault.Done as done
 use Rattle.wgr_register.specs.declared.fault.OrderFault.{OrderFault}
@@ -59,10 +59,21 @@ row_run (s ∷ served) db late next left (mid, between, step, rest) = (tables_of
 
 module _ {S : Type 0} (g : Ghosts S) (conn : Held S) (db : Database) (late : List Event) where
   ended : (asked : event.Event) (reply : given.Answer) (e : Event) (answer : Answer) → Serves asked reply e (Some answer) → IsProper e → (next : Database) → IsRowStep (tables_of db) e answer (tables_of next)
-      → (StandsAt g conn next [] ⊎ ((next ≡ db) × StandsAt g conn db late)) → IsServed g conn db late asked reply
-  ended asked reply e answer serves proper next step (inl at) = record { e = e; answer = Some answer; serves = serves; proper = proper; next = next; left = []; goes = (step, inl refl); stands = at }
-  ended asked reply e answer serves proper next step (inr (same, at)) =
-      record { e = e; answer = Some answer; serves = serves; proper = proper; next = db; left = late; goes = (subst (λ (d : Database). IsRowStep (tables_of db) e answer (tables_of d)) same step, inr (refl, refl)); stands = at }
+      → EndsAt g conn (is_change answer e) db late next → IsServed g conn db late asked reply
+  ended asked reply e answer serves proper next step = each (is_change answer e) refl
+    where
+      each : (b : Bool) → is_change answer e ≡ b → EndsAt g conn b db late next → IsServed g conn db late asked reply
+      each true is at = record { e = e; answer = Some answer; serves = serves; proper = proper; next = next; left = []; goes = (step, subst (λ c. Settles c db late next []) (sym is) refl); stands = at }
+      each false is (same, at) = record {
+        e = e;
+        answer = Some answer;
+        serves = serves;
+        proper = proper;
+        next = db;
+        left = late;
+        goes = (subst (λ (d : Database). IsRowStep (tables_of db) e answer (tables_of d)) same step, subst (λ c. Settles c db late db late) (sym is) (refl, refl));
+        stands = at;
+      }
 
   pub ask_served : (now : ℕ) (bytes : Vec ℕ Global) (reply : given.Answer) → IsAnswered g conn db late now bytes.items reply → HasCleanDisk (state g conn) → IsServed g conn db late (events.Ask now bytes) reply
   ask_served now bytes (givens.Bytes b) (r, read, ends) clean =
@@ -79,7 +90,7 @@ module _ {S : Type 0} (g : Ghosts S) (conn : Held S) (db : Database) (late : Lis
       let end = ends clean in
       subst (IsServed g conn db late (events.Order order)) (sym is) (ended (events.Order order) (givens.Order (Ok done)) (order_event order) end.0 (refl, end.1) proper end.2 end.3 end.4)
   order_served order (Err (order_fault.Refused why)) reply ends is proper clean =
-      subst (IsServed g conn db late (events.Order order)) (sym is) (ended (events.Order order) (givens.Order (Err why)) (order_event order) (Refused (refusal_of why)) (refl, refl) proper db (ends.1 clean) (inr (refl, ends.0)))
+      subst (IsServed g conn db late (events.Order order)) (sym is) (ended (events.Order order) (givens.Order (Err why)) (order_event order) (Refused (refusal_of why)) (refl, refl) proper db (ends.1 clean) (refl, ends.0))
   order_served order (Err (order_fault.Fault why)) reply ends is proper clean =
       subst (IsServed g conn db late (events.Order order)) (sym is)
       (record { e = order_event order; answer = None; serves = refl; proper = proper; next = db; left = order_event order ∷ late; goes = (refl, inr refl); stands = ends })

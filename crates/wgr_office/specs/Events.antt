@@ -1,5 +1,5 @@
 -- Lists of events, and what a run of them has given, in the words of the model.
-use Rattle.std.specs.Prelude.{◌≡◌, ◌⊎◌, List, [], ◌∷◌, Option, Some, None, Result, Ok, Err, ⊤}
+use Rattle.std.specs.Prelude.{◌≡◌, ◌⊎◌, Bool, true, false, List, [], ◌∷◌, Option, Some, None, Result, Ok, Err, ⊤}
 use Rattle.sqlite.specs.Effect.{Database}
 use Rattle.sqlite.specs.Store.{Ghosts}
 use Rattle.sqlite.specs.Held.{Held}
@@ -15,6 +15,7 @@ use Rattle.wgr_office.specs.declared.answer.Answer as given
 use Rattle.wgr_office.specs.declared.answer.Answer.TheVariants as givens
 use Rattle.wgr_office.specs.declared.run.Event as event
 use Rattle.wgr_office.specs.declared.run.Event.TheVariants as events
+use Rattle.wgr_register.specs.Ends.{is_change}
 use Rattle.wgr_register.specs.Standing.{StandsAt}
 use Rattle.wgr_register.specs.declared.fault.Done as done
 use Rattle.wgr_register.specs.declared.fault.OrderFault.{OrderFault}
@@ -51,11 +52,16 @@ AreServed events answers served = ⊥
 
 -- ---- the rows along them
 
+-- a change that was done leaves nothing late; after anything else all is as it was
+abbrev pub Settles : Bool → Database → List Event → Database → List Event → Type 0
+Settles true db late next left = left ≡ []
+Settles false db late next left = (next ≡ db) × (left ≡ late)
+
 -- From the rows of one database to those of another by an event. A stop may leave those events done
 -- that were answered Unavailable since the last acknowledged one that changed a row: the last two lists.
 abbrev pub Goes : Database → List Event → Event → Option Answer → Database → List Event → Type 0
 Goes db late e None next left = (next ≡ db) × ((left ≡ late) ⊎ (left ≡ e ∷ late))
-Goes db late e (Some answer) next left = IsRowStep (tables_of db) e answer (tables_of next) × ((left ≡ []) ⊎ ((next ≡ db) × (left ≡ late)))
+Goes db late e (Some answer) next left = IsRowStep (tables_of db) e answer (tables_of next) × Settles (is_change answer e) db late next left
 
 -- and by all of them in turn
 abbrev pub GoesAll : Database → List Event → List Served → Database → List Event → Type 0

@@ -1,18 +1,28 @@
 -- What the queries of whole tables show.
-use Rattle.std.proofs.Common.{◌≡◌, ℕ, List, [], ◌∷◌, map, filter, length, true, codes, IsPermutation, refl, sym, ap, subst, ◌∙◌}
+use Rattle.std.proofs.Common.{◌≡◌, ℕ, List, [], ◌∷◌, map, filter, length, true, codes, pos, IsPermutation, inl, inr, refl, sym, ap, subst, ◌∙◌, arith}
 use Rattle.std.proofs.lemmas.List.{length-map}
 use Rattle.std.proofs.lemmas.List.Sorted.{IsPermutation-map, length_permutation}
+use Rattle.sqlite.specs.declared.types.Value.TheVariants.{Null, Int, Text}
 use Rattle.sqlite.specs.Order.{Row}
+use Rattle.sqlite_value.specs.Order.{column}
+use Rattle.sqlite.specs.Term.{eval_all}
+use Rattle.sqlite.specs.Effect.{IsDatabase}
 use Rattle.sqlite.specs.Command.TheVariants.{Select}
 use Rattle.sqlite.specs.Listing.{understood}
 use Rattle.sqlite.specs.State.{State, Shown}
+use Rattle.sqlite_rules.specs.Lists.{Has}
 use Rattle.sqlite_tied.specs.Compute.{everything}
+use Rattle.wgr_sql.proofs.TextLemmas.{text_at}
 use Rattle.wgr_sql.specs.Effects.{plain_query}
 use Rattle.wgr_model.specs.Register.{Holding, Tenant, Token}
 use Rattle.wgr_model.specs.Rows.{NetworkRow, Tables}
 use Rattle.wgr_model.proofs.GatherLemmas.{map_map}
-use Rattle.wgr_tables.specs.Decode.{IsRegister, network_in, number_at, tables_of, tenant_in, token_in}
-use Rattle.wgr_tables.specs.Layout.{Others}
+use Rattle.wgr_tables.specs.Decode.{IsRegister, bytes_at, network_in, number_at, tables_of, tenant_in, token_in}
+use Rattle.wgr_sql.specs.Causes.{IsAnswered}
+use Rattle.wgr_tables.specs.Layout.{Others, schema_with, tenant_at}
+use Rattle.wgr_tables.specs.Stored.{AreStored, stored_network, stored_tenant}
+use Rattle.wgr_tables.proofs.AskedLemmas.{never_refused}
+use Rattle.wgr_tables.proofs.StoredLemmas.{network_is, stored_rows}
 use Rattle.wgr_tables.proofs.ListedLemmas.{listed}
 use Rattle.wgr_tables.proofs.Meanings.{Asks, network_places, tenant_places, token_places}
 use Rattle.wgr_tables.specs.Lookups.{settled}
@@ -38,6 +48,18 @@ module _ (others : Others) where
   pub networks_asks : Asks others networks_text (Select (record { lets = []; body = plain_query 5 [] network_places [] }) (codes "id" ∷ codes "NULL" ∷ codes "tenant" ∷ codes "name" ∷ codes "family" ∷ codes "lo" ∷ codes "length" ∷ codes "host" ∷ codes "port" ∷ codes "server" ∷ codes "capacity" ∷ codes "next" ∷ []))
   unfolding understood everything
   networks_asks = record { means = record { command_is = refl; plain = (refl, refl) }; unlisted = refl }
+
+  pub tokens_answered : IsAnswered (schema_with others) tokens_text []
+  unfolding understood everything
+  tokens_answered = record { given = (refl, refl, omega arith, refl); unlisted = refl; plain = λ limit trees e refused. never_refused _ refl limit (trees 3) refused }
+
+  pub tenants_answered : IsAnswered (schema_with others) tenants_text []
+  unfolding understood everything
+  tenants_answered = record { given = (refl, refl, omega arith, refl); unlisted = refl; plain = λ limit trees e refused. never_refused _ refl limit (trees 1) refused }
+
+  pub networks_answered : IsAnswered (schema_with others) networks_text []
+  unfolding understood everything
+  networks_answered = record { given = (refl, refl, omega arith, refl); unlisted = refl; plain = λ limit trees e refused. never_refused _ refl limit (trees 5) refused }
 
 all_pass : {A : Type 0} (xs : List A) → filter (λ _. true) xs ≡ xs
 all_pass [] = refl
@@ -68,6 +90,21 @@ module _ (old new : State) (register : IsRegister old.now) (rows : List Row) whe
   networks_listed shown =
       subst (λ xs. IsPermutation xs (map network_in rows)) (all_pass (tables_of old.now).networks)
       (listed old new register networks_text [] 5 [] network_places [] _ (networks_asks register.others) rows shown network_in (λ _. true) (λ r. refl) (λ r here. refl))
+
+  sound : IsDatabase (record { schema = schema_with register.others; trees = old.now.trees })
+  sound = subst (λ s. IsDatabase (record { schema = s; trees = old.now.trees })) register.schema_is register.sound
+
+  tenant_is : (r : Row) → Has (old.now.trees 1) r → eval_all tenant_places ([] ∷ r ∷ []) ≡ stored_tenant (tenant_in r)
+  tenant_is r here =
+      let id = register.written.tenants.numbers_are r here 0 (inl refl) in
+      let name : column r 2 ≡ Text (bytes_at r 2) = text_at (schema_with register.others) old.now.trees sound (tenant_at 1) (inr (inl refl)) r here 1 _ refl refl refl refl refl in
+      λ k. id k ∷ Null ∷ name k ∷ []
+
+  pub tenants_stored : Shown tenants_text [] old new rows → AreStored stored_tenant tenant_in rows
+  tenants_stored shown = stored_rows old new register tenants_text [] 1 [] tenant_places [] _ (tenants_asks register.others) rows shown tenant_in (λ r. refl) stored_tenant tenant_is
+
+  pub networks_stored : Shown networks_text [] old new rows → AreStored stored_network network_in rows
+  networks_stored shown = stored_rows old new register networks_text [] 5 [] network_places [] _ (networks_asks register.others) rows shown network_in (λ r. refl) stored_network (network_is old new register 0 rows)
 
 pub counted : (t : Tables) (rows : List Row) → ShowTokens t rows → length rows ≡ length t.tokens
 counted t rows is = sym (length-map rows token_in) ∙ length_permutation t.tokens (map token_in rows) is

@@ -24,6 +24,7 @@ use Rattle.wgr_tables.proofs.EditLemmas.{tenants_after, register_tenants, tokens
 use Rattle.wgr_tables.proofs.Made.{Made}
 use Rattle.wgr_tables.proofs.WriteLemmas.{row_inserted}
 use Rattle.wgr_tables.proofs.WrittenLemmas.{IsWritten, written_put}
+use Rattle.wgr_orders.specs.Stops.{network_params}
 use Rattle.wgr_orders.proofs.Meanings.{insert_tenant_text, insert_tenant_means, tenant_values, insert_token_text, insert_token_means, token_values, insert_network_text, insert_network_means, network_values}
 
 -- a row of which one place is a number
@@ -58,10 +59,7 @@ token_came old new register digest tenant count ran =
       made = (map token_in (put_row row rows), IsPermutation-map token_in (row ∷ rows) (put_row row rows) (put_one row rows done.1), tokens_after old.now new.now _ register done.0.sound done.0.edits);
     }
 
--- the parameters of a network's row, and the row as the table stores it
-abbrev pub network_params : NetworkRow → Row
-network_params w = Int (pos w.id) ∷ Int (pos w.tenant) ∷ Text w.name ∷ Int (pos (family_number w.pool.address.family)) ∷ Blob (bytes_of w.pool.address.number) ∷ Int (pos w.pool.length) ∷ Text w.host ∷ Int (pos w.port) ∷ Blob w.server.0 ∷ Int (pos w.capacity) ∷ []
-
+-- the row of a new network as the table stores it
 abbrev stored_network : NetworkRow → Row
 stored_network w = Int (pos w.id) ∷ Null ∷ Int (pos w.tenant) ∷ Text w.name ∷ Int (pos (family_number w.pool.address.family)) ∷ Blob (bytes_of w.pool.address.number) ∷ Int (pos w.pool.length) ∷ Text w.host ∷ Int (pos w.port) ∷ Blob w.server.0 ∷ Int (pos w.capacity) ∷ Int (pos 1) ∷ []
 

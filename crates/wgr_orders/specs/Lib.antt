@@ -1,1 +1,3 @@
 pub mod OrderSteps
+pub mod Kept
+pub mod Stops

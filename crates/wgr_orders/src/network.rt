@@ -1,12 +1,18 @@
 //! Networks that come and go.
-ghost use Rattle.std.specs.Prelude.{◌≡◌, ◌∷◌, List, false, OnErr, OnOk};
+ghost use Rattle.std.specs.Prelude.{◌≡◌, ◌↔◌, ◌∷◌, List, false, IfErr, OnErr, OnOk, ⊤};
 ghost use Rattle.sqlite.specs.Effect.{Database};
+ghost use Rattle.sqlite.specs.declared.error.Error.TheVariants.{SqliteFailure};
+ghost use Rattle.sqlite.specs.declared.error.ErrorCode.TheVariants.{OutOfMemory};
 ghost use Rattle.sqlite.specs.State.{HasCleanDisk, Survives};
 ghost use Rattle.sqlite.specs.Held.{state};
 ghost use Rattle.wgr_model.specs.Rows.{AreKeyed};
 ghost use Rattle.wgr_orders.specs.OrderSteps.{AllowedGoes, NetworkGoes, NetworkRowGoes, PeersGo, new_row};
 ghost use Rattle.wgr_tables.specs.Decode.{tables_of};
 ghost use Rattle.wgr_tables.specs.Writes.{NetworkComes, NetworkGained, NetworkLost, Written};
+ghost use Rattle.wgr_orders.specs.Stops.{AllowedStays, NetworkRowStays, NetworkStays, NetworkStaysOut, PeersStay};
+ghost use Rattle.wgr_sql.specs.Causes.{HasCauseOr};
+ghost use Rattle.wgr_sql.specs.declared.fault.Fault.TheVariants.{NoMemory};
+ghost use Rattle.wgr_tables.specs.Stops.{FailsBy};
 ghost use Rattle.wgr_tables.specs.Standing.{IsDone, Stands, StepsOn};
 
 use sqlite::types::ValueRef;
@@ -27,6 +33,7 @@ fn insert_network<S: Alter>(
     ensures same_reference { tx.new.conn.ghost_name ≡ tx.old.conn.ghost_name }
     ensures step { HasCleanDisk (state S.Store tx.new.conn.now) → StepsOn (NetworkComes (new_row id tenant name.now settings.now)) (state S.Store tx.old.conn.now) (state S.Store tx.new.conn.now) result }
     ensures survives { Survives (state S.Store tx.old.conn.now) (state S.Store tx.new.conn.now) (λ _. ⊥) }
+    ensures cause { FailsBy (NetworkStaysOut (new_row id tenant name.now settings.now)) (state S.Store tx.old.conn.now) (state S.Store tx.new.conn.now) result }
 {
     let lo = bytes_of(settings.address.number());
     execute(
@@ -52,6 +59,7 @@ fn drop_allowed<S: Alter>(tx: &mut Transaction<'_, S>, network: u32) -> Result<u
     ensures same_reference { tx.new.conn.ghost_name ≡ tx.old.conn.ghost_name }
     ensures step { HasCleanDisk (state S.Store tx.new.conn.now) → StepsOn (AllowedGoes network) (state S.Store tx.old.conn.now) (state S.Store tx.new.conn.now) result }
     ensures survives { Survives (state S.Store tx.old.conn.now) (state S.Store tx.new.conn.now) (λ _. ⊥) }
+    ensures cause { FailsBy (AllowedStays network) (state S.Store tx.old.conn.now) (state S.Store tx.new.conn.now) result }
 {
     execute(
         tx,
@@ -65,6 +73,7 @@ fn drop_peers<S: Alter>(tx: &mut Transaction<'_, S>, network: u32) -> Result<usi
     ensures same_reference { tx.new.conn.ghost_name ≡ tx.old.conn.ghost_name }
     ensures step { HasCleanDisk (state S.Store tx.new.conn.now) → StepsOn (PeersGo network) (state S.Store tx.old.conn.now) (state S.Store tx.new.conn.now) result }
     ensures survives { Survives (state S.Store tx.old.conn.now) (state S.Store tx.new.conn.now) (λ _. ⊥) }
+    ensures cause { FailsBy (PeersStay network) (state S.Store tx.old.conn.now) (state S.Store tx.new.conn.now) result }
 {
     execute(
         tx,
@@ -78,6 +87,7 @@ fn drop_network_row<S: Alter>(tx: &mut Transaction<'_, S>, network: u32) -> Resu
     ensures same_reference { tx.new.conn.ghost_name ≡ tx.old.conn.ghost_name }
     ensures step { HasCleanDisk (state S.Store tx.new.conn.now) → StepsOn (NetworkRowGoes network) (state S.Store tx.old.conn.now) (state S.Store tx.new.conn.now) result }
     ensures survives { Survives (state S.Store tx.old.conn.now) (state S.Store tx.new.conn.now) (λ _. ⊥) }
+    ensures cause { FailsBy (NetworkRowStays network) (state S.Store tx.old.conn.now) (state S.Store tx.new.conn.now) result }
 {
     execute(
         tx,
@@ -91,6 +101,7 @@ fn drop_network<S: Alter>(tx: &mut Transaction<'_, S>, network: u32) -> Result<u
     ensures same_reference { tx.new.conn.ghost_name ≡ tx.old.conn.ghost_name }
     ensures step { HasCleanDisk (state S.Store tx.new.conn.now) → StepsOn (NetworkGoes network) (state S.Store tx.old.conn.now) (state S.Store tx.new.conn.now) result }
     ensures survives { Survives (state S.Store tx.old.conn.now) (state S.Store tx.new.conn.now) (λ _. ⊥) }
+    ensures cause { FailsBy (NetworkStays network) (state S.Store tx.old.conn.now) (state S.Store tx.new.conn.now) result }
 {
     drop_allowed(tx, network)?;
     drop_peers(tx, network)?;
@@ -112,11 +123,17 @@ pub fn add_network<S: Alter>(
     ensures done { (db : Database) (pending : List Written) → Stands S.Store conn.old db pending → HasCleanDisk (state S.Store conn.new)
         → OnOk result (IsDone S.Store conn.new db (NetworkGained (new_row id tenant name.now settings.now))) }
     ensures fault { (db : Database) (pending : List Written) → Stands S.Store conn.old db pending → OnErr result (Stands S.Store conn.new db (NetworkGained (new_row id tenant name.now settings.now) ∷ pending)) }
+    ensures survives { Survives (state S.Store conn.old) (state S.Store conn.new) (λ _. ⊤) }
+    ensures cause { (db : Database) (pending : List Written) → Stands S.Store conn.old db pending → IfErr result (HasCauseOr (NetworkStaysOut (new_row id tenant name.now settings.now) (tables_of db)) (state S.Store conn.old) (state S.Store conn.new)) }
 {
     let _settled = conn.is_autocommit();
     let mut tx = conn.transaction();
     insert_network(&mut tx, id, tenant, name, settings)?;
-    tx.commit().map_err(|error| fault_of(error))
+    tx.commit().map_err(
+        |error|
+            ensures { (result ≡ NoMemory) ↔ (error ≡ SqliteFailure OutOfMemory) }
+        { fault_of(error) },
+    )
 }
 
 /// Commits the end of the network of this id: its row goes, and with it its peers and what is
@@ -128,9 +145,15 @@ pub fn end_network<S: Alter>(conn: &mut Connection<S>, network: u32) -> Result<(
     ensures done { (db : Database) (pending : List Written) → Stands S.Store conn.old db pending → AreKeyed (tables_of db) → HasCleanDisk (state S.Store conn.new)
         → OnOk result (IsDone S.Store conn.new db (NetworkLost network)) }
     ensures fault { (db : Database) (pending : List Written) → Stands S.Store conn.old db pending → AreKeyed (tables_of db) → OnErr result (Stands S.Store conn.new db (NetworkLost network ∷ pending)) }
+    ensures survives { Survives (state S.Store conn.old) (state S.Store conn.new) (λ _. ⊤) }
+    ensures cause { (db : Database) (pending : List Written) → Stands S.Store conn.old db pending → IfErr result (HasCauseOr (NetworkStays network (tables_of db)) (state S.Store conn.old) (state S.Store conn.new)) }
 {
     let _settled = conn.is_autocommit();
     let mut tx = conn.transaction();
     drop_network(&mut tx, network)?;
-    tx.commit().map_err(|error| fault_of(error))
+    tx.commit().map_err(
+        |error|
+            ensures { (result ≡ NoMemory) ↔ (error ≡ SqliteFailure OutOfMemory) }
+        { fault_of(error) },
+    )
 }

@@ -1,9 +1,16 @@
 //! Tenants that come.
-ghost use Rattle.std.specs.Prelude.{◌≡◌, ◌∷◌, List, false, OnErr, OnOk};
+ghost use Rattle.std.specs.Prelude.{◌≡◌, ◌↔◌, ◌∷◌, List, false, IfErr, OnErr, OnOk, ⊤};
 ghost use Rattle.sqlite.specs.Effect.{Database};
+ghost use Rattle.sqlite.specs.declared.error.Error.TheVariants.{SqliteFailure};
+ghost use Rattle.sqlite.specs.declared.error.ErrorCode.TheVariants.{OutOfMemory};
 ghost use Rattle.sqlite.specs.State.{HasCleanDisk, Survives};
 ghost use Rattle.sqlite.specs.Held.{state};
 ghost use Rattle.wgr_tables.specs.Writes.{TenantComes, TenantGained, Written};
+ghost use Rattle.wgr_orders.specs.Stops.{TenantStaysOut};
+ghost use Rattle.wgr_sql.specs.Causes.{HasCauseOr};
+ghost use Rattle.wgr_sql.specs.declared.fault.Fault.TheVariants.{NoMemory};
+ghost use Rattle.wgr_tables.specs.Decode.{tables_of};
+ghost use Rattle.wgr_tables.specs.Stops.{FailsBy};
 ghost use Rattle.wgr_tables.specs.Standing.{IsDone, Stands, StepsOn};
 
 use sqlite::types::ValueRef;
@@ -21,6 +28,7 @@ fn insert_tenant<S: Alter>(
     ensures same_reference { tx.new.conn.ghost_name ≡ tx.old.conn.ghost_name }
     ensures step { HasCleanDisk (state S.Store tx.new.conn.now) → StepsOn (TenantComes (record { id = id; name = name.now })) (state S.Store tx.old.conn.now) (state S.Store tx.new.conn.now) result }
     ensures survives { Survives (state S.Store tx.old.conn.now) (state S.Store tx.new.conn.now) (λ _. ⊥) }
+    ensures cause { FailsBy (TenantStaysOut (record { id = id; name = name.now })) (state S.Store tx.old.conn.now) (state S.Store tx.new.conn.now) result }
 {
     execute(
         tx,
@@ -37,9 +45,15 @@ pub fn add_tenant<S: Alter>(conn: &mut Connection<S>, id: u32, name: &Name) -> R
     ensures done { (db : Database) (pending : List Written) → Stands S.Store conn.old db pending → HasCleanDisk (state S.Store conn.new)
         → OnOk result (IsDone S.Store conn.new db (TenantGained (record { id = id; name = name.now }))) }
     ensures fault { (db : Database) (pending : List Written) → Stands S.Store conn.old db pending → OnErr result (Stands S.Store conn.new db (TenantGained (record { id = id; name = name.now }) ∷ pending)) }
+    ensures survives { Survives (state S.Store conn.old) (state S.Store conn.new) (λ _. ⊤) }
+    ensures cause { (db : Database) (pending : List Written) → Stands S.Store conn.old db pending → IfErr result (HasCauseOr (TenantStaysOut (record { id = id; name = name.now }) (tables_of db)) (state S.Store conn.old) (state S.Store conn.new)) }
 {
     let _settled = conn.is_autocommit();
     let mut tx = conn.transaction();
     insert_tenant(&mut tx, id, name)?;
-    tx.commit().map_err(|error| fault_of(error))
+    tx.commit().map_err(
+        |error|
+            ensures { (result ≡ NoMemory) ↔ (error ≡ SqliteFailure OutOfMemory) }
+        { fault_of(error) },
+    )
 }

@@ -1,9 +1,16 @@
 //! Tokens that come and go. A digest is the SHA-256 of a token.
-ghost use Rattle.std.specs.Prelude.{◌≡◌, ◌∷◌, List, false, OnErr, OnOk};
+ghost use Rattle.std.specs.Prelude.{◌≡◌, ◌↔◌, ◌∷◌, List, false, IfErr, OnErr, OnOk, ⊤};
 ghost use Rattle.sqlite.specs.Effect.{Database};
+ghost use Rattle.sqlite.specs.declared.error.Error.TheVariants.{SqliteFailure};
+ghost use Rattle.sqlite.specs.declared.error.ErrorCode.TheVariants.{OutOfMemory};
 ghost use Rattle.sqlite.specs.State.{HasCleanDisk, Survives};
 ghost use Rattle.sqlite.specs.Held.{state};
 ghost use Rattle.wgr_tables.specs.Writes.{TokenComes, TokenGained, TokenGoes, TokenLost, Written};
+ghost use Rattle.wgr_orders.specs.Stops.{TokenStays, TokenStaysOut};
+ghost use Rattle.wgr_sql.specs.Causes.{HasCauseOr};
+ghost use Rattle.wgr_sql.specs.declared.fault.Fault.TheVariants.{NoMemory};
+ghost use Rattle.wgr_tables.specs.Decode.{tables_of};
+ghost use Rattle.wgr_tables.specs.Stops.{FailsBy};
 ghost use Rattle.wgr_tables.specs.Standing.{IsDone, Stands, StepsOn};
 
 use sqlite::types::ValueRef;
@@ -20,6 +27,7 @@ fn insert_token<S: Alter>(
     ensures same_reference { tx.new.conn.ghost_name ≡ tx.old.conn.ghost_name }
     ensures step { HasCleanDisk (state S.Store tx.new.conn.now) → StepsOn (TokenComes (record { digest = digest.now; tenant = tenant })) (state S.Store tx.old.conn.now) (state S.Store tx.new.conn.now) result }
     ensures survives { Survives (state S.Store tx.old.conn.now) (state S.Store tx.new.conn.now) (λ _. ⊥) }
+    ensures cause { FailsBy (TokenStaysOut (record { digest = digest.now; tenant = tenant })) (state S.Store tx.old.conn.now) (state S.Store tx.new.conn.now) result }
 {
     execute(
         tx,
@@ -33,6 +41,7 @@ fn drop_token<S: Alter>(tx: &mut Transaction<'_, S>, digest: &[u8; 32]) -> Resul
     ensures same_reference { tx.new.conn.ghost_name ≡ tx.old.conn.ghost_name }
     ensures step { HasCleanDisk (state S.Store tx.new.conn.now) → StepsOn (TokenGoes digest.now) (state S.Store tx.old.conn.now) (state S.Store tx.new.conn.now) result }
     ensures survives { Survives (state S.Store tx.old.conn.now) (state S.Store tx.new.conn.now) (λ _. ⊥) }
+    ensures cause { FailsBy (TokenStays digest.now) (state S.Store tx.old.conn.now) (state S.Store tx.new.conn.now) result }
 {
     execute(
         tx,
@@ -53,11 +62,17 @@ pub fn add_token<S: Alter>(
     ensures done { (db : Database) (pending : List Written) → Stands S.Store conn.old db pending → HasCleanDisk (state S.Store conn.new)
         → OnOk result (IsDone S.Store conn.new db (TokenGained (record { digest = digest.now; tenant = tenant }))) }
     ensures fault { (db : Database) (pending : List Written) → Stands S.Store conn.old db pending → OnErr result (Stands S.Store conn.new db (TokenGained (record { digest = digest.now; tenant = tenant }) ∷ pending)) }
+    ensures survives { Survives (state S.Store conn.old) (state S.Store conn.new) (λ _. ⊤) }
+    ensures cause { (db : Database) (pending : List Written) → Stands S.Store conn.old db pending → IfErr result (HasCauseOr (TokenStaysOut (record { digest = digest.now; tenant = tenant }) (tables_of db)) (state S.Store conn.old) (state S.Store conn.new)) }
 {
     let _settled = conn.is_autocommit();
     let mut tx = conn.transaction();
     insert_token(&mut tx, digest, tenant)?;
-    tx.commit().map_err(|error| fault_of(error))
+    tx.commit().map_err(
+        |error|
+            ensures { (result ≡ NoMemory) ↔ (error ≡ SqliteFailure OutOfMemory) }
+        { fault_of(error) },
+    )
 }
 
 /// Commits the end of the token of this digest. Where no token has it, no row changes.
@@ -68,9 +83,15 @@ pub fn end_token<S: Alter>(conn: &mut Connection<S>, digest: &[u8; 32]) -> Resul
     ensures done { (db : Database) (pending : List Written) → Stands S.Store conn.old db pending → HasCleanDisk (state S.Store conn.new)
         → OnOk result (IsDone S.Store conn.new db (TokenLost digest.now)) }
     ensures fault { (db : Database) (pending : List Written) → Stands S.Store conn.old db pending → OnErr result (Stands S.Store conn.new db (TokenLost digest.now ∷ pending)) }
+    ensures survives { Survives (state S.Store conn.old) (state S.Store conn.new) (λ _. ⊤) }
+    ensures cause { (db : Database) (pending : List Written) → Stands S.Store conn.old db pending → IfErr result (HasCauseOr (TokenStays digest.now (tables_of db)) (state S.Store conn.old) (state S.Store conn.new)) }
 {
     let _settled = conn.is_autocommit();
     let mut tx = conn.transaction();
     drop_token(&mut tx, digest)?;
-    tx.commit().map_err(|error| fault_of(error))
+    tx.commit().map_err(
+        |error|
+            ensures { (result ≡ NoMemory) ↔ (error ≡ SqliteFailure OutOfMemory) }
+        { fault_of(error) },
+    )
 }

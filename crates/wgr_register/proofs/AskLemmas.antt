@@ -1,5 +1,5 @@
 -- What an ask comes to, on the rows.
-use Rattle.std.proofs.Common.{◌≡◌, ℕ, Bool, true, false, ◌&&◌, List, [], ◌∷◌, Option, Some, None, Ok, Err, map, nat_eq, refl, sym, ap, subst, ◌∙◌, true≢false, option_map, inl, inr}
+use Rattle.std.proofs.Common.{◌≡◌, ℕ, Bool, true, false, ◌&&◌, List, [], ◌∷◌, Option, Some, None, Ok, Err, is_some, map, nat_eq, not, refl, sym, ap, subst, ◌∙◌, true≢false, option_map, inl, inr}
 use Rattle.std.specs.Prelude.{if◌then◌else◌}
 use Rattle.wgr_core.specs.Change.{Meets, applied, applied_if}
 use Rattle.wgr_core.specs.declared.change.Change.{Change}
@@ -8,7 +8,7 @@ use Rattle.wgr_core.specs.declared.fault.ActFault.TheVariants as act_fault
 use Rattle.wgr_core.specs.declared.refusal.Refusal.{Refusal}
 use Rattle.wgr_core.specs.declared.reply.Reply.{Reply}
 use Rattle.wgr_core.specs.Network.{NetworkValue}
-use Rattle.wgr_core.specs.Outcome.{Outcome, outcome_of}
+use Rattle.wgr_core.specs.Outcome.{Outcome, is_reading, outcome_of}
 use Rattle.std.specs.List.{AllByRecursion, IsDistinct}
 use Rattle.sqlite.specs.Effect.{Database}
 use Rattle.sqlite.specs.Store.{Ghosts}
@@ -34,7 +34,7 @@ use Rattle.wgr_register.specs.Ends.{CommitsIf, EndsWith, FailsIf, IsFound}
 use Rattle.wgr_register.specs.Given.{GivenValue, IsShown, reply_given}
 use Rattle.wgr_register.specs.Standing.{AreSteps, StandsAt}
 use Rattle.wgr_register.proofs.GivenLemmas.{reply_gives}
-use Rattle.wgr_register.proofs.StandLemmas.{steps_late}
+use Rattle.wgr_register.proofs.StandLemmas.{changed_at, ends_still, steps_late}
 
 -- a step that leaves the register leaves its rows
 pub still : (t : Tables) (event : Event) (answer : Answer) → AreConsistent t → IsStep (register_of t) event answer (register_of t) → IsRowStep t event answer t
@@ -127,23 +127,27 @@ one_row t is v w a b same =
 
 -- ---- a command that is done
 
+pub changing : (b : Bool) → not b ≡ true → b ≡ false
+changing true is = absurd (true≢false (sym is))
+changing false is = refl
+
 module _ {S : Type 0} (g : Ghosts S) (shown : GivenValue → Bytes) (conn : Held S) (db : Database) (pending : List Written) (late : List Event) (consistent : AreConsistent (tables_of db)) (steps : AreSteps (tables_of db) pending late)
     (digest name : Bytes) (now : ℕ) (command : Command) (proper : IsProperCommand command) (id : ℕ) (n : NetworkValue) (found : IsFound (tables_of db) digest name id n) (reply : Reply) where
   abbrev event : Event
   event = Ask digest name now command
 
-  pub acts_done : (change : Option Change) (text : Bytes) → Meets n (Ok (reply, change)) (outcome_of n now command) → option_map shown (reply_given now n reply) ≡ Some text
+  pub acts_done : (change : Option Change) (text : Bytes) → is_some change ≡ not (is_reading command) → Meets n (Ok (reply, change)) (outcome_of n now command) → option_map shown (reply_given now n reply) ≡ Some text
       → CommitsIf g conn db pending id (holding_of (tables_of db) found.row).network change → EndsWith g conn db late event (IsShown shown now text)
-  acts_done None text meets told stands clean =
-      (Replied reply n, told, db, read_rows (tables_of db) consistent digest name now command id n found reply meets, inr (refl, record { pending = pending; stands = stands; consistent = consistent; steps = steps }))
-  acts_done (Some change) text meets told done clean =
+  acts_done None text reads meets told stands clean =
+      ends_still g conn db late event (IsShown shown now text) (Replied reply n) (sym reads) (record { pending = pending; stands = stands; consistent = consistent; steps = steps }) told (read_rows (tables_of db) consistent digest name now command id n found reply meets) clean
+  acts_done (Some change) text reads meets told done clean =
       let next = done.0 in
       let step = changed_rows (tables_of db) consistent digest name now command id n found (tables_of next) reply change meets done.1.made in (
         Replied reply (applied change n),
         ap (option_map shown) (reply_gives n now command reply (Some change) meets).1 ∙ told,
         next,
         step,
-        inl (record { pending = []; stands = done.2; consistent = (row_step (tables_of db) (tables_of next) event (Replied reply (applied change n)) consistent proper step).0; steps = λ one here. absurd here }),
+        changed_at g conn db next late (not (is_reading command)) (sym reads) (record { pending = []; stands = done.2; consistent = (row_step (tables_of db) (tables_of next) event (Replied reply (applied change n)) consistent proper step).0; steps = λ one here. absurd here }),
       )
 
   pub acts_late : (change : Option Change) → Meets n (Ok (reply, change)) (outcome_of n now command) → FailsIf g conn db pending id (holding_of (tables_of db) found.row).network change → StandsAt g conn db (event ∷ late)

@@ -35,6 +35,8 @@ use Rattle.wgr_sql.specs.declared.fault.Fault.TheVariants.{NoMemory, Store}
 use Rattle.wgr_tables.specs.Decode.{network_in}
 use Rattle.wgr_tables.specs.Stored.{AreSettings, AreStored, IsKeptNetwork, stored_network}
 use Rattle.wgr_tables.specs.Told.{IsTold}
+use Rattle.wgr_orders.specs.Kept.{AreOf}
+use Rattle.wgr_orders.proofs.KeptLemmas as kept
 use Rattle.wgr_tables.proofs.ToldLemmas.{told_settings}
 use Rattle.wgr_whole.proofs.ConsistentLemmas.{consistent_is_whole, holding}
 use Rattle.wgr_register.specs.Causes.{AskStops, IfFault, StopsIf}
@@ -42,6 +44,7 @@ use Rattle.wgr_register.specs.Ends.{IsFound, ask_fault}
 use Rattle.wgr_register.specs.Listing.{ShowNetworksOf}
 use Rattle.wgr_register.specs.declared.fault.AskFault.{AskFault}
 use Rattle.wgr_register.specs.declared.fault.AskFault.TheVariants as fault
+use Rattle.wgr_register.proofs.AskLemmas.{changing}
 
 -- ---- results
 
@@ -114,7 +117,7 @@ pub ask_stops : (t : Tables) (digest name : Bytes) (now : ℕ) (command : Comman
     → Meets network (Ok (reply, change)) (outcome_of network now command) → is_some change ≡ not (is_reading command) → StopsIf id change t → AskStops t digest name now command
 ask_stops t digest name now command id network found reply None made changes stops = absurd stops
 ask_stops t digest name now command id network found reply (Some change) made changes stops = record {
-  changes = reads (is_reading command) (sym changes);
+  changes = changing (is_reading command) (sym changes);
   id = id;
   network = network;
   found = found;
@@ -123,17 +126,8 @@ ask_stops t digest name now command id network found reply (Some change) made ch
   made = made;
   stops = stops;
 }
-  where
-    reads : (b : Bool) → not b ≡ true → b ≡ false
-    reads true is = absurd (true≢false (sym is))
-    reads false is = refl
 
 -- ---- rows of a consistent register
-
-pub has_at : {X : Type 0} (xs : List X) (k : ℕ) (x : X) → k < length xs → x ≡ slice_index_or xs k x → rules.Has xs x
-has_at [] k x low is = absurd (omega (arith, low))
-has_at (y ∷ xs) zero x low is = inl is
-has_at (y ∷ xs) (suc k) x low is = inr (has_at xs k x (omega (arith, low)) is)
 
 module _ (t : Tables) (good : AreConsistent t) where
   pub ids_apart : IsDistinct nat_eq (map (λ w. w.id) t.networks)
@@ -158,8 +152,8 @@ module _ (t : Tables) (good : AreConsistent t) where
       go true is h later = subst (λ n. n < 4294967296) (sym (eqb-true id x.id is)) (omega (arith, all.0.id.1))
       go false is h later = later h
 
-  kept : (w : NetworkRow) → Has t.networks w → IsKeptNetwork w
-  kept w here =
+  pub network_kept : (w : NetworkRow) → Has t.networks w → IsKeptNetwork w
+  network_kept w here =
       let it = holding t good w here in
       record {
         settings = settings_at w here;
@@ -168,21 +162,12 @@ module _ (t : Tables) (good : AreConsistent t) where
         name = it.name;
       }
 
-  stored_each : (rows : List Row) → AreStored stored_network network_in rows → (r : Row) → rules.Has rows r → r ≡ stored_network (network_in r)
-  stored_each [] are r h = absurd h
-  stored_each (x ∷ rows) are r (inl same) = let first : x ≡ stored_network (network_in x) = cc in same ∙ first ∙ ap (λ y. stored_network (network_in y)) (sym same)
-  stored_each (x ∷ rows) are r (inr h) = stored_each rows (let rest : rows ≡ map stored_network (map network_in rows) = cc in rest) r h
-
-  in_map : (rows : List Row) (r : Row) → rules.Has rows r → Has (map network_in rows) (network_in r)
-  in_map [] r h = absurd h
-  in_map (x ∷ rows) r (inl same) = inl (ap network_in (sym same))
-  in_map (x ∷ rows) r (inr h) = inr (in_map rows r h)
+  pub tenant_kept : (x : Tenant) → Has t.tenants x → IsTenant x
+  tenant_kept x here = at_has IsTenant t.tenants x good.consistent.tenants here
 
   -- each row of a tenant's networks is stored as the register writes it
-  pub rows_kept : (tenant : ℕ) (rows : List Row) → ShowNetworksOf tenant t rows → AreStored stored_network network_in rows → (r : Row) → rules.Has rows r → (w : NetworkRow) × IsKeptNetwork w × (r ≡ stored_network w)
-  rows_kept tenant rows shows stored r h =
-      let there = from_filter (λ w. nat_eq w.tenant tenant) t.networks (network_in r) (has_permutation (map network_in rows) _ (network_in r) (IsPermutation-sym _ _ shows) (in_map rows r h)) in
-      (network_in r, kept (network_in r) there.0, stored_each rows stored r h)
+  pub rows_kept : (tenant : ℕ) (rows : List Row) → ShowNetworksOf tenant t rows → AreStored stored_network network_in rows → AreOf IsKeptNetwork stored_network rows
+  rows_kept tenant rows shows stored = kept.rows_kept network_in stored_network IsKeptNetwork _ rows shows stored (λ w here. network_kept w (from_filter (λ w. nat_eq w.tenant tenant) t.networks w here).0)
 
   -- the rows of a network that is there tell it
   pub told_at : (w : NetworkRow) → Has t.networks w → (id : ℕ) → w.id ≡ id → (n : NetworkValue) × IsTold t id n

@@ -1,5 +1,5 @@
 -- Where a register stands after a call.
-use Rattle.std.proofs.Common.{◌≡◌, ℕ, Bool, true, false, List, [], ◌∷◌, Result, Ok, Err, refl, sym, ap, subst, ◌∙◌, inl, inr}
+use Rattle.std.proofs.Common.{◌≡◌, ◌⊎◌, ℕ, Bool, true, false, List, [], ◌∷◌, Result, Ok, Err, refl, sym, ap, subst, ◌∙◌, inl, inr, true≢false}
 use Rattle.std.specs.declared.vec.Vec.{Vec}
 use Rattle.std.specs.declared.alloc.Global.{Global}
 use Rattle.std.specs.Result.{IsErrAnd}
@@ -26,7 +26,7 @@ use Rattle.wgr_sql.specs.declared.fault.Fault.TheVariants.{NoMemory}
 use Rattle.wgr_tables.specs.Decode.{IsRegister, tables_of}
 use Rattle.wgr_tables.specs.Standing.{IsDone, Stands}
 use Rattle.wgr_tables.specs.Writes.{Changes, Written}
-use Rattle.wgr_register.specs.Ends.{AskEnds, EndsStill, EndsWith, OrderEnds, ask_fault}
+use Rattle.wgr_register.specs.Ends.{AskEnds, EndsAt, EndsStill, EndsWith, OrderEnds, ask_fault, is_change}
 use Rattle.wgr_register.specs.Given.{GivenValue}
 use Rattle.wgr_register.specs.Standing.{AreSteps, StandsAt}
 use Rattle.wgr_register.specs.declared.fault.AskFault.{AskFault}
@@ -76,9 +76,24 @@ module _ {S : Type 0} (g : Ghosts S) where
   pub at_more : (conn : Held S) (db : Database) (late : List Event) (event : Event) → StandsAt g conn db late → StandsAt g conn db (event ∷ late)
   at_more conn db late event at = record { pending = at.pending; stands = at.stands; consistent = at.consistent; steps = steps_more (tables_of db) at.pending late event at.steps }
 
+  still_at : (conn : Held S) (db : Database) (late : List Event) (b : Bool) → b ≡ false → StandsAt g conn db late → EndsAt g conn b db late db
+  still_at conn db late true is at = absurd (true≢false is)
+  still_at conn db late false is at = (refl, at)
+
   -- a reading
-  pub ends_still : (conn : Held S) (db : Database) (late : List Event) (event : Event) (P : Answer → Type 0) (answer : Answer) → StandsAt g conn db late → P answer → IsRowStep (tables_of db) event answer (tables_of db) → EndsWith g conn db late event P
-  ends_still conn db late event P answer at holds step clean = (answer, holds, db, step, inr (refl, at))
+  pub ends_still : (conn : Held S) (db : Database) (late : List Event) (event : Event) (P : Answer → Type 0) (answer : Answer) → is_change answer event ≡ false → StandsAt g conn db late → P answer → IsRowStep (tables_of db) event answer (tables_of db)
+      → EndsWith g conn db late event P
+  ends_still conn db late event P answer reads at holds step clean = (answer, holds, db, step, still_at conn db late (is_change answer event) reads at)
+
+  -- a change
+  pub changed_at : (conn : Held S) (db next : Database) (late : List Event) (b : Bool) → b ≡ true → StandsAt g conn next [] → EndsAt g conn b db late next
+  changed_at conn db next late true is at = at
+  changed_at conn db next late false is at = absurd (true≢false (sym is))
+
+  -- in one of two ways, whichever it was
+  either_way : (conn : Held S) (db next : Database) (late : List Event) (b : Bool) → EndsAt g conn b db late next → StandsAt g conn next [] ⊎ ((next ≡ db) × StandsAt g conn db late)
+  either_way conn db next late true at = inl at
+  either_way conn db next late false at = inr at
 
   still_if : (conn : Held S) (db : Database) (late : List Event) (event : Event) (answer : Answer) → conn.in_transaction ≡ false → IsRegister db → AreConsistent (tables_of db)
       → (HasCleanDisk (state g conn) → EndsStill g conn db late event answer) → EndsStill g conn db late event answer
@@ -115,7 +130,7 @@ module _ {S : Type 0} (g : Ghosts S) where
 
   -- however a call ends, the register is at rest
   with_somewhere : (conn : Held S) (db : Database) (late : List Event) (event : Event) (P : Answer → Type 0) → EndsWith g conn db late event P → HasCleanDisk (state g conn) → (next : Database) × (others : List Event) × StandsAt g conn next others
-  with_somewhere conn db late event P ends clean = let end = ends clean in elim end.4 [ inl at ↦ (end.2, [], at) | inr at ↦ (db, late, at.1) ]
+  with_somewhere conn db late event P ends clean = let end = ends clean in elim (either_way conn db end.2 late (is_change end.0 event) end.4) [ inl at ↦ (end.2, [], at) | inr at ↦ (db, late, at.1) ]
 
   pub ask_somewhere : (shown : GivenValue → Bytes) (conn : Held S) (db : Database) (late : List Event) (event : Event) (now : ℕ) (r : Result (Vec ℕ Global) AskFault)
       → AskEnds g shown conn db late event now r → HasCleanDisk (state g conn) → (next : Database) × (others : List Event) × StandsAt g conn next others
@@ -160,7 +175,7 @@ module _ {S : Type 0} (g : Ghosts S) where
       → ((u : Tables) → Changes one (tables_of db) u → IsRowStep (tables_of db) event answered.Done u) → IsDone g new db one → EndsWith g new db late event (λ answer. answer ≡ answered.Done)
   order_done new db late event one proper consistent makes done clean =
       let step = makes (tables_of done.0) done.1.made in
-      (answered.Done, refl, done.0, step, inl (record { pending = []; stands = done.2; consistent = (row_step (tables_of db) (tables_of done.0) event answered.Done consistent proper step).0; steps = λ one here. absurd here }))
+      (answered.Done, refl, done.0, step, record { pending = []; stands = done.2; consistent = (row_step (tables_of db) (tables_of done.0) event answered.Done consistent proper step).0; steps = λ one here. absurd here })
 
   -- or the register is at rest in any case
   pub order_somewhere : (conn : Held S) (db : Database) (late : List Event) (event : Event) (r : Result Done OrderFault) → OrderEnds g conn db late event r → HasCleanDisk (state g conn) → (next : Database) × (others : List Event) × StandsAt g conn next others

@@ -1,4 +1,4 @@
--- Why an ask ends by a fault.
+-- Why an ask or an order ends by a fault.
 use Rattle.std.specs.Prelude.{◌≡◌, ℕ, false, Option, Some, None, Result, Ok, Err}
 use Rattle.std.specs.declared.vec.Vec.{Vec}
 use Rattle.std.specs.declared.alloc.Global.{Global}
@@ -9,12 +9,20 @@ use Rattle.wgr_core.specs.Change.{Meets}
 use Rattle.wgr_core.specs.Network.{NetworkValue}
 use Rattle.wgr_core.specs.Outcome.{is_reading, outcome_of}
 use Rattle.wgr_model.specs.Register.{Bytes}
+use Rattle.wgr_model.specs.RowLaws.{IsRowStep}
 use Rattle.wgr_model.specs.Rows.{Tables}
+use Rattle.wgr_model.specs.Steps.{Event}
+use Rattle.wgr_model.specs.Steps as answered
+use Rattle.wgr_orders.specs.Stops.{WriteStops}
 use Rattle.wgr_sql.specs.declared.fault.Fault.{Fault}
 use Rattle.wgr_tables.specs.Stops.{ChangeStops}
+use Rattle.wgr_tables.specs.Writes.{Changes, Written}
 use Rattle.wgr_register.specs.Ends.{IsFound}
 use Rattle.wgr_register.specs.declared.fault.AskFault.{AskFault}
 use Rattle.wgr_register.specs.declared.fault.AskFault.TheVariants as fault
+use Rattle.wgr_register.specs.declared.fault.Done.{Done}
+use Rattle.wgr_register.specs.declared.fault.OrderFault.{OrderFault}
+use Rattle.wgr_register.specs.declared.fault.OrderFault.TheVariants as order_fault
 
 -- this holds of the fault by which an ask ended, if it ended by one
 abbrev pub IfFault : (Fault → Type 0) → Result (Vec ℕ Global) AskFault → Type 0
@@ -40,3 +48,18 @@ pub record AskStops (t : Tables) (digest name : Bytes) (now : ℕ) (command : Co
   pub change : Change
   pub made : Meets network (Ok (reply, Some change)) (outcome_of network now command)
   pub stops : ChangeStops id change t
+
+-- ---- orders
+
+-- this holds of the fault by which an order ended, if it ended by one
+abbrev pub IfOrderFault : (Fault → Type 0) → Result Done OrderFault → Type 0
+IfOrderFault P (Ok done) = Unit {0}
+IfOrderFault P (Err (order_fault.Refused why)) = Unit {0}
+IfOrderFault P (Err (order_fault.Fault why)) = P why
+
+-- An order that the register's rules allow isn't done on these rows: the database refuses a statement
+-- of a write that would do it.
+pub record OrderStops (t : Tables) (event : Event) : Type 0 where
+  pub write : Written
+  pub does : (u : Tables) → Changes write t u → IsRowStep t event answered.Done u
+  pub stops : WriteStops write t

@@ -1,5 +1,5 @@
 -- How a call leaves a register.
-use Rattle.std.specs.Prelude.{◌≡◌, ◌⊎◌, ℕ, List, [], ◌∷◌, Option, Some, None, Result, Ok, Err}
+use Rattle.std.specs.Prelude.{◌≡◌, ℕ, Bool, true, false, not, List, [], ◌∷◌, Option, Some, None, Result, Ok, Err}
 use Rattle.std.specs.declared.vec.Vec.{Vec}
 use Rattle.std.specs.declared.alloc.Global.{Global}
 use Rattle.sqlite.specs.Effect.{Database}
@@ -8,6 +8,7 @@ use Rattle.sqlite.specs.Store.{Ghosts}
 use Rattle.sqlite.specs.Held.{Held, state}
 use Rattle.wgr_core.specs.Change.{applied}
 use Rattle.wgr_core.specs.Network.{NetworkValue}
+use Rattle.wgr_core.specs.Outcome.{is_reading}
 use Rattle.wgr_core.specs.declared.change.Change.{Change}
 use Rattle.wgr_core.specs.declared.fault.ActFault.{ActFault}
 use Rattle.wgr_core.specs.declared.fault.ActFault.TheVariants as act_fault
@@ -16,7 +17,7 @@ use Rattle.wgr_model.specs.Laws.{Has}
 use Rattle.wgr_model.specs.Register.{Bytes, Register}
 use Rattle.wgr_model.specs.RowLaws.{IsRowStep}
 use Rattle.wgr_model.specs.Rows.{NetworkRow, Tables, holding_of}
-use Rattle.wgr_model.specs.Steps.{Answer, Declined, Event, NoSuchNetwork, Settings, UnknownToken, tenant_of_token}
+use Rattle.wgr_model.specs.Steps.{Answer, Ask, Declined, Event, NoSuchNetwork, Replied, Settings, UnknownToken, tenant_of_token}
 use Rattle.wgr_model.specs.Steps as answered
 use Rattle.wgr_sql.specs.declared.fault.Fault.TheVariants.{NoMemory}
 use Rattle.wgr_tables.specs.Decode.{tables_of}
@@ -30,12 +31,20 @@ use Rattle.wgr_register.specs.declared.fault.Done.{Done}
 use Rattle.wgr_register.specs.declared.fault.OrderFault.{OrderFault}
 use Rattle.wgr_register.specs.declared.fault.OrderFault.TheVariants as order_fault
 
--- The event is a step with an answer like this. Where it changed a row, it is acknowledged, and no
--- event is late any more; else all is as it was.
+-- whether a change was done: by an order, or by a command that isn't a reading
+abbrev pub is_change : Answer → Event → Bool
+is_change (Replied reply network) (Ask digest name now command) = not (is_reading command)
+is_change answered.Done event = true
+is_change answer event = false
+
+-- A change that is done is acknowledged, so no event is late any more; else all is as it was.
+abbrev pub EndsAt : {S : Type 0} → Ghosts S → Held S → Bool → Database → List Event → Database → Type 0
+EndsAt g conn true db late next = StandsAt g conn next []
+EndsAt g conn false db late next = (next ≡ db) × StandsAt g conn db late
+
+-- the event is a step with an answer like this
 abbrev pub EndsWith : {S : Type 0} → Ghosts S → Held S → Database → List Event → Event → (Answer → Type 0) → Type 0
-EndsWith g conn db late event P =
-    HasCleanDisk (state g conn) → (answer : Answer) × P answer × (next : Database) × IsRowStep (tables_of db) event answer (tables_of next)
-    × (StandsAt g conn next [] ⊎ ((next ≡ db) × StandsAt g conn db late))
+EndsWith g conn db late event P = HasCleanDisk (state g conn) → (answer : Answer) × P answer × (next : Database) × IsRowStep (tables_of db) event answer (tables_of next) × EndsAt g conn (is_change answer event) db late next
 
 -- the event is a step with this answer that leaves every row, and all is as it was
 abbrev pub EndsStill : {S : Type 0} → Ghosts S → Held S → Database → List Event → Event → Answer → Type 0

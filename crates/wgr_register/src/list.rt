@@ -5,10 +5,8 @@ ghost use Rattle.sqlite.specs.State.{HasCleanDisk, Survives};
 ghost use Rattle.sqlite.specs.Held.{state};
 ghost use Rattle.wgr_model.specs.Listing.{put_entry};
 ghost use Rattle.wgr_model.specs.RowLaws.{AreConsistent};
-ghost use Rattle.wgr_model.specs.Rows.{NetworkRow};
 ghost use Rattle.wgr_model.specs.Steps.{Event, Networks};
-ghost use Rattle.sqlite_rules.specs.Lists.{Has as HasRow};
-ghost use Rattle.sqlite_value.specs.Order.{Row};
+ghost use Rattle.wgr_orders.specs.Kept.{AreOf};
 ghost use Rattle.wgr_sql.specs.Causes.{HasCause};
 ghost use Rattle.wgr_sql.specs.declared.fault.Fault.TheVariants.{NoMemory, Store};
 ghost use Rattle.wgr_tables.specs.Decode.{network_in, tables_of};
@@ -65,7 +63,7 @@ fn put(entries: &mut Vec<(Name, Network)>, name: Name, network: Network) -> Resu
 // The networks of these rows in the order of their names, as they were added.
 fn entries_in(alloc: Global, rows: &[Row]) -> Result<Vec<(Name, Network)>, Fault>
     ensures entries { IfOk result (λ entries. entries.items ≡ by_name (map (λ r. settled (network_in r)) rows.now)) }
-    ensures only { IfErr result (λ why. why ≡ Store → ((r : Row) → HasRow rows.now r → (w : NetworkRow) × IsKeptNetwork w × (r ≡ stored_network w)) → ⊥) }
+    ensures only { IfErr result (λ why. why ≡ Store → AreOf IsKeptNetwork stored_network rows.now → ⊥) }
 {
     let mut entries = Vec::new(alloc);
     let mut rest = rows.len();

@@ -5,6 +5,9 @@ ghost use Rattle.sqlite.specs.State.{HasCleanDisk};
 ghost use Rattle.sqlite.specs.Held.{state};
 ghost use Rattle.wgr_model.specs.Calls.{order_event};
 ghost use Rattle.wgr_model.specs.Steps.{AddNetwork, AddTenant, EndNetwork, EndToken, Event, Grant, IsProper};
+ghost use Rattle.wgr_sql.specs.Causes.{HasCauseOr};
+ghost use Rattle.wgr_tables.specs.Decode.{tables_of};
+ghost use Rattle.wgr_register.specs.Causes.{IfOrderFault, OrderStops};
 ghost use Rattle.wgr_register.specs.Ends.{Admits, OrderEnds};
 ghost use Rattle.wgr_register.specs.Standing.{StandsAt};
 
@@ -26,6 +29,7 @@ pub(crate) fn operate<S: Alter>(
     ensures idle { conn.new.in_transaction ≡ false }
     ensures clean { HasCleanDisk (state S.Store conn.new) → HasCleanDisk (state S.Store conn.old) }
     ensures ends { (db : Database) (late : List Event) → StandsAt S.Store conn.old db late → OrderEnds S.Store conn.new db late (order_event order.now) result }
+    ensures stops { (db : Database) (late : List Event) → StandsAt S.Store conn.old db late → IfOrderFault (HasCauseOr (OrderStops (tables_of db) (order_event order.now)) (state S.Store conn.old) (state S.Store conn.new)) result }
 {
     order.tell_forms();
     match order {
@@ -47,6 +51,7 @@ fn end_token<S: Alter>(conn: &mut Connection<S>, digest: &[u8; 32]) -> Result<Do
     ensures idle { conn.new.in_transaction ≡ false }
     ensures clean { HasCleanDisk (state S.Store conn.new) → HasCleanDisk (state S.Store conn.old) }
     ensures ends { (db : Database) (late : List Event) → StandsAt S.Store conn.old db late → OrderEnds S.Store conn.new db late (EndToken digest.now) result }
+    ensures stops { (db : Database) (late : List Event) → StandsAt S.Store conn.old db late → IfOrderFault (HasCauseOr (OrderStops (tables_of db) (EndToken digest.now)) (state S.Store conn.old) (state S.Store conn.new)) result }
 {
     let Some(_holder) = tenant_of_token(conn, digest)? else {
         return Err(OrderFault::Refused(OrderRefusal::NoSuchToken));
@@ -65,6 +70,7 @@ fn end_network<S: Alter>(
     ensures idle { conn.new.in_transaction ≡ false }
     ensures clean { HasCleanDisk (state S.Store conn.new) → HasCleanDisk (state S.Store conn.old) }
     ensures ends { (db : Database) (late : List Event) → StandsAt S.Store conn.old db late → OrderEnds S.Store conn.new db late (EndNetwork tenant.now name.now) result }
+    ensures stops { (db : Database) (late : List Event) → StandsAt S.Store conn.old db late → IfOrderFault (HasCauseOr (OrderStops (tables_of db) (EndNetwork tenant.now name.now)) (state S.Store conn.old) (state S.Store conn.new)) result }
 {
     let Some(id) = tenant_id(conn, tenant)? else {
         return Err(OrderFault::Refused(OrderRefusal::NoSuchTenant));
@@ -86,6 +92,7 @@ fn grant<S: Alter>(
     ensures idle { conn.new.in_transaction ≡ false }
     ensures clean { HasCleanDisk (state S.Store conn.new) → HasCleanDisk (state S.Store conn.old) }
     ensures ends { (db : Database) (late : List Event) → StandsAt S.Store conn.old db late → IsProper (Grant tenant.now digest.now) → OrderEnds S.Store conn.new db late (Grant tenant.now digest.now) result }
+    ensures stops { (db : Database) (late : List Event) → StandsAt S.Store conn.old db late → IfOrderFault (HasCauseOr (OrderStops (tables_of db) (Grant tenant.now digest.now)) (state S.Store conn.old) (state S.Store conn.new)) result }
 {
     let Some(id) = tenant_id(conn, tenant)? else {
         return Err(OrderFault::Refused(OrderRefusal::NoSuchTenant));
@@ -111,6 +118,7 @@ fn add_tenant<S: Alter>(
     ensures idle { conn.new.in_transaction ≡ false }
     ensures clean { HasCleanDisk (state S.Store conn.new) → HasCleanDisk (state S.Store conn.old) }
     ensures ends { (db : Database) (late : List Event) → StandsAt S.Store conn.old db late → IsProper (AddTenant name.now) → OrderEnds S.Store conn.new db late (AddTenant name.now) result }
+    ensures stops { (db : Database) (late : List Event) → StandsAt S.Store conn.old db late → IfOrderFault (HasCauseOr (OrderStops (tables_of db) (AddTenant name.now)) (state S.Store conn.old) (state S.Store conn.new)) result }
 {
     let None = tenant_id(conn, name)? else {
         return Err(OrderFault::Refused(OrderRefusal::NameHeld));
@@ -136,6 +144,7 @@ fn add_network<S: Alter>(
     ensures idle { conn.new.in_transaction ≡ false }
     ensures clean { HasCleanDisk (state S.Store conn.new) → HasCleanDisk (state S.Store conn.old) }
     ensures ends { (db : Database) (late : List Event) → StandsAt S.Store conn.old db late → IsProper (AddNetwork tenant.now name.now settings.now) → OrderEnds S.Store conn.new db late (AddNetwork tenant.now name.now settings.now) result }
+    ensures stops { (db : Database) (late : List Event) → StandsAt S.Store conn.old db late → IfOrderFault (HasCauseOr (OrderStops (tables_of db) (AddNetwork tenant.now name.now settings.now)) (state S.Store conn.old) (state S.Store conn.new)) result }
 {
     let Some(id) = tenant_id(conn, tenant)? else {
         return Err(OrderFault::Refused(OrderRefusal::NoSuchTenant));

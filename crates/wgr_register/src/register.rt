@@ -6,7 +6,7 @@ ghost use Rattle.sqlite.specs.Held.{state};
 ghost use Rattle.wgr_model.specs.Calls.{order_event};
 ghost use Rattle.wgr_model.specs.Steps.{Ask, Event, Networks};
 ghost use Rattle.wgr_core.specs.Outcome.{is_reading};
-ghost use Rattle.wgr_register.specs.Causes.{AskStops, IfFault};
+ghost use Rattle.wgr_register.specs.Causes.{AskStops, IfFault, IfOrderFault, OrderStops};
 ghost use Rattle.wgr_register.specs.Ends.{AskEnds, OrderEnds};
 ghost use Rattle.wgr_register.specs.Left.{LeavesGood};
 ghost use Rattle.wgr_register.specs.Standing.{IsAtRest, StandsAt};
@@ -134,10 +134,12 @@ impl<S: Alter> Register<S> {
     }
 
     /// Does an order of the operator, in one commit, or refuses it. A refusal and a fault leave the rows
-    /// as they are. No network stays in memory.
+    /// as they are. A fault is want of memory, or it has a cause, or the database refuses a statement of
+    /// the order. No network stays in memory.
     pub fn operate(&mut self, alloc: Global, order: &Order) -> Result<Done, OrderFault>
         ensures clean { HasCleanDisk (state S.Store self.new) → HasCleanDisk (state S.Store self.old) }
         ensures ends { (db : Database) (late : List Event) → StandsAt S.Store self.old db late → OrderEnds S.Store self.new db late (order_event order.now) result }
+        ensures stops { (db : Database) (late : List Event) → StandsAt S.Store self.old db late → IfOrderFault (HasCauseOr (OrderStops (tables_of db) (order_event order.now)) (state S.Store self.old) (state S.Store self.new)) result }
     {
         self.loaded = None;
         order::operate(alloc, &mut self.conn, order)

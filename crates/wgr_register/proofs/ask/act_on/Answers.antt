@@ -47,7 +47,7 @@ returns-in_err-commit_if-clause-ends g c db late digest name at found =
 pub returns-clause-ends : goal.returns-clause-ends
 returns-clause-ends g c db late digest name at found clean =
     acts_done g.S.Store g.R.Render.shown c.commit_if.new.conn db at.pending late at.consistent at.steps digest name c.args.now c.args.command.now (c.tell_forms.ensures.asked, c.tell_forms.ensures.forms) c.args.id c.args.network found c.in-Ok.done.0
-    c.in-Ok.done.1 c.in_ok-text.text.items c.in-Ok.ensures.outcome c.in_ok-text.ensures (c.in_ok-commit_if.ensures.done db at.pending found.row at.stands at.consistent found.there found.at clean) clean
+    c.in-Ok.done.1 c.in_ok-text.text.items c.in-Ok.ensures.change c.in-Ok.ensures.outcome c.in_ok-text.ensures (c.in_ok-commit_if.ensures.done db at.pending found.row at.stands at.consistent found.there found.at clean) clean
 
 pub returns-clause-formed : goal.returns-clause-formed
 returns-clause-formed g c db late digest name at found others clean live =

@@ -7,12 +7,11 @@ use Rattle.wgr_tables.specs.Decode.{network_in}
 use Rattle.wgr_tables.specs.Lookups.{settled}
 use Rattle.wgr_register.specs.Listing.{by_name}
 use Rattle.wgr_register.proofs.ListLemmas.{none_by_name, one_by_name, step_back}
-use Rattle.sqlite_rules.specs.Lists.{Has as HasRow}
-use Rattle.wgr_model.specs.Rows.{NetworkRow}
 use Rattle.wgr_sql.specs.declared.fault.Fault.TheVariants.{Store}
 use Rattle.wgr_sql.proofs.CauseLemmas.{handed}
 use Rattle.wgr_tables.specs.Stored.{IsKeptNetwork, stored_network}
-use Rattle.wgr_register.proofs.CauseLemmas.{has_at}
+use Rattle.wgr_orders.specs.Kept.{AreOf}
+use Rattle.wgr_orders.proofs.KeptLemmas.{has_at}
 use Rattle.wgr_register.proofs.list.entries_in.Goals as goal
 
 pub loop-rest-init : goal.loop-rest-init
@@ -47,5 +46,5 @@ returns-in_err-name-clause-only c =
     let rows = c.args.rows.now in
     let row : Row = c.index-rows-rest.result in
     let low : c.loop-rest.rest - 1 < length rows = omega (arith, c.loop-rest-test.true, c.loop-rest.invariant.within) in
-    handed (λ why. why ≡ Store → ((r : Row) → HasRow rows r → (w : NetworkRow) × IsKeptNetwork w × (r ≡ stored_network w)) → ⊥) c.from_residual.result c.in_err-name.field-0.0 c.from_residual.ensures.1
+    handed (λ why. why ≡ Store → AreOf IsKeptNetwork stored_network rows → ⊥) c.from_residual.result c.in_err-name.field-0.0 c.from_residual.ensures.1
     (λ is all. let it = all row (has_at rows (c.loop-rest.rest - 1) row low c.index-rows-rest.is) in c.in_err-name.ensures.only is it.0 it.1 it.2)

@@ -1,4 +1,4 @@
-use Rattle.std.proofs.Common.{◌≡◌, None, Some, sym, ap, ◌∙◌}
+use Rattle.std.proofs.Common.{◌≡◌, None, Some, refl, sym, ap, ◌∙◌}
 use Rattle.wgr_sql.specs.declared.fault.Fault.TheVariants.{NoMemory}
 use Rattle.wgr_model.specs.Steps.{Listed, Networks, tenant_of_token}
 use Rattle.wgr_tables.specs.Decode.{tables_of}
@@ -46,7 +46,7 @@ returns-clause-ends g c db late now at clean =
     let here = at_read g.S.Store c.args.conn.now c.added_networks.new.conn db late (λ pending stood. c.added_networks.ensures.stands db pending (c.tenant_of_token.ensures.stands db pending stood)) at in
     let known : tenant_of_token (tables_of db).tokens c.args.digest.now ≡ Some c.in-Some.tenant = sym (c.in_ok-tenant.ensures.found db at.pending at.stands (c.added_networks.ensures.clean clean)) ∙ c.in-Some.is in
     let listed = c.as_slice.ensures.value ∙ c.in_ok-networks.ensures.listed db at.pending mid at.consistent clean in
-    ends_still g.S.Store c.added_networks.new.conn db late event (IsShown g.R.Render.shown now c.in_ok-text.text.items) (Listed (seen_by (tables_of db) c.in-Some.tenant)) here
+    ends_still g.S.Store c.added_networks.new.conn db late event (IsShown g.R.Render.shown now c.in_ok-text.text.items) (Listed (seen_by (tables_of db) c.in-Some.tenant)) refl here
     (ap Some (ap (λ ns. g.R.Render.shown (OfNetworks ns)) (sym listed) ∙ sym c.in_ok-text.ensures))
     (holder_lists (tables_of db) at.consistent c.args.digest.now c.in-Some.tenant known) clean
 

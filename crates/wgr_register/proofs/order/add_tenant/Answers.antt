@@ -5,6 +5,12 @@ use Rattle.wgr_tables.specs.Decode.{tables_of}
 use Rattle.wgr_tables.specs.Writes.{TenantGained}
 use Rattle.wgr_register.proofs.OrderLemmas.{name_held, room_by, tenant_comes, tenants_full, unused_by}
 use Rattle.wgr_register.proofs.StandLemmas.{at_read, order_done, order_unread, order_unwritten}
+use Rattle.sqlite.specs.Held.{state}
+use Rattle.wgr_sql.proofs.SurvivesLemmas.{survives_next, survives_still}
+use Rattle.wgr_register.specs.Causes.{OrderStops}
+use Rattle.wgr_register.proofs.OrderCauses.{unread_stops, unwritten_stops}
+use Rattle.wgr_orders.specs.Stops.{TenantStaysOut}
+use Rattle.wgr_register.proofs.CauseLemmas.{tenant_kept}
 use Rattle.wgr_register.proofs.order.add_tenant.Goals as goal
 
 pub returns-in_err-tenant_id-clause-ends : goal.returns-in_err-tenant_id-clause-ends
@@ -60,3 +66,29 @@ returns-clause-ends g c db late at proper clean =
     let unused = unused_by (tables_of db) c.in_ok-ids.ids.items listed c.unused_id.result (rw c.as_slice-2.ensures.value at c.unused_id.ensures.unused) in
     order_done g.S.Store c.add_tenant.new.conn db late (AddTenant c.args.name.now) (TenantGained (record { id = c.unused_id.result; name = c.args.name.now })) proper at.consistent
     (tenant_comes (tables_of db) at.consistent c.args.name.now free room c.unused_id.result c.unused_id.ensures.id unused) (c.in_ok-add_tenant.ensures.done db at.pending near clean) clean
+
+-- ---- why it ends by a fault
+
+pub returns-in_err-tenant_id-clause-stops : goal.returns-in_err-tenant_id-clause-stops
+returns-in_err-tenant_id-clause-stops g c db late at =
+    unread_stops (OrderStops (tables_of db) (AddTenant c.args.name.now)) (state g.S.Store c.args.conn.now) (state g.S.Store c.args.conn.now) (state g.S.Store c.tenant_id.new.conn) c.from_residual.result c.in_err-tenant_id.field-0.0 c.from_residual.ensures.1 (survives_still (state g.S.Store c.args.conn.now)) c.tenant_id.ensures.survives (c.in_err-tenant_id.ensures.cause db at.pending at.stands at.consistent)
+
+pub returns-in_err-ids-clause-stops : goal.returns-in_err-ids-clause-stops
+returns-in_err-ids-clause-stops g c db late at =
+    unread_stops (OrderStops (tables_of db) (AddTenant c.args.name.now)) (state g.S.Store c.args.conn.now) (state g.S.Store c.tenant_id.new.conn) (state g.S.Store c.tenant_ids.new.conn) c.from_residual-in_err-ids.result c.in_err-ids.field-0.0 c.from_residual-in_err-ids.ensures.1 c.tenant_id.ensures.survives c.tenant_ids.ensures.survives (c.in_err-ids.ensures.cause db at.pending (c.tenant_id.ensures.stands db at.pending at.stands) (tenant_kept (tables_of db) at.consistent))
+
+pub returns-in_err-add_tenant-clause-stops : goal.returns-in_err-add_tenant-clause-stops
+returns-in_err-add_tenant-clause-stops g c db late at =
+    unwritten_stops (OrderStops (tables_of db) (AddTenant c.args.name.now)) (state g.S.Store c.args.conn.now) (state g.S.Store c.tenant_ids.new.conn) (state g.S.Store c.add_tenant.new.conn) c.from_residual-in_err-add_tenant.result c.in_err-add_tenant.field-0.0 c.from_residual-in_err-add_tenant.ensures.1 (survives_next _ _ _ c.tenant_id.ensures.survives c.tenant_ids.ensures.survives) (TenantStaysOut (record { id = c.unused_id.result; name = c.args.name.now }) (tables_of db)) c.add_tenant.ensures.survives
+    (λ clean refused. record {
+    write = TenantGained (record { id = c.unused_id.result; name = c.args.name.now });
+    does = λ u made.
+    let mid = c.tenant_id.ensures.stands db at.pending at.stands in
+    let clean2 = c.add_tenant.ensures.clean clean in
+    let free : id_of (tables_of db).tenants c.args.name.now ≡ None = sym (c.in_ok-tenant_id.ensures.found db at.pending at.stands (c.tenant_ids.ensures.clean clean2)) ∙ c.in-None.is in
+    let listed = c.in_ok-ids.ensures.listed db at.pending mid clean2 in
+    let room = room_by (tables_of db) c.in_ok-ids.ids.items listed false (rw c.as_slice.ensures.value at (sym c.is_full.ensures ∙ c.if-is_full.false)) in
+    let unused = unused_by (tables_of db) c.in_ok-ids.ids.items listed c.unused_id.result (rw c.as_slice-2.ensures.value at c.unused_id.ensures.unused) in
+    tenant_comes (tables_of db) at.consistent c.args.name.now free room c.unused_id.result c.unused_id.ensures.id unused u made;
+    stops = refused;
+    }) (c.in_err-add_tenant.ensures.cause db at.pending (c.tenant_ids.ensures.stands db at.pending (c.tenant_id.ensures.stands db at.pending at.stands)))

@@ -6,6 +6,11 @@ use Rattle.wgr_tables.specs.Writes.{NetworkLost}
 use Rattle.wgr_register.proofs.AskLemmas.{no_network}
 use Rattle.wgr_register.proofs.OrderLemmas.{network_ends, nobody_has, none_ends}
 use Rattle.wgr_register.proofs.StandLemmas.{at_read, order_done, order_unread, order_unwritten}
+use Rattle.sqlite.specs.Held.{state}
+use Rattle.wgr_sql.proofs.SurvivesLemmas.{survives_next, survives_still}
+use Rattle.wgr_register.specs.Causes.{OrderStops}
+use Rattle.wgr_register.proofs.OrderCauses.{unread_stops, unwritten_stops}
+use Rattle.wgr_orders.specs.Stops.{NetworkStays}
 use Rattle.wgr_register.proofs.order.end_network.Goals as goal
 
 pub returns-in_err-id-clause-ends : goal.returns-in_err-id-clause-ends
@@ -56,3 +61,27 @@ returns-clause-ends g c db late at clean =
     order_done g.S.Store c.end_network.new.conn db late (EndNetwork c.args.tenant.now c.args.name.now) (NetworkLost c.in-Some-2.network) tt at.consistent
     (network_ends (tables_of db) at.consistent c.args.tenant.now c.args.name.now c.in-Some.id c.in-Some-2.network known found.0 found.1 found.2.0 found.2.1 found.3)
     (c.in_ok-end_network.ensures.done db at.pending near at.consistent.rows.keyed clean) clean
+
+-- ---- why it ends by a fault
+
+pub returns-in_err-id-clause-stops : goal.returns-in_err-id-clause-stops
+returns-in_err-id-clause-stops g c db late at =
+    unread_stops (OrderStops (tables_of db) (EndNetwork c.args.tenant.now c.args.name.now)) (state g.S.Store c.args.conn.now) (state g.S.Store c.args.conn.now) (state g.S.Store c.tenant_id.new.conn) c.from_residual.result c.in_err-id.field-0.0 c.from_residual.ensures.1 (survives_still (state g.S.Store c.args.conn.now)) c.tenant_id.ensures.survives (c.in_err-id.ensures.cause db at.pending at.stands at.consistent)
+
+pub returns-in_err-network-clause-stops : goal.returns-in_err-network-clause-stops
+returns-in_err-network-clause-stops g c db late at =
+    unread_stops (OrderStops (tables_of db) (EndNetwork c.args.tenant.now c.args.name.now)) (state g.S.Store c.args.conn.now) (state g.S.Store c.tenant_id.new.conn) (state g.S.Store c.network_id.new.conn) c.from_residual-in_err-network.result c.in_err-network.field-0.0 c.from_residual-in_err-network.ensures.1 c.tenant_id.ensures.survives c.network_id.ensures.survives (c.in_err-network.ensures.cause db at.pending (c.tenant_id.ensures.stands db at.pending at.stands) at.consistent)
+
+pub returns-in_err-end_network-clause-stops : goal.returns-in_err-end_network-clause-stops
+returns-in_err-end_network-clause-stops g c db late at =
+    unwritten_stops (OrderStops (tables_of db) (EndNetwork c.args.tenant.now c.args.name.now)) (state g.S.Store c.args.conn.now) (state g.S.Store c.network_id.new.conn) (state g.S.Store c.end_network.new.conn) c.from_residual-in_err-end_network.result c.in_err-end_network.field-0.0 c.from_residual-in_err-end_network.ensures.1 (survives_next _ _ _ c.tenant_id.ensures.survives c.network_id.ensures.survives) (NetworkStays c.in-Some-2.network (tables_of db)) c.end_network.ensures.survives
+    (λ clean refused. record {
+    write = NetworkLost c.in-Some-2.network;
+    does = λ u made.
+    let mid = c.tenant_id.ensures.stands db at.pending at.stands in
+    let then_clean = c.end_network.ensures.clean clean in
+    let known : id_of (tables_of db).tenants c.args.tenant.now ≡ Some c.in-Some.id = sym (c.in_ok-id.ensures.found db at.pending at.stands (c.network_id.ensures.clean then_clean)) ∙ c.in-Some.is in
+    let found = rw c.in-Some-2.is at c.in_ok-network.ensures.some db at.pending mid then_clean in
+    network_ends (tables_of db) at.consistent c.args.tenant.now c.args.name.now c.in-Some.id c.in-Some-2.network known found.0 found.1 found.2.0 found.2.1 found.3 u made;
+    stops = refused;
+    }) (c.in_err-end_network.ensures.cause db at.pending (c.network_id.ensures.stands db at.pending (c.tenant_id.ensures.stands db at.pending at.stands)))

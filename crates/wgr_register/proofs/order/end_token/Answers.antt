@@ -4,6 +4,11 @@ use Rattle.wgr_tables.specs.Decode.{tables_of}
 use Rattle.wgr_tables.specs.Writes.{TokenLost}
 use Rattle.wgr_register.proofs.OrderLemmas.{no_such_token, token_ends}
 use Rattle.wgr_register.proofs.StandLemmas.{at_read, order_done, order_unread, order_unwritten}
+use Rattle.sqlite.specs.Held.{state}
+use Rattle.wgr_sql.proofs.SurvivesLemmas.{survives_next, survives_still}
+use Rattle.wgr_register.specs.Causes.{OrderStops}
+use Rattle.wgr_register.proofs.OrderCauses.{unread_stops, unwritten_stops}
+use Rattle.wgr_orders.specs.Stops.{TokenStays}
 use Rattle.wgr_register.proofs.order.end_token.Goals as goal
 
 pub returns-in_err-_holder-clause-ends : goal.returns-in_err-_holder-clause-ends
@@ -33,3 +38,20 @@ returns-clause-ends g c db late at clean =
     let known : tenant_of_token (tables_of db).tokens c.args.digest.now ≡ Some c.in-Some._holder = sym (c.in_ok-_holder.ensures.found db at.pending at.stands (c.end_token.ensures.clean clean)) ∙ c.in-Some.is in
     order_done g.S.Store c.end_token.new.conn db late (EndToken c.args.digest.now) (TokenLost c.args.digest.now) tt at.consistent (token_ends (tables_of db) at.consistent c.args.digest.now c.in-Some._holder known)
     (c.in_ok-end_token.ensures.done db at.pending mid clean) clean
+
+-- ---- why it ends by a fault
+
+pub returns-in_err-_holder-clause-stops : goal.returns-in_err-_holder-clause-stops
+returns-in_err-_holder-clause-stops g c db late at =
+    unread_stops (OrderStops (tables_of db) (EndToken c.args.digest.now)) (state g.S.Store c.args.conn.now) (state g.S.Store c.args.conn.now) (state g.S.Store c.tenant_of_token.new.conn) c.from_residual.result c.in_err-_holder.field-0.0 c.from_residual.ensures.1 (survives_still (state g.S.Store c.args.conn.now)) c.tenant_of_token.ensures.survives (c.in_err-_holder.ensures.cause db at.pending at.stands at.consistent)
+
+pub returns-in_err-end_token-clause-stops : goal.returns-in_err-end_token-clause-stops
+returns-in_err-end_token-clause-stops g c db late at =
+    unwritten_stops (OrderStops (tables_of db) (EndToken c.args.digest.now)) (state g.S.Store c.args.conn.now) (state g.S.Store c.tenant_of_token.new.conn) (state g.S.Store c.end_token.new.conn) c.from_residual-in_err-end_token.result c.in_err-end_token.field-0.0 c.from_residual-in_err-end_token.ensures.1 c.tenant_of_token.ensures.survives (TokenStays c.args.digest.now (tables_of db)) c.end_token.ensures.survives
+    (λ clean refused. record {
+    write = TokenLost c.args.digest.now;
+    does = λ u made.
+    let known : tenant_of_token (tables_of db).tokens c.args.digest.now ≡ Some c.in-Some._holder = sym (c.in_ok-_holder.ensures.found db at.pending at.stands (c.end_token.ensures.clean clean)) ∙ c.in-Some.is in
+    token_ends (tables_of db) at.consistent c.args.digest.now c.in-Some._holder known u made;
+    stops = refused;
+    }) (c.in_err-end_token.ensures.cause db at.pending (c.tenant_of_token.ensures.stands db at.pending at.stands))

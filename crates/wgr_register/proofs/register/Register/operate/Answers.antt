@@ -1,6 +1,8 @@
 use Rattle.std.proofs.Common.{sym, subst}
 use Rattle.sqlite.specs.Held.{state}
 use Rattle.wgr_model.specs.Calls.{order_event}
+use Rattle.wgr_sql.specs.Causes.{HasCauseOr}
+use Rattle.wgr_register.specs.Causes.{IfOrderFault, OrderStops}
 use Rattle.wgr_register.specs.Standing.{StandsAt}
 use Rattle.wgr_tables.specs.Decode.{tables_of}
 use Rattle.wgr_register.proofs.LoadedLemmas.{none_formed}
@@ -20,3 +22,9 @@ invariant_of-self g c = (
 
 pub returns-clause-ends : goal.returns-clause-ends
 returns-clause-ends g c db late at = c.operate.ensures.ends db late (subst (λ h. StandsAt g.S.Store h db late) (sym c.self.view_is) at)
+
+pub returns-clause-stops : goal.returns-clause-stops
+returns-clause-stops g c db late at =
+    let new = state g.S.Store c.operate.new.conn in
+    subst (λ h. IfOrderFault (HasCauseOr (OrderStops (tables_of db) (order_event c.args.order.now)) (state g.S.Store h) new) c.operate.result) c.self.view_is
+    (c.operate.ensures.stops db late (subst (λ h. StandsAt g.S.Store h db late) (sym c.self.view_is) at))

@@ -1,0 +1,14 @@
+use Rattle.std.proofs.Common.{◌≡◌, ap, arith}
+use Rattle.sqlite_value.specs.Order.{column}
+use Rattle.wgr_sql.specs.declared.fault.Fault.TheVariants.{Store}
+use Rattle.wgr_sql.proofs.CauseLemmas.{handed}
+use Rattle.wgr_tables.specs.Stored.{stored_tenant}
+use Rattle.wgr_model.specs.Consistent.{IsTenant}
+use Rattle.wgr_orders.specs.Kept.{AreOf}
+use Rattle.wgr_orders.proofs.KeptLemmas.{has_at}
+use Rattle.wgr_orders.proofs.all.ids_in.Goals as goal
+
+pub returns-in_err-id-clause-only : goal.returns-in_err-id-clause-only
+returns-in_err-id-clause-only c =
+    handed (λ why. why ≡ Store → AreOf IsTenant stored_tenant c.args.rows.now → ⊥) c.from_residual.result c.in_err-id.field-0.0 c.from_residual.ensures.1
+    (λ is all. let it = all c.row-item.result (has_at c.args.rows.now c.loop-row.row-index c.row-item.result c.loop-row-test.true c.row-item.is) in c.in_err-id.ensures.only it.0.id (omega (arith, it.1.id.1)) (ap (λ r. column r 0) it.2))
