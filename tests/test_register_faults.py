@@ -8,7 +8,7 @@ from contextlib import closing
 from pathlib import Path
 
 from program import Left, run, without_room
-from register_file import ACME, DONE, NETWORK, TOKEN, Files, failed, options
+from register_file import ACME, BOLT, DONE, NETWORK, TOKEN, Files, failed, options
 
 WORDS = [
     ("tenant-add", ["acme"], b""),
@@ -149,6 +149,15 @@ class Faults(Files):
             with self.subTest(words[0]):
                 self.assertEqual(self.order(*words, prepare=without_room), failed("store"))
                 self.assertEqual(self.rows(), before)
+
+    def test_a_rule_of_ones_own(self):
+        self.init(ACME, BOLT)
+        self.grant("acme")
+        self.change("CREATE UNIQUE INDEX one_token ON token (tenant)")
+        before = self.rows()
+        self.assertEqual(self.order("token-grant", "acme", text=b"abd"), failed("store"))
+        self.assertEqual(self.rows(), before)
+        self.grant("bolt", b"abd")
 
     def test_a_database_in_use(self):
         self.init(ACME)
