@@ -109,17 +109,17 @@ pub returns-in_err-add_network-clause-stops : goal.returns-in_err-add_network-cl
 returns-in_err-add_network-clause-stops g c db late at =
     unwritten_stops (OrderStops (tables_of db) (AddNetwork c.args.tenant.now c.args.name.now c.args.settings.now)) (state g.S.Store c.args.conn.now) (state g.S.Store c.settled_networks.new.conn) (state g.S.Store c.add_network.new.conn) c.from_residual-in_err-add_network.result c.in_err-add_network.field-0.0 c.from_residual-in_err-add_network.ensures.1 (survives_next _ _ _ (survives_next _ _ _ c.tenant_id.ensures.survives c.tenants.ensures.survives) c.settled_networks.ensures.survives) (NetworkStaysOut (new_row c.in_ok-new.new c.in-Some.id c.args.name.now c.args.settings.now) (tables_of db)) c.add_network.ensures.survives
     (λ clean refused. record {
-    write = NetworkGained (new_row c.in_ok-new.new c.in-Some.id c.args.name.now c.args.settings.now);
-    does = λ u made.
-    let mid = c.tenant_id.ensures.stands db at.pending at.stands in
-    let near = c.tenants.ensures.stands db at.pending mid in
-    let clean3 = c.add_network.ensures.clean clean in
-    let clean2 = c.settled_networks.ensures.clean clean3 in
-    let known : id_of (tables_of db).tenants c.args.tenant.now ≡ Some c.in-Some.id = sym (c.in_ok-id.ensures.found db at.pending at.stands (c.tenants.ensures.clean clean2)) ∙ c.in-Some.is in
-    let tenants = c.in_ok-tenants.ensures.listed db at.pending mid clean2 in
-    let networks = c.in_ok-networks.ensures.listed db at.pending near clean3 in
-    let heads : Register = record { tenants = c.in_ok-tenants.tenants.items; tokens = []; networks = map settled networks.0 } in
-    let told : Admits heads c.in-Some.id c.args.name.now c.args.settings.now (Ok c.in_ok-new.new) = admits_by c.as_slice.result.now c.in_ok-tenants.tenants.items c.as_slice-2.result.now (map settled networks.0) c.in-Some.id c.args.name.now c.args.settings.now (Ok c.in_ok-new.new) c.as_slice.ensures.value (c.as_slice-2.ensures.value ∙ networks.2) c.in_ok-new.ensures in
-    network_comes (tables_of db) at.consistent c.args.tenant.now c.args.name.now c.args.settings.now c.in_ok-tenants.tenants.items networks.0 tenants networks.1 c.in-Some.id known c.in_ok-new.new told u made;
-    stops = refused;
+      write = NetworkGained (new_row c.in_ok-new.new c.in-Some.id c.args.name.now c.args.settings.now);
+      does = λ u made.
+          let mid = c.tenant_id.ensures.stands db at.pending at.stands in
+          let near = c.tenants.ensures.stands db at.pending mid in
+          let clean3 = c.add_network.ensures.clean clean in
+          let clean2 = c.settled_networks.ensures.clean clean3 in
+          let known : id_of (tables_of db).tenants c.args.tenant.now ≡ Some c.in-Some.id = sym (c.in_ok-id.ensures.found db at.pending at.stands (c.tenants.ensures.clean clean2)) ∙ c.in-Some.is in
+          let tenants = c.in_ok-tenants.ensures.listed db at.pending mid clean2 in
+          let networks = c.in_ok-networks.ensures.listed db at.pending near clean3 in
+          let heads : Register = record { tenants = c.in_ok-tenants.tenants.items; tokens = []; networks = map settled networks.0 } in
+          let told : Admits heads c.in-Some.id c.args.name.now c.args.settings.now (Ok c.in_ok-new.new) = admits_by c.as_slice.result.now c.in_ok-tenants.tenants.items c.as_slice-2.result.now (map settled networks.0) c.in-Some.id c.args.name.now c.args.settings.now (Ok c.in_ok-new.new) c.as_slice.ensures.value (c.as_slice-2.ensures.value ∙ networks.2) c.in_ok-new.ensures in
+          network_comes (tables_of db) at.consistent c.args.tenant.now c.args.name.now c.args.settings.now c.in_ok-tenants.tenants.items networks.0 tenants networks.1 c.in-Some.id known c.in_ok-new.new told u made;
+      stops = refused;
     }) (c.in_err-add_network.ensures.cause db at.pending (c.settled_networks.ensures.stands db at.pending (c.tenants.ensures.stands db at.pending (c.tenant_id.ensures.stands db at.pending at.stands))))

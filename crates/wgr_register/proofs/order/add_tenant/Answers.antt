@@ -81,14 +81,14 @@ pub returns-in_err-add_tenant-clause-stops : goal.returns-in_err-add_tenant-clau
 returns-in_err-add_tenant-clause-stops g c db late at =
     unwritten_stops (OrderStops (tables_of db) (AddTenant c.args.name.now)) (state g.S.Store c.args.conn.now) (state g.S.Store c.tenant_ids.new.conn) (state g.S.Store c.add_tenant.new.conn) c.from_residual-in_err-add_tenant.result c.in_err-add_tenant.field-0.0 c.from_residual-in_err-add_tenant.ensures.1 (survives_next _ _ _ c.tenant_id.ensures.survives c.tenant_ids.ensures.survives) (TenantStaysOut (record { id = c.unused_id.result; name = c.args.name.now }) (tables_of db)) c.add_tenant.ensures.survives
     (λ clean refused. record {
-    write = TenantGained (record { id = c.unused_id.result; name = c.args.name.now });
-    does = λ u made.
-    let mid = c.tenant_id.ensures.stands db at.pending at.stands in
-    let clean2 = c.add_tenant.ensures.clean clean in
-    let free : id_of (tables_of db).tenants c.args.name.now ≡ None = sym (c.in_ok-tenant_id.ensures.found db at.pending at.stands (c.tenant_ids.ensures.clean clean2)) ∙ c.in-None.is in
-    let listed = c.in_ok-ids.ensures.listed db at.pending mid clean2 in
-    let room = room_by (tables_of db) c.in_ok-ids.ids.items listed false (rw c.as_slice.ensures.value at (sym c.is_full.ensures ∙ c.if-is_full.false)) in
-    let unused = unused_by (tables_of db) c.in_ok-ids.ids.items listed c.unused_id.result (rw c.as_slice-2.ensures.value at c.unused_id.ensures.unused) in
-    tenant_comes (tables_of db) at.consistent c.args.name.now free room c.unused_id.result c.unused_id.ensures.id unused u made;
-    stops = refused;
+      write = TenantGained (record { id = c.unused_id.result; name = c.args.name.now });
+      does = λ u made.
+          let mid = c.tenant_id.ensures.stands db at.pending at.stands in
+          let clean2 = c.add_tenant.ensures.clean clean in
+          let free : id_of (tables_of db).tenants c.args.name.now ≡ None = sym (c.in_ok-tenant_id.ensures.found db at.pending at.stands (c.tenant_ids.ensures.clean clean2)) ∙ c.in-None.is in
+          let listed = c.in_ok-ids.ensures.listed db at.pending mid clean2 in
+          let room = room_by (tables_of db) c.in_ok-ids.ids.items listed false (rw c.as_slice.ensures.value at (sym c.is_full.ensures ∙ c.if-is_full.false)) in
+          let unused = unused_by (tables_of db) c.in_ok-ids.ids.items listed c.unused_id.result (rw c.as_slice-2.ensures.value at c.unused_id.ensures.unused) in
+          tenant_comes (tables_of db) at.consistent c.args.name.now free room c.unused_id.result c.unused_id.ensures.id unused u made;
+      stops = refused;
     }) (c.in_err-add_tenant.ensures.cause db at.pending (c.tenant_ids.ensures.stands db at.pending (c.tenant_id.ensures.stands db at.pending at.stands)))

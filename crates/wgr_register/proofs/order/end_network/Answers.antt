@@ -76,12 +76,12 @@ pub returns-in_err-end_network-clause-stops : goal.returns-in_err-end_network-cl
 returns-in_err-end_network-clause-stops g c db late at =
     unwritten_stops (OrderStops (tables_of db) (EndNetwork c.args.tenant.now c.args.name.now)) (state g.S.Store c.args.conn.now) (state g.S.Store c.network_id.new.conn) (state g.S.Store c.end_network.new.conn) c.from_residual-in_err-end_network.result c.in_err-end_network.field-0.0 c.from_residual-in_err-end_network.ensures.1 (survives_next _ _ _ c.tenant_id.ensures.survives c.network_id.ensures.survives) (NetworkStays c.in-Some-2.network (tables_of db)) c.end_network.ensures.survives
     (λ clean refused. record {
-    write = NetworkLost c.in-Some-2.network;
-    does = λ u made.
-    let mid = c.tenant_id.ensures.stands db at.pending at.stands in
-    let then_clean = c.end_network.ensures.clean clean in
-    let known : id_of (tables_of db).tenants c.args.tenant.now ≡ Some c.in-Some.id = sym (c.in_ok-id.ensures.found db at.pending at.stands (c.network_id.ensures.clean then_clean)) ∙ c.in-Some.is in
-    let found = rw c.in-Some-2.is at c.in_ok-network.ensures.some db at.pending mid then_clean in
-    network_ends (tables_of db) at.consistent c.args.tenant.now c.args.name.now c.in-Some.id c.in-Some-2.network known found.0 found.1 found.2.0 found.2.1 found.3 u made;
-    stops = refused;
+      write = NetworkLost c.in-Some-2.network;
+      does = λ u made.
+          let mid = c.tenant_id.ensures.stands db at.pending at.stands in
+          let then_clean = c.end_network.ensures.clean clean in
+          let known : id_of (tables_of db).tenants c.args.tenant.now ≡ Some c.in-Some.id = sym (c.in_ok-id.ensures.found db at.pending at.stands (c.network_id.ensures.clean then_clean)) ∙ c.in-Some.is in
+          let found = rw c.in-Some-2.is at c.in_ok-network.ensures.some db at.pending mid then_clean in
+          network_ends (tables_of db) at.consistent c.args.tenant.now c.args.name.now c.in-Some.id c.in-Some-2.network known found.0 found.1 found.2.0 found.2.1 found.3 u made;
+      stops = refused;
     }) (c.in_err-end_network.ensures.cause db at.pending (c.network_id.ensures.stands db at.pending (c.tenant_id.ensures.stands db at.pending at.stands)))

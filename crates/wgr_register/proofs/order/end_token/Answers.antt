@@ -49,9 +49,9 @@ pub returns-in_err-end_token-clause-stops : goal.returns-in_err-end_token-clause
 returns-in_err-end_token-clause-stops g c db late at =
     unwritten_stops (OrderStops (tables_of db) (EndToken c.args.digest.now)) (state g.S.Store c.args.conn.now) (state g.S.Store c.tenant_of_token.new.conn) (state g.S.Store c.end_token.new.conn) c.from_residual-in_err-end_token.result c.in_err-end_token.field-0.0 c.from_residual-in_err-end_token.ensures.1 c.tenant_of_token.ensures.survives (TokenStays c.args.digest.now (tables_of db)) c.end_token.ensures.survives
     (λ clean refused. record {
-    write = TokenLost c.args.digest.now;
-    does = λ u made.
-    let known : tenant_of_token (tables_of db).tokens c.args.digest.now ≡ Some c.in-Some._holder = sym (c.in_ok-_holder.ensures.found db at.pending at.stands (c.end_token.ensures.clean clean)) ∙ c.in-Some.is in
-    token_ends (tables_of db) at.consistent c.args.digest.now c.in-Some._holder known u made;
-    stops = refused;
+      write = TokenLost c.args.digest.now;
+      does = λ u made.
+          let known : tenant_of_token (tables_of db).tokens c.args.digest.now ≡ Some c.in-Some._holder = sym (c.in_ok-_holder.ensures.found db at.pending at.stands (c.end_token.ensures.clean clean)) ∙ c.in-Some.is in
+          token_ends (tables_of db) at.consistent c.args.digest.now c.in-Some._holder known u made;
+      stops = refused;
     }) (c.in_err-end_token.ensures.cause db at.pending (c.tenant_of_token.ensures.stands db at.pending at.stands))

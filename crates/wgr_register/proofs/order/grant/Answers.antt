@@ -103,15 +103,15 @@ pub returns-in_err-add_token-clause-stops : goal.returns-in_err-add_token-clause
 returns-in_err-add_token-clause-stops g c db late at =
     unwritten_stops (OrderStops (tables_of db) (Grant c.args.tenant.now c.args.digest.now)) (state g.S.Store c.args.conn.now) (state g.S.Store c.count_tokens.new.conn) (state g.S.Store c.add_token.new.conn) c.from_residual-in_err-add_token.result c.in_err-add_token.field-0.0 c.from_residual-in_err-add_token.ensures.1 (survives_next _ _ _ (survives_next _ _ _ c.tenant_id.ensures.survives c.tenant_of_token.ensures.survives) c.count_tokens.ensures.survives) (TokenStaysOut (record { digest = c.args.digest.now; tenant = c.in-Some.id }) (tables_of db)) c.add_token.ensures.survives
     (λ clean refused. record {
-    write = TokenGained (record { digest = c.args.digest.now; tenant = c.in-Some.id });
-    does = λ u made.
-    let mid = c.tenant_id.ensures.stands db at.pending at.stands in
-    let near = c.tenant_of_token.ensures.stands db at.pending mid in
-    let clean3 = c.add_token.ensures.clean clean in
-    let clean2 = c.count_tokens.ensures.clean clean3 in
-    let known : id_of (tables_of db).tenants c.args.tenant.now ≡ Some c.in-Some.id = sym (c.in_ok-id.ensures.found db at.pending at.stands (c.tenant_of_token.ensures.clean clean2)) ∙ c.in-Some.is in
-    let free : tenant_of_token (tables_of db).tokens c.args.digest.now ≡ None = sym (c.in_ok-tenant_of_token.ensures.found db at.pending mid clean2) ∙ c.in-None.is in
-    let room = tokens_by (tables_of db) c.in_ok-count.count (c.in_ok-count.ensures.counted db at.pending near clean3) false (sym c.is_full.ensures ∙ c.if-is_full.false) in
-    token_comes (tables_of db) at.consistent c.args.tenant.now c.args.digest.now c.in-Some.id known free room u made;
-    stops = refused;
+      write = TokenGained (record { digest = c.args.digest.now; tenant = c.in-Some.id });
+      does = λ u made.
+          let mid = c.tenant_id.ensures.stands db at.pending at.stands in
+          let near = c.tenant_of_token.ensures.stands db at.pending mid in
+          let clean3 = c.add_token.ensures.clean clean in
+          let clean2 = c.count_tokens.ensures.clean clean3 in
+          let known : id_of (tables_of db).tenants c.args.tenant.now ≡ Some c.in-Some.id = sym (c.in_ok-id.ensures.found db at.pending at.stands (c.tenant_of_token.ensures.clean clean2)) ∙ c.in-Some.is in
+          let free : tenant_of_token (tables_of db).tokens c.args.digest.now ≡ None = sym (c.in_ok-tenant_of_token.ensures.found db at.pending mid clean2) ∙ c.in-None.is in
+          let room = tokens_by (tables_of db) c.in_ok-count.count (c.in_ok-count.ensures.counted db at.pending near clean3) false (sym c.is_full.ensures ∙ c.if-is_full.false) in
+          token_comes (tables_of db) at.consistent c.args.tenant.now c.args.digest.now c.in-Some.id known free room u made;
+      stops = refused;
     }) (c.in_err-add_token.ensures.cause db at.pending (c.count_tokens.ensures.stands db at.pending (c.tenant_of_token.ensures.stands db at.pending (c.tenant_id.ensures.stands db at.pending at.stands))))
