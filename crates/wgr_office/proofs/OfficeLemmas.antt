@@ -42,13 +42,13 @@ shown_as now (Refused why) text is = cc
 module _ {S : Type 0} (g : Ghosts S) (conn : Held S) (db : Database) (late : List Event) (now : ℕ) where
   pub responds : (r : RequestView) (end : Result (Vec ℕ Global) AskFault) (answer : given.Answer) → IsEnd end answer → AskEnds g page conn db late (event_of now r) now end → Responds g conn db late now r answer
   responds r (Ok bytes) answer is ends = subst (Responds g conn db late now r) (sym is) (λ clean. let e = ends clean in (e.0, shown_as now e.0 bytes.items e.1, e.2, e.3, e.4))
-  responds r (Err (ask_fault.Refused why)) (givens.Bytes bytes) is ends = λ clean. (Declined why, is, db, ends.1 clean, inr (refl, ends.0))
+  responds r (Err (ask_fault.Refused why)) (givens.Bytes bytes) is ends = λ clean. (Declined why, is, db, ends.1 clean, (refl, ends.0))
   responds r (Err (ask_fault.Refused why)) givens.Unavailable is ends = at_more g conn db late (event_of now r) ends.0
   responds r (Err (ask_fault.Refused why)) (givens.Order done) is ends = absurd is
-  responds r (Err ask_fault.UnknownToken) (givens.Bytes bytes) is ends = λ clean. (UnknownToken, is, db, ends.1 clean, inr (refl, ends.0))
+  responds r (Err ask_fault.UnknownToken) (givens.Bytes bytes) is ends = λ clean. (UnknownToken, is, db, ends.1 clean, (refl, ends.0))
   responds r (Err ask_fault.UnknownToken) givens.Unavailable is ends = at_more g conn db late (event_of now r) ends.0
   responds r (Err ask_fault.UnknownToken) (givens.Order done) is ends = absurd is
-  responds r (Err ask_fault.NoSuchNetwork) (givens.Bytes bytes) is ends = λ clean. (NoSuchNetwork, is, db, ends.1 clean, inr (refl, ends.0))
+  responds r (Err ask_fault.NoSuchNetwork) (givens.Bytes bytes) is ends = λ clean. (NoSuchNetwork, is, db, ends.1 clean, (refl, ends.0))
   responds r (Err ask_fault.NoSuchNetwork) givens.Unavailable is ends = at_more g conn db late (event_of now r) ends.0
   responds r (Err ask_fault.NoSuchNetwork) (givens.Order done) is ends = absurd is
   responds r (Err (ask_fault.Fault why)) answer is ends = subst (Responds g conn db late now r) (sym is) ends
@@ -59,7 +59,7 @@ module _ {S : Type 0} (g : Ghosts S) (conn : Held S) (db : Database) (late : Lis
   decides why digest (Ok bytes) answer is made at =
       let event = Decided digest (fault_page why) in
       subst (Responds g conn db late now (refused why digest)) (sym is)
-      (λ clean. (Plain (fault_page why), made, db, still (tables_of db) event (Plain (fault_page why)) at.consistent (quiet (register_of (tables_of db)) event (Plain (fault_page why)) refl refl), inr (refl, at)))
+      (λ clean. (Plain (fault_page why), made, db, still (tables_of db) event (Plain (fault_page why)) at.consistent (quiet (register_of (tables_of db)) event (Plain (fault_page why)) refl refl), (refl, at)))
   decides why digest (Err e) answer is made at = subst (Responds g conn db late now (refused why digest)) (sym is) (at_more g conn db late (Decided digest (fault_page why)) at)
 
   pub answered : (message : Bytes) (r : RequestView) (answer : given.Answer) → IsReadAs now message r → Responds g conn db late now r answer → IsAnswered g conn db late now message answer

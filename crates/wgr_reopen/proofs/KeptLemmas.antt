@@ -23,7 +23,7 @@ none_late t u (inr late) = absurd late.1
 
 module _ {S : Type 0} (g : Ghosts S) (conn : Held S) where
   keeps : (change : Bool) (db : Database) (late : List Event) (next : Database) → EndsAt g conn change db late next → HasCleanDisk (state g conn) → Keeps g conn change db late next
-  keeps true db late next at clean trees may =
+  keeps true db late next at clean = λ trees may.
       let left = stop_leaves g conn next [] at clean trees may in
       (left.0, left.1, left.3, none_late (tables_of next) (tables_of left.0) left.2)
   keeps false db late next (same, at) clean = (
