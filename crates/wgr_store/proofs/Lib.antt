@@ -8,4 +8,5 @@ pub mod VersionLemmas
 pub mod CauseLemmas
 pub mod RefusalLemmas
 pub mod ServedLemmas
+pub mod InsertLemmas
 pub mod FailLemmas

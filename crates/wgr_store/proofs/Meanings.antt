@@ -1,5 +1,5 @@
 -- What the texts that make a register mean, each where those before it were run.
-use Rattle.std.proofs.Common.{◌≡◌, List, ℕ, pos, [], ◌∷◌, Ok, refl, arith}
+use Rattle.std.proofs.Common.{◌≡◌, List, ℕ, pos, [], ◌∷◌, codes, Ok, refl, arith}
 use Rattle.std.specs.Fmt.{digits}
 use Rattle.sqlite.specs.Schema.{Schema}
 use Rattle.sqlite_resolve.specs.Compile.{index_defined_by}
@@ -14,7 +14,6 @@ use Rattle.sqlite.proofs.Callers.{IsPlain, command_of, statement_of}
 use Rattle.wgr_sql.specs.Causes.{IsWriting}
 use Rattle.wgr_tables.specs.Layout.{schema_with, allowed_at}
 use Rattle.wgr_tables.specs.Texts.{meta_text, tenant_text, token_text, network_text, peer_text, allowed_text, allowed_peer_text}
-pub use Rattle.wgr_store.specs.Stops.{version_text}
 use Rattle.wgr_store.specs.Fresh.{no_others, no_schema, meta_schema, tenant_schema, entries_schema, network_schema, peer_schema, tables_schema, whole_schema, peer_index}
 
 -- a statement that begins no transaction and ends none, and is run as it is written
@@ -54,6 +53,9 @@ index_means = record { command_is = refl; text_is = refl; plain = (refl, refl) }
 pub index_defined : index_defined_by (allowed_at 10) allowed_peer_text ≡ Ok peer_index
 unfolding everything
 index_defined = refl
+
+abbrev pub version_text : List ℕ
+version_text = codes "INSERT INTO meta (version) VALUES (1)"
 
 abbrev pub version_values : List Term
 version_values = lit (Int (pos 1)) ∷ lit Null ∷ []

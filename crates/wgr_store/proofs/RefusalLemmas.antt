@@ -22,7 +22,7 @@ use Rattle.sqlite_resolve.specs.declared.error.CompileError.{CompileError}
 use Rattle.sqlite_schema.specs.declared.schema.Constraint.{Constraint}
 use Rattle.sqlite_schema.specs.declared.schema.Constraint.TheVariants.{Unique}
 use Rattle.sqlite_schema.specs.declared.schema.Index.{Index}
-use Rattle.sqlite_schema.specs.Rules.{Keeps, index_reals, passes, table_reals}
+use Rattle.sqlite_schema.specs.Rules.{index_reals, passes, table_reals}
 use Rattle.sqlite_rules.specs.Lists.{Has}
 use Rattle.sqlite_rules.proofs.ListLemmas.{all_has}
 use Rattle.sqlite_catalog.specs.Calls.{RefusesIndex, RefusesTable}

@@ -4,10 +4,9 @@ use Rattle.sqlite.specs.State.{HasCleanDisk}
 use Rattle.sqlite.specs.Held.{state}
 use Rattle.wgr_sql.proofs.ResultLemmas.{on_ok}
 use Rattle.wgr_tables.specs.Standing.{Stands}
-use Rattle.wgr_sql.specs.Causes.{HasCauseOr}
+use Rattle.wgr_sql.specs.Causes.{HasCause}
 use Rattle.wgr_sql.proofs.CauseLemmas.{handed}
 use Rattle.wgr_store.specs.Fresh.{HasBlank, IsFresh, no_schema}
-use Rattle.wgr_store.specs.Stops.{VersionStaysOut}
 use Rattle.wgr_store.proofs.FailLemmas.{commit_fails, undone_fails}
 use Rattle.wgr_store.proofs.StandsLemmas.{stands_fresh}
 use Rattle.wgr_store.proofs.making.fill.Goals as goal
@@ -30,9 +29,9 @@ returns-in_err-make_all-clause-cause g c =
     let end = c.drop-tx.new.self.0 in
     let begun = c.transaction-tx.ensures.begun in
     let same : end ≡ c.conn-1.given.0 = search rules in
-    handed (HasCauseOr VersionStaysOut (state g.S.Store old) (state g.S.Store c.conn-1.given.0)) c.from_residual.result c.in_err-make_all.field-0.0 c.from_residual.ensures.1
-    (subst (λ h. HasCauseOr VersionStaysOut (state g.S.Store old) (state g.S.Store h) c.in_err-make_all.field-0.0) same
-    (undone_fails g.S.Store old c.make_all.new.tx.conn.now end (HasBlank no_schema) IsFresh VersionStaysOut (record { schema_is = c.requires.empty; blank = tt }) (rw begun at c.make_all.ensures.survives) c.in_err-make_all.field-0.0 c.drop-tx.ensures.survives
+    handed (HasCause (state g.S.Store old) (state g.S.Store c.conn-1.given.0)) c.from_residual.result c.in_err-make_all.field-0.0 c.from_residual.ensures.1
+    (subst (λ h. HasCause (state g.S.Store old) (state g.S.Store h) c.in_err-make_all.field-0.0) same
+    (undone_fails g.S.Store old c.make_all.new.tx.conn.now end (HasBlank no_schema) IsFresh (record { schema_is = c.requires.empty; blank = tt }) (rw begun at c.make_all.ensures.survives) c.in_err-make_all.field-0.0 c.drop-tx.ensures.survives
     (rw begun at c.in_err-make_all.ensures.cause)))
 
 pub returns-clause-cause : goal.returns-clause-cause
@@ -41,6 +40,6 @@ returns-clause-cause g c =
     let end = c.commit.new.self.0 in
     let begun = c.transaction-tx.ensures.begun in
     let same : end ≡ c.conn-2-1.given.0 = search rules in
-    subst (λ h. IfErr c.map_err.result (HasCauseOr VersionStaysOut (state g.S.Store old) (state g.S.Store h))) same
-    (commit_fails g.S.Store old c.make_all.new.tx.conn.now end (HasBlank no_schema) IsFresh VersionStaysOut (record { schema_is = c.requires.empty; blank = tt }) (rw begun at c.make_all.ensures.survives) c.in_ok-make_all.field-0
+    subst (λ h. IfErr c.map_err.result (HasCause (state g.S.Store old) (state g.S.Store h))) same
+    (commit_fails g.S.Store old c.make_all.new.tx.conn.now end (HasBlank no_schema) IsFresh (record { schema_is = c.requires.empty; blank = tt }) (rw begun at c.make_all.ensures.survives) c.in_ok-make_all.field-0
     (rw begun at c.in_ok-make_all.ensures.step) _ c.commit.ensures.survives c.commit.result c.map_err.result c.map_err.ensures.cases c.commit.ensures.err)

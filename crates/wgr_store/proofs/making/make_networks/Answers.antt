@@ -30,7 +30,7 @@ pub returns-in_err-execute-clause-cause : goal.returns-in_err-execute-clause-cau
 returns-in_err-execute-clause-cause g c =
     let a = state g.S.Store c.args.tx.now.conn.now in
     let b = state g.S.Store c.execute.new.tx.conn.now in
-    handed_fails (HasBlank entries_schema) ⊥ ⊥ a b c.from_residual.result c.in_err-execute.field-0.0 (λ none. none) c.from_residual.ensures.1
+    handed_fails (HasBlank entries_schema) a b c.from_residual.result c.in_err-execute.field-0.0 c.from_residual.ensures.1
     (table_fails entries_schema network_text (network_at 0) network_served network_means network_writes a b (Err c.in_err-execute.field-0.0) c.in_err-execute.ensures.cause)
 
 pub returns-in_err-execute-2-clause-cause : goal.returns-in_err-execute-2-clause-cause
@@ -38,8 +38,8 @@ returns-in_err-execute-2-clause-cause g c =
     let a = state g.S.Store c.args.tx.now.conn.now in
     let b = state g.S.Store c.execute.new.tx.conn.now in
     let d = state g.S.Store c.execute-2.new.tx.conn.now in
-    handed_fails (HasBlank entries_schema) ⊥ ⊥ a d c.from_residual-in_err-execute-2.result c.in_err-execute-2.field-0.0 (λ none. none) c.from_residual-in_err-execute-2.ensures.1
-    (next_fails {Y = ℕ} (HasBlank entries_schema) (HasBlank network_schema) ⊥ ⊥ a b d c.in_ok-execute.field-0 (Err c.in_err-execute-2.field-0.0) (λ none. none)
+    handed_fails (HasBlank entries_schema) a d c.from_residual-in_err-execute-2.result c.in_err-execute-2.field-0.0 c.from_residual-in_err-execute-2.ensures.1
+    (next_fails {Y = ℕ} (HasBlank entries_schema) (HasBlank network_schema) a b d c.in_ok-execute.field-0 (Err c.in_err-execute-2.field-0.0)
     (λ clean. lays_table a b (Ok c.in_ok-execute.field-0) (c.execute.ensures.kept clean) entries_schema network_text (c.in_ok-execute.ensures.ran clean) (network_at 0) network_means defined.3 refl) c.execute.ensures.survives c.execute-2.ensures.survives
     (table_fails network_schema peer_text (peer_at 0) peer_served peer_means peer_writes b d (Err c.in_err-execute-2.field-0.0) c.in_err-execute-2.ensures.cause))
 
@@ -49,8 +49,8 @@ returns-clause-cause g c =
     let b = state g.S.Store c.execute.new.tx.conn.now in
     let d = state g.S.Store c.execute-2.new.tx.conn.now in
     let e = state g.S.Store c.execute-3.new.tx.conn.now in
-    next_fails (HasBlank entries_schema) (HasBlank network_schema) ⊥ ⊥ a b e c.in_ok-execute.field-0 c.execute-3.result (λ none. none)
+    next_fails (HasBlank entries_schema) (HasBlank network_schema) a b e c.in_ok-execute.field-0 c.execute-3.result
     (λ clean. lays_table a b (Ok c.in_ok-execute.field-0) (c.execute.ensures.kept clean) entries_schema network_text (c.in_ok-execute.ensures.ran clean) (network_at 0) network_means defined.3 refl) c.execute.ensures.survives (survives_next b d e c.execute-2.ensures.survives c.execute-3.ensures.survives)
-    (next_fails (HasBlank network_schema) (HasBlank peer_schema) ⊥ ⊥ b d e c.in_ok-execute-2.field-0 c.execute-3.result (λ none. none)
+    (next_fails (HasBlank network_schema) (HasBlank peer_schema) b d e c.in_ok-execute-2.field-0 c.execute-3.result
     (λ clean. lays_table b d (Ok c.in_ok-execute-2.field-0) (c.execute-2.ensures.kept clean) network_schema peer_text (c.in_ok-execute-2.ensures.ran clean) (peer_at 0) peer_means defined.4 refl) c.execute-2.ensures.survives c.execute-3.ensures.survives
     (table_fails peer_schema allowed_text (allowed_at 0) allowed_served allowed_means allowed_writes d e c.execute-3.result c.execute-3.ensures.cause))
