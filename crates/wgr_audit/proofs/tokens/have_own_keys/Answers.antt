@@ -2,6 +2,7 @@ use Rattle.sqlite.specs.Held.{state}
 use Rattle.wgr_sql.specs.Causes.{HasCause}
 use Rattle.wgr_sql.proofs.CauseLemmas.{handed}
 use Rattle.wgr_audit.proofs.CauseLemmas.{next_causes}
+use Rattle.wgr_sql.proofs.SurvivesLemmas.{survives_next}
 use Rattle.wgr_audit.proofs.tokens.have_own_keys.Goals as goal
 
 pub returns-in_err-have_own_rowids-clause-cause : goal.returns-in_err-have_own_rowids-clause-cause
@@ -14,3 +15,6 @@ returns-clause-cause g c laid =
     let mid = state g.S.Store c.have_own_rowids.new.conn in
     let new = state g.S.Store c.have_own_digests.new.conn in
     next_causes old mid new c.have_own_rowids.ensures.survives c.have_own_digests.ensures.survives c.have_own_rowids.ensures.kept laid c.have_own_digests.result c.have_own_digests.ensures.cause
+
+pub returns-clause-survives : goal.returns-clause-survives
+returns-clause-survives g c = survives_next (state g.S.Store c.args.conn.now) (state g.S.Store c.have_own_rowids.new.conn) (state g.S.Store c.have_own_digests.new.conn) c.have_own_rowids.ensures.survives c.have_own_digests.ensures.survives
