@@ -11,7 +11,7 @@ ghost use Rattle.sqlite.specs.declared.error.Error.TheVariants.{SqliteFailure};
 ghost use Rattle.sqlite.specs.declared.error.ErrorCode.TheVariants.{OutOfMemory};
 ghost use Rattle.wgr_tables.specs.Standing.{Stands};
 ghost use Rattle.wgr_store.specs.Fresh.{no_schema, entries_schema, tables_schema, FailsFrom, HasBlank, IsFresh, Lays, LeavesFresh, is_taken, is_any_taken};
-ghost use Rattle.wgr_store.specs.Faults.{IfFault};
+ghost use Rattle.wgr_store.specs.Faults.{IfStatementFails};
 ghost use Rattle.wgr_store.specs.declared.fault.RegisterFault.TheVariants.{NotARegister, NotGood, NotEmpty};
 
 use crate::fault::{RegisterFault, register_fault};
@@ -153,7 +153,7 @@ pub fn make<S: Alter>(conn: &mut Connection<S>) -> Result<(), RegisterFault>
     ensures done { HasCleanDisk (state S.Store conn.new) → OnOk result ((db : Database) × IsFresh db × Stands S.Store conn.new db []) }
     ensures kept { OnErr result (IsKept (state S.Store conn.old) (state S.Store conn.new)) }
     ensures crash { Survives (state S.Store conn.old) (state S.Store conn.new) LeavesFresh }
-    ensures cause { IfErr result (IfFault (HasCause (state S.Store conn.old) (state S.Store conn.new))) }
+    ensures cause { IfErr result (IfStatementFails (HasCause (state S.Store conn.old) (state S.Store conn.new))) }
 {
     if is_any_taken(conn.schema()) {
         return Err(RegisterFault::NotEmpty);

@@ -4,7 +4,7 @@ ghost use Rattle.sqlite.specs.State.{HasCleanDisk, Survives};
 ghost use Rattle.sqlite.specs.Held.{state};
 ghost use Rattle.wgr_sql.specs.Calls.{IsKept};
 ghost use Rattle.wgr_sql.specs.Causes.{HasCause};
-ghost use Rattle.wgr_store.specs.Faults.{IfFault};
+ghost use Rattle.wgr_store.specs.Faults.{IfStatementFails};
 ghost use Rattle.wgr_store.specs.FirstVersion.{SaysFirst, IsFirstVersion};
 ghost use Rattle.wgr_store.specs.declared.fault.RegisterFault.TheVariants.{NotARegister, NotGood, NotEmpty};
 
@@ -54,7 +54,7 @@ pub fn check_layout<S: Alter>(conn: &mut Connection<S>) -> Result<(), RegisterFa
     ensures full { result ≡ Err NotEmpty → ⊥ }
     ensures kept { IsKept (state S.Store conn.old) (state S.Store conn.new) }
     ensures survives { Survives (state S.Store conn.old) (state S.Store conn.new) (λ _. ⊥) }
-    ensures cause { IfErr result (IfFault (HasCause (state S.Store conn.old) (state S.Store conn.new))) }
+    ensures cause { IfErr result (IfStatementFails (HasCause (state S.Store conn.old) (state S.Store conn.new))) }
 {
     match is_first_version(conn) {
         Ok(true) => Ok(()),

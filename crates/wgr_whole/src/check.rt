@@ -4,7 +4,7 @@ ghost use Rattle.sqlite.specs.State.{HasCleanDisk, Survives};
 ghost use Rattle.sqlite.specs.Held.{state};
 ghost use Rattle.wgr_sql.specs.Calls.{IsKept};
 ghost use Rattle.wgr_sql.specs.Causes.{HasCause};
-ghost use Rattle.wgr_store.specs.Faults.{IfFault};
+ghost use Rattle.wgr_store.specs.Faults.{IfStatementFails};
 ghost use Rattle.wgr_store.specs.FirstVersion.{IsFirstVersion};
 ghost use Rattle.wgr_store.specs.declared.fault.RegisterFault.TheVariants.{NotARegister, NotEmpty, NotGood};
 ghost use Rattle.wgr_tables.specs.Standing.{Stands};
@@ -55,7 +55,7 @@ pub fn check_register<S: Alter>(
     ensures kept { IsKept (state S.Store conn.old) (state S.Store conn.new) }
     ensures clean { HasCleanDisk (state S.Store conn.new) → HasCleanDisk (state S.Store conn.old) }
     ensures survives { Survives (state S.Store conn.old) (state S.Store conn.new) (λ _. ⊥) }
-    ensures cause { IfErr result (IfFault (HasCause (state S.Store conn.old) (state S.Store conn.new))) }
+    ensures cause { IfErr result (IfStatementFails (HasCause (state S.Store conn.old) (state S.Store conn.new))) }
 {
     check_layout(conn)?;
     match rows_are_good(alloc, conn) {
