@@ -10,3 +10,4 @@ pub mod NetworkLemmas
 pub mod ConsistentLemmas
 pub mod TokenLaws
 pub mod NetworkLaws
+pub mod CauseLemmas

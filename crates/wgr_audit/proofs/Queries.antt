@@ -1,5 +1,5 @@
 -- What the queries show.
-use Rattle.std.proofs.Common.{◌≡◌, ◌+◌, ℕ, true, List, [], ◌∷◌, codes, filter, get_or, is_lt, refl, sym, ap, subst, ◌∙◌, IsPermutation}
+use Rattle.std.proofs.Common.{◌≡◌, ◌+◌, ℕ, true, List, [], ◌∷◌, codes, filter, get_or, is_lt, refl, arith, sym, ap, subst, ◌∙◌, IsPermutation}
 use Rattle.sqlite.specs.Order.{Row}
 use Rattle.sqlite_value.specs.Order.{column, value_cmp}
 use Rattle.sqlite_value.proofs.OrderLemmas.{then-Equal}
@@ -11,9 +11,11 @@ use Rattle.sqlite.specs.State.{State, Shown}
 use Rattle.sqlite.specs.Term.{Term, col, lit, eval_all}
 use Rattle.sqlite_tied.specs.Compute.{everything}
 use Rattle.sqlite.proofs.Callers.{IsPlain, reads_as}
+use Rattle.wgr_sql.specs.Causes.{IsAnswered}
 use Rattle.wgr_sql.specs.Effects.{plain_query}
 use Rattle.wgr_sql.proofs.Answers.{answers}
 use Rattle.wgr_tables.specs.Layout.{Others, schema_with}
+use Rattle.wgr_tables.proofs.AskedLemmas.{never_refused}
 use Rattle.wgr_tables.proofs.Meanings.{Asks, rising}
 use Rattle.wgr_store.specs.LaidOut.{IsLaidOut}
 use Rattle.wgr_audit.specs.TenantRows.{Lists, tenant_values, name_values}
@@ -51,6 +53,10 @@ pub ids_ask : (others : Others) → Asks others ids_text (Select (record { lets 
 unfolding understood everything
 ids_ask others = record { means = record { command_is = refl; plain = (refl, refl) }; unlisted = refl }
 
+pub ids_answered : (others : Others) → IsAnswered (schema_with others) ids_text []
+unfolding understood everything
+ids_answered others = record { given = (refl, refl, omega arith, refl); unlisted = refl; plain = λ limit trees e refused. never_refused _ refl limit (trees 1) refused }
+
 abbrev pub names_text : List ℕ
 names_text = codes "SELECT NULL, NULL, name FROM tenant ORDER BY name"
 
@@ -60,6 +66,10 @@ name_places = lit Null ∷ lit Null ∷ col 1 2 ∷ []
 pub names_ask : (others : Others) → Asks others names_text (Select (record { lets = []; body = plain_query 1 [] name_places (rising 2 ∷ []) }) (codes "NULL" ∷ codes "NULL" ∷ codes "name" ∷ []))
 unfolding understood everything
 names_ask others = record { means = record { command_is = refl; plain = (refl, refl) }; unlisted = refl }
+
+pub names_answered : (others : Others) → IsAnswered (schema_with others) names_text []
+unfolding understood everything
+names_answered others = record { given = (refl, refl, omega arith, refl); unlisted = refl; plain = λ limit trees e refused. never_refused _ refl limit (trees 1) refused }
 
 pub ids_listed : (old new : State) → IsLaidOut old.now.schema → (rows : List Row) → Shown ids_text [] old new rows → Lists tenant_values 0 (old.now.trees 1) rows
 ids_listed old new laid rows h = lists 1 0 id_places _ ids_text ids_ask old new laid rows h

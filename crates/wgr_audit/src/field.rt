@@ -1,9 +1,10 @@
 //! Values of the program, read from the places of a row, if they stand there.
-ghost use Rattle.std.specs.Prelude.{◌≡◌, ◌<◌, IfOk, IfSome, IfNone};
+ghost use Rattle.std.specs.Prelude.{◌≡◌, ◌<◌, IfErr, IfOk, IfSome, IfNone};
 ghost use Rattle.std.specs.List.{AllByRecursion};
 ghost use Rattle.sqlite_value.specs.Order.{column};
 ghost use Rattle.sqlite_rules.specs.Edit.{id_in};
 ghost use Rattle.wgr_model.specs.Consistent.{IsDigest};
+ghost use Rattle.wgr_sql.specs.declared.fault.Fault.TheVariants.{NoMemory};
 ghost use Rattle.wgr_tables.specs.Decode.{number_at, bytes_at};
 ghost use Rattle.wgr_audit.specs.Fields.{IsDigestAt, IsIdAt, IsIntegerAt, IsNameAt};
 
@@ -31,6 +32,7 @@ pub(crate) fn id_at(row: &Row, at: usize) -> Option<u32>
 pub(crate) fn name_at(alloc: Global, row: &Row, at: usize) -> Result<Option<Name>, Fault>
     ensures some { IfOk result (λ found. IfSome found (λ name. IsNameAt row.now at × (name ≡ bytes_at row.now at))) }
     ensures none { IfOk result (λ found. IfNone found (IsNameAt row.now at → ⊥)) }
+    ensures memory { IfErr result (λ why. why ≡ NoMemory) }
 {
     let Ok(ValueRef::Text(text)) = row.get_ref(at) else {
         return Ok(None);

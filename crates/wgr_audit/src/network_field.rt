@@ -1,9 +1,10 @@
 //! Values of a network, read from the places of a row, if they stand there.
-ghost use Rattle.std.specs.Prelude.{◌≡◌, ◌+◌, ◌↔◌, ◌<◌, IsTrue, IfOk, IfSome, IfNone};
+ghost use Rattle.std.specs.Prelude.{◌≡◌, ◌+◌, ◌↔◌, ◌<◌, IsTrue, IfErr, IfOk, IfSome, IfNone};
 ghost use Rattle.sqlite_value.specs.Order.{column};
 ghost use Rattle.sqlite.specs.declared.types.Value.TheVariants.{Blob};
 ghost use Rattle.wgr_pool.specs.Pool.{IsPool};
 ghost use Rattle.wgr_peers.specs.Host.{IsHostText};
+ghost use Rattle.wgr_sql.specs.declared.fault.Fault.TheVariants.{NoMemory};
 ghost use Rattle.wgr_tables.specs.Decode.{number_at, bytes_at, bytes_of, family_of, number_of, prefix_at};
 ghost use Rattle.wgr_audit.specs.Fields.{IsCapacityAt, IsFamilyAt, IsHostAt, IsKeyAt, IsNumberAt, IsPoolAt, IsPortAt, IsSpelledAt, IsWordAt};
 
@@ -75,6 +76,7 @@ pub(crate) fn is_key_at(row: &Row, at: usize) -> bool
 fn host_of(alloc: Global, text: &[u8]) -> Result<Option<Host>, Fault>
     ensures some { IfOk result (λ found. IfSome found (λ host. IsHostText text.now text.now × (host ≡ text.now))) }
     ensures none { IfOk result (λ found. IfNone found (IsHostText text.now text.now → ⊥)) }
+    ensures memory { IfErr result (λ why. why ≡ NoMemory) }
 {
     let Ok(found) = Host::read(alloc, text) else {
         return Err(Fault::NoMemory);
@@ -92,6 +94,7 @@ fn host_of(alloc: Global, text: &[u8]) -> Result<Option<Host>, Fault>
 pub(crate) fn host_at(alloc: Global, row: &Row, at: usize) -> Result<Option<Host>, Fault>
     ensures some { IfOk result (λ found. IfSome found (λ host. IsHostAt row.now at × (host ≡ bytes_at row.now at))) }
     ensures none { IfOk result (λ found. IfNone found (IsHostAt row.now at → ⊥)) }
+    ensures memory { IfErr result (λ why. why ≡ NoMemory) }
 {
     let Ok(ValueRef::Text(text)) = row.get_ref(at) else {
         return Ok(None);

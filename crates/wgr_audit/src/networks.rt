@@ -1,11 +1,13 @@
 //! The rows of networks.
-ghost use Rattle.std.specs.Prelude.{◌≡◌, ◌↔◌, false, IsTrue, IfOk, IfSome, IfNone, map, nat_eq};
+ghost use Rattle.std.specs.Prelude.{◌≡◌, ◌↔◌, false, IsTrue, IfErr, IfOk, IfSome, IfNone, map, nat_eq};
 ghost use Rattle.std.specs.List.{AllByRecursion};
 ghost use Rattle.std.specs.List.Sorted.{IsSorted};
 ghost use Rattle.std.specs.Ordering.{nat_cmp};
 ghost use Rattle.sqlite.specs.State.{HasCleanDisk, Survives};
 ghost use Rattle.sqlite.specs.Held.{state};
 ghost use Rattle.wgr_sql.specs.Calls.{IsKept};
+ghost use Rattle.wgr_sql.specs.Causes.{HasCause};
+ghost use Rattle.wgr_sql.specs.declared.fault.Fault.TheVariants.{NoMemory};
 ghost use Rattle.wgr_tables.specs.Decode.{number_at, bytes_at, prefix_at};
 ghost use Rattle.wgr_audit.specs.Fields.{IsIdAt, IsPoolAt};
 ghost use Rattle.wgr_audit.specs.Layouts.{Laid};
@@ -27,6 +29,7 @@ use wgr_sql::{Fault, query};
 fn ids_at(alloc: Global, rows: &[Row], at: usize) -> Result<Option<Vec<u32>>, Fault>
     ensures some { IfOk result (λ found. IfSome found (λ all. AllByRecursion (λ r. IsIdAt r at) rows.now × (all.items ≡ map (λ r. number_at r at) rows.now))) }
     ensures none { IfOk result (λ found. IfNone found (AllByRecursion (λ r. IsIdAt r at) rows.now → ⊥)) }
+    ensures memory { IfErr result (λ why. why ≡ NoMemory) }
 {
     let mut all = Vec::new(alloc);
     for row in rows {
@@ -44,6 +47,7 @@ fn ids_at(alloc: Global, rows: &[Row], at: usize) -> Result<Option<Vec<u32>>, Fa
 fn slot_of(alloc: Global, row: &Row) -> Result<Option<(u32, Name)>, Fault>
     ensures some { IfOk result (λ found. IfSome found (λ slot. IsSlotRow row.now × (slot ≡ slot_at row.now))) }
     ensures none { IfOk result (λ found. IfNone found (IsSlotRow row.now → ⊥)) }
+    ensures memory { IfErr result (λ why. why ≡ NoMemory) }
 {
     let Some(tenant) = id_at(row, 2) else {
         return Ok(None);
@@ -58,6 +62,7 @@ fn slot_of(alloc: Global, row: &Row) -> Result<Option<(u32, Name)>, Fault>
 fn slots_of(alloc: Global, rows: &[Row]) -> Result<Option<Vec<(u32, Name)>>, Fault>
     ensures some { IfOk result (λ found. IfSome found (λ all. AllByRecursion IsSlotRow rows.now × (all.items ≡ map slot_at rows.now))) }
     ensures none { IfOk result (λ found. IfNone found (AllByRecursion IsSlotRow rows.now → ⊥)) }
+    ensures memory { IfErr result (λ why. why ≡ NoMemory) }
 {
     let mut all = Vec::new(alloc);
     for row in rows {
@@ -75,6 +80,7 @@ fn slots_of(alloc: Global, rows: &[Row]) -> Result<Option<Vec<(u32, Name)>>, Fau
 fn endpoint_of(alloc: Global, row: &Row) -> Result<Option<(Host, Port)>, Fault>
     ensures some { IfOk result (λ found. IfSome found (λ endpoint. IsEndpointRow row.now × (endpoint ≡ endpoint_at row.now))) }
     ensures none { IfOk result (λ found. IfNone found (IsEndpointRow row.now → ⊥)) }
+    ensures memory { IfErr result (λ why. why ≡ NoMemory) }
 {
     let Some(port) = port_at(row, 8) else {
         return Ok(None);
@@ -89,6 +95,7 @@ fn endpoint_of(alloc: Global, row: &Row) -> Result<Option<(Host, Port)>, Fault>
 fn endpoints_of(alloc: Global, rows: &[Row]) -> Result<Option<Vec<(Host, Port)>>, Fault>
     ensures some { IfOk result (λ found. IfSome found (λ all. AllByRecursion IsEndpointRow rows.now × (all.items ≡ map endpoint_at rows.now))) }
     ensures none { IfOk result (λ found. IfNone found (AllByRecursion IsEndpointRow rows.now → ⊥)) }
+    ensures memory { IfErr result (λ why. why ≡ NoMemory) }
 {
     let mut all = Vec::new(alloc);
     for row in rows {
@@ -106,6 +113,7 @@ fn endpoints_of(alloc: Global, rows: &[Row]) -> Result<Option<Vec<(Host, Port)>>
 fn pools_of(alloc: Global, rows: &[Row]) -> Result<Option<Vec<Pool>>, Fault>
     ensures some { IfOk result (λ found. IfSome found (λ all. AllByRecursion (λ r. IsPoolAt r 4) rows.now × (all.items ≡ map (λ r. prefix_at r 4) rows.now))) }
     ensures none { IfOk result (λ found. IfNone found (AllByRecursion (λ r. IsPoolAt r 4) rows.now → ⊥)) }
+    ensures memory { IfErr result (λ why. why ≡ NoMemory) }
 {
     let mut all = Vec::new(alloc);
     for row in rows {
@@ -140,7 +148,8 @@ fn have_settings(rows: &[Row]) -> bool
 
 /// Whether the slots in these rows are such, and none stands twice.
 fn are_own_slots(alloc: Global, rows: &[Row]) -> Result<bool, Fault>
-    ensures { IfOk result (λ is. IsTrue is ↔ HaveOwnSlots rows.now) }
+    ensures told { IfOk result (λ is. IsTrue is ↔ HaveOwnSlots rows.now) }
+    ensures memory { IfErr result (λ why. why ≡ NoMemory) }
 {
     let Some(mut all) = slots_of(alloc, rows)? else {
         return Ok(false);
@@ -151,7 +160,8 @@ fn are_own_slots(alloc: Global, rows: &[Row]) -> Result<bool, Fault>
 
 /// Whether the endpoints in these rows are such, and none stands twice.
 fn are_own_endpoints(alloc: Global, rows: &[Row]) -> Result<bool, Fault>
-    ensures { IfOk result (λ is. IsTrue is ↔ HaveOwnEndpoints rows.now) }
+    ensures told { IfOk result (λ is. IsTrue is ↔ HaveOwnEndpoints rows.now) }
+    ensures memory { IfErr result (λ why. why ≡ NoMemory) }
 {
     let Some(mut all) = endpoints_of(alloc, rows)? else {
         return Ok(false);
@@ -162,7 +172,8 @@ fn are_own_endpoints(alloc: Global, rows: &[Row]) -> Result<bool, Fault>
 
 /// Whether the pools in these rows are such, and no two have an address in common.
 fn are_own_pools(alloc: Global, rows: &[Row]) -> Result<bool, Fault>
-    ensures { IfOk result (λ is. IsTrue is ↔ HaveOwnPools rows.now) }
+    ensures told { IfOk result (λ is. IsTrue is ↔ HaveOwnPools rows.now) }
+    ensures memory { IfErr result (λ why. why ≡ NoMemory) }
 {
     let Some(mut all) = pools_of(alloc, rows)? else {
         return Ok(false);
@@ -175,6 +186,7 @@ fn are_own_pools(alloc: Global, rows: &[Row]) -> Result<bool, Fault>
 fn are_owned(alloc: Global, rows: &[Row], tenants: &[u32]) -> Result<bool, Fault>
     ensures is { IfOk result (λ is. IsTrue is → HaveOwners tenants.now rows.now) }
     ensures only { IfOk result (λ is. IsSorted nat_cmp tenants.now → HaveOwners tenants.now rows.now → IsTrue is) }
+    ensures memory { IfErr result (λ why. why ≡ NoMemory) }
 {
     let Some(mut all) = ids_at(alloc, rows, 2)? else {
         return Ok(false);
@@ -185,7 +197,8 @@ fn are_owned(alloc: Global, rows: &[Row], tenants: &[u32]) -> Result<bool, Fault
 
 /// Whether no two of these rows have a slot, an endpoint or an address of their pools in common.
 fn are_apart(alloc: Global, rows: &[Row]) -> Result<bool, Fault>
-    ensures { IfOk result (λ is. IsTrue is ↔ AreNetworksApart rows.now) }
+    ensures told { IfOk result (λ is. IsTrue is ↔ AreNetworksApart rows.now) }
+    ensures memory { IfErr result (λ why. why ≡ NoMemory) }
 {
     if !are_own_slots(alloc, rows)? {
         return Ok(false);
@@ -200,6 +213,7 @@ fn are_apart(alloc: Global, rows: &[Row]) -> Result<bool, Fault>
 fn are_fit(alloc: Global, rows: &[Row], tenants: &[u32]) -> Result<bool, Fault>
     ensures is { IfOk result (λ is. IsTrue is → AreFit tenants.now rows.now) }
     ensures only { IfOk result (λ is. IsSorted nat_cmp tenants.now → AreFit tenants.now rows.now → IsTrue is) }
+    ensures memory { IfErr result (λ why. why ≡ NoMemory) }
 {
     if rows.len() > 65_536 || !have_settings(rows) {
         return Ok(false);
@@ -214,6 +228,7 @@ fn are_fit(alloc: Global, rows: &[Row], tenants: &[u32]) -> Result<bool, Fault>
 fn good_ids(alloc: Global, rows: &[Row], tenants: &[u32]) -> Result<Option<Vec<u32>>, Fault>
     ensures some { IfOk result (λ found. IfSome found (λ ids. AreGoodNetworks tenants.now rows.now × (ids.items ≡ map (λ r. number_at r 0) rows.now))) }
     ensures none { IfOk result (λ found. IfNone found (IsSorted nat_cmp tenants.now → IsSorted nat_cmp (map (λ r. number_at r 0) rows.now) → AreGoodNetworks tenants.now rows.now → ⊥)) }
+    ensures memory { IfErr result (λ why. why ≡ NoMemory) }
 {
     let Some(ids) = ids_at(alloc, rows, 0)? else {
         return Ok(None);
@@ -234,6 +249,7 @@ fn rows_by_id<S: Alter>(conn: &mut Connection<S>) -> Result<Vec<Row>, Fault>
     ensures listed { HasCleanDisk (state S.Store conn.new) → Laid (state S.Store conn.old) → IfOk result (λ rows. IsTrue (state S.Store conn.old).is_open × Lists network_values 0 ((state S.Store conn.old).now.trees 5) rows.items) }
     ensures kept { (HasCleanDisk (state S.Store conn.new) → Laid (state S.Store conn.old)) → IsKept (state S.Store conn.old) (state S.Store conn.new) }
     ensures survives { Survives (state S.Store conn.old) (state S.Store conn.new) (λ _. ⊥) }
+    ensures cause { (HasCleanDisk (state S.Store conn.new) → Laid (state S.Store conn.old)) → IfErr result (HasCause (state S.Store conn.old) (state S.Store conn.new)) }
 {
     query(
         conn,
@@ -257,6 +273,7 @@ pub fn read_networks<S: Alter>(
     ensures none { HasCleanDisk (state S.Store conn.new) → Laid (state S.Store conn.old) → IsSorted nat_cmp tenants.now → IfOk result (λ found. IfNone found (IsTrue (state S.Store conn.old).is_open × (AreGoodNetworks tenants.now ((state S.Store conn.old).now.trees 5) → ⊥))) }
     ensures kept { (HasCleanDisk (state S.Store conn.new) → Laid (state S.Store conn.old)) → IsKept (state S.Store conn.old) (state S.Store conn.new) }
     ensures survives { Survives (state S.Store conn.old) (state S.Store conn.new) (λ _. ⊥) }
+    ensures cause { (HasCleanDisk (state S.Store conn.new) → Laid (state S.Store conn.old)) → IfErr result (HasCause (state S.Store conn.old) (state S.Store conn.new)) }
 {
     let rows = rows_by_id(conn)?;
     good_ids(alloc, rows.as_slice(), tenants)

@@ -1,5 +1,5 @@
 //! The rows of tenants.
-ghost use Rattle.std.specs.Prelude.{◌≡◌, ◌↔◌, ℕ, false, IsTrue, IfOk, IfSome, IfNone, map};
+ghost use Rattle.std.specs.Prelude.{◌≡◌, ◌↔◌, ℕ, false, IsTrue, IfErr, IfOk, IfSome, IfNone, map};
 ghost use Rattle.std.specs.List.{AllByRecursion};
 ghost use Rattle.std.specs.List.Sorted.{IsSorted};
 ghost use Rattle.std.specs.Ordering.{nat_cmp};
@@ -7,6 +7,8 @@ ghost use Rattle.std.specs.Cmp.Lexicographic.{slice_cmp};
 ghost use Rattle.sqlite.specs.State.{HasCleanDisk, Survives};
 ghost use Rattle.sqlite.specs.Held.{state};
 ghost use Rattle.wgr_sql.specs.Calls.{IsKept};
+ghost use Rattle.wgr_sql.specs.Causes.{HasCause};
+ghost use Rattle.wgr_sql.specs.declared.fault.Fault.TheVariants.{NoMemory};
 ghost use Rattle.wgr_tables.specs.Decode.{number_at, bytes_at};
 ghost use Rattle.wgr_audit.specs.Fields.{IsNameAt};
 ghost use Rattle.wgr_audit.specs.Layouts.{Laid};
@@ -23,6 +25,7 @@ use wgr_sql::{Fault, query};
 fn tenant_id(alloc: Global, row: &Row) -> Result<Option<u32>, Fault>
     ensures some { IfOk result (λ found. IfSome found (λ id. IsTenantRow row.now × (id ≡ number_at row.now 0))) }
     ensures none { IfOk result (λ found. IfNone found (IsTenantRow row.now → ⊥)) }
+    ensures memory { IfErr result (λ why. why ≡ NoMemory) }
 {
     let Some(id) = id_at(row, 0) else {
         return Ok(None);
@@ -37,6 +40,7 @@ fn tenant_id(alloc: Global, row: &Row) -> Result<Option<u32>, Fault>
 fn ids_of(alloc: Global, rows: &[Row]) -> Result<Option<Vec<u32>>, Fault>
     ensures some { IfOk result (λ found. IfSome found (λ ids. AllByRecursion IsTenantRow rows.now × (ids.items ≡ map (λ r. number_at r 0) rows.now))) }
     ensures none { IfOk result (λ found. IfNone found (AllByRecursion IsTenantRow rows.now → ⊥)) }
+    ensures memory { IfErr result (λ why. why ≡ NoMemory) }
 {
     let mut ids = Vec::new(alloc);
     for row in rows {
@@ -54,6 +58,7 @@ fn ids_of(alloc: Global, rows: &[Row]) -> Result<Option<Vec<u32>>, Fault>
 fn names_of(alloc: Global, rows: &[Row]) -> Result<Option<Vec<Name>>, Fault>
     ensures some { IfOk result (λ found. IfSome found (λ names. AllByRecursion (λ r. IsNameAt r 2) rows.now × (names.items ≡ map (λ r. bytes_at r 2) rows.now))) }
     ensures none { IfOk result (λ found. IfNone found (AllByRecursion (λ r. IsNameAt r 2) rows.now → ⊥)) }
+    ensures memory { IfErr result (λ why. why ≡ NoMemory) }
 {
     let mut names = Vec::new(alloc);
     for row in rows {
@@ -74,6 +79,7 @@ fn rows_by_id<S: Alter>(conn: &mut Connection<S>) -> Result<Vec<Row>, Fault>
     ensures listed { HasCleanDisk (state S.Store conn.new) → Laid (state S.Store conn.old) → IfOk result (λ rows. IsTrue (state S.Store conn.old).is_open × Lists tenant_values 0 ((state S.Store conn.old).now.trees 1) rows.items) }
     ensures kept { (HasCleanDisk (state S.Store conn.new) → Laid (state S.Store conn.old)) → IsKept (state S.Store conn.old) (state S.Store conn.new) }
     ensures survives { Survives (state S.Store conn.old) (state S.Store conn.new) (λ _. ⊥) }
+    ensures cause { (HasCleanDisk (state S.Store conn.new) → Laid (state S.Store conn.old)) → IfErr result (HasCause (state S.Store conn.old) (state S.Store conn.new)) }
 {
     query(conn, "SELECT id, NULL, name FROM tenant ORDER BY id", &[])
 }
@@ -85,6 +91,7 @@ fn rows_by_name<S: Alter>(conn: &mut Connection<S>) -> Result<Vec<Row>, Fault>
     ensures listed { HasCleanDisk (state S.Store conn.new) → Laid (state S.Store conn.old) → IfOk result (λ rows. IsTrue (state S.Store conn.old).is_open × Lists name_values 2 ((state S.Store conn.old).now.trees 1) rows.items) }
     ensures kept { (HasCleanDisk (state S.Store conn.new) → Laid (state S.Store conn.old)) → IsKept (state S.Store conn.old) (state S.Store conn.new) }
     ensures survives { Survives (state S.Store conn.old) (state S.Store conn.new) (λ _. ⊥) }
+    ensures cause { (HasCleanDisk (state S.Store conn.new) → Laid (state S.Store conn.old)) → IfErr result (HasCause (state S.Store conn.old) (state S.Store conn.new)) }
 {
     query(
         conn,
@@ -101,6 +108,7 @@ fn read_ids<S: Alter>(alloc: Global, conn: &mut Connection<S>) -> Result<Option<
     ensures none { HasCleanDisk (state S.Store conn.new) → Laid (state S.Store conn.old) → IfOk result (λ found. IfNone found (IsTrue (state S.Store conn.old).is_open × (HaveOwnIds ((state S.Store conn.old).now.trees 1) → ⊥))) }
     ensures kept { (HasCleanDisk (state S.Store conn.new) → Laid (state S.Store conn.old)) → IsKept (state S.Store conn.old) (state S.Store conn.new) }
     ensures survives { Survives (state S.Store conn.old) (state S.Store conn.new) (λ _. ⊥) }
+    ensures cause { (HasCleanDisk (state S.Store conn.new) → Laid (state S.Store conn.old)) → IfErr result (HasCause (state S.Store conn.old) (state S.Store conn.new)) }
 {
     let rows = rows_by_id(conn)?;
     let Some(ids) = ids_of(alloc, rows.as_slice())? else {
@@ -116,6 +124,7 @@ fn read_ids<S: Alter>(alloc: Global, conn: &mut Connection<S>) -> Result<Option<
 fn are_own_names(alloc: Global, rows: &[Row]) -> Result<bool, Fault>
     ensures is { IfOk result (λ is. IsTrue is → HaveOwnNames rows.now) }
     ensures only { IfOk result (λ is. IsSorted (slice_cmp nat_cmp) (map (λ r. bytes_at r 2) rows.now) → HaveOwnNames rows.now → IsTrue is) }
+    ensures memory { IfErr result (λ why. why ≡ NoMemory) }
 {
     match names_of(alloc, rows)? {
         Some(names) => Ok(names_differ(names.as_slice())),
@@ -130,6 +139,7 @@ fn have_own_names<S: Alter>(alloc: Global, conn: &mut Connection<S>) -> Result<b
     ensures told { HasCleanDisk (state S.Store conn.new) → Laid (state S.Store conn.old) → IfOk result (λ is. IsTrue (state S.Store conn.old).is_open × (IsTrue is ↔ HaveOwnNames ((state S.Store conn.old).now.trees 1))) }
     ensures kept { (HasCleanDisk (state S.Store conn.new) → Laid (state S.Store conn.old)) → IsKept (state S.Store conn.old) (state S.Store conn.new) }
     ensures survives { Survives (state S.Store conn.old) (state S.Store conn.new) (λ _. ⊥) }
+    ensures cause { (HasCleanDisk (state S.Store conn.new) → Laid (state S.Store conn.old)) → IfErr result (HasCause (state S.Store conn.old) (state S.Store conn.new)) }
 {
     let rows = rows_by_name(conn)?;
     are_own_names(alloc, rows.as_slice())
@@ -147,6 +157,7 @@ pub fn read_tenants<S: Alter>(
     ensures none { HasCleanDisk (state S.Store conn.new) → Laid (state S.Store conn.old) → IfOk result (λ found. IfNone found (IsTrue (state S.Store conn.old).is_open × (AreGoodTenants ((state S.Store conn.old).now.trees 1) → ⊥))) }
     ensures kept { (HasCleanDisk (state S.Store conn.new) → Laid (state S.Store conn.old)) → IsKept (state S.Store conn.old) (state S.Store conn.new) }
     ensures survives { Survives (state S.Store conn.old) (state S.Store conn.new) (λ _. ⊥) }
+    ensures cause { (HasCleanDisk (state S.Store conn.new) → Laid (state S.Store conn.old)) → IfErr result (HasCause (state S.Store conn.old) (state S.Store conn.new)) }
 {
     let Some(ids) = read_ids(alloc, conn)? else {
         return Ok(None);

@@ -1,5 +1,5 @@
 //! The rows of tokens.
-ghost use Rattle.std.specs.Prelude.{◌≡◌, ◌↔◌, false, IsTrue, IfOk, IfSome, IfNone, map};
+ghost use Rattle.std.specs.Prelude.{◌≡◌, ◌↔◌, false, IsTrue, IfErr, IfOk, IfSome, IfNone, map};
 ghost use Rattle.std.specs.List.{AllByRecursion, IsDistinct};
 ghost use Rattle.std.specs.List.Sorted.{IsSorted};
 ghost use Rattle.std.specs.Ordering.{int_cmp, int_eq, nat_cmp};
@@ -10,6 +10,8 @@ ghost use Rattle.sqlite.specs.Held.{state};
 ghost use Rattle.sqlite_value.specs.Order.{column};
 ghost use Rattle.sqlite_rules.specs.Edit.{id_in};
 ghost use Rattle.wgr_sql.specs.Calls.{IsKept};
+ghost use Rattle.wgr_sql.specs.Causes.{HasCause};
+ghost use Rattle.wgr_sql.specs.declared.fault.Fault.TheVariants.{NoMemory};
 ghost use Rattle.wgr_tables.specs.Decode.{number_at, bytes_at};
 ghost use Rattle.wgr_audit.specs.Fields.{IsDigestAt, IsIdAt, IsIntegerAt};
 ghost use Rattle.wgr_audit.specs.Layouts.{Laid};
@@ -26,6 +28,7 @@ use wgr_sql::{Fault, query};
 fn rowids_of(alloc: Global, rows: &[Row]) -> Result<Option<Vec<i64>>, Fault>
     ensures some { IfOk result (λ found. IfSome found (λ all. AllByRecursion (λ r. IsIntegerAt r 0) rows.now × (all.items ≡ map (λ r. id_in (column r 0)) rows.now))) }
     ensures none { IfOk result (λ found. IfNone found (AllByRecursion (λ r. IsIntegerAt r 0) rows.now → ⊥)) }
+    ensures memory { IfErr result (λ why. why ≡ NoMemory) }
 {
     let mut all = Vec::new(alloc);
     for row in rows {
@@ -43,6 +46,7 @@ fn rowids_of(alloc: Global, rows: &[Row]) -> Result<Option<Vec<i64>>, Fault>
 fn digests_of(alloc: Global, rows: &[Row]) -> Result<Option<Vec<[u8; 32]>>, Fault>
     ensures some { IfOk result (λ found. IfSome found (λ all. AllByRecursion (λ r. IsDigestAt r 1) rows.now × (all.items ≡ map (λ r. bytes_at r 1) rows.now))) }
     ensures none { IfOk result (λ found. IfNone found (AllByRecursion (λ r. IsDigestAt r 1) rows.now → ⊥)) }
+    ensures memory { IfErr result (λ why. why ≡ NoMemory) }
 {
     let mut all = Vec::new(alloc);
     for row in rows {
@@ -60,6 +64,7 @@ fn digests_of(alloc: Global, rows: &[Row]) -> Result<Option<Vec<[u8; 32]>>, Faul
 fn owners_of(alloc: Global, rows: &[Row]) -> Result<Option<Vec<u32>>, Fault>
     ensures some { IfOk result (λ found. IfSome found (λ all. AllByRecursion (λ r. IsIdAt r 2) rows.now × (all.items ≡ map (λ r. number_at r 2) rows.now))) }
     ensures none { IfOk result (λ found. IfNone found (AllByRecursion (λ r. IsIdAt r 2) rows.now → ⊥)) }
+    ensures memory { IfErr result (λ why. why ≡ NoMemory) }
 {
     let mut all = Vec::new(alloc);
     for row in rows {
@@ -100,6 +105,7 @@ fn rows_by_rowid<S: Alter>(conn: &mut Connection<S>) -> Result<Vec<Row>, Fault>
     ensures listed { HasCleanDisk (state S.Store conn.new) → Laid (state S.Store conn.old) → IfOk result (λ rows. IsTrue (state S.Store conn.old).is_open × Lists rowid_values 0 ((state S.Store conn.old).now.trees 3) rows.items) }
     ensures kept { (HasCleanDisk (state S.Store conn.new) → Laid (state S.Store conn.old)) → IsKept (state S.Store conn.old) (state S.Store conn.new) }
     ensures survives { Survives (state S.Store conn.old) (state S.Store conn.new) (λ _. ⊥) }
+    ensures cause { (HasCleanDisk (state S.Store conn.new) → Laid (state S.Store conn.old)) → IfErr result (HasCause (state S.Store conn.old) (state S.Store conn.new)) }
 {
     query(
         conn,
@@ -115,6 +121,7 @@ fn rows_by_digest<S: Alter>(conn: &mut Connection<S>) -> Result<Vec<Row>, Fault>
     ensures listed { HasCleanDisk (state S.Store conn.new) → Laid (state S.Store conn.old) → IfOk result (λ rows. IsTrue (state S.Store conn.old).is_open × Lists digest_values 1 ((state S.Store conn.old).now.trees 3) rows.items) }
     ensures kept { (HasCleanDisk (state S.Store conn.new) → Laid (state S.Store conn.old)) → IsKept (state S.Store conn.old) (state S.Store conn.new) }
     ensures survives { Survives (state S.Store conn.old) (state S.Store conn.new) (λ _. ⊥) }
+    ensures cause { (HasCleanDisk (state S.Store conn.new) → Laid (state S.Store conn.old)) → IfErr result (HasCause (state S.Store conn.old) (state S.Store conn.new)) }
 {
     query(
         conn,
@@ -130,6 +137,7 @@ fn rows_by_owner<S: Alter>(conn: &mut Connection<S>) -> Result<Vec<Row>, Fault>
     ensures listed { HasCleanDisk (state S.Store conn.new) → Laid (state S.Store conn.old) → IfOk result (λ rows. IsTrue (state S.Store conn.old).is_open × Lists owner_values 2 ((state S.Store conn.old).now.trees 3) rows.items) }
     ensures kept { (HasCleanDisk (state S.Store conn.new) → Laid (state S.Store conn.old)) → IsKept (state S.Store conn.old) (state S.Store conn.new) }
     ensures survives { Survives (state S.Store conn.old) (state S.Store conn.new) (λ _. ⊥) }
+    ensures cause { (HasCleanDisk (state S.Store conn.new) → Laid (state S.Store conn.old)) → IfErr result (HasCause (state S.Store conn.old) (state S.Store conn.new)) }
 {
     query(
         conn,
@@ -142,6 +150,7 @@ fn rows_by_owner<S: Alter>(conn: &mut Connection<S>) -> Result<Vec<Row>, Fault>
 pub fn are_own_rowids(alloc: Global, rows: &[Row]) -> Result<bool, Fault>
     ensures is { IfOk result (λ is. IsTrue is → HaveOwnRowids rows.now) }
     ensures only { IfOk result (λ is. IsSorted int_cmp (map (λ r. id_in (column r 0)) rows.now) → HaveOwnRowids rows.now → IsTrue is) }
+    ensures memory { IfErr result (λ why. why ≡ NoMemory) }
 {
     match rowids_of(alloc, rows)? {
         Some(all) => Ok(rowids_differ(all.as_slice())),
@@ -153,6 +162,7 @@ pub fn are_own_rowids(alloc: Global, rows: &[Row]) -> Result<bool, Fault>
 fn are_own_digests(alloc: Global, rows: &[Row]) -> Result<bool, Fault>
     ensures is { IfOk result (λ is. IsTrue is → HaveOwnDigests rows.now) }
     ensures only { IfOk result (λ is. IsSorted (slice_cmp nat_cmp) (map (λ r. bytes_at r 1) rows.now) → HaveOwnDigests rows.now → IsTrue is) }
+    ensures memory { IfErr result (λ why. why ≡ NoMemory) }
 {
     if rows.len() > 65_536 {
         return Ok(false);
@@ -167,6 +177,7 @@ fn are_own_digests(alloc: Global, rows: &[Row]) -> Result<bool, Fault>
 fn are_owned(alloc: Global, rows: &[Row], ids: &[u32]) -> Result<bool, Fault>
     ensures is { IfOk result (λ is. IsTrue is → HaveOwners ids.now rows.now) }
     ensures only { IfOk result (λ is. IsSorted nat_cmp ids.now → IsSorted nat_cmp (map (λ r. number_at r 2) rows.now) → HaveOwners ids.now rows.now → IsTrue is) }
+    ensures memory { IfErr result (λ why. why ≡ NoMemory) }
 {
     match owners_of(alloc, rows)? {
         Some(all) => Ok(are_among(all.as_slice(), ids)),
@@ -181,6 +192,7 @@ fn have_own_rowids<S: Alter>(alloc: Global, conn: &mut Connection<S>) -> Result<
     ensures told { HasCleanDisk (state S.Store conn.new) → Laid (state S.Store conn.old) → IfOk result (λ is. IsTrue (state S.Store conn.old).is_open × (IsTrue is ↔ HaveOwnRowids ((state S.Store conn.old).now.trees 3))) }
     ensures kept { (HasCleanDisk (state S.Store conn.new) → Laid (state S.Store conn.old)) → IsKept (state S.Store conn.old) (state S.Store conn.new) }
     ensures survives { Survives (state S.Store conn.old) (state S.Store conn.new) (λ _. ⊥) }
+    ensures cause { (HasCleanDisk (state S.Store conn.new) → Laid (state S.Store conn.old)) → IfErr result (HasCause (state S.Store conn.old) (state S.Store conn.new)) }
 {
     let rows = rows_by_rowid(conn)?;
     are_own_rowids(alloc, rows.as_slice())
@@ -193,6 +205,7 @@ fn have_own_digests<S: Alter>(alloc: Global, conn: &mut Connection<S>) -> Result
     ensures told { HasCleanDisk (state S.Store conn.new) → Laid (state S.Store conn.old) → IfOk result (λ is. IsTrue (state S.Store conn.old).is_open × (IsTrue is ↔ HaveOwnDigests ((state S.Store conn.old).now.trees 3))) }
     ensures kept { (HasCleanDisk (state S.Store conn.new) → Laid (state S.Store conn.old)) → IsKept (state S.Store conn.old) (state S.Store conn.new) }
     ensures survives { Survives (state S.Store conn.old) (state S.Store conn.new) (λ _. ⊥) }
+    ensures cause { (HasCleanDisk (state S.Store conn.new) → Laid (state S.Store conn.old)) → IfErr result (HasCause (state S.Store conn.old) (state S.Store conn.new)) }
 {
     let rows = rows_by_digest(conn)?;
     are_own_digests(alloc, rows.as_slice())
@@ -209,6 +222,7 @@ fn have_owners<S: Alter>(
     ensures told { HasCleanDisk (state S.Store conn.new) → Laid (state S.Store conn.old) → IsSorted nat_cmp ids.now → IfOk result (λ is. IsTrue (state S.Store conn.old).is_open × (IsTrue is ↔ HaveOwners ids.now ((state S.Store conn.old).now.trees 3))) }
     ensures kept { (HasCleanDisk (state S.Store conn.new) → Laid (state S.Store conn.old)) → IsKept (state S.Store conn.old) (state S.Store conn.new) }
     ensures survives { Survives (state S.Store conn.old) (state S.Store conn.new) (λ _. ⊥) }
+    ensures cause { (HasCleanDisk (state S.Store conn.new) → Laid (state S.Store conn.old)) → IfErr result (HasCause (state S.Store conn.old) (state S.Store conn.new)) }
 {
     let rows = rows_by_owner(conn)?;
     are_owned(alloc, rows.as_slice(), ids)
@@ -221,6 +235,7 @@ fn have_own_keys<S: Alter>(alloc: Global, conn: &mut Connection<S>) -> Result<bo
     ensures told { HasCleanDisk (state S.Store conn.new) → Laid (state S.Store conn.old) → IfOk result (λ is. IsTrue (state S.Store conn.old).is_open × (IsTrue is ↔ HaveOwnKeys ((state S.Store conn.old).now.trees 3))) }
     ensures kept { (HasCleanDisk (state S.Store conn.new) → Laid (state S.Store conn.old)) → IsKept (state S.Store conn.old) (state S.Store conn.new) }
     ensures survives { Survives (state S.Store conn.old) (state S.Store conn.new) (λ _. ⊥) }
+    ensures cause { (HasCleanDisk (state S.Store conn.new) → Laid (state S.Store conn.old)) → IfErr result (HasCause (state S.Store conn.old) (state S.Store conn.new)) }
 {
     if !have_own_rowids(alloc, conn)? {
         return Ok(false);
@@ -241,6 +256,7 @@ pub fn tokens_are_good<S: Alter>(
     ensures told { HasCleanDisk (state S.Store conn.new) → Laid (state S.Store conn.old) → IsSorted nat_cmp ids.now → IfOk result (λ is. IsTrue (state S.Store conn.old).is_open × (IsTrue is ↔ AreGoodTokens ids.now ((state S.Store conn.old).now.trees 3))) }
     ensures kept { (HasCleanDisk (state S.Store conn.new) → Laid (state S.Store conn.old)) → IsKept (state S.Store conn.old) (state S.Store conn.new) }
     ensures survives { Survives (state S.Store conn.old) (state S.Store conn.new) (λ _. ⊥) }
+    ensures cause { (HasCleanDisk (state S.Store conn.new) → Laid (state S.Store conn.old)) → IfErr result (HasCause (state S.Store conn.old) (state S.Store conn.new)) }
 {
     if !have_own_keys(alloc, conn)? {
         return Ok(false);

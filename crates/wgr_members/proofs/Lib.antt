@@ -7,3 +7,4 @@ pub mod TableLemmas
 pub mod StreamLemmas
 pub mod MemberLemmas
 pub mod MemberLaws
+pub mod CauseLemmas

@@ -1,5 +1,5 @@
 -- What the queries show.
-use Rattle.std.proofs.Common.{◌≡◌, ℕ, List, [], ◌∷◌, codes, Ok, refl, sym, ap, subst, ◌∙◌}
+use Rattle.std.proofs.Common.{◌≡◌, ℕ, List, [], ◌∷◌, codes, Ok, refl, sym, ap, subst, ◌∙◌, arith}
 use Rattle.sqlite.specs.Order.{Row}
 use Rattle.sqlite.specs.declared.types.Value.TheVariants.{Null}
 use Rattle.sqlite.specs.Command.{Command}
@@ -12,11 +12,14 @@ use Rattle.sqlite.specs.Term.{Term, col, lit, eval_all}
 use Rattle.sqlite_resolve.specs.declared.compiled.Compiled.{Compiled}
 use Rattle.sqlite_tied.specs.Compute.{everything}
 use Rattle.sqlite.proofs.Callers.{IsPlain, EndsIn, command_of}
+use Rattle.wgr_sql.specs.Causes.{IsAnswered}
 use Rattle.wgr_sql.specs.Effects.{plain_query}
-use Rattle.wgr_tables.specs.Layout.{Others}
+use Rattle.wgr_tables.specs.Layout.{Others, schema_with}
+use Rattle.wgr_tables.proofs.AskedLemmas.{never_refused}
 use Rattle.wgr_tables.proofs.Meanings.{Asks, rising}
 use Rattle.wgr_store.specs.LaidOut.{IsLaidOut}
 use Rattle.wgr_audit.specs.TenantRows.{Lists}
+use Rattle.wgr_audit.proofs.CauseLemmas.{is_answered}
 use Rattle.wgr_audit.proofs.Queries.{lists, is_plain}
 use Rattle.wgr_members.specs.declared.table.Table.{Table}
 use Rattle.wgr_members.specs.declared.table.Table.TheVariants.{Peers, Allowed}
@@ -58,6 +61,21 @@ command_at t = Select (record { lets = []; body = plain_query (tree_of t) [] (pl
 table_asks : (t : Table) (others : Others) → Asks others (text_of t) (command_at t)
 table_asks Peers = peers_ask
 table_asks Allowed = allowed_ask
+
+peers_answered : (others : Others) → IsAnswered (schema_with others) (text_of Peers) []
+unfolding understood everything
+peers_answered others = record { given = (refl, refl, omega arith, refl); unlisted = refl; plain = λ limit trees e refused. never_refused _ refl limit (trees 8) refused }
+
+allowed_answered : (others : Others) → IsAnswered (schema_with others) (text_of Allowed) []
+unfolding understood everything
+allowed_answered others = record { given = (refl, refl, omega arith, refl); unlisted = refl; plain = λ limit trees e refused. never_refused _ refl limit (trees 10) refused }
+
+table_answered : (t : Table) (others : Others) → IsAnswered (schema_with others) (text_of t) []
+table_answered Peers = peers_answered
+table_answered Allowed = allowed_answered
+
+pub answered : (t : Table) (s : Schema) → IsLaidOut s → IsAnswered s (text_of t) []
+answered t s laid = is_answered (text_of t) (table_answered t) s laid
 
 shows : (t : Table) (row : Row) → eval_all (places_of t) ([] ∷ row ∷ []) ≡ values_of t row
 shows Peers row = refl

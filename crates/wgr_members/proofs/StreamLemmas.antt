@@ -1,9 +1,11 @@
 -- What rows that are read one after the other tell of all rows of a table.
-use Rattle.std.proofs.Common.{◌≡◌, ◌+◌, ◌<◌, ℕ, ℤ, suc, false, List, [], ◌∷◌, ◌++◌, map, length, get_or, Option, Some, None, Err, IfSome, IsTrue, Less, inl, refl, sym, ap, ap₂, subst, ◌∙◌, Bool, arith, length-append}
+use Rattle.std.proofs.Common.{◌≡◌, ◌+◌, ◌<◌, ◌<ℤ◌, ◌^◌, ℕ, ℤ, pos, negsuc, suc, false, List, [], ◌∷◌, ◌++◌, map, length, get_or, Option, Some, None, Err, IfSome, IsTrue, Less, inl, refl, sym, ap, ap₂, subst, ◌∙◌, Bool, SFits, w64, arith, length-append}
 use Rattle.std.specs.List.{AllByRecursion, IsDistinct}
 use Rattle.std.specs.List.Sorted.{IsSorted}
-use Rattle.std.specs.Ordering.{int_cmp, int_eq, is_eq}
+use Rattle.std.specs.Ordering.{MatchOrdering, int_cmp, int_eq, is_eq}
+use Rattle.std.specs.Cmp.{int_ranks}
 use Rattle.std.proofs.lemmas.Cmp.{int_cmp_total}
+use Rattle.std.proofs.lemmas.Int.{ints}
 use Rattle.std.proofs.lemmas.List.{map-append}
 use Rattle.sqlite.specs.Order.{Row}
 use Rattle.sqlite.specs.declared.error.Error.{Error}
@@ -23,7 +25,7 @@ use Rattle.wgr_audit.proofs.TokenLemmas.{int_tells}
 use Rattle.wgr_members.specs.declared.table.Table.{Table}
 use Rattle.wgr_members.specs.OwnRows.{AreOwnRows}
 use Rattle.wgr_members.specs.TableRows.{IsRowOf, text_of, tree_of}
-use Rattle.wgr_members.specs.Walked.{EndsAt, IsStill, IsWalked}
+use Rattle.wgr_members.specs.Walked.{EndsAt, IsStill, IsWalked, from_on, still_to_come}
 use Rattle.wgr_members.proofs.RowLemmas.{Rowid}
 use Rattle.wgr_members.proofs.Queries.{listed, plain, query_ends}
 use Rattle.wgr_members.proofs.TableLemmas.{table_there, table_back, table_sorted}
@@ -68,6 +70,23 @@ between front a b tail up apart =
     let high : at + 1 < length keys = let e = length-append front (a ∷ b ∷ tail) in omega (arith, e) in
     let less = differing_rise int_cmp_total int_eq int_tells keys up apart at a high in
     ap₂ int_cmp (sym (place_here front a (b ∷ tail) a)) (sym (place_next front a b tail a) ∙ ap (λ n. get_or keys n a) (sym one)) ∙ less
+
+-- ---- it ends
+
+fewer_from : (y z : ℤ) → SFits w64 z → y <ℤ z → from_on z < from_on y
+fewer_from (pos a) (pos b) fits less = omega (arith, ints, less, fits.sfits)
+fewer_from (pos a) (negsuc b) fits less = absurd less.lt
+fewer_from (negsuc a) (pos b) fits less = omega arith
+fewer_from (negsuc a) (negsuc b) fits less = omega (arith, ints, less)
+
+all_from_on : (z : ℤ) → SFits w64 z → from_on z < 2 ^ 64 + 1
+all_from_on (pos n) fits = omega arith
+all_from_on (negsuc n) fits = omega (arith, fits.sfits)
+
+-- rowids of 64 bits that rise come to an end
+pub fewer_to_come : (last : Option ℤ) (z : ℤ) → SFits w64 z → IfSome last (λ y. int_cmp y z ≡ Less) → still_to_come (Some z) < still_to_come last
+fewer_to_come None z fits after = all_from_on z fits
+fewer_to_come (Some y) z fits after = fewer_from y z fits (subst (λ o. MatchOrdering o (y <ℤ z) (y ≡ z) (z <ℤ y)) after (int_ranks y z))
 
 -- ---- a walk
 

@@ -1,5 +1,5 @@
 -- Rows that were read so far, one after the other.
-use Rattle.std.specs.Prelude.{◌≡◌, ℤ, false, List, [], ◌∷◌, ◌++◌, Option, IfSome, IsTrue}
+use Rattle.std.specs.Prelude.{◌≡◌, ◌+◌, ◌-◌, ◌^◌, ℕ, ℤ, pos, negsuc, Some, None, suc, false, List, [], ◌∷◌, ◌++◌, Option, IfSome, IsTrue}
 use Rattle.std.specs.List.{AllByRecursion}
 use Rattle.std.specs.Ordering.{int_cmp, int_eq}
 use Rattle.std.specs.declared.cmp.Ordering.TheVariants.{Less}
@@ -20,3 +20,12 @@ pub record IsWalked (IsRow : Row → Type 0) (rows : List Row) (last : Option �
 -- while the connection is open, it was, and what it shows and what was committed are as they were
 abbrev pub IsStill : State → State → Type 0
 IsStill old new = IsTrue new.is_open → IsTrue old.is_open × (new.now ≡ old.now) × (new.committed ≡ old.committed)
+
+-- how many numbers of 64 bits there are from this one on, and after the last
+abbrev pub from_on : ℤ → ℕ
+from_on (pos n) = 2 ^ 63 - n
+from_on (negsuc n) = 2 ^ 63 + suc n
+
+abbrev pub still_to_come : Option ℤ → ℕ
+still_to_come None = 2 ^ 64 + 1
+still_to_come (Some last) = from_on last

@@ -1,14 +1,18 @@
 //! Rows that a query shows, tested one after the other.
-ghost use Rattle.std.specs.Prelude.{◌≡◌, ◌↔◌, [], false, IsTrue, IfOk, IfSome, IfNone};
+ghost use Rattle.std.specs.Prelude.{◌≡◌, ◌↔◌, [], false, IsTrue, IfErr, IfOk, IfSome, IfNone};
 ghost use Rattle.std.specs.List.Sorted.{IsSorted};
 ghost use Rattle.std.specs.Ordering.{int_cmp, nat_cmp};
 ghost use Rattle.std.specs.declared.cmp.Ordering.TheVariants.{Less};
 ghost use Rattle.sqlite.specs.State.{HasCleanDisk, Survives};
 ghost use Rattle.sqlite.specs.Held.{state};
 ghost use Rattle.sqlite.specs.Given.{HasGiven};
+ghost use Rattle.sqlite.specs.declared.error.Error.TheVariants.{SqliteFailure};
+ghost use Rattle.sqlite.specs.declared.error.ErrorCode.TheVariants.{OutOfMemory};
 ghost use Rattle.sqlite_value.specs.Order.{column};
 ghost use Rattle.sqlite_rules.specs.Edit.{id_in};
 ghost use Rattle.wgr_sql.specs.Calls.{IsKept};
+ghost use Rattle.wgr_sql.specs.Causes.{HasCause};
+ghost use Rattle.wgr_sql.specs.declared.fault.Fault.TheVariants.{NoMemory};
 ghost use Rattle.wgr_audit.specs.Fields.{IsIntegerAt};
 ghost use Rattle.wgr_audit.specs.Layouts.{Laid};
 ghost use Rattle.wgr_members.specs.OwnRows.{AreOwnRows};
@@ -33,6 +37,7 @@ fn comes_after(before: Option<i64>, rowid: i64) -> bool
 /// the one before it.
 fn passing_rowid(row: &Row, before: Option<i64>, table: Table, networks: &[u32]) -> Option<i64>
     ensures some { IsSorted nat_cmp networks.now → IfSome result (λ rowid. IsRowOf table networks.now row.now × IsIntegerAt row.now 0 × (rowid ≡ id_in (column row.now 0)) × IfSome before (λ last. int_cmp last rowid ≡ Less)) }
+    ensures rises { IfSome result (λ rowid. IfSome before (λ last. int_cmp last rowid ≡ Less)) }
     ensures none { IsSorted nat_cmp networks.now → IfNone result (IsRowOf table networks.now row.now → IsIntegerAt row.now 0 → IfSome before (λ last. int_cmp last (id_in (column row.now 0)) ≡ Less) → ⊥) }
 {
     if !table.is_row_of(row, networks) {
@@ -45,7 +50,7 @@ fn passing_rowid(row: &Row, before: Option<i64>, table: Table, networks: &[u32])
 }
 
 /// Whether all rows that the table's query is about to show pass. Of the rows that passed only the
-/// last one's rowid is held.
+/// last one's rowid is held. It ends, since rowids rise.
 pub(crate) fn all_pass<S: Alter>(
     rows: &mut Rows<'_, S>,
     table: Table,
@@ -57,10 +62,15 @@ pub(crate) fn all_pass<S: Alter>(
         → IfOk result (λ is. IsTrue is ↔ AreOwnRows (IsRowOf table networks.now) ((state S.Store rows.old.conn.now).now.trees (tree_of table))) }
     ensures kept { (IsTrue (state S.Store rows.old.conn.now).is_open → (state S.Store rows.old.conn.now).now ≡ (state S.Store rows.old.conn.now).committed) → IsKept (state S.Store rows.old.conn.now) (state S.Store rows.new.conn.now) }
     ensures survives { Survives (state S.Store rows.old.conn.now) (state S.Store rows.new.conn.now) (λ _. ⊥) }
+    ensures cause { (HasCleanDisk (state S.Store rows.new.conn.now) → Laid (state S.Store rows.old.conn.now) × HasGiven S.Store (text_of table) [] rows.old.conn.now []) → IfErr result (HasCause (state S.Store rows.old.conn.now) (state S.Store rows.new.conn.now)) }
 {
     let mut last = None;
-    'rows: for _ in 0..u64::MAX {
-        rows.advance().map_err(|error| fault_of(error))?;
+    'rows: loop {
+        rows.advance().map_err(
+            |error|
+                ensures { (result ≡ NoMemory) ↔ (error ≡ SqliteFailure OutOfMemory) }
+            { fault_of(error) },
+        )?;
         let Some(row) = rows.get() else {
             return Ok(true);
         };
@@ -69,5 +79,4 @@ pub(crate) fn all_pass<S: Alter>(
         };
         last = Some(rowid);
     }
-    Err(Fault::Store)
 }

@@ -12,6 +12,7 @@ ghost use Rattle.wgr_register.specs.Left.{LeavesGood};
 ghost use Rattle.wgr_register.specs.Standing.{IsAtRest, StandsAt};
 ghost use Rattle.wgr_sql.specs.Calls.{IsKept};
 ghost use Rattle.wgr_sql.specs.Causes.{HasCause, HasCauseOr};
+ghost use Rattle.wgr_store.specs.Faults.{IfStatementFails};
 ghost use Rattle.wgr_store.specs.Fresh.{IsFresh, LeavesFresh, is_any_taken, no_schema};
 ghost use Rattle.wgr_store.specs.FirstVersion.{IsFirstVersion};
 ghost use Rattle.wgr_store.specs.declared.fault.RegisterFault.TheVariants.{NotARegister, NotEmpty, NotGood};
@@ -60,7 +61,7 @@ impl<S: Alter> Register<S> {
     /// Makes the tables of a register without entries, in one commit.
     ///
     /// `NotEmpty` where one of them is there already, and `NotARegister` where the database has any
-    /// other table, index or view; the database is as before.
+    /// other table, index or view; the database is as before. `Store` has a cause.
     pub fn create(mut conn: Connection<S>) -> Result<Register<S>, OpenFault<S>>
         requires idle { conn.in_transaction ≡ false }
         ensures free { OnOk result ((state S.Store conn).now.schema ≡ no_schema) }
@@ -70,6 +71,7 @@ impl<S: Alter> Register<S> {
         ensures good { IfErr result (λ e. e.fault ≡ NotGood → ⊥) }
         ensures clean { IfOk result (λ register. HasCleanDisk (state S.Store register) → HasCleanDisk (state S.Store conn)) }
         ensures crash { IfErr result (λ e. Survives (state S.Store conn) (state S.Store e.connection) LeavesFresh) }
+        ensures cause { IfErr result (λ e. IfStatementFails (HasCause (state S.Store conn) (state S.Store e.connection)) e.fault) }
         ensures kept { IfErr result (λ e. IsKept (state S.Store conn) (state S.Store e.connection)) }
         ensures idle { IfErr result (λ e. e.connection.in_transaction ≡ false) }
     {
@@ -85,16 +87,19 @@ impl<S: Alter> Register<S> {
     /// Opens the register that the database holds. Whatever else the database has is left alone.
     ///
     /// `NotARegister` where the register's tables are missing or of another version, and `NotGood`
-    /// where the rows aren't those of a consistent register, and there alone. The database is as before.
+    /// where they are of the first version and the rows aren't those of a consistent register, and
+    /// there alone. `Store` has a cause. The database is as before.
     pub fn open(alloc: Global, mut conn: Connection<S>) -> Result<Register<S>, OpenFault<S>>
         requires idle { conn.in_transaction ≡ false }
         ensures good { IfOk result (λ register. HasCleanDisk (state S.Store register) → IsGood (state S.Store conn).now × StandsAt S.Store register (state S.Store conn).now []) }
         ensures foreign { IfErr result (λ e. HasCleanDisk (state S.Store e.connection) → e.fault ≡ NotARegister → IsFirstVersion (state S.Store conn).now → ⊥) }
         ensures bad { IfErr result (λ e. HasCleanDisk (state S.Store e.connection) → e.fault ≡ NotGood → IsGood (state S.Store conn).now → ⊥) }
+        ensures version { IfErr result (λ e. HasCleanDisk (state S.Store e.connection) → e.fault ≡ NotGood → IsFirstVersion (state S.Store conn).now) }
         ensures taken { IfErr result (λ e. e.fault ≡ NotEmpty → ⊥) }
         ensures clean { IfOk result (λ register. HasCleanDisk (state S.Store register) → HasCleanDisk (state S.Store conn)) }
         ensures unharmed { IfErr result (λ e. HasCleanDisk (state S.Store e.connection) → HasCleanDisk (state S.Store conn)) }
         ensures crash { IfErr result (λ e. Survives (state S.Store conn) (state S.Store e.connection) (λ _. ⊥)) }
+        ensures cause { IfErr result (λ e. IfStatementFails (HasCause (state S.Store conn) (state S.Store e.connection)) e.fault) }
         ensures kept { IfErr result (λ e. IsKept (state S.Store conn) (state S.Store e.connection)) }
         ensures idle { IfErr result (λ e. e.connection.in_transaction ≡ false) }
     {

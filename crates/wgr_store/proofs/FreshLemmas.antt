@@ -20,10 +20,10 @@ use Rattle.wgr_tables.proofs.WrittenLemmas.{written_put}
 use Rattle.wgr_store.specs.Fresh.{HasBlank, IsFresh, no_others, whole_schema}
 use Rattle.wgr_store.proofs.Meanings.{version_text, version_values, version_means, whole_is}
 
-abbrev meta_row : Row
+abbrev pub meta_row : Row
 meta_row = Int (pos 1) ∷ Null ∷ []
 
-version_row : (db : Trees) → db 0 ≡ [] → (edit_of db (meta_at 0) [] Chosen 0 (value_rows (stamped (meta_at 0) []) 2 1 version_values)).news ≡ meta_row ∷ []
+pub version_row : (db : Trees) → db 0 ≡ [] → (edit_of db (meta_at 0) [] Chosen 0 (value_rows (stamped (meta_at 0) []) 2 1 version_values)).news ≡ meta_row ∷ []
 version_row db none = rw (none, cast_null, cast_int (pos 1))
 
 none_written : (numbers addresses families : List ℕ) → AreWritten numbers addresses families []

@@ -5,3 +5,8 @@ pub mod FreshLemmas
 pub mod LayLemmas
 pub mod StandsLemmas
 pub mod VersionLemmas
+pub mod CauseLemmas
+pub mod RefusalLemmas
+pub mod ServedLemmas
+pub mod InsertLemmas
+pub mod FailLemmas

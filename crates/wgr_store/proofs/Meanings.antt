@@ -1,5 +1,5 @@
 -- What the texts that make a register mean, each where those before it were run.
-use Rattle.std.proofs.Common.{◌≡◌, List, ℕ, pos, [], ◌∷◌, codes, Ok, refl}
+use Rattle.std.proofs.Common.{◌≡◌, List, ℕ, pos, [], ◌∷◌, codes, Ok, refl, arith}
 use Rattle.std.specs.Fmt.{digits}
 use Rattle.sqlite.specs.Schema.{Schema}
 use Rattle.sqlite_resolve.specs.Compile.{index_defined_by}
@@ -11,6 +11,7 @@ use Rattle.sqlite.specs.Command.TheVariants.{Insert, CreateTable, CreateIndex}
 use Rattle.sqlite_tied.specs.Compute.{everything}
 use Rattle.sqlite.specs.Listing.{understood}
 use Rattle.sqlite.proofs.Callers.{IsPlain, command_of, statement_of}
+use Rattle.wgr_sql.specs.Causes.{IsWriting}
 use Rattle.wgr_tables.specs.Layout.{schema_with, allowed_at}
 use Rattle.wgr_tables.specs.Texts.{meta_text, tenant_text, token_text, network_text, peer_text, allowed_text, allowed_peer_text}
 use Rattle.wgr_store.specs.Fresh.{no_others, no_schema, meta_schema, tenant_schema, entries_schema, network_schema, peer_schema, tables_schema, whole_schema, peer_index}
@@ -67,3 +68,37 @@ version_means = record { command_is = refl; text_is = refl; plain = (refl, refl)
 pub whole_is : whole_schema ≡ schema_with no_others
 unfolding digits
 whole_is = refl
+
+-- ---- each is one statement that writes
+
+pub meta_writes : IsWriting no_schema meta_text []
+unfolding understood everything
+meta_writes = record { given = (refl, refl, omega arith, refl); plain = (tt, refl) }
+
+pub tenant_writes : IsWriting meta_schema tenant_text []
+unfolding understood everything
+tenant_writes = record { given = (refl, refl, omega arith, refl); plain = (tt, refl) }
+
+pub token_writes : IsWriting tenant_schema token_text []
+unfolding understood everything
+token_writes = record { given = (refl, refl, omega arith, refl); plain = (tt, refl) }
+
+pub network_writes : IsWriting entries_schema network_text []
+unfolding understood everything
+network_writes = record { given = (refl, refl, omega arith, refl); plain = (tt, refl) }
+
+pub peer_writes : IsWriting network_schema peer_text []
+unfolding understood everything
+peer_writes = record { given = (refl, refl, omega arith, refl); plain = (tt, refl) }
+
+pub allowed_writes : IsWriting peer_schema allowed_text []
+unfolding understood everything
+allowed_writes = record { given = (refl, refl, omega arith, refl); plain = (tt, refl) }
+
+pub index_writes : IsWriting tables_schema allowed_peer_text []
+unfolding understood everything
+index_writes = record { given = (refl, refl, omega arith, refl); plain = (tt, refl) }
+
+pub version_writes : IsWriting (schema_with no_others) version_text []
+unfolding understood everything
+version_writes = record { given = (refl, refl, omega arith, refl); plain = (tt, refl) }

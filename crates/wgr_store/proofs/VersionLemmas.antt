@@ -1,5 +1,5 @@
 -- What the query for the version finds.
-use Rattle.std.proofs.Common.{◌≡◌, ◌↔◌, ℕ, pos, true, List, [], ◌∷◌, map, filter, codes, IsPermutation, unsigned_abs, refl, sym, ap, subst, ◌∙◌, inl}
+use Rattle.std.proofs.Common.{◌≡◌, ◌↔◌, ℕ, pos, true, List, [], ◌∷◌, map, filter, codes, IsPermutation, unsigned_abs, refl, sym, ap, subst, ◌∙◌, inl, arith}
 use Rattle.std.proofs.lemmas.List.Sorted.{IsPermutation-sym, IsPermutation-map}
 use Rattle.sqlite.specs.declared.types.Value.{Value}
 use Rattle.sqlite.specs.declared.types.Value.TheVariants.{Int}
@@ -15,12 +15,14 @@ use Rattle.sqlite_tied.specs.Compute.{everything}
 use Rattle.sqlite.proofs.Callers.{IsPlain, reads_as, one_permutation}
 use Rattle.sqlite_rules.specs.Edit.{id_in}
 use Rattle.wgr_model.specs.Rows.{MetaRow, first_version}
+use Rattle.wgr_sql.specs.Causes.{IsAnswered}
 use Rattle.wgr_sql.specs.Effects.{plain_query}
 use Rattle.wgr_sql.proofs.Answers.{answers, map-both}
 use Rattle.wgr_sql.proofs.RowLemmas.{map_alike}
 use Rattle.wgr_tables.specs.Layout.{Others, schema_with}
 use Rattle.wgr_tables.specs.Decode.{IsRegister, tables_of, meta_in, number_at}
 use Rattle.wgr_tables.proofs.Meanings.{Asks}
+use Rattle.wgr_tables.proofs.AskedLemmas.{never_refused}
 use Rattle.wgr_store.specs.LaidOut.{IsLaidOut}
 use Rattle.wgr_store.specs.FirstVersion.{SaysFirst, IsFirstVersion}
 
@@ -51,6 +53,14 @@ version_found old new laid rows h =
 
 pub query_is_plain : (s : Schema) → IsLaidOut s → IsPlain (understood s version_query)
 query_is_plain s laid = subst (λ x. IsPlain (understood x version_query)) (sym laid.schema_is) (version_asks laid.others).means.plain
+
+asks_for_version : (others : Others) → IsAnswered (schema_with others) version_query []
+unfolding understood everything
+asks_for_version others = record { given = (refl, refl, omega arith, refl); unlisted = refl; plain = λ limit trees e refused. never_refused _ refl limit (trees 0) refused }
+
+-- it is answered, whatever rows there are, unless something hinders it
+pub version_answered : (s : Schema) → IsLaidOut s → IsAnswered s version_query []
+version_answered s laid = subst (λ x. IsAnswered x version_query []) (sym laid.schema_is) (asks_for_version laid.others)
 
 -- ---- the version of a register's rows
 

@@ -1,5 +1,5 @@
 -- What the making of a register leaves.
-use Rattle.std.specs.Prelude.{◌≡◌, ℕ, Bool, ◌||◌, false, is_some, Result, List, [], ◌∷◌, codes}
+use Rattle.std.specs.Prelude.{◌≡◌, ℕ, Bool, ◌||◌, false, is_some, IsTrue, IfErr, Result, List, [], ◌∷◌, codes}
 use Rattle.std.specs.List.{AllByRecursion, list_any}
 use Rattle.sqlite_schema.specs.Names.{table_named, view_named}
 use Rattle.sqlite_schema.specs.declared.schema.Index.{Index}
@@ -9,7 +9,9 @@ use Rattle.sqlite.specs.Effect.{Database}
 use Rattle.sqlite.specs.State.{State}
 use Rattle.sqlite_catalog.specs.Change.{created, indexed}
 use Rattle.wgr_model.specs.RowLaws.{no_rows}
+use Rattle.wgr_sql.specs.Causes.{HasCause}
 use Rattle.wgr_sql.specs.Steps.{StepsOn}
+use Rattle.wgr_sql.specs.declared.fault.Fault.{Fault}
 use Rattle.wgr_tables.specs.Layout.{Others, schema_with, index_of, meta_at, tenant_at, token_at, network_at, peer_at, allowed_at}
 use Rattle.wgr_tables.specs.Decode.{IsRegister, tables_of}
 
@@ -44,6 +46,10 @@ pub record HasBlank (schema : Schema) (db : Database) : Type 0 where
 -- a step leads from the one to the other, or fails and commits nothing
 abbrev pub Lays : {X E : Type 0} → (Database → Type 0) → (Database → Type 0) → State → State → Result X E → Type 0
 Lays from to old new r = StepsOn from (λ _ db. to db) old new r
+
+-- where a step from such a database fails by the store, that has a cause
+abbrev pub FailsFrom : {X : Type 0} → (Database → Type 0) → State → State → Result X Fault → Type 0
+FailsFrom from old new r = IsTrue old.in_transaction → (IsTrue old.is_open → from old.now) → IfErr r (HasCause old new)
 
 abbrev pub no_schema : Schema
 no_schema = record { tables = []; indexes = []; views = [] }

@@ -1,12 +1,17 @@
 //! The making of the register's tables.
-ghost use Rattle.std.specs.Prelude.{◌≡◌, ◌↔◌, [], ◌||◌, true, false, codes, IsTrue, Ok, Err, OnOk, OnErr, is_some};
+ghost use Rattle.std.specs.Prelude.{◌≡◌, ◌↔◌, [], ◌||◌, true, false, codes, IsTrue, Ok, Err, IfErr, OnOk, OnErr, is_some};
 ghost use Rattle.std.specs.List.{list_any};
 ghost use Rattle.sqlite.specs.Effect.{Database};
 ghost use Rattle.sqlite.specs.State.{HasCleanDisk, Survives};
 ghost use Rattle.sqlite.specs.Held.{state};
 ghost use Rattle.wgr_sql.specs.Calls.{IsKept};
+ghost use Rattle.wgr_sql.specs.Causes.{HasCause};
+ghost use Rattle.wgr_sql.specs.declared.fault.Fault.TheVariants.{NoMemory};
+ghost use Rattle.sqlite.specs.declared.error.Error.TheVariants.{SqliteFailure};
+ghost use Rattle.sqlite.specs.declared.error.ErrorCode.TheVariants.{OutOfMemory};
 ghost use Rattle.wgr_tables.specs.Standing.{Stands};
-ghost use Rattle.wgr_store.specs.Fresh.{no_schema, entries_schema, tables_schema, HasBlank, IsFresh, Lays, LeavesFresh, is_taken, is_any_taken};
+ghost use Rattle.wgr_store.specs.Fresh.{no_schema, entries_schema, tables_schema, FailsFrom, HasBlank, IsFresh, Lays, LeavesFresh, is_taken, is_any_taken};
+ghost use Rattle.wgr_store.specs.Faults.{IfStatementFails};
 ghost use Rattle.wgr_store.specs.declared.fault.RegisterFault.TheVariants.{NotARegister, NotGood, NotEmpty};
 
 use crate::fault::{RegisterFault, register_fault};
@@ -19,6 +24,7 @@ fn make_entries<S: Alter>(tx: &mut Transaction<'_, S>) -> Result<usize, Fault>
     ensures same_reference { tx.new.conn.ghost_name ≡ tx.old.conn.ghost_name }
     ensures step { HasCleanDisk (state S.Store tx.new.conn.now) → Lays (HasBlank no_schema) (HasBlank entries_schema) (state S.Store tx.old.conn.now) (state S.Store tx.new.conn.now) result }
     ensures survives { Survives (state S.Store tx.old.conn.now) (state S.Store tx.new.conn.now) (λ _. ⊥) }
+    ensures cause { FailsFrom (HasBlank no_schema) (state S.Store tx.old.conn.now) (state S.Store tx.new.conn.now) result }
 {
     execute(
         tx,
@@ -42,6 +48,7 @@ fn make_networks<S: Alter>(tx: &mut Transaction<'_, S>) -> Result<usize, Fault>
     ensures same_reference { tx.new.conn.ghost_name ≡ tx.old.conn.ghost_name }
     ensures step { HasCleanDisk (state S.Store tx.new.conn.now) → Lays (HasBlank entries_schema) (HasBlank tables_schema) (state S.Store tx.old.conn.now) (state S.Store tx.new.conn.now) result }
     ensures survives { Survives (state S.Store tx.old.conn.now) (state S.Store tx.new.conn.now) (λ _. ⊥) }
+    ensures cause { FailsFrom (HasBlank entries_schema) (state S.Store tx.old.conn.now) (state S.Store tx.new.conn.now) result }
 {
     execute(
         tx,
@@ -65,6 +72,7 @@ fn make_rest<S: Alter>(tx: &mut Transaction<'_, S>) -> Result<usize, Fault>
     ensures same_reference { tx.new.conn.ghost_name ≡ tx.old.conn.ghost_name }
     ensures step { HasCleanDisk (state S.Store tx.new.conn.now) → Lays (HasBlank tables_schema) IsFresh (state S.Store tx.old.conn.now) (state S.Store tx.new.conn.now) result }
     ensures survives { Survives (state S.Store tx.old.conn.now) (state S.Store tx.new.conn.now) (λ _. ⊥) }
+    ensures cause { FailsFrom (HasBlank tables_schema) (state S.Store tx.old.conn.now) (state S.Store tx.new.conn.now) result }
 {
     execute(
         tx,
@@ -79,6 +87,7 @@ fn make_all<S: Alter>(tx: &mut Transaction<'_, S>) -> Result<usize, Fault>
     ensures same_reference { tx.new.conn.ghost_name ≡ tx.old.conn.ghost_name }
     ensures step { HasCleanDisk (state S.Store tx.new.conn.now) → Lays (HasBlank no_schema) IsFresh (state S.Store tx.old.conn.now) (state S.Store tx.new.conn.now) result }
     ensures survives { Survives (state S.Store tx.old.conn.now) (state S.Store tx.new.conn.now) (λ _. ⊥) }
+    ensures cause { FailsFrom (HasBlank no_schema) (state S.Store tx.old.conn.now) (state S.Store tx.new.conn.now) result }
 {
     make_entries(tx)?;
     make_networks(tx)?;
@@ -93,11 +102,16 @@ fn fill<S: Alter>(conn: &mut Connection<S>) -> Result<(), Fault>
     ensures done { HasCleanDisk (state S.Store conn.new) → OnOk result ((db : Database) × IsFresh db × Stands S.Store conn.new db []) }
     ensures kept { OnErr result (IsKept (state S.Store conn.old) (state S.Store conn.new)) }
     ensures crash { Survives (state S.Store conn.old) (state S.Store conn.new) LeavesFresh }
+    ensures cause { IfErr result (HasCause (state S.Store conn.old) (state S.Store conn.new)) }
 {
     let _settled = conn.is_autocommit();
     let mut tx = conn.transaction();
     make_all(&mut tx)?;
-    tx.commit().map_err(|error| fault_of(error))
+    tx.commit().map_err(
+        |error|
+            ensures { (result ≡ NoMemory) ↔ (error ≡ SqliteFailure OutOfMemory) }
+        { fault_of(error) },
+    )
 }
 
 /// Whether a table or a view has the name.
@@ -128,7 +142,7 @@ fn is_empty(schema: &Schema) -> bool
 
 /// Makes the tables of a register without entries, in a database that has no table, index or view.
 /// Where one of the register's names is taken, it is `NotEmpty`, where anything else is there,
-/// `NotARegister`, and the database is as it was.
+/// `NotARegister`, and the database is as it was. `Store` has a cause.
 pub fn make<S: Alter>(conn: &mut Connection<S>) -> Result<(), RegisterFault>
     requires idle { conn.old.in_transaction ≡ false }
     ensures idle { conn.new.in_transaction ≡ false }
@@ -139,6 +153,7 @@ pub fn make<S: Alter>(conn: &mut Connection<S>) -> Result<(), RegisterFault>
     ensures done { HasCleanDisk (state S.Store conn.new) → OnOk result ((db : Database) × IsFresh db × Stands S.Store conn.new db []) }
     ensures kept { OnErr result (IsKept (state S.Store conn.old) (state S.Store conn.new)) }
     ensures crash { Survives (state S.Store conn.old) (state S.Store conn.new) LeavesFresh }
+    ensures cause { IfErr result (IfStatementFails (HasCause (state S.Store conn.old) (state S.Store conn.new))) }
 {
     if is_any_taken(conn.schema()) {
         return Err(RegisterFault::NotEmpty);

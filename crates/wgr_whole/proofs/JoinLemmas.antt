@@ -1,6 +1,6 @@
 -- One reading after another, and what all of them tell.
-use Rattle.std.proofs.Common.{◌≡◌, ◌≤◌, ℕ, pos, Bool, true, false, ◌||◌, IsTrue, List, [], ◌∷◌, length, map, nat_eq, refl, sym, ap, subst, ◌∙◌, inl, inr, unsigned_abs}
-use Rattle.std.specs.List.{AllByRecursion, list_any}
+use Rattle.std.proofs.Common.{◌≡◌, ◌≤◌, ℕ, pos, Bool, true, false, ◌||◌, IsTrue, Ok, Err, Result, IfErr, List, [], ◌∷◌, length, map, nat_eq, refl, sym, ap, subst, ◌∙◌, inl, inr, unsigned_abs, arith}
+use Rattle.std.specs.List.{AllByRecursion, IsDistinct, list_any}
 use Rattle.std.proofs.Math.ListN.{length-map}
 use Rattle.std.proofs.lemmas.List.Sorted.{IsPermutation-sym, length_permutation}
 use Rattle.sqlite.specs.Order.{Row}
@@ -21,6 +21,10 @@ use Rattle.wgr_model.proofs.CollectLemmas.{from_map, has_map}
 use Rattle.wgr_model.proofs.GatherLemmas.{map_map}
 use Rattle.wgr_model.proofs.SameLemmas.{at_has, has_permutation}
 use Rattle.wgr_sql.specs.Calls.{IsKept}
+use Rattle.wgr_sql.specs.Causes.{HasCause}
+use Rattle.wgr_sql.specs.declared.fault.Fault.{Fault}
+use Rattle.wgr_sql.specs.declared.fault.Fault.TheVariants.{NoMemory, Store}
+use Rattle.wgr_sql.proofs.Answers.{map-both}
 use Rattle.wgr_sql.proofs.StandingLemmas.{stands_kept, stands_open}
 use Rattle.wgr_store.specs.FirstVersion.{SaysFirst}
 use Rattle.wgr_store.specs.LaidOut.{IsLaidOut}
@@ -39,9 +43,26 @@ use Rattle.wgr_whole.specs.Good.{HasEntries, HasTables, IsGood, TellsNetwork}
 use Rattle.wgr_whole.specs.Whole.{AreWhole, IsNamed, IsThere}
 use Rattle.wgr_whole.proofs.WholeLemmas.{whole_is_consistent}
 
+pub cause_if_clean : {X : Type 0} (old new : State) (r : Result X Fault) → (HasCleanDisk new → IfErr r (HasCause old new)) → IfErr r (HasCause old new)
+cause_if_clean old new (Ok x) h = tt
+cause_if_clean old new (Err NoMemory) h = tt
+cause_if_clean old new (Err Store) h = λ clean. h clean clean
+
 -- what was laid out is so after a reading
 pub laid_still : (old new : State) → HasCleanDisk new → Laid old → IsKept old new → Laid new
 laid_still old new clean laid kept live = let is = kept clean live in subst (λ (d : Database). IsLaidOut d.schema) (sym is.1) (laid is.0)
+
+-- two readings, one after the other
+pub kept_next : (a b d : State) → Survives b d (λ _. ⊥) → ((HasCleanDisk b → Laid a) → IsKept a b) → ((HasCleanDisk d → Laid b) → IsKept b d) → (HasCleanDisk d → Laid a) → IsKept a d
+kept_next a b d t one two laid clean live =
+    let before : HasCleanDisk b = omega (arith, t.clean, clean) in
+    let first = one (λ _. laid clean) in
+    let second = two (λ _. laid_still a b before (laid clean) first) clean live in
+    let back = first before second.0 in
+    (back.0, second.1 ∙ back.1)
+
+pub ids_apart : (db : Database) (ids : List ℕ) → HasTables db.trees ids → IsDistinct nat_eq (map (λ w. w.id) (tables_of db).networks)
+ids_apart db ids has = subst (IsDistinct nat_eq) (sym (map-both network_in (λ (w : NetworkRow). w.id) (db.trees 5))) has.there.apart.ids
 
 -- as many ids, as many rows
 pub few_rows : (rows : List Row) (ids : List ℕ) → AreIdsOf rows ids → length ids ≤ 65536 → length rows ≤ 65536

@@ -1,8 +1,10 @@
 //! Whether a database is a register whose rows are good.
-ghost use Rattle.std.specs.Prelude.{◌≡◌, [], false, Err, IsTrue, IfOk, OnOk};
+ghost use Rattle.std.specs.Prelude.{◌≡◌, [], false, Err, IsTrue, IfErr, IfOk, OnOk};
 ghost use Rattle.sqlite.specs.State.{HasCleanDisk, Survives};
 ghost use Rattle.sqlite.specs.Held.{state};
 ghost use Rattle.wgr_sql.specs.Calls.{IsKept};
+ghost use Rattle.wgr_sql.specs.Causes.{HasCause};
+ghost use Rattle.wgr_store.specs.Faults.{IfStatementFails};
 ghost use Rattle.wgr_store.specs.FirstVersion.{IsFirstVersion};
 ghost use Rattle.wgr_store.specs.declared.fault.RegisterFault.TheVariants.{NotARegister, NotEmpty, NotGood};
 ghost use Rattle.wgr_tables.specs.Standing.{Stands};
@@ -26,6 +28,7 @@ fn rows_are_good<S: Alter>(alloc: Global, conn: &mut Connection<S>) -> Result<bo
     ensures kept { (HasCleanDisk (state S.Store conn.new) → IsTrue (state S.Store conn.old).is_open → IsFirstVersion (state S.Store conn.old).now) → IsKept (state S.Store conn.old) (state S.Store conn.new) }
     ensures clean { HasCleanDisk (state S.Store conn.new) → HasCleanDisk (state S.Store conn.old) }
     ensures survives { Survives (state S.Store conn.old) (state S.Store conn.new) (λ _. ⊥) }
+    ensures cause { (HasCleanDisk (state S.Store conn.new) → IsTrue (state S.Store conn.old).is_open → IsFirstVersion (state S.Store conn.old).now) → IfErr result (HasCause (state S.Store conn.old) (state S.Store conn.new)) }
 {
     let _live = conn.schema();
     let _settled = conn.is_autocommit();
@@ -36,7 +39,8 @@ fn rows_are_good<S: Alter>(alloc: Global, conn: &mut Connection<S>) -> Result<bo
 }
 
 /// Tells by `NotARegister` that the database lacks the register's tables or has those of another
-/// version, and by `NotGood` that its rows aren't those of a consistent register. It changes nothing.
+/// version, and by `NotGood` that it is of the first version, and its rows aren't those of a consistent
+/// register. `Store` has a cause. It changes nothing.
 pub fn check_register<S: Alter>(
     alloc: Global,
     conn: &mut Connection<S>,
@@ -46,10 +50,12 @@ pub fn check_register<S: Alter>(
     ensures right { HasCleanDisk (state S.Store conn.new) → OnOk result (IsGood (state S.Store conn.old).now × Stands S.Store conn.new (state S.Store conn.old).now []) }
     ensures wrong { HasCleanDisk (state S.Store conn.new) → result ≡ Err NotARegister → IsFirstVersion (state S.Store conn.old).now → ⊥ }
     ensures bad { HasCleanDisk (state S.Store conn.new) → result ≡ Err NotGood → IsGood (state S.Store conn.old).now → ⊥ }
+    ensures version { HasCleanDisk (state S.Store conn.new) → result ≡ Err NotGood → IsFirstVersion (state S.Store conn.old).now }
     ensures full { result ≡ Err NotEmpty → ⊥ }
     ensures kept { IsKept (state S.Store conn.old) (state S.Store conn.new) }
     ensures clean { HasCleanDisk (state S.Store conn.new) → HasCleanDisk (state S.Store conn.old) }
     ensures survives { Survives (state S.Store conn.old) (state S.Store conn.new) (λ _. ⊥) }
+    ensures cause { IfErr result (IfStatementFails (HasCause (state S.Store conn.old) (state S.Store conn.new))) }
 {
     check_layout(conn)?;
     match rows_are_good(alloc, conn) {

@@ -1,10 +1,11 @@
 //! The rows of all tables, read and tested table by table.
-ghost use Rattle.std.specs.Prelude.{◌≡◌, ◌↔◌, false, IsTrue, IfOk, IfSome, IfNone};
+ghost use Rattle.std.specs.Prelude.{◌≡◌, ◌↔◌, false, IsTrue, IfErr, IfOk, IfSome, IfNone};
 ghost use Rattle.std.specs.List.Sorted.{IsSorted};
 ghost use Rattle.std.specs.Ordering.{nat_cmp};
 ghost use Rattle.sqlite.specs.State.{HasCleanDisk, Survives};
 ghost use Rattle.sqlite.specs.Held.{state};
 ghost use Rattle.wgr_sql.specs.Calls.{IsKept};
+ghost use Rattle.wgr_sql.specs.Causes.{HasCause};
 ghost use Rattle.wgr_audit.specs.Layouts.{Laid};
 ghost use Rattle.wgr_members.specs.AllowedRows.{AreWrittenAllowed};
 ghost use Rattle.wgr_members.specs.PeerRows.{AreWrittenPeers};
@@ -27,6 +28,7 @@ fn read_entries<S: Alter>(
     ensures none { HasCleanDisk (state S.Store conn.new) → Laid (state S.Store conn.old) → IfOk result (λ found. IfNone found (IsTrue (state S.Store conn.old).is_open × (IsGood (state S.Store conn.old).now → ⊥))) }
     ensures kept { (HasCleanDisk (state S.Store conn.new) → Laid (state S.Store conn.old)) → IsKept (state S.Store conn.old) (state S.Store conn.new) }
     ensures survives { Survives (state S.Store conn.old) (state S.Store conn.new) (λ _. ⊥) }
+    ensures cause { (HasCleanDisk (state S.Store conn.new) → Laid (state S.Store conn.old)) → IfErr result (HasCause (state S.Store conn.old) (state S.Store conn.new)) }
 {
     let Some(tenants) = read_tenants(alloc, conn)? else {
         return Ok(None);
@@ -51,6 +53,7 @@ fn read_holdings<S: Alter>(
     ensures none { HasCleanDisk (state S.Store conn.new) → Laid (state S.Store conn.old) → IfOk result (λ found. IfNone found (IsTrue (state S.Store conn.old).is_open × (IsGood (state S.Store conn.old).now → ⊥))) }
     ensures kept { (HasCleanDisk (state S.Store conn.new) → Laid (state S.Store conn.old)) → IsKept (state S.Store conn.old) (state S.Store conn.new) }
     ensures survives { Survives (state S.Store conn.old) (state S.Store conn.new) (λ _. ⊥) }
+    ensures cause { (HasCleanDisk (state S.Store conn.new) → Laid (state S.Store conn.old)) → IfErr result (HasCause (state S.Store conn.old) (state S.Store conn.new)) }
 {
     let Some(tenants) = read_entries(alloc, conn)? else {
         return Ok(None);
@@ -65,6 +68,7 @@ fn are_members_written<S: Alter>(conn: &mut Connection<S>, networks: &[u32]) -> 
     ensures told { HasCleanDisk (state S.Store conn.new) → Laid (state S.Store conn.old) → IsSorted nat_cmp networks.now → IfOk result (λ is. IsTrue (state S.Store conn.old).is_open × (IsTrue is ↔ (AreWrittenPeers networks.now ((state S.Store conn.old).now.trees 8) × AreWrittenAllowed networks.now ((state S.Store conn.old).now.trees 10)))) }
     ensures kept { (HasCleanDisk (state S.Store conn.new) → Laid (state S.Store conn.old)) → IsKept (state S.Store conn.old) (state S.Store conn.new) }
     ensures survives { Survives (state S.Store conn.old) (state S.Store conn.new) (λ _. ⊥) }
+    ensures cause { (HasCleanDisk (state S.Store conn.new) → Laid (state S.Store conn.old)) → IfErr result (HasCause (state S.Store conn.old) (state S.Store conn.new)) }
 {
     if !peers_are_written(conn, networks)? {
         return Ok(false);
@@ -83,6 +87,7 @@ pub(crate) fn read_tables<S: Alter>(
     ensures none { HasCleanDisk (state S.Store conn.new) → Laid (state S.Store conn.old) → IfOk result (λ found. IfNone found (IsTrue (state S.Store conn.old).is_open × (IsGood (state S.Store conn.old).now → ⊥))) }
     ensures kept { (HasCleanDisk (state S.Store conn.new) → Laid (state S.Store conn.old)) → IsKept (state S.Store conn.old) (state S.Store conn.new) }
     ensures survives { Survives (state S.Store conn.old) (state S.Store conn.new) (λ _. ⊥) }
+    ensures cause { (HasCleanDisk (state S.Store conn.new) → Laid (state S.Store conn.old)) → IfErr result (HasCause (state S.Store conn.old) (state S.Store conn.new)) }
 {
     let Some(networks) = read_holdings(alloc, conn)? else {
         return Ok(None);

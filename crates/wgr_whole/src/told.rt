@@ -1,9 +1,10 @@
 //! The networks that rows tell.
-ghost use Rattle.std.specs.Prelude.{◌≡◌, ◌↔◌, false, IsTrue, IfOk, List};
-ghost use Rattle.std.specs.List.{AllByRecursion};
+ghost use Rattle.std.specs.Prelude.{◌≡◌, ◌↔◌, false, IsTrue, IfErr, IfOk, List, map, nat_eq};
+ghost use Rattle.std.specs.List.{AllByRecursion, IsDistinct};
 ghost use Rattle.sqlite.specs.Effect.{Database};
 ghost use Rattle.sqlite.specs.State.{HasCleanDisk, Survives};
 ghost use Rattle.sqlite.specs.Held.{state};
+ghost use Rattle.wgr_sql.specs.Causes.{HasCause};
 ghost use Rattle.wgr_tables.specs.Decode.{tables_of};
 ghost use Rattle.wgr_tables.specs.Standing.{Stands};
 ghost use Rattle.wgr_tables.specs.Writes.{Written};
@@ -27,6 +28,7 @@ pub(crate) fn networks_are_told<S: Alter>(
     ensures told { (db : Database) (pending : List Written) → Stands S.Store conn.old db pending → HasCleanDisk (state S.Store conn.new)
         → IfOk result (λ is. IsTrue is ↔ AllByRecursion (TellsNetwork (tables_of db)) networks.now) }
     ensures survives { Survives (state S.Store conn.old) (state S.Store conn.new) (λ _. ⊥) }
+    ensures cause { (db : Database) (pending : List Written) → Stands S.Store conn.old db pending → IsDistinct nat_eq (map (λ w. w.id) (tables_of db).networks) → IfErr result (HasCause (state S.Store conn.old) (state S.Store conn.new)) }
 {
     for network in networks {
         let Some(_) = told_network(alloc, conn, *network)? else {

@@ -8,8 +8,8 @@ use Rattle.wgr_audit.specs.NetworkRows.{slot_at}
 use Rattle.wgr_audit.proofs.NetworkLemmas.{put_apart, apart_put}
 use Rattle.wgr_audit.proofs.networks.are_own_slots.Goals as goal
 
-pub returns : goal.returns
-returns c =
+pub returns-clause-told : goal.returns-clause-told
+returns-clause-told c =
     let some = rw c.in-Some.is at c.in_ok-all.ensures.some in
     let all = c.in-Some.all.items in
     let put = c.sort_slots.new.all.items in

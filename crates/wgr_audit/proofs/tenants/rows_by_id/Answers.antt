@@ -1,7 +1,8 @@
 use Rattle.std.proofs.Common.{true}
 use Rattle.sqlite.specs.Held.{state}
 use Rattle.wgr_sql.proofs.ResultLemmas.{if_ok}
-use Rattle.wgr_audit.proofs.Queries.{is_plain, ids_ask, ids_listed, ids_text, id_places}
+use Rattle.wgr_audit.proofs.Queries.{is_plain, ids_ask, ids_listed, ids_text, id_places, ids_answered}
+use Rattle.wgr_audit.proofs.CauseLemmas.{is_answered}
 use Rattle.wgr_audit.proofs.tenants.rows_by_id.Goals as goal
 
 pub returns-clause-listed : goal.returns-clause-listed
@@ -10,3 +11,6 @@ returns-clause-listed g c clean laid =
 
 pub returns-clause-kept : goal.returns-clause-kept
 returns-clause-kept g c laid = c.query.ensures.kept (λ live clean. is_plain 1 0 id_places _ ids_text ids_ask c.args.conn.now.schema (laid clean live))
+
+pub returns-clause-cause : goal.returns-clause-cause
+returns-clause-cause g c laid = c.query.ensures.cause (λ live clean. is_answered ids_text ids_answered c.args.conn.now.schema (laid clean live))

@@ -1,7 +1,8 @@
 use Rattle.std.proofs.Common.{true}
 use Rattle.sqlite.specs.Held.{state}
 use Rattle.wgr_sql.proofs.ResultLemmas.{if_ok}
-use Rattle.wgr_audit.proofs.Queries.{is_plain, names_ask, names_listed, names_text, name_places}
+use Rattle.wgr_audit.proofs.Queries.{is_plain, names_ask, names_listed, names_text, name_places, names_answered}
+use Rattle.wgr_audit.proofs.CauseLemmas.{is_answered}
 use Rattle.wgr_audit.proofs.tenants.rows_by_name.Goals as goal
 
 pub returns-clause-listed : goal.returns-clause-listed
@@ -10,3 +11,6 @@ returns-clause-listed g c clean laid =
 
 pub returns-clause-kept : goal.returns-clause-kept
 returns-clause-kept g c laid = c.query.ensures.kept (λ live clean. is_plain 1 2 name_places _ names_text names_ask c.args.conn.now.schema (laid clean live))
+
+pub returns-clause-cause : goal.returns-clause-cause
+returns-clause-cause g c laid = c.query.ensures.cause (λ live clean. is_answered names_text names_answered c.args.conn.now.schema (laid clean live))

@@ -2,7 +2,8 @@ use Rattle.std.proofs.Common.{true}
 use Rattle.sqlite.specs.Held.{state}
 use Rattle.wgr_sql.proofs.ResultLemmas.{if_ok}
 use Rattle.wgr_audit.proofs.Queries.{is_plain}
-use Rattle.wgr_audit.proofs.TokenQueries.{rowids_ask, rowids_listed, rowids_text, rowid_places}
+use Rattle.wgr_audit.proofs.TokenQueries.{rowids_ask, rowids_listed, rowids_text, rowid_places, rowids_answered}
+use Rattle.wgr_audit.proofs.CauseLemmas.{is_answered}
 use Rattle.wgr_audit.proofs.tokens.rows_by_rowid.Goals as goal
 
 pub returns-clause-listed : goal.returns-clause-listed
@@ -11,3 +12,6 @@ returns-clause-listed g c clean laid =
 
 pub returns-clause-kept : goal.returns-clause-kept
 returns-clause-kept g c laid = c.query.ensures.kept (λ live clean. is_plain 3 0 rowid_places _ rowids_text rowids_ask c.args.conn.now.schema (laid clean live))
+
+pub returns-clause-cause : goal.returns-clause-cause
+returns-clause-cause g c laid = c.query.ensures.cause (λ live clean. is_answered rowids_text rowids_answered c.args.conn.now.schema (laid clean live))

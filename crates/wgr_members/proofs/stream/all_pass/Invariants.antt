@@ -1,4 +1,4 @@
-use Rattle.std.proofs.Common.{◌≡◌, [], false, List}
+use Rattle.std.proofs.Common.{◌≡◌, [], false, List, IfSome, SFits, w64}
 use Rattle.std.specs.List.Sorted.{IsSorted}
 use Rattle.std.specs.Ordering.{nat_cmp}
 use Rattle.sqlite_value.specs.Order.{Row}
@@ -6,7 +6,7 @@ use Rattle.sqlite.specs.State.{HasCleanDisk, Survives}
 use Rattle.sqlite.specs.Held.{state}
 use Rattle.sqlite.specs.Given.{HasGiven}
 use Rattle.wgr_members.specs.TableRows.{IsRowOf, text_of}
-use Rattle.wgr_members.specs.Walked.{IsStill, IsWalked}
+use Rattle.wgr_members.specs.Walked.{IsStill, IsWalked, still_to_come}
 use Rattle.wgr_members.proofs.stream.all_pass.Given as goal
 
 abbrev pub invariant-rows : goal.invariant-rows
@@ -17,4 +17,8 @@ invariant-rows g l =
     × (l.initial.rows.conn.now.in_transaction ≡ false → l.rows.conn.now.in_transaction ≡ false)
     × Survives old now (λ _. ⊥)
     × (HasCleanDisk now → IsStill old now)
-    × (HasCleanDisk now → IsSorted nat_cmp l.networks → HasGiven g.S.Store (text_of l.table) [] l.initial.rows.conn.now [] → (given : List Row) × HasGiven g.S.Store (text_of l.table) [] l.rows.conn.now given × IsWalked (IsRowOf l.table l.networks) given l.last)
+    × (HasCleanDisk now → HasGiven g.S.Store (text_of l.table) [] l.initial.rows.conn.now [] → (given : List Row) × HasGiven g.S.Store (text_of l.table) [] l.rows.conn.now given × (IsSorted nat_cmp l.networks → IsWalked (IsRowOf l.table l.networks) given l.last))
+    × IfSome l.last (SFits w64)
+
+abbrev pub decreases-rows : goal.decreases-rows
+decreases-rows g l = still_to_come l.last

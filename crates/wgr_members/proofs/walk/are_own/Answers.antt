@@ -1,8 +1,9 @@
-use Rattle.std.proofs.Common.{rules, ◌≡◌, ◌↔◌, [], IsTrue, sym, subst, ◌∙◌, arith}
+use Rattle.std.proofs.Common.{rules, ◌≡◌, ◌↔◌, [], IfErr, IsTrue, sym, subst, ◌∙◌, arith}
 use Rattle.sqlite.specs.Effect.{Database}
 use Rattle.sqlite.specs.Given.{HasBegun}
 use Rattle.sqlite.specs.Held.{state}
 use Rattle.sqlite.specs.State.{HasCleanDisk, Survives, FailsToQuery, CommitsShowing}
+use Rattle.wgr_sql.specs.Causes.{HasCause}
 use Rattle.wgr_sql.proofs.ResultLemmas.{if_ok}
 use Rattle.wgr_sql.proofs.SurvivesLemmas.{survives_next}
 use Rattle.wgr_store.specs.LaidOut.{IsLaidOut}
@@ -11,6 +12,7 @@ use Rattle.wgr_members.specs.OwnRows.{AreOwnRows}
 use Rattle.wgr_members.specs.TableRows.{IsRowOf, tree_of}
 use Rattle.wgr_members.proofs.SelectLemmas.{begun, commits_nothing}
 use Rattle.wgr_members.proofs.StreamLemmas.{failed_kept}
+use Rattle.wgr_members.proofs.CauseLemmas.{failed_cause, walk_cause}
 use Rattle.wgr_members.proofs.walk.are_own.Goals as goal
 
 pub returns-in-Err-clause-kept : goal.returns-in-Err-clause-kept
@@ -67,3 +69,26 @@ returns-clause-survives g c =
     let same : end ≡ c.conn-2-1.given.0 = search rules in
     let first = commits_nothing c.args.table [] old mid (subst (λ t. Survives old mid (CommitsShowing t [] old)) c.text.ensures c.in-Ok.ensures.survives) in
     subst (λ h. Survives old (state g.S.Store h) (λ _. ⊥)) same (survives_next old mid (state g.S.Store end) first c.all_pass.ensures.survives)
+
+pub returns-in-Err-clause-cause : goal.returns-in-Err-clause-cause
+returns-in-Err-clause-cause g c laid =
+    let old = state g.S.Store c.args.conn.now in
+    let new = state g.S.Store c.query.follows.lender-at-none in
+    let held = c.query.follows.holds-at-none in
+    failed_cause c.args.table old new c.in-Err.error c.fault_of.result c.fault_of.ensures laid (λ clean.
+    let failed : FailsToQuery c.text.result.now [] old new c.in-Err.error = search (rules, clean) in
+    subst (λ t. FailsToQuery t [] old new c.in-Err.error) c.text.ensures failed)
+
+pub returns-clause-cause : goal.returns-clause-cause
+returns-clause-cause g c laid =
+    let first = c.args.conn.now in
+    let mid = c.in-Ok.rows.conn.now in
+    let end = c.all_pass.new.rows.conn.now in
+    let same : end ≡ c.conn-2-1.given.0 = search rules in
+    let begins = commits_nothing c.args.table [] (state g.S.Store first) (state g.S.Store mid) (subst (λ t. Survives (state g.S.Store first) (state g.S.Store mid) (CommitsShowing t [] (state g.S.Store first))) c.text.ensures c.in-Ok.ensures.survives) in
+    subst (λ h. IfErr c.all_pass.result (HasCause (state g.S.Store first) (state g.S.Store h))) same
+    (walk_cause (state g.S.Store first) (state g.S.Store mid) (state g.S.Store end) begins c.all_pass.ensures.survives c.all_pass.result (c.all_pass.ensures.cause (λ late.
+    let before : HasCleanDisk (state g.S.Store mid) = omega (arith, c.all_pass.ensures.survives.clean, late) in
+    let start = begun g.S.Store c.args.table [] first mid (subst (λ t. HasBegun g.S.Store t [] first mid) c.text.ensures (c.in-Ok.ensures.begun before)) in
+    let here : Laid (state g.S.Store mid) = λ live. subst (λ (d : Database). IsLaidOut d.schema) (sym start.1.0.now_is) (laid (subst (λ h. HasCleanDisk (state g.S.Store h)) same late) start.1.0.was_open) in
+    (here, start.0))))

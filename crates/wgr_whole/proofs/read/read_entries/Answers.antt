@@ -8,6 +8,9 @@ use Rattle.wgr_audit.specs.TenantRows.{AreGoodTenants, AreIdsOf}
 use Rattle.wgr_audit.specs.TokenRows.{AreGoodTokens}
 use Rattle.wgr_whole.proofs.GoodLemmas.{few_tenants, good_tenants, good_tokens}
 use Rattle.wgr_whole.proofs.JoinLemmas.{laid_still, few_ids, few_rows}
+use Rattle.wgr_sql.specs.Causes.{HasCause}
+use Rattle.wgr_sql.proofs.CauseLemmas.{handed}
+use Rattle.wgr_audit.proofs.CauseLemmas.{next_cause}
 use Rattle.wgr_whole.proofs.read.read_entries.Goals as goal
 
 pub returns-clause-some : goal.returns-clause-some
@@ -59,3 +62,15 @@ returns-then-not-branch-clause-none g c clean laid =
           let so = told.1.1 (subst (λ l. AreGoodTokens l (mid.now.trees 3)) (sym c.as_slice.ensures.value) here) in
           search (rules, so),
     )
+
+pub returns-in_err-tenants-clause-cause : goal.returns-in_err-tenants-clause-cause
+returns-in_err-tenants-clause-cause g c laid =
+    handed (HasCause (state g.S.Store c.args.conn.now) (state g.S.Store c.read_tenants.new.conn)) c.from_residual.result c.in_err-tenants.field-0.0 c.from_residual.ensures.1 (c.in_err-tenants.ensures.cause laid)
+
+pub returns-in_err-tokens_are_good-clause-cause : goal.returns-in_err-tokens_are_good-clause-cause
+returns-in_err-tokens_are_good-clause-cause g c laid =
+    let old = state g.S.Store c.args.conn.now in
+    let mid = state g.S.Store c.read_tenants.new.conn in
+    let new = state g.S.Store c.tokens_are_good.new.conn in
+    handed (HasCause old new) c.from_residual-in_err-tokens_are_good.result c.in_err-tokens_are_good.field-0.0 c.from_residual-in_err-tokens_are_good.ensures.1
+    (next_cause old mid new c.read_tenants.ensures.survives c.tokens_are_good.ensures.survives c.read_tenants.ensures.kept laid c.in_err-tokens_are_good.field-0.0 c.in_err-tokens_are_good.ensures.cause)

@@ -9,6 +9,9 @@ use Rattle.wgr_audit.specs.NetworkRows.{AreGoodNetworks}
 use Rattle.wgr_whole.specs.Good.{HasEntries, IsGood}
 use Rattle.wgr_whole.proofs.GoodLemmas.{good_networks}
 use Rattle.wgr_whole.proofs.JoinLemmas.{laid_still}
+use Rattle.wgr_sql.specs.Causes.{HasCause}
+use Rattle.wgr_sql.proofs.CauseLemmas.{handed}
+use Rattle.wgr_audit.proofs.CauseLemmas.{next_causes}
 use Rattle.wgr_whole.proofs.read.read_holdings.Goals as goal
 
 pub returns-in_default-clause-none : goal.returns-in_default-clause-none
@@ -31,3 +34,14 @@ returns-clause-none g c clean laid =
           let here = subst (λ (d : Database). AreGoodNetworks ids (d.trees 5)) (sym (kept before none.0).1) (good_networks old.now good ids found.1.ids) in
           none.1 (subst (λ l. AreGoodNetworks l (mid.now.trees 5)) (sym c.as_slice.ensures.value) here),
     ))) (c.read_networks.ensures.none clean (laid_still old mid before laid kept) sorted)
+
+pub returns-in_err-tenants-clause-cause : goal.returns-in_err-tenants-clause-cause
+returns-in_err-tenants-clause-cause g c laid =
+    handed (HasCause (state g.S.Store c.args.conn.now) (state g.S.Store c.read_entries.new.conn)) c.from_residual.result c.in_err-tenants.field-0.0 c.from_residual.ensures.1 (c.in_err-tenants.ensures.cause laid)
+
+pub returns-clause-cause : goal.returns-clause-cause
+returns-clause-cause g c laid =
+    let old = state g.S.Store c.args.conn.now in
+    let mid = state g.S.Store c.read_entries.new.conn in
+    let new = state g.S.Store c.read_networks.new.conn in
+    next_causes old mid new c.read_entries.ensures.survives c.read_networks.ensures.survives c.read_entries.ensures.kept laid c.read_networks.result c.read_networks.ensures.cause

@@ -9,6 +9,9 @@ use Rattle.wgr_members.specs.PeerRows.{AreWrittenPeers}
 use Rattle.wgr_whole.specs.Good.{HasNetworks, IsGood}
 use Rattle.wgr_whole.proofs.GoodLemmas.{written_allowed, written_peers}
 use Rattle.wgr_whole.proofs.JoinLemmas.{laid_still}
+use Rattle.wgr_sql.specs.Causes.{HasCause}
+use Rattle.wgr_sql.proofs.CauseLemmas.{handed}
+use Rattle.wgr_audit.proofs.CauseLemmas.{next_cause}
 use Rattle.wgr_whole.proofs.read.read_tables.Goals as goal
 
 pub returns-in_default-clause-none : goal.returns-in_default-clause-none
@@ -32,3 +35,15 @@ returns-then-not-branch-clause-none g c clean laid =
           let so = told.1.1 (subst (λ l. AreWrittenPeers l (mid.now.trees 8) × AreWrittenAllowed l (mid.now.trees 10)) (sym c.as_slice.ensures.value) here) in
           search (rules, so),
     )
+
+pub returns-in_err-networks-clause-cause : goal.returns-in_err-networks-clause-cause
+returns-in_err-networks-clause-cause g c laid =
+    handed (HasCause (state g.S.Store c.args.conn.now) (state g.S.Store c.read_holdings.new.conn)) c.from_residual.result c.in_err-networks.field-0.0 c.from_residual.ensures.1 (c.in_err-networks.ensures.cause laid)
+
+pub returns-in_err-are_members_written-clause-cause : goal.returns-in_err-are_members_written-clause-cause
+returns-in_err-are_members_written-clause-cause g c laid =
+    let old = state g.S.Store c.args.conn.now in
+    let mid = state g.S.Store c.read_holdings.new.conn in
+    let new = state g.S.Store c.are_members_written.new.conn in
+    handed (HasCause old new) c.from_residual-in_err-are_members_written.result c.in_err-are_members_written.field-0.0 c.from_residual-in_err-are_members_written.ensures.1
+    (next_cause old mid new c.read_holdings.ensures.survives c.are_members_written.ensures.survives c.read_holdings.ensures.kept laid c.in_err-are_members_written.field-0.0 c.in_err-are_members_written.ensures.cause)

@@ -6,6 +6,9 @@ use Rattle.wgr_tables.specs.Decode.{tables_of}
 use Rattle.wgr_tables.specs.Told.{IsTold}
 use Rattle.wgr_audit.proofs.ListLemmas.{all_places, at_place}
 use Rattle.wgr_whole.specs.Good.{TellsNetwork}
+use Rattle.sqlite.specs.Held.{state}
+use Rattle.wgr_sql.specs.Causes.{HasCause}
+use Rattle.wgr_sql.proofs.CauseLemmas.{handed, cause_after}
 use Rattle.wgr_whole.proofs.told.networks_are_told.Goals as goal
 
 pub returns-in_err-told_network-clause-stands : goal.returns-in_err-told_network-clause-stands
@@ -44,3 +47,12 @@ returns-in_default-clause-told g c db pending stood clean =
       (λ never. search rules),
       (λ all. let here = at_place (TellsNetwork (tables_of db)) ids 0 all at c.loop-network-test.true in absurd (none here.0 here.1)),
     )
+
+pub returns-in_err-told_network-clause-cause : goal.returns-in_err-told_network-clause-cause
+returns-in_err-told_network-clause-cause g c db pending stood apart =
+    let old = state g.S.Store c.args.conn.now in
+    let mid = state g.S.Store c.loop-network.conn in
+    let new = state g.S.Store c.told_network.new.conn in
+    let before = c.loop-network.invariant in
+    handed (HasCause old new) c.from_residual.result c.in_err-told_network.field-0.0 c.from_residual.ensures.1
+    (cause_after old mid new ⊥ ⊥ (λ _. ⊥) (λ _. ⊥) before.4 c.told_network.ensures.survives (λ none. none) c.in_err-told_network.field-0.0 (c.in_err-told_network.ensures.cause db pending (before.1 db pending stood) apart))
