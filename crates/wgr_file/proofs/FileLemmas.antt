@@ -18,7 +18,7 @@ use Rattle.wgr_model.specs.Calls.{order_event}
 use Rattle.wgr_model.specs.RowLaws.{IsRowStep}
 use Rattle.wgr_model.specs.Steps.{Answer, Event}
 use Rattle.wgr_model.specs.declared.order.Order.{Order}
-use Rattle.wgr_register.specs.Ends.{OrderEnds}
+use Rattle.wgr_register.specs.Ends.{EndsAt, OrderEnds, is_change}
 use Rattle.wgr_register.specs.Standing.{StandsAt}
 use Rattle.wgr_register.specs.declared.fault.Done as done
 use Rattle.wgr_register.specs.declared.fault.OrderFault.{OrderFault}
@@ -116,11 +116,8 @@ module _ {D : Type 0} {g : disk.Ghosts D} where
       let o = has.ends is.clean in
       let end = o.2 is.clean in
       let step = subst (λ (a : Answer). IsRowStep (tables_of o.0) (order_event order) a (tables_of end.2)) end.1 end.3 in
-      let stood : StandIn g files end.2 = elim end.4 [
-        | inl at ↦ stand_in has.left files end.2 [] is at
-        | inr at ↦ subst (StandIn g files) (sym at.0) (stand_in has.left files o.0 [] is at.1)
-      ] in
-      (o.0, o.1, end.2, step, stood)
+      let at = subst (λ (a : Answer). EndsAt over_files has.left (is_change a (order_event order)) o.0 [] end.2) end.1 end.4 in
+      (o.0, o.1, end.2, step, stand_in has.left files end.2 [] is at)
   ends_in files start order (Err (order_fault.Refused why)) has honest =
       let is = has.closed_to honest in
       let o = has.ends is.clean in
