@@ -1,10 +1,8 @@
 """dist/wgr-backup: copies of a register while it serves, and what a copy is good for."""
 
-import json
 import os
 import re
 import signal
-import shutil
 import sqlite3
 import subprocess
 import threading
@@ -12,29 +10,16 @@ import time
 import unittest
 from contextlib import closing
 from datetime import datetime, timedelta, timezone
-from pathlib import Path
 
 from faulty import WHOLE, tell
 from keys import numbered_keys
 from program import Left
-from serving import PEERS, done, peer, request
+from serving import PEERS, done, request
 from shipped import SYSTEMCTL, Shipped, is_stopped, rows_of
-from test_batch import batch, replies
 from tools import needs
 
-PAGE = Path(__file__).resolve().parent.parent / "docs/OPERATIONS.md"
 COPIES = 100 if WHOLE else 5
 HELD = "SELECT id & 1048575, hex(lo), until FROM peer JOIN allowed ON allowed.peer = peer.id"
-
-
-def commands_of(heading):
-    """The commands of a section of the page: each with what is printed below it."""
-    section = PAGE.read_text().partition(f"\n## {heading}\n")[2].partition("\n## ")[0]
-    for place, block in enumerate(section.split("```\n")):
-        if place % 2:
-            for part in re.split(r"^[$#] ", block, flags=re.MULTILINE)[1:]:
-                command, _, printed = part.partition("\n")
-                yield command, printed
 
 
 class Load(threading.Thread):

@@ -25,6 +25,12 @@ PACKAGES = {
     "lintian": "lintian",
     "bash": "bash",
     "cc": "gcc",
+    "promtool": "prometheus",
+    "qrencode": "qrencode",
+    "rsync": "rsync",
+    "shellcheck": "shellcheck",
+    "unshare": "util-linux",
+    "mount": "mount",
 }
 
 
