@@ -126,9 +126,9 @@ class Server:
             return read_all(link)
 
     def ask(self, method, path, body=None, token=TOKEN):
-        """The reply to a request, which has to be one that docs/openapi.yaml tells."""
+        """The reply to a request; docs/openapi.yaml has to describe both."""
         reply = self.send(request(method, path, body, token))
-        openapi.check(method, path, reply)
+        openapi.check(method, path, body, reply)
         return reply
 
 

@@ -3,12 +3,13 @@
 import os
 import sqlite3
 import subprocess
-import tempfile
+import sys
 import unittest
 from contextlib import closing
 from pathlib import Path
 
 import program
+from faulty import scratch
 from program import Left
 from serving import Server, make_register
 
@@ -40,13 +41,15 @@ class Shipped(unittest.TestCase):
     maxDiff = None
 
     def setUp(self):
-        folder = tempfile.TemporaryDirectory()
+        folder = scratch()
         self.addCleanup(folder.cleanup)
         self.folder = Path(folder.name)
         self.database = make_register(folder.name)
         self.bin = self.folder / "bin"
         self.bin.mkdir()
         os.symlink(program.path, self.bin / "wgr")
+        # The Python of the tests itself, since what is named so elsewhere may be a slow script.
+        os.symlink(sys.executable, self.bin / "python3")
         self.known = os.environ | {"PATH": f"{self.bin}:{DIST}:{os.environ['PATH']}", "ROOM": folder.name, "DB": self.database}
 
     def stand_in(self, name, text):

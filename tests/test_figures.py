@@ -156,7 +156,7 @@ class Figures(Shipped):
 class Probe(Shipped):
     def probe(self, place, *words):
         """The status, the line but its moment, and the figures."""
-        words = ["wgr-probe", place, "--timeout", "1", "--register", self.database, "--figures", "probe.prom", *words]
+        words = ["wgr-probe", place, "--timeout", "0.5", "--register", self.database, "--figures", "probe.prom", *words]
         left = self.run_script(*words)
         self.assertEqual(left.err, b"")
         found = re.fullmatch(r"(well|ill) at \d{4}-\d\d-\d\dT\d\d:\d\d:\d\dZ after \d+\.\d{3} s: (.*)\n", left.out.decode())
@@ -255,7 +255,7 @@ class Probe(Shipped):
                 pass
 
         with socketserver.UnixStreamServer(str(self.folder / "socket"), Stub) as stub:
-            threading.Thread(target=stub.serve_forever, daemon=True).start()
+            threading.Thread(target=stub.serve_forever, args=[0.02], daemon=True).start()
             for due in [(0, "the answer is 401", 401), (1, "the answer is 401", 401), (1, "the answer is 200", 200), (3, "the answer is 503", 503)]:
                 self.assertEqual(self.probe(f"unix:{self.folder}/socket"), due)
             stub.shutdown()

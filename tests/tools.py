@@ -1,5 +1,6 @@
 """Programs that some tests need, and the Debian packages that bring them."""
 
+import importlib.util
 import os
 import shutil
 import unittest
@@ -25,6 +26,8 @@ PACKAGES = {
     "lintian": "lintian",
     "bash": "bash",
     "cc": "gcc",
+    "jsonschema": "python3-jsonschema",
+    "openapi_spec_validator": "python3-openapi-spec-validator",
     "promtool": "prometheus",
     "qrencode": "qrencode",
     "rsync": "rsync",
@@ -48,6 +51,15 @@ def needs(*programs, root=False):
     if root and (os.geteuid() != 0 or not os.path.exists("/dev/net/tun")):
         return unittest.skip("network namespaces need root and /dev/net/tun")
     return lambda test: test
+
+
+def needs_module(name):
+    """Skips a test where Python has no such module, and says which package brings it."""
+    if importlib.util.find_spec(name):
+        return lambda test: test
+    reason = f"without Python's {name}"
+    MISSING[reason] = {PACKAGES[name]}
+    return unittest.skip(reason)
 
 
 def tell_skipped(reasons):
