@@ -211,7 +211,8 @@ class Probe(Shipped):
                     self.assertEqual((left.status, refused in left.err, self.copies()), (1, True, []), left.err)
                 link.close()
 
-    @needs("unshare", "mount", root=True)
+    @unittest.skipUnless(os.geteuid() == 0, "mounts need root")
+    @needs("unshare", "mount", "curl")
     def test_a_full_disk(self):
         """The service reads on and answers 401, so the room is looked at too."""
         script = """

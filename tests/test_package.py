@@ -18,6 +18,9 @@ DIST = TOP / "dist"
 RELEASE = DIST / "release/RELEASE"
 DOCUMENTS = "usr/share/doc/wgr"
 
+TOOLS = [f"wgr-{name}" for name in ["backup", "change-network", "client", "figures", "free-pool", "history", "probe"]]
+TOOL_UNITS = ["wgr-backup.service", "wgr-backup.timer", "wgr-figures.service", "wgr-probe.service", "wgr-probe.timer"]
+
 # Each file of the package and the file of the repository that it is, the program and what is made of others apart.
 COPIED = {
     "usr/lib/sysusers.d/wgr.conf": DIST / "debian/sysusers",
@@ -29,8 +32,15 @@ COPIED = {
     f"{DOCUMENTS}/SECURITY.md": TOP / "SECURITY.md",
     f"{DOCUMENTS}/examples/nginx.conf": DIST / "nginx.conf",
     **{f"{DOCUMENTS}/docs/{page.name}": page for page in (TOP / "docs").iterdir()},
+    f"{DOCUMENTS}/examples/prometheus-alerts.yml": DIST / "prometheus-alerts.yml",
+    "usr/lib/wgr/wgr_copies.py": DIST / "wgr_copies.py",
+    "usr/share/man/man8/wgr-tools.8.gz": DIST / "wgr-tools.8",
+    # The scripts, and their man page under the name of each.
+    **{f"usr/bin/{name}": DIST / name for name in TOOLS},
+    **{f"usr/share/man/man8/{name}.8.gz": DIST / "wgr-tools.8" for name in TOOLS},
 }
 MADE = {
+    *(f"usr/lib/systemd/system/{name}" for name in TOOL_UNITS),
     "usr/bin/wgr",
     "usr/lib/systemd/system/wgr.service",
     "usr/share/man/man8/wgr.8.gz",
@@ -135,12 +145,12 @@ class Package(Made):
             file.seek(0)
             for entry in tarfile.open(fileobj=file):
                 with self.subTest(entry.name):
-                    mode = 0o755 if entry.isdir() or entry.name == "./usr/bin/wgr" else 0o644
+                    mode = 0o777 if entry.issym() else 0o755 if entry.isdir() or entry.name.startswith("./usr/bin/") else 0o644
                     self.assertEqual((entry.uid, entry.gid, entry.mode), (0, 0, mode))
 
     def test_fields(self):
         needed = max(tuple(map(int, found.split(b"."))) for found in re.findall(rb"GLIBC_([0-9]+(?:\.[0-9]+)+)", self.read("usr/bin/wgr")))
-        sizes = [1 if path.is_dir() else -(-path.stat().st_size // 1024) for path in [self.files / "usr", *self.files.rglob("usr/**/*")]]
+        sizes = [1 if path.is_dir() or path.is_symlink() else -(-path.stat().st_size // 1024) for path in [self.files / "usr", *self.files.rglob("usr/**/*")]]
         for name, value in FIELDS + [("Version", release()["version"]), ("Installed-Size", str(sum(sizes)))]:
             with self.subTest(name):
                 self.assertEqual(self.field(name), value)
@@ -156,6 +166,26 @@ class Package(Made):
         self.assertTrue(os.access(self.files / "usr/bin/wgr", os.X_OK))
         # Nothing else of it differs from the one that is installed by hand.
         self.assertEqual(unit.replace("/usr/bin/wgr", "/usr/local/bin/wgr"), (DIST / "wgr.service").read_text())
+
+    def test_the_units_of_the_tools(self):
+        for name in TOOL_UNITS:
+            with self.subTest(name):
+                unit = self.read(f"usr/lib/systemd/system/{name}").decode()
+                for path in re.findall(r"(?m)^Exec\w+=(/usr/bin/wgr\S*)", unit):
+                    self.assertTrue(os.access(self.files / path[1:], os.X_OK), path)
+                self.assertEqual(unit.replace("/usr/bin/wgr", "/usr/local/bin/wgr"), (DIST / name).read_text())
+                # A unit that it names is in the package too.
+                for other in re.findall(r"\bwgr[\w-]*\.(?:service|timer)", unit):
+                    self.assertTrue((self.files / "usr/lib/systemd/system" / other).exists(), other)
+
+    @unittest.skipUnless(os.geteuid() == 0, "mounts need root")
+    @needs("unshare", "mount")
+    def test_the_tools_run(self):
+        """They find what they have in common where the package has it."""
+        script = 'mount -t overlay overlay -o "lowerdir=$0/usr:/usr" /usr && for tool; do "$tool" --help || exit; done'
+        ran = subprocess.run(["unshare", "-m", "bash", "-c", script, self.files, *TOOLS], capture_output=True, text=True)
+        self.assertEqual((ran.returncode, ran.stderr), (0, ""))
+        self.assertEqual(ran.stdout.count("usage: "), len(TOOLS) - 1)
 
     def test_the_changelog(self):
         entries, here = {}, None
