@@ -3,13 +3,14 @@
 That each request and reply of the other tests is one that it describes is checked by `Server.ask`.
 """
 
+import json
 import re
 import unittest
 from pathlib import Path
 
 import openapi
 from keys import K0
-from serving import PEERS, Serving, peer, refused, request, reply
+from serving import PEERS, SERVER_KEY, Serving, done, key, peer, refused, reply, request
 from tools import needs_module
 
 DOCS = Path(openapi.__file__).resolve().parent.parent / "docs"
@@ -142,6 +143,32 @@ class Page(unittest.TestCase):
 
 
 class Bodies(Serving):
+    def test_requests_made_again(self):
+        """The second answer, as docs/API.md has it."""
+        first = peer(1, 1, "10.8.0.2/32", label="laptop")
+        moved = {**first, "address": "10.8.0.9/32"}
+        renewed = {**moved, "end": 7}
+        routed = {**renewed, "routes": ["192.168.4.0/24"]}
+        dump = f"(none)\t{SERVER_KEY}\t51820\toff\n{key(2)}\t(none)\t(none)\t10.8.0.3/32\t0\t0\t0\toff\n".encode()
+        rows = [
+            ("POST", PEERS, {"key": key(1), "label": "laptop"}, done(first), refused(409, "key_held", number=1)),
+            ("POST", f"{PEERS}/1/address", {"address": "10.8.0.9"}, done(moved), done(moved)),
+            ("POST", f"{PEERS}/1/lease", {"end": 7}, done(renewed), done(renewed)),
+            ("POST", f"{PEERS}/1/routes", {"prefix": "192.168.4.0/24"}, done(routed), done(routed)),
+            ("POST", "/networks/office/unroute", {"prefix": "192.168.4.0/24"}, done(renewed), refused(404, "no_such_route")),
+            ("POST", "/networks/office/dump", dump, done({"added": [2], "known": 0}), done({"added": [], "known": 1})),
+            ("POST", f"{PEERS}/1/address", {}, done({**renewed, "address": "10.8.0.2/32"}), done({**renewed, "address": "10.8.0.2/32"})),
+            ("DELETE", f"{PEERS}/1", None, done({"revoked": 1}), refused(404, "no_such_peer")),
+        ]
+        server = self.serve(now=1)
+        for method, path, body, once, again in rows:
+            with self.subTest(path):
+                self.assertEqual((server.ask(method, path, body), server.ask(method, path, body)), (once, again))
+        with self.subTest("what the second one says of the peer isn't taken"):
+            server.ask("POST", PEERS, {"key": key(3)})
+            server.ask("POST", PEERS, {"key": key(3), "label": "other", "end": 9})
+            self.assertIn(peer(3, 3, "10.8.0.2/32"), json.loads(server.ask("GET", PEERS).partition(b"\r\n\r\n")[2])["peers"])
+
     @needs_module("jsonschema")
     def test_the_service_is_of_the_same_opinion(self):
         server = self.serve(now=1)
