@@ -81,10 +81,17 @@ class Copies(Shipped):
         server = self.serve()
         load = Load(server)
         load.start()
-        pauses = []
+        pauses, before = [], 0
         for turn in range(COPIES):
             with self.subTest(turn):
-                self.wait_until(lambda: load.acknowledged > 20 * turn or load.failed)
+                if turn == 0:
+                    # The log is about to be put into the file, and the copy takes long: if the service weren't
+                    # frozen, the file would be copied before that and the log after it.
+                    self.wait_until(lambda: os.path.getsize(f"{self.database}-wal") > 4_000_000 or load.failed)
+                    self.stand_in("cp", '/bin/cp "$@"; sleep 0.2')
+                else:
+                    (self.bin / "cp").unlink(missing_ok=True)
+                    self.wait_until(lambda: load.acknowledged > before + 20 or load.failed)
                 before = load.acknowledged
                 left = self.back_up("--process", server.process.pid)
                 asked = load.asked
@@ -98,7 +105,7 @@ class Copies(Shipped):
         load.join()
         self.assertIsNone(load.failed)
         self.assertEqual(len(self.copies()), COPIES)
-        tell("copies", COPIES, f"during {load.acknowledged} changes, the longest pause {max(pauses)} ms")
+        tell("copies", COPIES, f"during {load.acknowledged} changes, the longest pause but the first {max(pauses[1:])} ms")
         self.assertIn(f"at most {max(pauses)} ms\n".encode(), left.out)
 
     def test_a_copy_that_ran_on_is_none(self):

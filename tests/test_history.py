@@ -108,6 +108,11 @@ DAY = [
             {"change": "peer_removed", **shown(1, 6, "fd00:8::2/128", "lab")},
         ],
     ),
+    (
+        "and with the same one, where another peer gets the number",
+        [("order", "network-end", "acme", "lab"), ("network", "lab", "10.9.0.0/24", "h", "8"), add(7, LAB)],
+        [{"change": "peer_removed", **shown(1, 6, "10.9.0.2/32", "lab")}, {"change": "peer_added", **shown(1, 7, "10.9.0.2/32", "lab")}],
+    ),
 ]
 
 

@@ -86,6 +86,15 @@ def errors(found, status):
     return set(schema["properties"]["error"]["enum"])
 
 
+def is_told(text):
+    """Whether the page describes such a reply to the list of peers."""
+    try:
+        openapi.check("GET", PEERS, None, text)
+    except AssertionError:
+        return False
+    return True
+
+
 def schemas(value, name=""):
     """Each schema of a number, with the member that it is of."""
     if isinstance(value, dict):
@@ -135,11 +144,7 @@ class Page(unittest.TestCase):
                 self.assertEqual(openapi.is_described("POST", path, body), due)
         for name, text, due in REPLIES:
             with self.subTest(name):
-                try:
-                    openapi.check("GET", PEERS, None, text)
-                    self.assertTrue(due)
-                except AssertionError:
-                    self.assertFalse(due)
+                self.assertEqual(is_told(text), due)
 
 
 class Bodies(Serving):

@@ -1,8 +1,10 @@
 """The tools of dist/: their scripts are clean, their units well-formed, and their options those of the man page."""
 
+import os
 import re
 import shutil
 import subprocess
+import sys
 import tempfile
 import unittest
 from pathlib import Path
@@ -30,6 +32,21 @@ class Tools(unittest.TestCase):
                 (Path(folder) / unit.name).write_text(re.sub(r"Documentation=.*\n", "", text))
             told = subprocess.run(["systemd-analyze", "verify", *(Path(folder) / unit.name for unit in units)], capture_output=True, text=True)
             self.assertEqual((told.returncode, told.stdout), (0, ""), told.stderr)
+
+    @unittest.skipUnless(os.geteuid() == 0, "mounts need root")
+    @needs("unshare", "mount")
+    def test_an_installation_by_hand(self):
+        """The page's commands, on empty folders in place of /usr/local and /etc/systemd: each tool finds what it needs."""
+        page = (DIST.parent / "docs/OPERATIONS.md").read_text()
+        commands = re.findall(r"(?m)^# (install .*dist/wgr[-_].*)$", page)
+        tools = [f"wgr-{name}" for name in ["backup", *PYTHON]]
+        script = "mount -t tmpfs none /usr/local; mount -t tmpfs none /etc/systemd; mkdir -p /usr/local/bin /etc/systemd/system\n"
+        script += "\n".join(commands) + "\n" + "".join(f"/usr/local/bin/{tool} --help\n" for tool in tools) + "ls /etc/systemd/system"
+        path = f"{os.path.dirname(sys.executable)}:{os.environ['PATH']}"
+        words = ["unshare", "-m", "bash", "-euc", script]
+        ran = subprocess.run(words, cwd=DIST.parent, env=os.environ | {"PATH": path}, capture_output=True, text=True)
+        self.assertEqual((ran.returncode, ran.stderr), (0, ""))
+        self.assertIn("wgr-figures.service\n", ran.stdout)
 
     def test_the_options_are_those_of_the_page(self):
         page = (DIST / "wgr-tools.8").read_text()
