@@ -48,8 +48,8 @@ class Shipped(unittest.TestCase):
         self.bin = self.folder / "bin"
         self.bin.mkdir()
         os.symlink(program.path, self.bin / "wgr")
-        # The Python of the tests itself, since what is named so elsewhere may be a slow script.
-        os.symlink(sys.executable, self.bin / "python3")
+        # The tests' own Python, without what is installed for it: the scripts need its standard library alone.
+        self.stand_in("python3", f'exec {sys.executable} -S "$@"')
         self.known = os.environ | {"PATH": f"{self.bin}:{DIST}:{os.environ['PATH']}", "ROOM": folder.name, "DB": self.database}
 
     def stand_in(self, name, text):

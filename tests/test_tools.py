@@ -31,7 +31,8 @@ class Tools(unittest.TestCase):
                 text = re.sub(r"(?m)^(Exec\w+=-?)/usr/local/\S+", rf"\1{shutil.which('true')}", unit.read_text())
                 (Path(folder) / unit.name).write_text(re.sub(r"Documentation=.*\n", "", text))
             told = subprocess.run(["systemd-analyze", "verify", *(Path(folder) / unit.name for unit in units)], capture_output=True, text=True)
-            self.assertEqual((told.returncode, told.stdout), (0, ""), told.stderr)
+            # It says of an unknown key what it is, and is content.
+            self.assertEqual((told.returncode, [line for line in told.stderr.splitlines() if "wgr" in line]), (0, []))
 
     @unittest.skipUnless(os.geteuid() == 0, "mounts need root")
     @needs("unshare", "mount")
