@@ -33,7 +33,7 @@ COPIED = {
     f"{DOCUMENTS}/examples/nginx.conf": DIST / "nginx.conf",
     **{f"{DOCUMENTS}/docs/{page.name}": page for page in (TOP / "docs").iterdir()},
     f"{DOCUMENTS}/examples/prometheus-alerts.yml": DIST / "prometheus-alerts.yml",
-    "usr/lib/wgr/wgr_copies.py": DIST / "wgr_copies.py",
+    "usr/share/wgr/wgr_copies.py": DIST / "wgr_copies.py",
     "usr/share/man/man8/wgr-tools.8.gz": DIST / "wgr-tools.8",
     # The scripts, and their man page under the name of each.
     **{f"usr/bin/{name}": DIST / name for name in TOOLS},
