@@ -54,7 +54,7 @@ def operation(method, path):
     return None
 
 
-def told(method, path, status):
+def described(method, path, status):
     """What the page says of such a reply."""
     found = operation(method, path)
     return follow(found["responses"][status]) if found else PAGE["components"]["responses"][GENERAL[status]]
@@ -85,7 +85,7 @@ def check(method, path, body, reply):
     first, *lines = head.decode().split("\r\n")
     status = first.split(" ")[1]
     fields = dict(line.split(": ", 1) for line in lines)
-    form = told(method, path, status)
+    form = described(method, path, status)
     schema = form["content"][fields["Content-Type"]]["schema"]
     value = json.loads(text) if fields["Content-Type"] == "application/json" else text.decode()
     assert fits(schema, value), (method, path, reply)
@@ -93,7 +93,7 @@ def check(method, path, body, reply):
         assert name in fields or not header.get("required"), (method, path, reply)
         assert name not in fields or fits(header["schema"], fields[name]), (method, path, reply)
     if Draft202012Validator is not None:
-        described = is_described(method, path, body)
+        is_of_page = is_described(method, path, body)
         # The form of the body is checked behind the message and that there is a token, and before all else.
-        assert described or status in ["400", "401", "411", "413", "503"], (method, path, body, reply)
-        assert not described or value != {"error": "bad_field", "field": "body"}, (method, path, body, reply)
+        assert is_of_page or status in ["400", "401", "411", "413", "503"], (method, path, body, reply)
+        assert not is_of_page or value != {"error": "bad_field", "field": "body"}, (method, path, body, reply)

@@ -69,7 +69,7 @@ class Page(Shipped):
         return text.replace("/var/lib/wgr", f"{room}/lib").replace("/var/backups/wgr", f"{room}/copies").replace(" -o wgr -g wgr", "")
 
     def follow(self, pairs, host="first"):
-        """Runs these commands on the host. In the page's place of a copy stands the newest one."""
+        """Runs these commands on the host. The newest copy takes the place of the page's."""
         for command, printed in pairs:
             with self.subTest(command):
                 copies = self.copies(f"{host}/copies")
