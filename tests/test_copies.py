@@ -162,6 +162,12 @@ class Copies(Shipped):
             "is-active --quiet wgr.service", "freeze wgr.service",
             "show --property FreezerState --value wgr.service", "thaw wgr.service",
         ])
+        with self.subTest("a unit that can't be thawed"):
+            self.stand_in("systemctl", SYSTEMCTL.replace('kill -CONT "$main"', "exit 1"))
+            self.assertEqual(self.back_up(), Left(1, b"", b"wgr-backup: wgr.service can't be thawed\n"))
+            server.process.send_signal(signal.SIGCONT)
+            self.assertEqual(len(self.copies()), 1)
+            self.stand_in("systemctl", SYSTEMCTL)
         with self.subTest("another unit has the file"):
             (self.folder / "main").write_text(str(os.getpid()))
             self.assertEqual(self.back_up(), Left(1, b"", f"wgr-backup: wgr.service doesn't have {self.database} open\n".encode()))
