@@ -226,13 +226,15 @@ class Probe(Shipped):
             wgr-probe "http://127.0.0.1:$1" --register disk/reg.db --figures full.prom || echo "status $?"
             rm disk/rest
             wgr-probe "http://127.0.0.1:$1" --register disk/reg.db --least 0.05 && echo "status $?"
+            curl -s -H 'Authorization: Bearer abc' -d "{\\"key\\":\\"$2\\"}" "http://127.0.0.1:$1/networks/office/peers"
             kill %1
         """
         (self.folder / "disk").mkdir()
         left = self.run_script("unshare", "-m", "bash", "-c", script, "bash", free_port(), key(1))
         self.assertEqual((left.status, left.err), (0, b""))
-        refused, ill, status, well, again = re.sub(rb"at .* s: ", b"", left.out.replace(b"}", b"}\n", 1)).decode().splitlines()
+        refused, ill, status, well, again, added = re.sub(rb"at .* s: ", b"", left.out.replace(b"}", b"}\n", 1)).decode().splitlines()
         self.assertEqual([refused, status, well, again], ['{"error":"unavailable"}', "status 1", "well the answer is 401", "status 0"])
+        self.assertEqual(json.loads(added)["key"], key(1))
         self.assertEqual(ill, "ill the disk of disk/reg.db has 0 bytes left")
         figures = figures_of(self.folder / "full.prom")
         self.assertEqual((figures["wgr_probe_success"], figures["wgr_register_disk_free_bytes"]), (0, 0))

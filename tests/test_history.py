@@ -253,9 +253,11 @@ class Changes(Shipped):
             ("a peer's key", ["acme", "office", "--key", key(1)], bad),
             ("capacity 4097", ["acme", "office", "--capacity", "4097"], bad),
             ("a capacity below the peers", ["acme", "office", "--capacity", "1"], bad),
+            ("a capacity below the peers, with one whose lease is over", ["acme", "office", "--capacity", "2"], bad),
             ("another network's endpoint", ["acme", "office", "--host", "h", "--port", "7"], taken),
             ("no such network", ["acme", "lobby", "--port", "1"], "acme has no network lobby"),
         ]
+        self.assertIn(b" 200 OK", batch(self.database, 0, [request("POST", PEERS, {"key": key(4), "end": 1})]).out)
         before, names = Path(self.database).read_bytes(), self.names(".")
         for name, words, told in rows:
             with self.subTest(name):

@@ -1,5 +1,6 @@
-"""docs/OPERATIONS.md on copies: a backup, a restore, the drill and a second host, by its commands."""
+"""docs/OPERATIONS.md on copies: its commands, from a backup to a second host, and what `VACUUM` leaves."""
 
+import json
 import os
 import re
 import shutil
@@ -65,20 +66,30 @@ class Page(Shipped):
     def here(self, text, host):
         """A text of the page for a host that is a folder."""
         room = self.folder / host
-        text = text.replace("standby:/var/backups/wgr", f"{self.folder}/standby/copies").replace("/tmp/drill", f"{room}/drill")
-        return text.replace("/var/lib/wgr", f"{room}/lib").replace("/var/backups/wgr", f"{room}/copies").replace(" -o wgr -g wgr", "")
+        for there, here in [
+            ("standby:/var/backups/wgr", f"{self.folder}/standby/copies"),
+            ("/tmp/drill", f"{room}/drill"),
+            ("/var/lib/wgr", f"{room}/lib"),
+            ("/var/backups/wgr", f"{room}/copies"),
+            ("/var/log", f"{room}"),
+            ("unix:/run/wgr-http.sock", f"http://127.0.0.1:{self.port}"),
+            (" -o wgr -g wgr", ""),
+            ("sudo -u wgr ", ""),
+        ]:
+            text = text.replace(there, here)
+        return text
 
     def follow(self, pairs, host="first"):
-        """Runs these commands on the host. The newest copy takes the place of the page's."""
+        """Runs these commands on the host. The newest copies take the place of the page's, in their order."""
         for command, printed in pairs:
             with self.subTest(command):
-                copies = self.copies(f"{host}/copies")
-                if copies:
-                    command = COPY.sub(copies[-1].name, command)
+                newest = self.copies(f"{host}/copies")[-len(COPY.findall(command)) :]
+                command = COPY.sub(lambda _: newest.pop(0).name, command)
                 known = {"HOST": str(self.folder / host), "PORT": str(self.port)}
                 left = self.run_script("bash", "-c", self.here(command, host), **known)
                 self.assertEqual((left.status, left.err), (0, b""))
-                pattern = re.sub(r"\d+", r"\\d+", re.escape(self.here(printed, host)))
+                # Numbers may be others, and `..` is anything.
+                pattern = re.sub(r"\d+", r"\\d+", re.escape(self.here(printed, host)).replace(re.escape(".."), ".*"))
                 self.assertRegex(left.out.decode(), rf"^{pattern}$")
 
     def ask(self, *words):
@@ -118,6 +129,29 @@ class Page(Shipped):
         self.follow(take_over, "standby")
         self.assertEqual(self.ask("GET", PEERS), done({"peers": peers[:2]}))
         self.assertEqual(self.ask("POST", PEERS, {"key": key(4)}), done(peer(3, 4, "10.8.0.4/32")))
+
+    @needs("jq")
+    def test_a_history(self):
+        self.follow([("systemctl start wgr", "")])
+        backup = [*commands("Backup, restore, another machine")]
+        for number in range(1, 8):
+            if number == 7:
+                self.follow(backup)
+            self.ask("POST", PEERS, {"key": key(number), **({"label": "laptop", "keepalive": 25} if number == 7 else {})})
+        self.ask("POST", f"{PEERS}/7/routes", {"prefix": "192.168.4.0/24"})
+        self.follow([*backup, *commands("Who had which address when")])
+        line = json.loads((self.folder / "first/wgr-history.jsonl").read_text())
+        self.assertEqual((line["number"], line["key"], line["routes"]), (7, key(7), ["192.168.4.0/24"]))
+
+    @needs("sqlite3")
+    def test_a_network_that_is_changed(self):
+        self.follow([("systemctl start wgr", ""), *commands("Figures, and a probe"), *commands("Backup, restore, another machine")])
+        self.follow(commands("Changing a network"))
+        (network,) = json.loads(self.ask("GET", "/networks").partition(b"\r\n\r\n")[2])["networks"]
+        self.assertEqual((network["endpoint"], network["capacity"]), ("vpn2.example.net:51820", 500))
+        with self.subTest("the register as it was"):
+            (kept,) = (self.folder / "first/lib").glob("register.db.until-*")
+            self.assertEqual(rows_of(kept, "SELECT host, capacity FROM network"), [("vpn.example.net", 4096)])
 
     @needs("sqlite3")
     def test_vacuum(self):

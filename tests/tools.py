@@ -31,6 +31,7 @@ PACKAGES = {
     "promtool": "prometheus",
     "qrencode": "qrencode",
     "rsync": "rsync",
+    "jq": "jq",
     "shellcheck": "shellcheck",
     "unshare": "util-linux",
     "mount": "mount",
