@@ -16,6 +16,8 @@ from tools import needs
 
 PAGE = Path(__file__).resolve().parent.parent / "docs/OPERATIONS.md"
 COPY = re.compile(r"\d{8}T\d{6}\.\d{3}Z\.db")
+# A moment or a span of time in a text.
+TIME = re.compile(r"\d{8}T\d{6}\.\d{3}Z|\d{4}-\d\d-\d\dT[\d:.]+Z|\b\d+ ms|\b\d+\.\d+ s")
 
 # In the systemctl of SYSTEMCTL: the service of the folder $HOST.
 START = """
@@ -41,6 +43,13 @@ def commands(heading):
             for part in re.split(r"^[$#] ", block, flags=re.MULTILINE)[1:]:
                 command, _, printed = part.partition("\n")
                 yield command, printed
+
+
+def pattern_of(printed):
+    """What may be printed in place of this text: other times, and anything for `..`."""
+    parts = [re.escape(part).replace(re.escape(".."), ".*") for part in TIME.split(printed)]
+    times = [re.sub(r"\d+", r"\\d+", re.escape(time)) for time in TIME.findall(printed)] + [""]
+    return "".join(part + time for part, time in zip(parts, times, strict=True))
 
 
 class Page(Shipped):
@@ -88,9 +97,7 @@ class Page(Shipped):
                 known = {"HOST": str(self.folder / host), "PORT": str(self.port)}
                 left = self.run_script("bash", "-c", self.here(command, host), **known)
                 self.assertEqual((left.status, left.err), (0, b""))
-                # Numbers may be others, and `..` is anything.
-                pattern = re.sub(r"\d+", r"\\d+", re.escape(self.here(printed, host)).replace(re.escape(".."), ".*"))
-                self.assertRegex(left.out.decode(), rf"^{pattern}$")
+                self.assertRegex(left.out.decode(), f"^{pattern_of(self.here(printed, host))}$")
 
     def ask(self, *words):
         """The reply of the service that the page's command has started."""
