@@ -114,18 +114,13 @@ class Files(unittest.TestCase):
             self.assertEqual((told.returncode, told.stdout), (0, ""), told.stderr)
 
     @needs("mandoc")
-    def test_the_pages(self):
-        rows = [
-            ("wgr.8", [b"network-add", b"--capacity", b"pool_overlaps", b"EXIT STATUS"]),
-            ("wgr-tools.8", [b"wgr-probe", b"--within", b"WGR_TOKEN_FILE", b"EXIT STATUS"]),
-        ]
-        for name, words in rows:
-            with self.subTest(name):
-                told = subprocess.run(["mandoc", "-T", "lint", "-W", "warning", DIST / name], capture_output=True, text=True)
-                self.assertEqual((told.returncode, told.stdout), (0, ""))
-                shown = subprocess.run(["mandoc", "-T", "ascii", DIST / name], capture_output=True).stdout
-                for word in words:
-                    self.assertIn(word, re.sub(rb".\x08", b"", shown))
+    def test_the_page(self):
+        page = str(DIST / "wgr.8")
+        told = subprocess.run(["mandoc", "-T", "lint", "-W", "warning", page], capture_output=True, text=True)
+        self.assertEqual((told.returncode, told.stdout), (0, ""))
+        shown = subprocess.run(["mandoc", "-T", "ascii", page], capture_output=True).stdout
+        for word in [b"network-add", b"--capacity", b"pool_overlaps", b"EXIT STATUS"]:
+            self.assertIn(word, re.sub(rb".\x08", b"", shown))
 
     def test_the_notice(self):
         uses = dict(line.split(":") for line in (DIST.parent / "crates.txt").read_text().splitlines())

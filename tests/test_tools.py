@@ -14,6 +14,8 @@ from tools import needs
 
 PYTHON = ["change-network", "client", "figures", "free-pool", "history", "probe"]
 
+UNITS = ["wgr-backup.service", "wgr-backup.timer", "wgr-figures.service", "wgr-probe.service", "wgr-probe.timer"]
+
 
 class Tools(unittest.TestCase):
     @needs("shellcheck")
@@ -23,8 +25,7 @@ class Tools(unittest.TestCase):
 
     @needs("systemd-analyze")
     def test_the_units(self):
-        units = [path for path in DIST.glob("wgr-*.*") if path.suffix in [".service", ".timer"]]
-        self.assertLessEqual({"wgr-backup.service", "wgr-backup.timer", "wgr-figures.service", "wgr-probe.service", "wgr-probe.timer"}, {it.name for it in units})
+        units = [DIST / name for name in UNITS]
         with tempfile.TemporaryDirectory() as folder:
             # Their programs and man pages need not be installed where the tests run.
             for unit in [*units, DIST / "wgr.service"]:
@@ -48,6 +49,11 @@ class Tools(unittest.TestCase):
         ran = subprocess.run(words, cwd=DIST.parent, env=os.environ | {"PATH": path}, capture_output=True, text=True)
         self.assertEqual((ran.returncode, ran.stderr), (0, ""))
         self.assertIn("wgr-figures.service\n", ran.stdout)
+
+    @needs("mandoc")
+    def test_the_page(self):
+        told = subprocess.run(["mandoc", "-T", "lint", "-W", "warning", DIST / "wgr-tools.8"], capture_output=True, text=True)
+        self.assertEqual((told.returncode, told.stdout), (0, ""))
 
     def test_the_options_are_those_of_the_page(self):
         page = (DIST / "wgr-tools.8").read_text()
