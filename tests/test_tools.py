@@ -36,6 +36,7 @@ class Tools(unittest.TestCase):
             self.assertEqual((told.returncode, [line for line in told.stderr.splitlines() if "wgr" in line]), (0, []))
 
     @unittest.skipUnless(os.geteuid() == 0, "mounts need root")
+    @unittest.skipIf(os.path.realpath(sys.executable).startswith("/usr/local/"), "Python is under /usr/local, which is covered here")
     @needs("unshare", "mount")
     def test_an_installation_by_hand(self):
         """The page's commands, on empty folders in place of /usr/local and /etc/systemd: each tool finds what it needs."""
