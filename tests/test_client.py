@@ -49,7 +49,10 @@ class Proxy:
     def read_request(self, link):
         text = b""
         while not re.search(rb"\r\n\r\n", text) or len(text.partition(b"\r\n\r\n")[2]) < self.length(text):
-            text += link.recv(65_536)
+            part = link.recv(65_536)
+            if not part:
+                break
+            text += part
         return text
 
     def length(self, text):

@@ -140,11 +140,12 @@ class Copies(Shipped):
                 self.assertFalse(is_stopped(server.process))
                 self.assertEqual(self.names(), [])
         with self.subTest("a signal"):
-            self.stand_in("cp", 'sleep 0.3; exec /bin/cp "$@"')
+            self.stand_in("cp", 'until [[ -e $ROOM/go ]]; do sleep 0.02; done; exec /bin/cp "$@"')
             words = ["wgr-backup", "--register", self.database, "--process", str(server.process.pid), "copies"]
             running = subprocess.Popen(words, env=self.known, cwd=self.folder, stderr=subprocess.PIPE)
             self.wait_until(lambda: is_stopped(server.process))
             running.send_signal(signal.SIGTERM)
+            (self.folder / "go").touch()
             self.assertEqual((running.wait(20), running.stderr.read()), (1, b""))
             running.stderr.close()
             self.assertFalse(is_stopped(server.process))

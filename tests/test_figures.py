@@ -156,7 +156,7 @@ class Figures(Shipped):
 class Probe(Shipped):
     def probe(self, place, *words):
         """The status, the line but its moment, and the figures."""
-        words = ["wgr-probe", place, "--timeout", "0.5", "--register", self.database, "--figures", "probe.prom", *words]
+        words = ["wgr-probe", place, "--register", self.database, "--figures", "probe.prom", *words]
         left = self.run_script(*words)
         self.assertEqual(left.err, b"")
         found = re.fullmatch(r"(well|ill) at \d{4}-\d\d-\d\dT\d\d:\d\d:\d\dZ after \d+\.\d{3} s: (.*)\n", left.out.decode())
@@ -188,7 +188,7 @@ class Probe(Shipped):
         with self.subTest("it hangs"):
             server = self.serve()
             server.process.send_signal(19)
-            self.assertEqual(self.probe(self.place(server)), (1, "no answer: timed out", 0))
+            self.assertEqual(self.probe(self.place(server), "--timeout", "0.5"), (1, "no answer: timed out", 0))
 
     def test_a_register_that_is_not_served(self):
         """The file is held, or its rows aren't good: the service doesn't start, and no copy is made."""
