@@ -152,6 +152,23 @@ class Copies(Shipped):
             self.assertEqual(self.names(), [])
         self.assertEqual(server.ask("GET", PEERS), done({"peers": []}))
 
+    def test_two_at_a_time(self):
+        """One waits for the other, since otherwise one would let the service go on in the middle of the other."""
+        server = self.serve()
+        self.stand_in("cp", '/bin/cp "$@"; sleep 0.1')
+        words = ["wgr-backup", "--register", self.database, "--process", str(server.process.pid), "copies"]
+        both = [subprocess.Popen(words, env=self.known, cwd=self.folder, stdout=subprocess.DEVNULL) for _ in range(2)]
+        self.assertEqual([each.wait(20) for each in both], [0, 0])
+        self.assertEqual(len(self.copies()), 2)
+
+    def test_the_name_is_the_moment_of_the_freeze(self):
+        server = self.serve()
+        self.stand_in("cat", 'sleep 0.3; exec /bin/cat "$@"')
+        before = datetime.now(timezone.utc)
+        self.assertEqual(self.back_up("--process", server.process.pid).status, 0)
+        named = datetime.strptime(self.copies()[0].name, "%Y%m%dT%H%M%S.%fZ.db").replace(tzinfo=timezone.utc)
+        self.assertGreater(named - before, timedelta(seconds=0.3))
+
     def test_the_unit_is_frozen(self):
         server = self.serve()
         self.stand_in("systemctl", SYSTEMCTL)
