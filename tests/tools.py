@@ -24,6 +24,10 @@ PACKAGES = {
     "xz": "xz-utils",
     "lintian": "lintian",
     "bash": "bash",
+    "jq": "jq",
+    "nsenter": "util-linux",
+    "shellcheck": "shellcheck",
+    "haproxy": "haproxy",
     "cc": "gcc",
 }
 

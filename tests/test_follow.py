@@ -1,0 +1,191 @@
+"""wgr-sync and wgr-net: an interface follows its network, and nothing that ended comes back."""
+
+import os
+import time
+import unittest
+from pathlib import Path
+
+from following import DIST, TOOLS, OneNetwork, inside, run
+from serving import TOKEN, reply
+from tools import needs
+
+# A reply that is cut, and others that are no file of a server.
+FILE = reply(200, b"[Interface]\nAddress = 10.8.0.1/24\nListenPort = 51820\n", "text/plain")
+NO_FILES = [
+    ("a reply that is cut", FILE.replace(b"Content-Length: 5", b"Content-Length: 9")),
+    ("no reply", b""),
+    ("the store has failed", reply(503, {"error": "unavailable"})),
+    ("the token has ended", reply(401, {"error": "unknown_token"})),
+    ("a page", reply(200, b"<html>Log in first</html>", "text/html")),
+    ("an empty file", reply(200, b"", "text/plain")),
+    ("a line that no file has", reply(200, b"[Interface]\nAddress = 10.8.0.1/24\nPostUp = true\n", "text/plain")),
+]
+
+
+def wait_until(second):
+    while time.time() < second:
+        time.sleep(0.02)
+
+
+@needs(*TOOLS, root=True)
+class Rounds(OneNetwork):
+    def test_revoked_and_expired_peers_stay_away(self):
+        end = int(time.time()) + 2
+        stays, (revoked, _), _ = self.add(), self.add(), self.add(end=end)
+        self.net.sync()
+        self.assertEqual((self.net.peers(), len(self.net.peers())), (self.registered(), 3))
+        self.ask("DELETE", f"peers/{revoked}")
+        wait_until(end)
+        for number in range(10):
+            with self.subTest(number):
+                self.net.sync()
+                self.assertEqual((self.registered(), self.net.peers()), ({stays[1]}, {stays[1]}))
+        with self.subTest("what the interface saw is reported"):
+            self.assertEqual(self.ask("GET", "peers")["peers"][0]["status"], {"handshake": 0, "received": 0, "sent": 0})
+
+    def test_a_peer_that_is_revoked_before_the_report(self):
+        (_, stays), (revoked, _) = self.add(), self.add()
+
+        def revoke(method, path):
+            if path.endswith("/dump"):
+                self.between.before = lambda method, path: None
+                self.ask("DELETE", f"peers/{revoked}")
+
+        self.between.before = revoke
+        self.assertIn("the next round reports", self.net.sync().stderr)
+        self.assertEqual(self.registered(), {stays})
+        self.net.sync()
+        self.assertEqual((self.registered(), self.net.peers()), ({stays}, {stays}))
+
+    def test_leases_end_while_the_register_is_away(self):
+        end = int(time.time()) + 2
+        (_, stays), (_, ends) = self.add(), self.add(end=end)
+        self.net.write("url", f"http://127.0.0.1:{self.register.port}/networks/office")
+        self.net.sync()
+        self.register.__exit__()
+        for name, moment, left in [("before the end", 0, {stays, ends}), ("at the end", end, {stays})]:
+            with self.subTest(name):
+                wait_until(moment)
+                told = self.net.sync(allowed=(1,)).stderr
+                self.assertIn("cannot ask the register", told)
+                self.assertEqual(self.net.peers(), left)
+
+    def test_replies_that_change_nothing(self):
+        self.add()
+        self.net.sync()
+        self.add()
+        before = self.net.state_of_interface(), {path.name: path.read_text() for path in self.net.state.iterdir()}
+        for name, given in NO_FILES:
+            with self.subTest(name):
+                self.between.instead = given
+                self.assertIn("cannot ask the register", self.net.sync(allowed=(1,)).stderr)
+                after = self.net.state_of_interface(), {path.name: path.read_text() for path in self.net.state.iterdir()}
+                self.assertEqual(after, before)
+        with self.subTest("a reply that is good again"):
+            self.between.instead = None
+            self.net.sync()
+            self.assertEqual(self.net.peers(), self.registered())
+
+    def routes(self):
+        told = [run("ip", "-n", self.net.name, family, "route", "show", "dev", self.net.name).stdout for family in ["-4", "-6"]]
+        return {line.split()[0] for line in "".join(told).splitlines()} - {"10.8.0.0/24", "fe80::/64"}
+
+    def test_routes_come_and_go(self):
+        self.add()
+        prefixes = ["192.168.7.0/24", "0.0.0.0/0", "fd00:7::/64", "192.0.2.7/32"]
+        for prefix in prefixes:
+            self.ask("POST", "peers/1/routes", {"prefix": prefix})
+        self.net.sync()
+        by_hand = ["203.0.113.0/24", "dev", self.net.name]
+        run("ip", "-n", self.net.name, "route", "add", *by_hand)
+        with self.subTest("added"):
+            self.assertEqual(self.routes(), {"10.8.0.2", "192.168.7.0/24", "default", "fd00:7::/64", "192.0.2.7", "203.0.113.0/24"})
+        for prefix in prefixes:
+            self.ask("POST", "unroute", {"prefix": prefix})
+        self.net.sync()
+        with self.subTest("taken away, but for the one that was added by hand"):
+            self.assertEqual(self.routes(), {"10.8.0.2", "203.0.113.0/24"})
+
+    def test_files_that_are_missing_or_wrong(self):
+        for name, text in [("url", "office"), ("token", "two words"), ("key", "abc"), ("key", None)]:
+            with self.subTest(name, text=text):
+                file = self.net.folder / name
+                kept = file.read_text()
+                file.unlink() if text is None else file.write_text(text)
+                told = self.net.sync(allowed=(1,)).stderr
+                self.assertIn(f"{self.net.folder}/{name}", told)
+                file.write_text(kept)
+        with self.subTest("another server's key"):
+            self.net.write("key", run("wg", "genkey").stdout.strip())
+            self.assertIn("not that of the network", self.net.sync(allowed=(1,)).stderr)
+
+
+@needs(*TOOLS, root=True)
+class Secrets(OneNetwork):
+    """The token, the private key and a preshared key are no words of a process, and the keys don't leave the machine."""
+
+    def watch(self):
+        """Programs that write their words to a file, in place of those that wgr-sync calls, as its PATH finds them."""
+        folder = self.folder / "programs"
+        folder.mkdir()
+        for name in ["curl", "wg", "ip", "jq", "awk", "sed", "grep", "tr", "sort", "comm", "nsenter", "flock", "mv", "mkdir"]:
+            path = run("bash", "-c", f"type -P {name}").stdout.strip()
+            (folder / name).write_text(f'#!/bin/bash\nprintf "%s\\n" "$0 $*" >>{self.folder}/words\nexec {path} "$@"\n')
+            (folder / name).chmod(0o755)
+        return {"PATH": f"{folder}:{os.environ['PATH']}"}
+
+    def words_now(self):
+        """The words of all processes."""
+        found = []
+        for place in Path("/proc").glob("[0-9]*/cmdline"):
+            try:
+                found.append(place.read_bytes().replace(b"\0", b" ").decode(errors="replace"))
+            except OSError:
+                pass
+        return "\n".join(found)
+
+    def test_no_secret_in_words_or_messages(self):
+        # A token that no other text has.
+        token = run("wg", "genkey").stdout.strip()
+        preshared = run("wg", "genpsk").stdout.strip()
+        self.register.__exit__()
+        run(self.register_program(), "token-grant", self.database, "acme", text=token)
+        self.between.register = self.register = self.serve(self.database)
+        self.net.write("token", token)
+        _, key = self.add()
+        self.net.sync()
+        inside(self.net.name, "wg", "set", self.net.name, "peer", key, "preshared-key", "/dev/stdin", text=preshared)
+        self.between.asked.clear()
+        seen = []
+        self.between.before = lambda method, path: seen.append(self.words_now())
+        self.net.sync(environment=self.watch())
+        words = "\n".join([*seen, (self.folder / "words").read_text()])
+        for name, secret in [("the token", token), ("the private key", self.net.private), ("a preshared key", preshared)]:
+            with self.subTest(name):
+                self.assertNotIn(secret, words)
+        with self.subTest("the words are those of a round"):
+            self.assertIn("wg syncconf", words)
+            self.assertIn(f"{self.between.port}/networks/office/dump", seen[-1])
+        sent = b"".join(self.between.asked).decode()
+        with self.subTest("what is sent"):
+            self.assertIn(f"\n{key}\t(none)\t(none)\t", sent)
+            self.assertNotIn(self.net.private, sent)
+            self.assertNotIn(preshared, sent)
+
+    def register_program(self):
+        return self.register.process.args[0]
+
+
+class Words(unittest.TestCase):
+    def test_names(self):
+        for script, words in [("wgr-net", ["up"]), ("wgr-sync", [])]:
+            for name in ["", "-a", "A", "a/b", "a.b", "../a", 16 * "a"]:
+                with self.subTest(script, name=name):
+                    told = run(DIST / script, *words, name, allowed=(2,))
+                    self.assertIn(f"usage: {script}", told.stderr)
+
+    @needs("shellcheck")
+    def test_shellcheck(self):
+        for script in ["wgr-net", "wgr-sync", "wgr-listens"]:
+            with self.subTest(script):
+                self.assertEqual(run("shellcheck", DIST / script, allowed=None).stdout, "")
