@@ -45,11 +45,11 @@ def public_key(private):
 class Between:
     """A server between wgr-sync and the register, which keeps all that is asked.
 
-    `before` is called with the method and the path of each request. Where `instead` is set, it is the reply.
+    `before` is called with the method and the path of each request. `instead` has replies of its own by the end of a path.
     """
 
     def __init__(self, register):
-        self.register, self.asked, self.instead = register, [], None
+        self.register, self.asked, self.instead = register, [], {}
         self.before = lambda method, path: None
         self.server = socketserver.ThreadingTCPServer(("127.0.0.1", 0), self.handler())
         self.server.daemon_threads = True
@@ -65,8 +65,10 @@ class Between:
                 lengths = [int(line.split(b":")[1]) for line in head.split(b"\r\n") if line.lower().startswith(b"content-length:")]
                 message = head + self.rfile.read(sum(lengths))
                 between.asked.append(message)
-                between.before(*head.decode().split(" ")[:2])
-                self.wfile.write(between.register.send(message) if between.instead is None else between.instead)
+                method, path, _ = head.decode().split(" ", 2)
+                between.before(method, path)
+                own = between.instead.get(path.rpartition("/")[2])
+                self.wfile.write(between.register.send(message) if own is None else own)
 
         return Handler
 

@@ -5,20 +5,24 @@ import time
 import unittest
 from pathlib import Path
 
-from following import DIST, TOOLS, OneNetwork, inside, run
+from following import DIST, TOOLS, OneNetwork, inside, private_key, public_key, run
 from serving import TOKEN, reply
 from tools import needs
 
-# A reply that is cut, and others that are no file of a server.
+# Replies that are no file of a server, and others that are no list of peers.
 FILE = reply(200, b"[Interface]\nAddress = 10.8.0.1/24\nListenPort = 51820\n", "text/plain")
-NO_FILES = [
-    ("a reply that is cut", FILE.replace(b"Content-Length: 5", b"Content-Length: 9")),
-    ("no reply", b""),
-    ("the store has failed", reply(503, {"error": "unavailable"})),
-    ("the token has ended", reply(401, {"error": "unknown_token"})),
-    ("a page", reply(200, b"<html>Log in first</html>", "text/html")),
-    ("an empty file", reply(200, b"", "text/plain")),
-    ("a line that no file has", reply(200, b"[Interface]\nAddress = 10.8.0.1/24\nPostUp = true\n", "text/plain")),
+LIST = reply(200, {"peers": []})
+NO_REPLIES = [
+    ("a file that is cut", "quick", FILE.replace(b"Content-Length: 5", b"Content-Length: 9")),
+    ("no file", "quick", b""),
+    ("the store has failed", "quick", reply(503, {"error": "unavailable"})),
+    ("the token has ended", "quick", reply(401, {"error": "unknown_token"})),
+    ("a page", "quick", reply(200, b"<html>Log in first</html>", "text/html")),
+    ("an empty file", "quick", reply(200, b"", "text/plain")),
+    ("a line that no file has", "quick", reply(200, b"[Interface]\nAddress = 10.8.0.1/24\nPostUp = true\n", "text/plain")),
+    ("a list that is cut", "peers", LIST.replace(b"Content-Length: 1", b"Content-Length: 9")),
+    ("no list", "peers", reply(200, b"<html>Log in first</html>", "text/html")),
+    ("the store has failed meanwhile", "peers", reply(503, {"error": "unavailable"})),
 ]
 
 
@@ -57,6 +61,19 @@ class Rounds(OneNetwork):
         self.net.sync()
         self.assertEqual((self.registered(), self.net.peers()), ({stays}, {stays}))
 
+    def test_a_peer_that_is_added_by_hand(self):
+        """One that gets on the interface between the file and the report isn't reported, and the others are."""
+        _, stays = self.add()
+        self.net.sync()
+        other, folder = public_key(private_key()), self.folder / "programs"
+        folder.mkdir()
+        wg = run("bash", "-c", "type -P wg").stdout.strip()
+        added = f'[[ $1 != syncconf ]] || {wg} set "$2" peer {other} allowed-ips 10.8.0.9/32'
+        (folder / "wg").write_text(f'#!/bin/bash\n{wg} "$@" && {added}\n')
+        (folder / "wg").chmod(0o755)
+        told = self.net.sync(environment={"PATH": f"{folder}:{os.environ['PATH']}"})
+        self.assertEqual((told.stderr, self.registered(), self.net.peers()), ("", {stays}, {stays, other}))
+
     def test_leases_end_while_the_register_is_away(self):
         end = int(time.time()) + 2
         (_, stays), (_, ends) = self.add(), self.add(end=end)
@@ -75,14 +92,14 @@ class Rounds(OneNetwork):
         self.net.sync()
         self.add()
         before = self.net.state_of_interface(), {path.name: path.read_text() for path in self.net.state.iterdir()}
-        for name, given in NO_FILES:
+        for name, path, given in NO_REPLIES:
             with self.subTest(name):
-                self.between.instead = given
+                self.between.instead = {path: given}
                 self.assertIn("cannot ask the register", self.net.sync(allowed=(1,)).stderr)
                 after = self.net.state_of_interface(), {path.name: path.read_text() for path in self.net.state.iterdir()}
                 self.assertEqual(after, before)
         with self.subTest("a reply that is good again"):
-            self.between.instead = None
+            self.between.instead = {}
             self.net.sync()
             self.assertEqual(self.net.peers(), self.registered())
 

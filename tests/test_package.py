@@ -28,11 +28,14 @@ COPIED = {
     f"{DOCUMENTS}/README.md": TOP / "README.md",
     f"{DOCUMENTS}/SECURITY.md": TOP / "SECURITY.md",
     f"{DOCUMENTS}/examples/nginx.conf": DIST / "nginx.conf",
+    f"{DOCUMENTS}/examples/haproxy.cfg": DIST / "haproxy.cfg",
+    **{f"usr/lib/wgr/{script.name}": script for script in DIST.glob("wgr-*") if os.access(script, os.X_OK)},
     **{f"{DOCUMENTS}/docs/{page.name}": page for page in (TOP / "docs").iterdir()},
 }
+UNITS = {f"usr/lib/systemd/system/{unit.name}": unit for kind in ["service", "socket", "timer"] for unit in DIST.glob(f"*.{kind}")}
 MADE = {
     "usr/bin/wgr",
-    "usr/lib/systemd/system/wgr.service",
+    *UNITS,
     "usr/share/man/man8/wgr.8.gz",
     f"{DOCUMENTS}/changelog.gz",
     f"{DOCUMENTS}/copyright",
@@ -135,7 +138,8 @@ class Package(Made):
             file.seek(0)
             for entry in tarfile.open(fileobj=file):
                 with self.subTest(entry.name):
-                    mode = 0o755 if entry.isdir() or entry.name == "./usr/bin/wgr" else 0o644
+                    is_run = entry.isdir() or entry.name == "./usr/bin/wgr" or entry.name.startswith("./usr/lib/wgr/")
+                    mode = 0o755 if is_run else 0o644
                     self.assertEqual((entry.uid, entry.gid, entry.mode), (0, 0, mode))
 
     def test_fields(self):
@@ -149,13 +153,14 @@ class Package(Made):
         with self.subTest("Maintainer"):
             self.assertRegex(self.field("Maintainer"), r"^[\w ]+ <[\w.]+@[\w.]+>$")
 
-    def test_the_unit(self):
-        unit = self.read("usr/lib/systemd/system/wgr.service").decode()
-        programs = re.findall(r"(?m)^Exec\w+=(\S+)", unit)
-        self.assertEqual(programs, ["/usr/bin/wgr"])
-        self.assertTrue(os.access(self.files / "usr/bin/wgr", os.X_OK))
-        # Nothing else of it differs from the one that is installed by hand.
-        self.assertEqual(unit.replace("/usr/bin/wgr", "/usr/local/bin/wgr"), (DIST / "wgr.service").read_text())
+    def test_units(self):
+        for path, source in UNITS.items():
+            with self.subTest(path):
+                unit = self.read(path).decode()
+                # Nothing else of it differs from the one that is installed by hand.
+                self.assertEqual(unit, source.read_text().replace("/usr/local/", "/usr/"))
+                for program in re.findall(r"(?m)^Exec\w+=[+-]*(/usr/(?:bin|lib)/wgr\S*)", unit):
+                    self.assertTrue(os.access(self.files / program[1:], os.X_OK), program)
 
     def test_the_changelog(self):
         entries, here = {}, None
@@ -244,19 +249,26 @@ class Installed(Made):
             folder = (self.root / "var/lib/wgr").stat()
             self.assertEqual((folder.st_uid, folder.st_gid, folder.st_mode & 0o777), (int(user[2]), int(user[3]), 0o700))
         with self.subTest("the service is not enabled"):
-            self.assertEqual({path for path in self.left() if path.startswith("etc")}, set())
+            self.assertEqual({path for path in self.left() if path.startswith("etc")}, {"etc/wgr"})
+        with self.subTest("nobody but root reads keys"):
+            self.assertEqual((self.root / "etc/wgr").stat().st_mode & 0o777, 0o700)
 
     def test_a_purge_leaves_the_register(self):
-        for name, files in [("without a register", []), ("with one", ["var/lib/wgr/register.db", "var/lib/wgr/register.db-wal"])]:
+        register, key = ["var/lib/wgr/register.db", "var/lib/wgr/register.db-wal"], ["etc/wgr/vpn1/key"]
+        for name, files in [("without a register", []), ("with one", register), ("with a network's key", key)]:
             with self.subTest(name):
                 self.dpkg("-i", self.package)
                 for file in files:
-                    (self.root / file).write_text("rows")
+                    (self.root / file).parent.mkdir(exist_ok=True)
+                    (self.root / file).write_text("kept")
                 self.dpkg("-i", self.package)
                 self.dpkg("-r", "wgr")
                 self.dpkg("-P", "wgr")
-                self.assertEqual(self.left(), {*files, "var/lib/wgr"} if files else set())
-                self.assertEqual({(self.root / file).read_text() for file in files}, {"rows"} if files else set())
+                folders = {str(folder) for file in files for folder in Path(file).parents} - {"var/lib", "var", "etc", "."}
+                self.assertEqual(self.left(), {*files, *folders})
+                for file in files:
+                    self.assertEqual((self.root / file).read_text(), "kept")
+                    (self.root / file).unlink()
 
 
 @needs("bash")
