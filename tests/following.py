@@ -78,13 +78,13 @@ class Between:
 
 
 class Network:
-    """A network of a register, with its namespace on a host and the files of /etc/wgr/NAME."""
+    """A network of a register, with its namespace on a host and the folder of wgr-sync."""
 
     def __init__(self, test, host, letter, port):
         self.host, self.name = host, f"wgr{letter}{MARK}{next(NUMBERS)}"
         folder = tempfile.TemporaryDirectory()
         test.addCleanup(folder.cleanup)
-        self.folder, self.state = Path(folder.name), Path(folder.name) / "state"
+        self.folder = Path(folder.name)
         self.private = private_key()
         self.public = public_key(self.private)
         self.write("url", f"http://127.0.0.1:{port}/networks/office")
@@ -98,10 +98,9 @@ class Network:
     def net(self, word, **more):
         return inside(self.host, DIST / "wgr-net", word, self.name, **more)
 
-    def sync(self, allowed=(0,), environment=None):
+    def sync(self, **more):
         """One round of wgr-sync."""
-        places = {"CREDENTIALS_DIRECTORY": str(self.folder), "STATE_DIRECTORY": str(self.state)}
-        return run(DIST / "wgr-sync", self.name, allowed=allowed, environment={**places, **(environment or {})})
+        return run(DIST / "wgr-sync", self.name, self.folder, **more)
 
     def peers(self):
         """The public keys of the interface's peers."""

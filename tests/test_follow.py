@@ -91,12 +91,12 @@ class Rounds(OneNetwork):
         self.add()
         self.net.sync()
         self.add()
-        before = self.net.state_of_interface(), {path.name: path.read_text() for path in self.net.state.iterdir()}
+        before = self.net.state_of_interface(), {path.name: path.read_text() for path in self.net.folder.iterdir()}
         for name, path, given in NO_REPLIES:
             with self.subTest(name):
                 self.between.instead = {path: given}
                 self.assertIn("cannot ask the register", self.net.sync(allowed=(1,)).stderr)
-                after = self.net.state_of_interface(), {path.name: path.read_text() for path in self.net.state.iterdir()}
+                after = self.net.state_of_interface(), {path.name: path.read_text() for path in self.net.folder.iterdir()}
                 self.assertEqual(after, before)
         with self.subTest("a reply that is good again"):
             self.between.instead = {}
@@ -195,10 +195,10 @@ class Secrets(OneNetwork):
 
 class Words(unittest.TestCase):
     def test_names(self):
-        for script, words in [("wgr-net", ["up"]), ("wgr-sync", [])]:
+        for script, words, folder in [("wgr-net", ["up"], []), ("wgr-sync", [], ["/tmp"])]:
             for name in ["", "-a", "A", "a/b", "a.b", "../a", 16 * "a"]:
                 with self.subTest(script, name=name):
-                    told = run(DIST / script, *words, name, allowed=(2,))
+                    told = run(DIST / script, *words, name, *folder, allowed=(2,))
                     self.assertIn(f"usage: {script}", told.stderr)
 
     @needs("shellcheck")

@@ -7,6 +7,7 @@ import ssl
 import sqlite3
 import time
 import unittest
+from concurrent.futures import ThreadPoolExecutor
 from contextlib import closing
 
 from following import run
@@ -34,6 +35,9 @@ class AnyFront:
         with self.subTest("the path as it came"):
             for target in ["/networks?x=1", "/%6eetworks", "/v1", "/v1/networks%2f", "/networks/office/owner/10.8.0.2%2f32"]:
                 self.assertEqual(self.ask("GET", target)[0] // 100, 4, target)
+        with self.subTest("many at once"), ThreadPoolExecutor(32) as pool:
+            asked = [pool.submit(self.ask, "GET", PEERS) for _ in range(100)]
+            self.assertEqual({one.result()[:2] for one in asked}, {(200, b'{"peers":[' + wanted + b"]}")})
         with self.subTest("nobody's token"):
             status, body, fields = self.ask("GET", PEERS, token="nobodys")
             self.assertEqual((status, body, fields["WWW-Authenticate"]), (401, b'{"error":"unknown_token"}', "Bearer"))

@@ -29,13 +29,14 @@ COPIED = {
     f"{DOCUMENTS}/SECURITY.md": TOP / "SECURITY.md",
     f"{DOCUMENTS}/examples/nginx.conf": DIST / "nginx.conf",
     f"{DOCUMENTS}/examples/haproxy.cfg": DIST / "haproxy.cfg",
-    **{f"usr/lib/wgr/{script.name}": script for script in DIST.glob("wgr-*") if os.access(script, os.X_OK)},
+    **{f"usr/lib/wgr/{name}": DIST / name for name in ["wgr-listens", "wgr-net", "wgr-sync"]},
     **{f"{DOCUMENTS}/docs/{page.name}": page for page in (TOP / "docs").iterdir()},
 }
-UNITS = {f"usr/lib/systemd/system/{unit.name}": unit for kind in ["service", "socket", "timer"] for unit in DIST.glob(f"*.{kind}")}
+SERVICES = ["wgr", "wgr@", "wgr-alert@", "wgr-haproxy", "wgr-http", "wgr-http@", "wgr-net@", "wgr-sync@"]
+UNITS = [*(f"{name}.service" for name in SERVICES), "wgr-haproxy.socket", "wgr-http.socket", "wgr-http@.socket", "wgr-sync@.timer"]
 MADE = {
     "usr/bin/wgr",
-    *UNITS,
+    *(f"usr/lib/systemd/system/{name}" for name in UNITS),
     "usr/share/man/man8/wgr.8.gz",
     f"{DOCUMENTS}/changelog.gz",
     f"{DOCUMENTS}/copyright",
@@ -154,11 +155,11 @@ class Package(Made):
             self.assertRegex(self.field("Maintainer"), r"^[\w ]+ <[\w.]+@[\w.]+>$")
 
     def test_units(self):
-        for path, source in UNITS.items():
-            with self.subTest(path):
-                unit = self.read(path).decode()
+        for name in UNITS:
+            with self.subTest(name):
+                unit = self.read(f"usr/lib/systemd/system/{name}").decode()
                 # Nothing else of it differs from the one that is installed by hand.
-                self.assertEqual(unit, source.read_text().replace("/usr/local/", "/usr/"))
+                self.assertEqual(unit, (DIST / name).read_text().replace("/usr/local/", "/usr/"))
                 for program in re.findall(r"(?m)^Exec\w+=[+-]*(/usr/(?:bin|lib)/wgr\S*)", unit):
                     self.assertTrue(os.access(self.files / program[1:], os.X_OK), program)
 
