@@ -3,12 +3,13 @@ written to the disk."""
 
 import hashlib
 import json
-import ssl
+import socket
 import sqlite3
+import ssl
+import threading
 import time
-import unittest
 from concurrent.futures import ThreadPoolExecutor
-from contextlib import closing
+from contextlib import closing, suppress
 
 from following import run
 from fronts import HAProxy, Nginx
@@ -21,6 +22,16 @@ LARGEST = 2_097_152
 
 def body_of(reply):
     return reply.partition(b"\r\n\r\n")[2]
+
+
+def answer(service, replies):
+    """Answers each connection by the next of the replies, of which an empty one is none."""
+    with suppress(OSError):
+        while replies:
+            link, _ = service.accept()
+            with link:
+                link.recv(65_536)
+                link.sendall(replies.pop(0))
 
 
 class AnyFront:
@@ -69,6 +80,19 @@ class AnyFront:
         self.serving.__exit__()
         status, body, fields = self.ask("POST", PEERS, "{}")
         self.assertEqual((status, body, fields["Content-Type"], fields["Retry-After"]), (503, b'{"error":"unavailable"}', "application/json", "5"))
+
+    def test_a_connection_that_breaks(self):
+        """A reading that gets no reply is made once more, and a change isn't."""
+        self.serving.__exit__()
+        for method, status, times in [("GET", 200, 2), ("POST", 503, 1), ("DELETE", 503, 1)]:
+            with self.subTest(method), socket.create_server(("127.0.0.1", self.serving.port)) as service:
+                replies = [b"", done({"networks": []})]
+                asked = threading.Thread(target=answer, args=(service, replies), daemon=True)
+                asked.start()
+                given = self.ask(method, "/networks", "{}" if method == "POST" else None)[0]
+                service.shutdown(socket.SHUT_RDWR)
+                asked.join()
+                self.assertEqual((given, 2 - len(replies)), (status, times))
 
     def test_versions_of_tls(self):
         for version, is_taken in [(ssl.TLSVersion.TLSv1_1, False), (ssl.TLSVersion.TLSv1_2, True), (ssl.TLSVersion.TLSv1_3, True)]:
