@@ -45,7 +45,7 @@ exec env -i PATH="$PATH" container=test SYSTEMD_UNIT_PATH="$1/units" SYSTEMD_LOG
 
 def needs_systemd(test):
     """Skips a test where systemd can't be started so."""
-    if os.geteuid() == 0 and GROUPS is not None and os.path.exists(SYSTEMD) and shutil.which("ip"):
+    if os.geteuid() == 0 and GROUPS is not None and os.access(GROUPS, os.W_OK) and os.path.exists(SYSTEMD) and shutil.which("ip"):
         if subprocess.run([*APART, "sh", "-c", "mount -t cgroup2 cgroup2 /sys/fs/cgroup"], capture_output=True).returncode == 0:
             return test
     return unittest.skip("systemd as the first process of namespaces needs root, control groups and Debian's packages systemd and iproute2")

@@ -138,6 +138,8 @@ class OfHosts(unittest.TestCase):
 class OneNetwork(OfHosts):
     """Tests of one network, whose rounds ask through `self.between`."""
 
+    pool = "10.8.0.0/24"
+
     def setUp(self):
         folder = tempfile.TemporaryDirectory()
         self.addCleanup(folder.cleanup)
@@ -148,7 +150,7 @@ class OneNetwork(OfHosts):
         order("token-grant", self.database, "acme", token=TOKEN)
         host = self.space("host")
         self.net = Network(self, host, "a", 0)
-        network_add(self.database, "acme", "office", "10.8.0.0/24", server=self.net.public)
+        network_add(self.database, "acme", "office", self.pool, server=self.net.public)
         self.register = self.serve(self.database)
         self.between = Between(self.register)
         self.addCleanup(self.between.stop)
@@ -168,3 +170,13 @@ class OneNetwork(OfHosts):
 
     def registered(self):
         return {peer["key"] for peer in self.ask("GET", "peers")["peers"]}
+
+    def revoke_before_the_report(self, number):
+        """Lets the peer be revoked in the next round, once the server's file was fetched."""
+
+        def revoke(method, path):
+            if path.endswith("/dump"):
+                self.between.before = lambda method, path: None
+                self.ask("DELETE", f"peers/{number}")
+
+        self.between.before = revoke

@@ -34,7 +34,7 @@ def wait_until(second):
 @needs(*TOOLS, root=True)
 class Rounds(OneNetwork):
     def test_revoked_and_expired_peers_stay_away(self):
-        end = int(time.time()) + 2
+        end = int(time.time()) + 3
         stays, (revoked, _), _ = self.add(), self.add(), self.add(end=end)
         self.net.sync()
         self.assertEqual((self.net.peers(), len(self.net.peers())), (self.registered(), 3))
@@ -49,13 +49,7 @@ class Rounds(OneNetwork):
 
     def test_a_peer_that_is_revoked_before_the_report(self):
         (_, stays), (revoked, _) = self.add(), self.add()
-
-        def revoke(method, path):
-            if path.endswith("/dump"):
-                self.between.before = lambda method, path: None
-                self.ask("DELETE", f"peers/{revoked}")
-
-        self.between.before = revoke
+        self.revoke_before_the_report(revoked)
         self.assertIn("the next round reports", self.net.sync().stderr)
         self.assertEqual(self.registered(), {stays})
         self.net.sync()
@@ -75,17 +69,15 @@ class Rounds(OneNetwork):
         self.assertEqual((told.stderr, self.registered(), self.net.peers()), ("", {stays}, {stays, other}))
 
     def test_leases_end_while_the_register_is_away(self):
-        end = int(time.time()) + 2
-        (_, stays), (_, ends) = self.add(), self.add(end=end)
+        end = int(time.time()) + 3
+        (_, stays), (_, later), (_, ends) = self.add(), self.add(end=end + 3600), self.add(end=end)
         self.net.write("url", f"http://127.0.0.1:{self.register.port}/networks/office")
         self.net.sync()
+        self.assertEqual(self.net.peers(), {stays, later, ends})
         self.register.__exit__()
-        for name, moment, left in [("before the end", 0, {stays, ends}), ("at the end", end, {stays})]:
-            with self.subTest(name):
-                wait_until(moment)
-                told = self.net.sync(allowed=(1,)).stderr
-                self.assertIn("cannot ask the register", told)
-                self.assertEqual(self.net.peers(), left)
+        wait_until(end)
+        self.assertIn("cannot ask the register", self.net.sync(allowed=(1,)).stderr)
+        self.assertEqual(self.net.peers(), {stays, later})
 
     def test_replies_that_change_nothing(self):
         self.add()
@@ -135,6 +127,27 @@ class Rounds(OneNetwork):
         with self.subTest("another server's key"):
             self.net.write("key", run("wg", "genkey").stdout.strip())
             self.assertIn("not that of the network", self.net.sync(allowed=(1,)).stderr)
+
+
+@needs(*TOOLS, root=True)
+class OfIPv6(OneNetwork):
+    pool = "fd00:8::/64"
+
+    def test_a_round(self):
+        self.add()
+        self.ask("POST", "peers/1/routes", {"prefix": "::/0"})
+        for number in range(2):
+            with self.subTest(number):
+                self.assertEqual(self.net.sync().stderr, "")
+                [peer] = self.ask("GET", "peers")["peers"]
+                self.assertEqual(peer["status"], {"handshake": 0, "received": 0, "sent": 0})
+        told = run("ip", "-n", self.net.name, "-6", "route", "show", "proto", "77").stdout
+        self.assertEqual({line.split()[0] for line in told.splitlines()}, {"default", "fd00:8::2"})
+        self.assertIn(" fd00:8::1/64 ", run("ip", "-n", self.net.name, "address").stdout)
+        _, stays = self.add()
+        self.revoke_before_the_report(1)
+        self.net.sync()
+        self.assertEqual(self.registered(), {stays})
 
 
 @needs(*TOOLS, root=True)

@@ -144,6 +144,11 @@ class AnyFront:
 class ByNginx(AnyFront, Nginx):
     too_many = 1_000
 
+    def test_the_log(self):
+        lines = super().test_the_log()
+        with self.subTest("the service isn't asked for what is too large"):
+            self.assertEqual([line["register_status"] for line in lines], ["200", "401", ""])
+
     def test_many_requests(self):
         super().test_many_requests()
         with self.subTest("another token is served all the same"):
@@ -175,6 +180,8 @@ class ByHAProxy(AnyFront, HAProxy):
 
     def test_the_log(self):
         lines = super().test_the_log()
+        with self.subTest("the service isn't asked for what is too large"):
+            self.assertEqual([line["connect_ms"] >= 0 for line in lines], [True, True, False])
         database = f"{self.folder}/reg.db"
         self.serving.__exit__()
         with closing(sqlite3.connect(database)) as file:
