@@ -15,10 +15,13 @@ from serving import TOKEN, Server, network_add, order, request
 
 TOOLS = ["ip", "wg", "wireguard-go", "curl", "jq", "nsenter", "bash"]
 DIST = Path(__file__).resolve().parent.parent / "dist"
-# The names of namespaces and interfaces have the number of this process, so that no other is touched. No name is
-# used twice, since a wireguard-go that ends removes the socket of its name.
-MARK = f"{os.getpid() % 10_000:04}"
+# No name is used twice, since a wireguard-go that ends removes the socket of its name.
 NUMBERS = itertools.count()
+
+
+def mark():
+    """The number of this process, which is in the names of namespaces and interfaces, so that no other is touched."""
+    return f"{os.getpid() % 10_000:04}"
 
 
 def run(*words, text=None, allowed=(0,), environment=None):
@@ -81,7 +84,7 @@ class Network:
     """A network of a register, with its namespace on a host and the folder of wgr-sync."""
 
     def __init__(self, test, host, letter, port):
-        self.host, self.name = host, f"wgr{letter}{MARK}{next(NUMBERS)}"
+        self.host, self.name = host, f"wgr{letter}{mark()}{next(NUMBERS)}"
         folder = tempfile.TemporaryDirectory()
         test.addCleanup(folder.cleanup)
         self.folder = Path(folder.name)
@@ -122,7 +125,7 @@ class OfHosts(unittest.TestCase):
 
     def space(self, name):
         """A network namespace of this test, by its full name."""
-        space = f"wgr-{name}{MARK}"
+        space = f"wgr-{name}{mark()}"
         run("ip", "netns", "add", space)
         self.addCleanup(run, "ip", "netns", "delete", space)
         run("ip", "-n", space, "link", "set", "lo", "up")

@@ -5,7 +5,7 @@ import os
 import tempfile
 from pathlib import Path
 
-from following import TOOLS, Network, OfHosts, OneNetwork, inside, private_key, public_key, run
+from following import TOOLS, Network, OfHosts, OneNetwork, inside, mark, private_key, public_key, run
 from serving import network_add, order, request
 from tools import needs
 
@@ -57,7 +57,7 @@ class Client:
     """A peer on a machine of its own, by a cable to the host."""
 
     def __init__(self, test, host, number):
-        self.space, self.name = test.space(f"peer{number}"), f"wgp{number}{os.getpid() % 10_000:04}"
+        self.space, self.name = test.space(f"peer{number}"), f"wgp{number}{mark()}"
         self.private = private_key()
         self.public = public_key(self.private)
         here, there = f"192.0.2.{4 * number + 1}", f"192.0.2.{4 * number + 2}"

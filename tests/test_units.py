@@ -22,11 +22,10 @@ EXPOSURE = {"wgr.service": 8, "wgr-http.service": 7, "wgr-haproxy.service": 9, "
 INSTANCES = [("wgr.service", "wgr@.service"), ("wgr-http.socket", "wgr-http@.socket"), ("wgr-http.service", "wgr-http@.service")]
 
 
-def without_names(text):
-    """The settings of a unit of one register or of several, without what names the register."""
-    settings = [line for line in text.splitlines() if line and line[0] != "#"]
-    text = "\n".join(settings).replace("wgr-haproxy.service", "")
-    return re.sub(r"[@/ -]%i", "", text).rstrip().replace("wgr-http.service \n", "wgr-http.service\n")
+def settings(name):
+    """The settings of a unit, without what tells the units of one register from those of several."""
+    lines = [line for line in (DIST / name).read_text().splitlines() if line and line[0] != "#"]
+    return re.sub(r"[@/ -]%i", "", "\n".join(lines).replace(" wgr-haproxy.service", ""))
 
 
 class Files(unittest.TestCase):
@@ -67,7 +66,7 @@ class Files(unittest.TestCase):
     def test_units_of_several_registers(self):
         for one, several in INSTANCES:
             with self.subTest(several):
-                self.assertEqual(without_names((DIST / several).read_text()), without_names((DIST / one).read_text()))
+                self.assertEqual(settings(several), settings(one))
 
 
 ALL = ["wgr.service", "wgr@.service", "wgr-http.socket", "wgr-http.service", "wgr-http@.socket", "wgr-http@.service", "wgr-alert@.service"]
@@ -163,7 +162,7 @@ class Following(unittest.TestCase):
         words = ["--pool", "10.8.0.0/24", "--host", "vpn.example.net", "--port", "51820", "--key", public, "--capacity", "9"]
         self.system.order("network-add", "acme", "office", *words)
         serve = "/usr/local/bin/wgr serve /var/lib/wgr/register.db 127.0.0.1:9000 --count 9000"
-        self.system.run("sh", "-c", f"{serve} >/dev/null 2>&1 &")
+        self.system.run("sh", "-c", f"{serve} >/run/served 2>&1 & until grep -q listening /run/served; do sleep 0.02; done")
         self.system.run("mkdir", "-m", "700", "/etc/wgr/vpn1")
         for name, text in [("url", "http://127.0.0.1:9000/networks/office\n"), ("token", f"{TOKEN}\n"), ("key", private)]:
             self.system.run("sh", "-c", f"umask 077; cat >/etc/wgr/vpn1/{name}", text=text)
