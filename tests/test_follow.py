@@ -6,6 +6,7 @@ import unittest
 from pathlib import Path
 
 from following import DIST, TOOLS, OneNetwork, inside, private_key, public_key, run
+from keys import key_text
 from serving import TOKEN, reply
 from tools import needs
 
@@ -148,6 +149,30 @@ class OfIPv6(OneNetwork):
         self.revoke_before_the_report(1)
         self.net.sync()
         self.assertEqual(self.registered(), {stays})
+
+
+# Peers of a large network: with WGR_ALL=1 as many as there may be.
+MANY = 4096 if os.environ.get("WGR_ALL") else 300
+
+
+@needs(*TOOLS, root=True)
+class Large(OneNetwork):
+    pool = "10.8.0.0/16"
+
+    def test_rounds_of_many_peers(self):
+        """So many peers with a route each."""
+        lines = [f"(none)\t{self.net.public}\t51820\toff"]
+        for number in range(MANY):
+            high, low = divmod(number, 256)
+            prefixes = f"10.8.{high + 1}.{low}/32,172.{16 + high}.{low}.0/24"
+            lines.append(f"{key_text(number.to_bytes(32, 'little'))}\t(none)\t(none)\t{prefixes}\t0\t0\t0\t25")
+        self.assertEqual(len(self.ask("POST", "dump", "".join(f"{line}\n" for line in lines).encode())["added"]), MANY)
+        for number in range(2):
+            with self.subTest(number):
+                self.assertEqual(self.net.sync().stderr, "")
+                self.assertEqual(self.net.peers(), self.registered())
+        self.assertEqual(len(run("ip", "-n", self.net.name, "route", "show", "proto", "77").stdout.splitlines()), 2 * MANY)
+        self.assertNotIn(None, [peer["status"] for peer in self.ask("GET", "peers")["peers"]])
 
 
 @needs(*TOOLS, root=True)
