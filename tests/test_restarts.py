@@ -1,5 +1,5 @@
 """Twenty requests a second while the service is started anew, stopped for an order, and killed: a real systemd, with nginx
-or HAProxy before the service as dist/ has them."""
+or HAProxy before the service as dist/ has them. And what only a new start mends."""
 
 import fcntl
 import json
@@ -8,16 +8,16 @@ import signal
 import subprocess
 import sys
 import tempfile
-import threading
 import time
 import unittest
 from contextlib import contextmanager
 from pathlib import Path
 
 import program
+from faulty import ONCE, Faulty, needs_faults
 from first_process import DIST, System, needs_systemd
 from fronts import make_certificate
-from serving import SERVER_KEY, TOKEN
+from serving import LIST, PEERS, SERVER_KEY, TOKEN, Serving, done, key, peer, refused, request
 from tools import needs
 
 # A few seconds, or with WGR_ALL=1 a minute with twenty orders.
@@ -119,3 +119,26 @@ class ByHAProxy(Restarts):
         self.system.run("sh", "-c", f"cat {self.folder}/wgr.crt {self.folder}/wgr.key >/etc/wgr/certificate.pem; cp {DIST}/haproxy.cfg /etc/wgr/")
         self.system.run("systemctl", "start", "wgr-haproxy.socket", "wgr-haproxy", "wgr")
         self.check([self.restart, self.kill, self.restart, *self.orders()])
+
+
+@needs_faults()
+class FailedSync(Serving):
+    def test_it_is_answered_until_the_next_start(self):
+        """After a sync that failed every request is answered 503, though the disk is well again."""
+        with Faulty() as faulty, faulty.serve(self.database) as server:
+
+            def add(number):
+                return server.send(request("POST", PEERS, {"key": key(number)}))
+
+            # The first change makes the log.
+            self.assertEqual(add(1), done(peer(1, 1, "10.8.0.2/32")))
+            faulty.arm()
+            self.assertEqual(add(2), done(peer(2, 2, "10.8.0.3/32")))
+            # The last call of a change on a file is its sync.
+            faulty.arm(call=faulty.calls - 1, how=ONCE)
+            self.assertEqual(add(3), refused(503, "unavailable"))
+            faulty.disarm()
+            self.assertEqual([add(4), server.send(LIST), add(5)], 3 * [refused(503, "unavailable")])
+        listed = json.loads(self.serve().send(LIST).partition(b"\r\n\r\n")[2])["peers"]
+        # The change whose sync failed may be found done.
+        self.assertIn([found["key"] for found in listed], [[key(1), key(2)], [key(1), key(2), key(3)]])
