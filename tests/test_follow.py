@@ -1,10 +1,13 @@
 """wgr-sync and wgr-net: an interface follows its network, and nothing that ended comes back."""
 
+import fcntl
 import os
+import subprocess
 import time
 import unittest
 from pathlib import Path
 
+import program
 from following import DIST, TOOLS, OneNetwork, inside, private_key, public_key, run
 from keys import key_text
 from serving import TOKEN, reply
@@ -115,6 +118,18 @@ class Rounds(OneNetwork):
         self.net.sync()
         with self.subTest("taken away, but for the one that was added by hand"):
             self.assertEqual(self.routes(), {"10.8.0.2", "203.0.113.0/24"})
+
+    def test_one_round_at_a_time(self):
+        self.add()
+        with (self.net.folder / "lock").open("w") as lock:
+            fcntl.flock(lock, fcntl.LOCK_EX)
+            words = [DIST / "wgr-sync", self.net.name, self.net.folder]
+            with subprocess.Popen(words) as second:
+                time.sleep(0.3)
+                self.assertEqual((self.between.asked, second.poll()), ([], None))
+                fcntl.flock(lock, fcntl.LOCK_UN)
+                self.assertEqual(second.wait(program.LIMIT), 0)
+        self.assertEqual(self.net.peers(), self.registered())
 
     def test_files_that_are_missing_or_wrong(self):
         for name, text in [("url", "office"), ("token", "two words"), ("key", "abc"), ("key", None)]:
