@@ -48,7 +48,7 @@ def needs_systemd(test):
     if os.geteuid() == 0 and GROUPS is not None and os.access(GROUPS, os.W_OK) and os.path.exists(SYSTEMD) and shutil.which("ip"):
         if subprocess.run([*APART, "sh", "-c", "mount -t cgroup2 cgroup2 /sys/fs/cgroup"], capture_output=True).returncode == 0:
             return test
-    return unittest.skip("systemd as the first process of namespaces needs root, control groups and Debian's packages systemd and iproute2")
+    return unittest.skip("systemd as the first process of namespaces needs root, control groups and Debian's packages systemd and iproute2")(test)
 
 
 class System:
