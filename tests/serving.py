@@ -50,10 +50,10 @@ def order(*words, token=None):
     assert left == program.Left(0, b"done\n"), (words, left)
 
 
-def network_add(database, tenant, name, pool, port="51820", capacity="4096", host="vpn.example.net"):
+def network_add(database, tenant, name, pool, port="51820", capacity="4096", host="vpn.example.net", server=SERVER_KEY):
     order(
         *["network-add", database, tenant, name, "--pool", pool, "--host", host],
-        *["--port", port, "--key", SERVER_KEY, "--capacity", capacity],
+        *["--port", port, "--key", server, "--capacity", capacity],
     )
 
 

@@ -31,6 +31,8 @@ COPIED = {
     f"{DOCUMENTS}/README.md": TOP / "README.md",
     f"{DOCUMENTS}/SECURITY.md": TOP / "SECURITY.md",
     f"{DOCUMENTS}/examples/nginx.conf": DIST / "nginx.conf",
+    f"{DOCUMENTS}/examples/haproxy.cfg": DIST / "haproxy.cfg",
+    **{f"usr/lib/wgr/{name}": DIST / name for name in ["wgr-listens", "wgr-net", "wgr-sync"]},
     **{f"{DOCUMENTS}/docs/{page.name}": page for page in (TOP / "docs").iterdir()},
     f"{DOCUMENTS}/examples/prometheus-alerts.yml": DIST / "prometheus-alerts.yml",
     "usr/share/wgr/wgr_copies.py": DIST / "wgr_copies.py",
@@ -39,10 +41,12 @@ COPIED = {
     **{f"usr/bin/{name}": DIST / name for name in TOOLS},
     **{f"usr/share/man/man8/{name}.8.gz": DIST / "wgr-tools.8" for name in TOOLS},
 }
+SERVICES = ["wgr", "wgr@", "wgr-alert@", "wgr-haproxy", "wgr-http", "wgr-http@", "wgr-net@", "wgr-sync@"]
+UNITS = [*(f"{name}.service" for name in SERVICES), "wgr-haproxy.socket", "wgr-http.socket", "wgr-http@.socket", "wgr-sync@.timer"]
 MADE = {
     *(f"usr/lib/systemd/system/{name}" for name in TOOL_UNITS),
     "usr/bin/wgr",
-    "usr/lib/systemd/system/wgr.service",
+    *(f"usr/lib/systemd/system/{name}" for name in UNITS),
     "usr/share/man/man8/wgr.8.gz",
     f"{DOCUMENTS}/changelog.gz",
     f"{DOCUMENTS}/copyright",
@@ -145,7 +149,8 @@ class Package(Made):
             file.seek(0)
             for entry in tarfile.open(fileobj=file):
                 with self.subTest(entry.name):
-                    mode = 0o777 if entry.issym() else 0o755 if entry.isdir() or entry.name.startswith("./usr/bin/") else 0o644
+                    is_run = entry.isdir() or entry.name.startswith(("./usr/bin/", "./usr/lib/wgr/"))
+                    mode = 0o777 if entry.issym() else 0o755 if is_run else 0o644
                     self.assertEqual((entry.uid, entry.gid, entry.mode), (0, 0, mode))
 
     def test_fields(self):
@@ -159,13 +164,14 @@ class Package(Made):
         with self.subTest("Maintainer"):
             self.assertRegex(self.field("Maintainer"), r"^[\w ]+ <[\w.]+@[\w.]+>$")
 
-    def test_the_unit(self):
-        unit = self.read("usr/lib/systemd/system/wgr.service").decode()
-        programs = re.findall(r"(?m)^Exec\w+=(\S+)", unit)
-        self.assertEqual(programs, ["/usr/bin/wgr"])
-        self.assertTrue(os.access(self.files / "usr/bin/wgr", os.X_OK))
-        # Nothing else of it differs from the one that is installed by hand.
-        self.assertEqual(unit.replace("/usr/bin/wgr", "/usr/local/bin/wgr"), (DIST / "wgr.service").read_text())
+    def test_units(self):
+        for name in UNITS:
+            with self.subTest(name):
+                unit = self.read(f"usr/lib/systemd/system/{name}").decode()
+                # Nothing else of it differs from the one that is installed by hand.
+                self.assertEqual(unit, (DIST / name).read_text().replace("/usr/local/", "/usr/"))
+                for program in re.findall(r"(?m)^Exec\w+=[+-]*(/usr/(?:bin|lib)/wgr\S*)", unit):
+                    self.assertTrue(os.access(self.files / program[1:], os.X_OK), program)
 
     def test_the_units_of_the_tools(self):
         for name in TOOL_UNITS:
@@ -274,19 +280,26 @@ class Installed(Made):
             folder = (self.root / "var/lib/wgr").stat()
             self.assertEqual((folder.st_uid, folder.st_gid, folder.st_mode & 0o777), (int(user[2]), int(user[3]), 0o700))
         with self.subTest("the service is not enabled"):
-            self.assertEqual({path for path in self.left() if path.startswith("etc")}, set())
+            self.assertEqual({path for path in self.left() if path.startswith("etc")}, {"etc/wgr"})
+        with self.subTest("nobody but root reads keys"):
+            self.assertEqual((self.root / "etc/wgr").stat().st_mode & 0o777, 0o700)
 
     def test_a_purge_leaves_the_register(self):
-        for name, files in [("without a register", []), ("with one", ["var/lib/wgr/register.db", "var/lib/wgr/register.db-wal"])]:
+        register, key = ["var/lib/wgr/register.db", "var/lib/wgr/register.db-wal"], ["etc/wgr/vpn1/key"]
+        for name, files in [("without a register", []), ("with one", register), ("with a network's key", key)]:
             with self.subTest(name):
                 self.dpkg("-i", self.package)
                 for file in files:
-                    (self.root / file).write_text("rows")
+                    (self.root / file).parent.mkdir(exist_ok=True)
+                    (self.root / file).write_text("kept")
                 self.dpkg("-i", self.package)
                 self.dpkg("-r", "wgr")
                 self.dpkg("-P", "wgr")
-                self.assertEqual(self.left(), {*files, "var/lib/wgr"} if files else set())
-                self.assertEqual({(self.root / file).read_text() for file in files}, {"rows"} if files else set())
+                folders = {str(folder) for file in files for folder in Path(file).parents} - {"var/lib", "var", "etc", "."}
+                self.assertEqual(self.left(), {*files, *folders})
+                for file in files:
+                    self.assertEqual((self.root / file).read_text(), "kept")
+                    (self.root / file).unlink()
 
 
 @needs("bash")
