@@ -55,6 +55,8 @@ class Shipped(unittest.TestCase):
     def stand_in(self, name, text):
         """A command of this name that the scripts find before the system's."""
         path = self.bin / name
+        # What a link leads to must not be written.
+        path.unlink(missing_ok=True)
         path.write_text(f"#!/bin/bash\n{text}\n")
         path.chmod(0o755)
 

@@ -118,25 +118,20 @@ class Copies(Shipped):
 
     def test_the_service_goes_on(self):
         """Whatever ends the copy: a disk without room, a copy that wgr refuses, a signal."""
+        real = os.readlink(self.bin / "wgr")
         rows = [
-            ("no room", "cp", "echo 'cp: No space left on device' >&2; exit 1", 1, b"register.db can't be copied"),
-            ("a bad copy", "wgr", "echo 'wgr: not_good' >&2; exit 1", 1, b"the copy is bad: wgr: not_good"),
+            ("no room", "cp", "echo 'cp: No space left on device' >&2; exit 1", "reg.db can't be copied"),
+            ("a copy that is cut", "cp", '/bin/cp "$@"; truncate -s 30000 "${@: -1}"', "the copy is bad: wgr: store"),
+            ("a bad copy", "wgr", "echo 'wgr: not_good' >&2; exit 1", "the copy is bad: wgr: not_good"),
         ]
-        server = self.serve(self.database)
-        os.rename(self.database, self.folder / "register.db")
-        os.rename(f"{self.database}-wal", self.folder / "register.db-wal")
-        self.database = str(self.folder / "register.db")
-        for name, command, text, status, told in rows:
+        server = self.serve()
+        for name, command, text, told in rows:
             with self.subTest(name):
-                real = (self.bin / "wgr").resolve()
-                (self.bin / command).unlink(missing_ok=True)
+                self.stand_in("cp", 'exec /bin/cp "$@"')
+                self.stand_in("wgr", f'exec {real} "$@"')
                 self.stand_in(command, text)
                 left = self.back_up("--process", server.process.pid)
-                (self.bin / command).unlink()
-                (self.bin / "wgr").unlink(missing_ok=True)
-                os.symlink(real, self.bin / "wgr")
-                self.assertEqual(left.status, status)
-                self.assertIn(told, left.err)
+                self.assertEqual((left.status, told.encode() in left.err), (1, True), left.err)
                 self.assertFalse(is_stopped(server.process))
                 self.assertEqual(self.names(), [])
         with self.subTest("a signal"):

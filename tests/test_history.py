@@ -276,7 +276,6 @@ class Changes(Shipped):
     def test_nobody_opens_it_meanwhile(self):
         """While the copy is judged, a service that starts is refused the register."""
         real = (self.bin / "wgr").resolve()
-        (self.bin / "wgr").unlink()
         self.stand_in("wgr", f'[[ $2 == "$DB" ]] || {real} tenant-add "$DB" bolt 2>"$ROOM/meanwhile"; exec {real} "$@"')
         self.assertEqual(self.change("acme", "office", "--port", "1").status, 0)
         self.assertEqual((self.folder / "meanwhile").read_bytes(), b"wgr: store\n")
