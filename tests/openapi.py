@@ -1,13 +1,27 @@
-"""Whether a reply is one that docs/openapi.yaml tells: its path, method, status, members and types."""
+"""Whether a request and its reply are as docs/openapi.yaml describes them, by Debian's jsonschema, where it is there."""
 
+import functools
 import json
 import re
 from pathlib import Path
 
+try:
+    from jsonschema import Draft202012Validator
+except ImportError:
+    Draft202012Validator = None
+
 # The file is JSON, which YAML contains, so that no other library has to read it.
 PAGE = json.loads((Path(__file__).resolve().parent.parent / "docs" / "openapi.yaml").read_text())
 
-TYPES = {"object": dict, "array": list, "string": str, "integer": int, "null": type(None)}
+# What is answered where the page has no such path or method.
+GENERAL = {
+    "400": "BadMessage",
+    "404": "NoSuchPath",
+    "405": "WrongMethod",
+    "411": "LengthRequired",
+    "413": "TooLarge",
+    "503": "Unavailable",
+}
 
 
 def follow(value):
@@ -20,58 +34,66 @@ def follow(value):
     return value
 
 
-def is_of_type(name, value):
-    return isinstance(value, TYPES[name]) and not isinstance(value, bool)
+@functools.cache
+def validator(schema):
+    # With the page's components in it, references lead to them.
+    return Draft202012Validator({**json.loads(schema), "components": PAGE["components"]})
 
 
 def fits(schema, value):
-    """Whether a value is of the schema, by those words of JSON Schema that the page uses."""
-    schema = follow(schema)
-    if "anyOf" in schema:
-        return any(fits(choice, value) for choice in schema["anyOf"])
-    names = schema.get("type", [])
-    names = [names] if isinstance(names, str) else names
-    if names and not any(is_of_type(name, value) for name in names):
-        return False
-    if "enum" in schema and value not in schema["enum"]:
-        return False
-    if "pattern" in schema and not re.search(schema["pattern"], value):
-        return False
-    if isinstance(value, int) and not schema.get("minimum", value) <= value <= schema.get("maximum", value):
-        return False
-    if isinstance(value, list):
-        return all(fits(schema["items"], item) for item in value)
-    if isinstance(value, dict):
-        members = schema["properties"]
-        return (
-            set(schema.get("required", [])) <= set(value)
-            and (set(value) <= set(members) or schema.get("additionalProperties", True))
-            and all(fits(members[name], item) for name, item in value.items() if name in members)
-        )
-    return True
+    """Whether a value is of the schema; without jsonschema, each is."""
+    return Draft202012Validator is None or validator(json.dumps(schema)).is_valid(value)
 
 
 def operation(method, path):
     """What the page says of the method at the path; nothing where the path or the method isn't there."""
     for form, item in PAGE["paths"].items():
         if re.fullmatch(re.sub(r"\{[a-z]+\}", "[^/]+", form), path):
-            return item.get(method.lower())
+            # Methods are in capitals, so `get` is another one.
+            return item.get(method.lower()) if method.isupper() else None
     return None
 
 
-def check(method, path, reply):
-    """Raises where the page doesn't tell such a reply."""
-    head, _, body = reply.partition(b"\r\n\r\n")
+def described(method, path, status):
+    """What the page says of such a reply."""
+    found = operation(method, path)
+    return follow(found["responses"][status]) if found else PAGE["components"]["responses"][GENERAL[status]]
+
+
+def no_number(name):
+    raise ValueError(f"{name} is no JSON")
+
+
+def is_described(method, path, body):
+    """Whether the page describes such a body for the method at the path. It is bytes, or is sent as JSON."""
+    found = operation(method, path)
+    if not found or "requestBody" not in found:
+        return True
+    ((kind, form),) = found["requestBody"]["content"].items()
+    if kind != "application/json":
+        return True
+    try:
+        value = json.loads(body, parse_constant=no_number) if isinstance(body, bytes) else body
+    except ValueError:
+        return False
+    return fits(form["schema"], value)
+
+
+def check(method, path, body, reply):
+    """Raises where the page doesn't describe such a reply, or has another word on the request's body than the reply."""
+    head, _, text = reply.partition(b"\r\n\r\n")
     first, *lines = head.decode().split("\r\n")
     status = first.split(" ")[1]
     fields = dict(line.split(": ", 1) for line in lines)
-    found = operation(method, path)
-    if found is None:
-        # Such a path or method has the page's general replies.
-        told = follow(PAGE["components"]["responses"][status])
-    else:
-        told = follow(found["responses"][status])
-    schema = told["content"][fields["Content-Type"]]["schema"]
-    value = json.loads(body) if fields["Content-Type"] == "application/json" else body.decode()
+    form = described(method, path, status)
+    schema = form["content"][fields["Content-Type"]]["schema"]
+    value = json.loads(text) if fields["Content-Type"] == "application/json" else text.decode()
     assert fits(schema, value), (method, path, reply)
-    assert set(told.get("headers", {})) <= set(fields), (method, path, reply)
+    for name, header in form.get("headers", {}).items():
+        assert name in fields or not header.get("required"), (method, path, reply)
+        assert name not in fields or fits(header["schema"], fields[name]), (method, path, reply)
+    if Draft202012Validator is not None:
+        is_of_page = is_described(method, path, body)
+        # The form of the body is checked behind the message and that there is a token, and before all else.
+        assert is_of_page or status in ["400", "401", "411", "413", "503"], (method, path, body, reply)
+        assert not is_of_page or value != {"error": "bad_field", "field": "body"}, (method, path, body, reply)

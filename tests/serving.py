@@ -50,10 +50,10 @@ def order(*words, token=None):
     assert left == program.Left(0, b"done\n"), (words, left)
 
 
-def network_add(database, tenant, name, pool, port="51820", capacity="4096", host="vpn.example.net"):
+def network_add(database, tenant, name, pool, port="51820", capacity="4096", host="vpn.example.net", server=SERVER_KEY):
     order(
         *["network-add", database, tenant, name, "--pool", pool, "--host", host],
-        *["--port", port, "--key", SERVER_KEY, "--capacity", capacity],
+        *["--port", port, "--key", server, "--capacity", capacity],
     )
 
 
@@ -126,9 +126,9 @@ class Server:
             return read_all(link)
 
     def ask(self, method, path, body=None, token=TOKEN):
-        """The reply to a request, which has to be one that docs/openapi.yaml tells."""
+        """The reply to a request; docs/openapi.yaml has to describe both."""
         reply = self.send(request(method, path, body, token))
-        openapi.check(method, path, reply)
+        openapi.check(method, path, body, reply)
         return reply
 
 

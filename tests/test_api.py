@@ -30,12 +30,9 @@ class Page(unittest.TestCase):
     def test_examples(self):
         with tempfile.TemporaryDirectory() as folder, Server(make_register(folder)) as server:
             known = os.environ | {"TOKEN": TOKEN, "URL": f"http://127.0.0.1:{server.port}"}
-            before = ""
             for line, printed in examples():
                 with self.subTest(line):
                     told = subprocess.run(
-                        ["bash", "-c", f"{before}{line}"], cwd=folder, env=known, capture_output=True
+                        ["bash", "-c", line], cwd=folder, env=known, capture_output=True
                     )
                     self.assertEqual(told.stdout.decode().rstrip("\n"), printed)
-                if line.startswith("AUTH="):
-                    before = f"{line}; "

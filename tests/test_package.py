@@ -18,6 +18,9 @@ DIST = TOP / "dist"
 RELEASE = DIST / "release/RELEASE"
 DOCUMENTS = "usr/share/doc/wgr"
 
+TOOLS = [f"wgr-{name}" for name in ["backup", "change-network", "client", "figures", "free-pool", "history", "probe"]]
+TOOL_UNITS = ["wgr-backup.service", "wgr-backup.timer", "wgr-figures.service", "wgr-probe.service", "wgr-probe.timer"]
+
 # Each file of the package and the file of the repository that it is, the program and what is made of others apart.
 COPIED = {
     "usr/lib/sysusers.d/wgr.conf": DIST / "debian/sysusers",
@@ -28,11 +31,22 @@ COPIED = {
     f"{DOCUMENTS}/README.md": TOP / "README.md",
     f"{DOCUMENTS}/SECURITY.md": TOP / "SECURITY.md",
     f"{DOCUMENTS}/examples/nginx.conf": DIST / "nginx.conf",
+    f"{DOCUMENTS}/examples/haproxy.cfg": DIST / "haproxy.cfg",
+    **{f"usr/lib/wgr/{name}": DIST / name for name in ["wgr-listens", "wgr-net", "wgr-sync"]},
     **{f"{DOCUMENTS}/docs/{page.name}": page for page in (TOP / "docs").iterdir()},
+    f"{DOCUMENTS}/examples/prometheus-alerts.yml": DIST / "prometheus-alerts.yml",
+    "usr/share/wgr/wgr_copies.py": DIST / "wgr_copies.py",
+    "usr/share/man/man8/wgr-tools.8.gz": DIST / "wgr-tools.8",
+    # The scripts, and their man page under the name of each.
+    **{f"usr/bin/{name}": DIST / name for name in TOOLS},
+    **{f"usr/share/man/man8/{name}.8.gz": DIST / "wgr-tools.8" for name in TOOLS},
 }
+SERVICES = ["wgr", "wgr@", "wgr-alert@", "wgr-haproxy", "wgr-http", "wgr-http@", "wgr-net@", "wgr-sync@"]
+UNITS = [*(f"{name}.service" for name in SERVICES), "wgr-haproxy.socket", "wgr-http.socket", "wgr-http@.socket", "wgr-sync@.timer"]
 MADE = {
+    *(f"usr/lib/systemd/system/{name}" for name in TOOL_UNITS),
     "usr/bin/wgr",
-    "usr/lib/systemd/system/wgr.service",
+    *(f"usr/lib/systemd/system/{name}" for name in UNITS),
     "usr/share/man/man8/wgr.8.gz",
     f"{DOCUMENTS}/changelog.gz",
     f"{DOCUMENTS}/copyright",
@@ -135,12 +149,13 @@ class Package(Made):
             file.seek(0)
             for entry in tarfile.open(fileobj=file):
                 with self.subTest(entry.name):
-                    mode = 0o755 if entry.isdir() or entry.name == "./usr/bin/wgr" else 0o644
+                    is_run = entry.isdir() or entry.name.startswith(("./usr/bin/", "./usr/lib/wgr/"))
+                    mode = 0o777 if entry.issym() else 0o755 if is_run else 0o644
                     self.assertEqual((entry.uid, entry.gid, entry.mode), (0, 0, mode))
 
     def test_fields(self):
         needed = max(tuple(map(int, found.split(b"."))) for found in re.findall(rb"GLIBC_([0-9]+(?:\.[0-9]+)+)", self.read("usr/bin/wgr")))
-        sizes = [1 if path.is_dir() else -(-path.stat().st_size // 1024) for path in [self.files / "usr", *self.files.rglob("usr/**/*")]]
+        sizes = [1 if path.is_dir() or path.is_symlink() else -(-path.stat().st_size // 1024) for path in [self.files / "usr", *self.files.rglob("usr/**/*")]]
         for name, value in FIELDS + [("Version", release()["version"]), ("Installed-Size", str(sum(sizes)))]:
             with self.subTest(name):
                 self.assertEqual(self.field(name), value)
@@ -149,13 +164,34 @@ class Package(Made):
         with self.subTest("Maintainer"):
             self.assertRegex(self.field("Maintainer"), r"^[\w ]+ <[\w.]+@[\w.]+>$")
 
-    def test_the_unit(self):
-        unit = self.read("usr/lib/systemd/system/wgr.service").decode()
-        programs = re.findall(r"(?m)^Exec\w+=(\S+)", unit)
-        self.assertEqual(programs, ["/usr/bin/wgr"])
-        self.assertTrue(os.access(self.files / "usr/bin/wgr", os.X_OK))
-        # Nothing else of it differs from the one that is installed by hand.
-        self.assertEqual(unit.replace("/usr/bin/wgr", "/usr/local/bin/wgr"), (DIST / "wgr.service").read_text())
+    def test_units(self):
+        for name in UNITS:
+            with self.subTest(name):
+                unit = self.read(f"usr/lib/systemd/system/{name}").decode()
+                # Nothing else of it differs from the one that is installed by hand.
+                self.assertEqual(unit, (DIST / name).read_text().replace("/usr/local/", "/usr/"))
+                for program in re.findall(r"(?m)^Exec\w+=[+-]*(/usr/(?:bin|lib)/wgr\S*)", unit):
+                    self.assertTrue(os.access(self.files / program[1:], os.X_OK), program)
+
+    def test_the_units_of_the_tools(self):
+        for name in TOOL_UNITS:
+            with self.subTest(name):
+                unit = self.read(f"usr/lib/systemd/system/{name}").decode()
+                for path in re.findall(r"(?m)^Exec\w+=(/usr/bin/wgr\S*)", unit):
+                    self.assertTrue(os.access(self.files / path[1:], os.X_OK), path)
+                self.assertEqual(unit.replace("/usr/bin/wgr", "/usr/local/bin/wgr"), (DIST / name).read_text())
+                # A unit that it names is in the package too.
+                for other in re.findall(r"\bwgr[\w-]*\.(?:service|timer)", unit):
+                    self.assertTrue((self.files / "usr/lib/systemd/system" / other).exists(), other)
+
+    @unittest.skipUnless(os.geteuid() == 0, "mounts need root")
+    @needs("unshare", "mount")
+    def test_the_tools_run(self):
+        """They find what they have in common where the package has it."""
+        script = 'mount -t overlay overlay -o "lowerdir=$0/usr:/usr" /usr && for tool; do "$tool" --help || exit; done'
+        ran = subprocess.run(["unshare", "-m", "bash", "-c", script, self.files, *TOOLS], capture_output=True, text=True)
+        self.assertEqual((ran.returncode, ran.stderr), (0, ""))
+        self.assertEqual(ran.stdout.count("usage: "), len(TOOLS) - 1)
 
     def test_the_changelog(self):
         entries, here = {}, None
@@ -244,19 +280,26 @@ class Installed(Made):
             folder = (self.root / "var/lib/wgr").stat()
             self.assertEqual((folder.st_uid, folder.st_gid, folder.st_mode & 0o777), (int(user[2]), int(user[3]), 0o700))
         with self.subTest("the service is not enabled"):
-            self.assertEqual({path for path in self.left() if path.startswith("etc")}, set())
+            self.assertEqual({path for path in self.left() if path.startswith("etc")}, {"etc/wgr"})
+        with self.subTest("nobody but root reads keys"):
+            self.assertEqual((self.root / "etc/wgr").stat().st_mode & 0o777, 0o700)
 
     def test_a_purge_leaves_the_register(self):
-        for name, files in [("without a register", []), ("with one", ["var/lib/wgr/register.db", "var/lib/wgr/register.db-wal"])]:
+        register, key = ["var/lib/wgr/register.db", "var/lib/wgr/register.db-wal"], ["etc/wgr/vpn1/key"]
+        for name, files in [("without a register", []), ("with one", register), ("with a network's key", key)]:
             with self.subTest(name):
                 self.dpkg("-i", self.package)
                 for file in files:
-                    (self.root / file).write_text("rows")
+                    (self.root / file).parent.mkdir(exist_ok=True)
+                    (self.root / file).write_text("kept")
                 self.dpkg("-i", self.package)
                 self.dpkg("-r", "wgr")
                 self.dpkg("-P", "wgr")
-                self.assertEqual(self.left(), {*files, "var/lib/wgr"} if files else set())
-                self.assertEqual({(self.root / file).read_text() for file in files}, {"rows"} if files else set())
+                folders = {str(folder) for file in files for folder in Path(file).parents} - {"var/lib", "var", "etc", "."}
+                self.assertEqual(self.left(), {*files, *folders})
+                for file in files:
+                    self.assertEqual((self.root / file).read_text(), "kept")
+                    (self.root / file).unlink()
 
 
 @needs("bash")

@@ -3,6 +3,7 @@
 import os
 import queue
 import re
+import shutil
 import subprocess
 import tempfile
 import threading
@@ -17,6 +18,8 @@ PAGE = Path(__file__).resolve().parent.parent / "README.md"
 END = "-- end of a command --"
 # The name of the server, which the page has, and its address on the cable to each client.
 NAME = "vpn.example.net"
+# Programs that the page calls, and whose words are looked at.
+PROGRAMS = ["curl", "wg", "ip", "jq", "awk", "sed", "grep", "tail", "cat", "nsenter", "sqlite3", "base64"]
 CABLES = {"laptop": ("192.0.2.1", "192.0.2.2"), "desk": ("192.0.2.5", "192.0.2.6")}
 
 
@@ -58,7 +61,8 @@ class Machine:
         )
         self.lines = queue.Queue()
         threading.Thread(target=self.listen, daemon=True).start()
-        self.run("ip link set lo up; mkdir -p /run/wireguard; mount -t tmpfs tmpfs /run/wireguard")
+        self.run("ip link set lo up; mkdir -p /run/wireguard /run/netns")
+        self.run("mount -t tmpfs tmpfs /run/wireguard; mount -t tmpfs tmpfs /run/netns")
 
     def listen(self):
         for line in self.shell.stdout:
@@ -86,7 +90,7 @@ class Machine:
         subprocess.run(["ip", "netns", "del", self.space], check=True)
 
 
-@needs("ip", "wg", "wg-quick", "wireguard-go", "ping", "curl", "sqlite3", root=True)
+@needs("ip", "wg", "wg-quick", "wireguard-go", "ping", "curl", "jq", "nsenter", "sqlite3", root=True)
 class FirstTenMinutes(unittest.TestCase):
     maxDiff = None
 
@@ -100,14 +104,33 @@ class FirstTenMinutes(unittest.TestCase):
         self.addCleanup(folder.cleanup)
         self.folder = Path(folder.name)
         os.symlink(program.path, self.folder / "wgr")
+        os.symlink(PAGE.parent / "dist", self.folder / "dist")
         self.server = self.machine("server")
+        self.server.run(f"PATH={self.watched()}:$PATH")
         self.clients = {name: self.machine(name) for name in CABLES}
         for name, (here, there) in CABLES.items():
             client = self.clients[name]
-            self.server.run(f"ip link add {name} type veth peer name eth0 netns {client.space}")
+            ends = [name, "netns", self.server.space, "type", "veth", "peer", "name", "eth0", "netns", client.space]
+            subprocess.run(["ip", "link", "add", *ends], check=True)
             self.server.run(f"ip address add {here}/30 dev {name}; ip link set {name} up")
             client.run(f"ip address add {there}/30 dev eth0; ip link set eth0 up")
             client.run(f"echo {here} {NAME} > {name}.hosts; mount --bind {name}.hosts /etc/hosts")
+
+    def watched(self):
+        """A folder with programs that write their words to a file and then are what they should be."""
+        folder = self.folder / "programs"
+        folder.mkdir()
+        for name in PROGRAMS:
+            (folder / name).write_text(f'#!/bin/bash\nprintf "%s\\n" "$0 $*" >>{self.folder}/words\nexec {shutil.which(name)} "$@"\n')
+            (folder / name).chmod(0o755)
+        return folder
+
+    def no_secret_was_a_word(self):
+        words = (self.folder / "words").read_text()
+        self.assertIn("/peers/2/file/quick", words)
+        for name in ["acme.token", "server.private", "laptop.private", "desk.private"]:
+            with self.subTest(name):
+                self.assertNotIn((self.folder / name).read_text().strip(), words)
 
     def follow(self, machine, commands):
         for command, printed in commands:
@@ -121,7 +144,7 @@ class FirstTenMinutes(unittest.TestCase):
     def wait_for_handshakes(self):
         """Waits until each client has told the server where it is, by its first keepalive."""
         end = time.monotonic() + program.LIMIT
-        while re.search(r"\t0$", self.server.run("wg show wg0 latest-handshakes"), re.MULTILINE):
+        while re.search(r"\t0$", self.server.run("ip netns exec office wg show office latest-handshakes"), re.MULTILINE):
             self.assertLess(time.monotonic(), end)
             time.sleep(0.1)
 
@@ -133,4 +156,5 @@ class FirstTenMinutes(unittest.TestCase):
             client.run(f"wg-quick up ./{name}.conf")
         self.wait_for_handshakes()
         self.follow(self.clients["laptop"], of_laptop)
-        self.server.run("kill %1; wait")
+        self.server.run("kill %1; wait; dist/wgr-net down office")
+        self.no_secret_was_a_word()

@@ -2,6 +2,7 @@
 
 import json
 import os
+import re
 import subprocess
 import tempfile
 import unittest
@@ -10,6 +11,7 @@ from pathlib import Path
 from serving import TOKEN, Server, order
 from tools import needs
 
+PAGE = Path(__file__).resolve().parent.parent / "docs/OPERATIONS.md"
 # The names of namespaces and interfaces have the number of this process, so that no other is touched.
 MARK = f"{os.getpid() % 10_000:04}"
 
@@ -140,7 +142,11 @@ class Tunnel(unittest.TestCase):
 
     def adopt(self, pool, host, listed):
         """The running interface's dump makes the same peers in a register of its own."""
-        dump = self.write("dump", self.server.run(f"wg show {self.server.tunnel} dump"))
+        # Without the private keys, as docs/OPERATIONS.md tells.
+        program = re.search(r"wg show wg0 dump \| (awk '[^']+')", PAGE.read_text())[1]
+        text = shell(program, self.server.run(f"wg show {self.server.tunnel} dump"))
+        self.assertNotIn(self.server.private, text)
+        dump = self.write("dump", text)
         with Server(self.register("adopted.db", pool, host)) as serving:
             self.assertEqual(
                 json.loads(self.curl(serving, "dump", "--data-binary", f"@{dump}")),

@@ -1,5 +1,6 @@
 """Programs that some tests need, and the Debian packages that bring them."""
 
+import importlib.util
 import os
 import shutil
 import unittest
@@ -24,7 +25,18 @@ PACKAGES = {
     "xz": "xz-utils",
     "lintian": "lintian",
     "bash": "bash",
+    "jq": "jq",
+    "nsenter": "util-linux",
+    "shellcheck": "shellcheck",
+    "haproxy": "haproxy",
     "cc": "gcc",
+    "jsonschema": "python3-jsonschema",
+    "openapi_spec_validator": "python3-openapi-spec-validator",
+    "promtool": "prometheus",
+    "qrencode": "qrencode",
+    "rsync": "rsync",
+    "unshare": "util-linux",
+    "mount": "mount",
 }
 
 
@@ -42,6 +54,15 @@ def needs(*programs, root=False):
     if root and (os.geteuid() != 0 or not os.path.exists("/dev/net/tun")):
         return unittest.skip("network namespaces need root and /dev/net/tun")
     return lambda test: test
+
+
+def needs_module(name):
+    """Skips a test where Python has no such module, and says which package brings it."""
+    if importlib.util.find_spec(name):
+        return lambda test: test
+    reason = f"without Python's {name}"
+    MISSING[reason] = {PACKAGES[name]}
+    return unittest.skip(reason)
 
 
 def tell_skipped(reasons):

@@ -1,0 +1,100 @@
+"""nginx and HAProxy before a service, by the files of dist/ with their ports and paths replaced."""
+
+import http.client
+import os
+import socket
+import ssl
+import subprocess
+import tempfile
+import time
+import unittest
+from pathlib import Path
+
+from serving import TOKEN, Server, free_port, make_register
+
+DIST = Path(__file__).resolve().parent.parent / "dist"
+
+
+def make_certificate(folder):
+    """wgr.key and wgr.crt in this folder."""
+    words = ["openssl", "req", "-x509", "-newkey", "ec", "-pkeyopt", "ec_paramgen_curve:prime256v1", "-nodes", "-days", "1", "-subj", "/CN=wgr.example.net"]
+    subprocess.run([*words, "-keyout", f"{folder}/wgr.key", "-out", f"{folder}/wgr.crt"], check=True, capture_output=True)
+
+
+class Front(unittest.TestCase):
+    """A proxy before a real `wgr serve`. A class below this starts the proxy."""
+
+    def setUp(self):
+        folder = tempfile.TemporaryDirectory()
+        self.addCleanup(folder.cleanup)
+        self.folder = Path(folder.name)
+        # nginx's workers run as another user.
+        self.folder.chmod(0o711)
+        self.serving = Server(make_register(folder.name))
+        self.serving.__enter__()
+        self.addCleanup(self.serving.__exit__)
+        make_certificate(self.folder)
+        self.port = free_port()
+        self.start(self.serving.port)
+        for _ in range(100):
+            try:
+                return self.link().close()
+            except OSError:
+                time.sleep(0.05)
+        self.fail(self.log())
+
+    def run_on(self, words, **more):
+        """Starts a program that ends with the test."""
+        process = subprocess.Popen(words, stderr=subprocess.DEVNULL, **more)
+        self.addCleanup(process.wait)
+        self.addCleanup(process.terminate)
+
+    def link(self, context=None):
+        link = http.client.HTTPSConnection("127.0.0.1", self.port, timeout=60, context=context or ssl._create_unverified_context())
+        link.connect()
+        return link
+
+    def ask(self, method, path, body=None, token=TOKEN, link=None):
+        """The status, the body and the fields of the reply."""
+        own = link or self.link()
+        own.request(method, path, body, {"Authorization": f"Bearer {token}"})
+        reply = own.getresponse()
+        given = reply.status, reply.read(), reply.headers
+        if link is None:
+            own.close()
+        return given
+
+
+class Nginx(Front):
+    def start(self, behind):
+        site = (DIST / "nginx.conf").read_text()
+        site = site.replace("listen 443", f"listen 127.0.0.1:{self.port}").replace("listen [::]:443", f"listen [::1]:{self.port}")
+        site = site.replace("unix:/run/wgr-http.sock", f"127.0.0.1:{behind}")
+        site = site.replace("/etc/nginx/", f"{self.folder}/").replace("/var/log/nginx/", f"{self.folder}/")
+        (self.folder / "site").write_text(site)
+        paths = "".join(f"{name}_temp_path {self.folder}/{name};" for name in ["client_body", "proxy", "fastcgi", "uwsgi", "scgi"])
+        (self.folder / "nginx.conf").write_text(
+            f"daemon off; worker_processes 1; pid {self.folder}/pid; error_log {self.folder}/error warn;"
+            f"events {{}} http {{ access_log off; {paths} include {self.folder}/site; }}"
+        )
+        self.run_on(["nginx", "-p", str(self.folder), "-c", str(self.folder / "nginx.conf")])
+
+    def log(self):
+        return "".join((self.folder / name).read_text() for name in ["error", "wgr.log"] if (self.folder / name).exists())
+
+
+class HAProxy(Front):
+    def start(self, behind):
+        # Where there is no service it gives up after two seconds, and not after two minutes.
+        text = (DIST / "haproxy.cfg").read_text().replace("127.0.0.1:8080", f"127.0.0.1:{behind}").replace("retries 240", "retries 2")
+        (self.folder / "haproxy.cfg").write_text(text)
+        (self.folder / "certificate").write_text(f"{(self.folder / 'wgr.crt').read_text()}{(self.folder / 'wgr.key').read_text()}")
+        listener = socket.create_server(("127.0.0.1", self.port))
+        with listener, (self.folder / "log").open("w") as log:
+            # HAProxy is given the socket as systemd gives it.
+            words = ["bash", "-c", 'exec 3<&"$0"; exec haproxy -W -f "$1"', str(listener.fileno()), str(self.folder / "haproxy.cfg")]
+            known = {**os.environ, "CREDENTIALS_DIRECTORY": str(self.folder)}
+            self.run_on(words, stdout=log, env=known, pass_fds=[listener.fileno()])
+
+    def log(self):
+        return (self.folder / "log").read_text()

@@ -1,0 +1,129 @@
+"""The units of wgr-backup, wgr-figures and wgr-probe under a systemd of their own, which freezes the real service."""
+
+import importlib.util
+import json
+import subprocess
+import tempfile
+import time
+import unittest
+from pathlib import Path
+
+import program
+from serving import SERVER_KEY, key
+from shipped import DIST, rows_of
+
+if importlib.util.find_spec("first_process"):
+    from first_process import System, needs_systemd
+else:
+    needs_systemd = unittest.skip("without tests/first_process.py, which starts a systemd")
+
+UNITS = ["wgr.service", "wgr-http.service", "wgr-http.socket", "wgr-alert@.service", "wgr-backup.service", "wgr-figures.service", "wgr-probe.service"]
+TOOLS = ["wgr-backup", "wgr-figures", "wgr-probe"]
+BUS = ["dbus.service", "dbus.socket"]
+
+# A service that has lost its store, in the place of the real one's socket.
+STUB = """
+import os, socket
+os.unlink("/run/wgr-http.sock")
+with socket.socket(socket.AF_UNIX) as listener:
+    listener.bind("/run/wgr-http.sock")
+    listener.listen()
+    print("listening", flush=True)
+    link, _ = listener.accept()
+    link.recv(9999)
+    link.sendall(b"HTTP/1.1 503 Service Unavailable\\r\\nContent-Length: 2\\r\\nConnection: close\\r\\n\\r\\n{}")
+    link.close()
+"""
+
+
+@needs_systemd
+@unittest.skipUnless(all(Path(path).exists() for path in ["/usr/bin/python3", "/usr/bin/dbus-daemon", "/usr/bin/curl"]), "without python3, dbus or curl in /usr/bin")
+class Frozen(unittest.TestCase):
+    def setUp(self):
+        folder = tempfile.TemporaryDirectory()
+        self.addCleanup(folder.cleanup)
+        self.system = System(folder.name, UNITS)
+        for name in BUS:
+            (self.system.units / name).write_bytes(Path(f"/lib/systemd/system/{name}").read_bytes())
+        self.system.start()
+        self.addCleanup(self.system.stop)
+        self.run_all(
+            ["mount", "-t", "tmpfs", "none", "/var/backups"],
+            ["mkdir", "-p", "/usr/local/share/wgr", "/var/lib/prometheus/node-exporter"],
+            ["cp", *(DIST / name for name in TOOLS), "/usr/local/bin"],
+            ["cp", DIST / "wgr_copies.py", "/usr/local/share/wgr"],
+            ["systemctl", "start", *reversed(BUS)],
+        )
+        self.system.make_register("abc")
+        network = ["--pool", "10.8.0.0/24", "--host", "h", "--port", "1", "--key", SERVER_KEY, "--capacity", "9"]
+        self.system.order("network-add", "acme", "office", *network)
+        self.run_all(["systemctl", "start", "wgr-http.socket", "wgr.service"])
+
+    def run_all(self, *commands):
+        for words in commands:
+            self.system.run(*words)
+
+    def ask(self, *words):
+        told = self.system.run(
+            *["curl", "-s", "--max-time", "20", "--unix-socket", "/run/wgr-http.sock", "-H", "Authorization: Bearer abc"],
+            *[*words, "http://wgr/networks/office/peers"],
+        )
+        return json.loads(told.stdout)
+
+    def inside(self, path):
+        """A path as the processes inside see it."""
+        return Path(f"/proc/{self.system.first}/root{path}")
+
+    def wait_for(self, unit, name, value):
+        end = time.monotonic() + 20
+        while self.system.show(unit, name) != (value,):
+            self.assertLess(time.monotonic(), end, (unit, name, self.system.show(unit, name)))
+            time.sleep(0.05)
+
+    def test_a_copy_and_its_figures(self):
+        self.ask("-d", json.dumps({"key": key(1)}))
+        self.run_all(["systemctl", "start", "wgr-backup.service"])
+        (copy,) = self.inside("/var/backups/wgr").glob("*.db")
+        # SQLite would follow the way to it out of the namespace.
+        here = self.system.folder / "copy.db"
+        here.write_bytes(copy.read_bytes())
+        self.assertEqual(rows_of(here, "SELECT key FROM peer"), [(bytes([1]) * 32,)])
+        # It was frozen: a register that isn't served is copied without a pause.
+        self.assertGreater(int((copy.parent / "pauses").read_text().split()[1]), 0)
+        self.assertEqual(self.system.show("wgr.service", "ActiveState", "FreezerState"), ("active", "running"))
+        self.wait_for("wgr-figures.service", "Result", "success")
+        figures = self.inside("/var/lib/prometheus/node-exporter/wgr.prom")
+        end = time.monotonic() + 20
+        while not figures.exists() and time.monotonic() < end:
+            time.sleep(0.05)
+        self.assertIn('wgr_network_peers{tenant="acme",network="office"} 1\n', figures.read_text())
+
+    def test_a_copy_that_is_killed_leaves_nothing_frozen(self):
+        self.inside("/usr/local/bin/cp").write_text("#!/bin/bash\nsleep 60\n")
+        self.run_all(["chmod", "+x", "/usr/local/bin/cp"], ["systemctl", "start", "--no-block", "wgr-backup.service"])
+        self.wait_for("wgr.service", "FreezerState", "frozen")
+        self.run_all(["systemctl", "kill", "--signal=KILL", "wgr-backup.service"])
+        self.wait_for("wgr-backup.service", "ActiveState", "failed")
+        self.wait_for("wgr.service", "FreezerState", "running")
+        self.assertEqual(self.ask(), {"peers": []})
+        self.assertEqual(list(self.inside("/var/backups/wgr").glob("*.db")), [])
+
+    def test_the_probe_restarts_at_503(self):
+        before = self.system.show("wgr.service", "MainPID")
+        self.run_all(["systemctl", "start", "wgr-probe.service"])
+        self.assertEqual(self.system.show("wgr.service", "MainPID"), before)
+        self.run_all(["systemctl", "stop", "wgr-http.socket", "wgr-http.service"], ["systemctl", "start", "wgr.service"])
+        before = self.system.show("wgr.service", "MainPID")
+        self.inside("/run/wgr-http.sock").touch()
+        words = ["nsenter", "-t", self.system.first, "-a", "/usr/bin/python3", "-c", STUB]
+        with subprocess.Popen(words, stdout=subprocess.PIPE) as stub:
+            self.assertEqual(stub.stdout.readline(), b"listening\n")
+            self.system.run("systemctl", "start", "wgr-probe.service", allowed=[1])
+            stub.wait(program.LIMIT)
+        self.wait_for("wgr.service", "ActiveState", "active")
+        self.assertNotEqual(self.system.show("wgr.service", "MainPID"), before)
+        self.assertEqual(self.system.show("wgr-probe.service", "ExecMainStatus"), ("3",))
+
+
+if __name__ == "__main__":
+    unittest.main()

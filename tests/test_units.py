@@ -1,0 +1,187 @@
+"""The units of dist/: well-formed, as narrow as they were, and run by a real systemd where that can be started."""
+
+import json
+import os
+import re
+import shutil
+import subprocess
+import sys
+import tempfile
+import time
+import unittest
+from pathlib import Path
+
+from first_process import DIST, System, needs_systemd
+from serving import TOKEN, key
+from tools import needs
+
+UNITS = sorted(path.name for pattern in ["*.service", "*.socket", "*.timer"] for path in DIST.glob(pattern))
+# Of each service that is confined, what `systemd-analyze security` counts at most, in tenths: 100 is not confined at all.
+EXPOSURE = {"wgr.service": 8, "wgr-http.service": 7, "wgr-haproxy.service": 9, "wgr-sync@.service": 26, "wgr-net@.service": 46}
+# A unit and the one of several registers, which differs in its names alone.
+INSTANCES = [("wgr.service", "wgr@.service"), ("wgr-http.socket", "wgr-http@.socket"), ("wgr-http.service", "wgr-http@.service")]
+
+
+def settings(name):
+    """The settings of a unit, without what tells the units of one register from those of several."""
+    lines = [line for line in (DIST / name).read_text().splitlines() if line and line[0] != "#"]
+    return re.sub(r"[@/ -]%i", "", "\n".join(lines).replace(" wgr-haproxy.service", ""))
+
+
+class Files(unittest.TestCase):
+    def copied(self):
+        """A folder with all units, whose programs and man pages need not be installed where the tests run."""
+        folder = tempfile.TemporaryDirectory()
+        self.addCleanup(folder.cleanup)
+        for name in UNITS:
+            text = re.sub(r"/usr/(local/(bin|lib/wgr)|sbin)/[\w-]+", shutil.which("true"), (DIST / name).read_text())
+            (Path(folder.name) / name).write_text(re.sub(r"Documentation=.*\n", "", text))
+        return Path(folder.name)
+
+    @needs("systemd-analyze")
+    def test_units(self):
+        folder = self.copied()
+        for name in UNITS:
+            with self.subTest(name):
+                unit = folder / name.replace("@", "@acme")
+                told = subprocess.run(["systemd-analyze", "verify", unit], capture_output=True, text=True)
+                self.assertEqual((told.returncode, told.stdout, told.stderr), (0, "", ""))
+
+    @needs("systemd-analyze")
+    def test_sandboxes(self):
+        folder = self.copied()
+        for name, most in EXPOSURE.items():
+            with self.subTest(name):
+                unit = folder / name.replace("@", "@acme")
+                if "@" in name:
+                    shutil.copy(folder / name, unit)
+                told = subprocess.run(["systemd-analyze", "security", "--offline=yes", f"--threshold={most}", unit], capture_output=True, text=True)
+                self.assertEqual(told.returncode, 0, told.stdout[-200:])
+
+    def test_a_crash_loop_of_the_largest_register_counts_as_failed(self):
+        text = (DIST / "wgr.service").read_text()
+        interval, burst, pause = (int(re.search(rf"(?m)^{name}=(\d+)$", text)[1]) for name in ["StartLimitIntervalSec", "StartLimitBurst", "RestartSec"])
+        self.assertLess(burst * (LONGEST_START + pause), interval)
+
+    def test_units_of_several_registers(self):
+        for one, several in INSTANCES:
+            with self.subTest(several):
+                self.assertEqual(settings(several), settings(one))
+
+
+ALL = ["wgr.service", "wgr@.service", "wgr-http.socket", "wgr-http.service", "wgr-http@.socket", "wgr-http@.service", "wgr-alert@.service"]
+# A crash loop takes less time so; what makes it count as failed is the unit's own interval.
+QUICKLY = {"wgr.service": "[Unit]\nStartLimitBurst=4\n[Service]\nRestartSec=10ms\n"}
+# The longest start that docs/OPERATIONS.md has, in seconds.
+LONGEST_START = 14
+
+
+@needs_systemd
+@needs("curl", "nsenter")
+class Running(unittest.TestCase):
+    """The service and its socket, with a register that has a tenant."""
+
+    def setUp(self):
+        folder = tempfile.TemporaryDirectory()
+        self.addCleanup(folder.cleanup)
+        self.system = System(folder.name, ALL, drop_ins=QUICKLY)
+        self.addCleanup(self.system.stop)
+        self.system.start()
+
+    def curl(self, *words, user=None, token=TOKEN):
+        told = self.system.run("curl", "-s", "-w", " %{http_code}", "-H", f"Authorization: Bearer {token}", *words, allowed=None, user=user)
+        return told.stdout
+
+    def through(self, socket, **more):
+        return self.curl("--max-time", "5", "--unix-socket", socket, "http://wgr/networks", **more)
+
+    def test_the_service(self):
+        system = self.system
+        with self.subTest("without a register it doesn't start, and hasn't failed"):
+            system.run("systemctl", "start", "wgr")
+            self.assertEqual(system.show("wgr", "ActiveState", "ConditionResult", "Result"), ("inactive", "no", "success"))
+        system.make_register(TOKEN)
+        with self.subTest("it has started once it listens"):
+            system.run("systemctl", "start", "wgr-http.socket", "wgr")
+            sockets = Path(f"/proc/{system.processes('wgr.service')[0]}/net/tcp").read_text()
+            self.assertIn(" 0100007F:1F90 00000000:0000 0A ", sockets)
+        with self.subTest("it serves as long as it is wanted"):
+            self.assertIn(" --count 9223372036854775807 ", system.show("wgr", "ExecStart")[0])
+        with self.subTest("nginx's group reaches it by the socket"):
+            self.assertEqual(self.through("/run/wgr-http.sock", user="www-data"), '{"networks":[]} 200')
+        with self.subTest("no other user does"):
+            self.assertEqual(self.through("/run/wgr-http.sock", user="mail"), " 000")
+        with self.subTest("nobody holds its port"):
+            self.assertEqual(self.curl("http://127.0.0.1:8080/networks"), " 000")
+        with self.subTest("the proxy runs on"):
+            self.assertEqual(system.show("wgr-http.service", "ActiveState", "SubState"), ("active", "running"))
+
+    def test_a_crash_loop_counts_as_failed(self):
+        self.system.make_register(TOKEN)
+        # No tenant has this id, so the rows aren't good.
+        change = "import sqlite3; file = sqlite3.connect('/var/lib/wgr/register.db'); file.execute('UPDATE token SET tenant = 7'); file.commit()"
+        self.system.run(sys.executable, "-c", change)
+        self.system.run("systemctl", "start", "--no-block", "wgr")
+        end = time.monotonic() + 30
+        while self.system.show("wgr", "ActiveState")[0] != "failed" and time.monotonic() < end:
+            time.sleep(0.1)
+        self.assertEqual(self.system.show("wgr", "ActiveState", "Result"), ("failed", "exit-code"))
+        with self.subTest("and somebody is told"):
+            while self.system.show("wgr-alert@wgr.service", "ExecMainExitTimestampMonotonic") == ("0",) and time.monotonic() < end:
+                time.sleep(0.05)
+            self.assertEqual(self.system.show("wgr-alert@wgr.service", "Result", "ExecMainStatus"), ("success", "0"))
+            self.assertNotEqual(self.system.show("wgr-alert@wgr.service", "ExecMainExitTimestampMonotonic"), ("0",))
+
+    def test_two_registers(self):
+        for name, token in [("eu1", "first"), ("eu2", "second")]:
+            self.system.run("install", "-d", "-o", "wgr", "-g", "wgr", "-m", "700", f"/var/lib/wgr/{name}")
+            self.system.make_register(token, register=f"/var/lib/wgr/{name}/register.db")
+            self.system.run("systemctl", "start", f"wgr-http@{name}.socket", f"wgr@{name}")
+        for name, token, status in [("eu1", "first", 200), ("eu1", "second", 401), ("eu2", "second", 200), ("eu2", "first", 401)]:
+            with self.subTest(name, token=token):
+                self.assertTrue(self.through(f"/run/wgr-http-{name}.sock", token=token).endswith(f" {status}"))
+        with self.subTest("one ends without the other"):
+            os.kill(self.system.processes("system-wgr.slice/wgr@eu1.service")[0], 9)
+            self.assertTrue(self.through("/run/wgr-http-eu2.sock", token="second").endswith(" 200"))
+
+
+@needs_systemd
+@needs("wg", "wireguard-go", "curl", "jq", "nsenter", root=True)
+class Following(unittest.TestCase):
+    """wgr-net@ and wgr-sync@ with a register on the same host."""
+
+    def setUp(self):
+        folder = tempfile.TemporaryDirectory()
+        self.addCleanup(folder.cleanup)
+        self.system = System(folder.name, ["wgr-net@.service", "wgr-sync@.service", "wgr-sync@.timer"], scripts=["wgr-net", "wgr-sync"])
+        self.addCleanup(self.system.stop)
+        self.system.start()
+        private = self.system.run("wg", "genkey").stdout
+        public = self.system.run("wg", "pubkey", text=private).stdout.strip()
+        self.system.make_register(TOKEN)
+        words = ["--pool", "10.8.0.0/24", "--host", "vpn.example.net", "--port", "51820", "--key", public, "--capacity", "9"]
+        self.system.order("network-add", "acme", "office", *words)
+        serve = "/usr/local/bin/wgr serve /var/lib/wgr/register.db 127.0.0.1:9000 --count 9000"
+        self.system.run("sh", "-c", f"{serve} >/run/served 2>&1 & until grep -q listening /run/served; do sleep 0.02; done")
+        self.system.run("mkdir", "-m", "700", "/etc/wgr/vpn1")
+        for name, text in [("url", "http://127.0.0.1:9000/networks/office\n"), ("token", f"{TOKEN}\n"), ("key", private)]:
+            self.system.run("sh", "-c", f"umask 077; cat >/etc/wgr/vpn1/{name}", text=text)
+
+    def peers(self):
+        return self.system.run("ip", "netns", "exec", "vpn1", "wg", "show", "vpn1", "peers", allowed=None).stdout.split()
+
+    def test_a_network_is_followed(self):
+        add = ["curl", "-s", "-H", f"Authorization: Bearer {TOKEN}", "-d", json.dumps({"key": key(1)}), "http://127.0.0.1:9000/networks/office/peers"]
+        self.system.run(*add)
+        self.system.run("systemctl", "start", "wgr-sync@vpn1.timer")
+        end = time.monotonic() + 20
+        while self.peers() != [key(1)] and time.monotonic() < end:
+            time.sleep(0.05)
+        self.assertEqual(self.peers(), [key(1)])
+        with self.subTest("a round ends well"):
+            self.system.run("systemctl", "start", "wgr-sync@vpn1")
+            self.assertEqual(self.system.show("wgr-sync@vpn1", "Result", "ExecMainStatus"), ("success", "0"))
+        with self.subTest("the end of the namespace is the end of the rounds"):
+            self.system.run("systemctl", "stop", "wgr-net@vpn1")
+            self.assertEqual(self.system.run("ip", "netns").stdout, "")
+            self.assertEqual(self.system.show("wgr-sync@vpn1.timer", "ActiveState"), ("inactive",))
