@@ -38,11 +38,12 @@ def wait_until(second):
 @needs(*TOOLS, root=True)
 class Rounds(OneNetwork):
     def test_revoked_and_expired_peers_stay_away(self):
-        end = int(time.time()) + 3
-        stays, (revoked, _), _ = self.add(), self.add(), self.add(end=end)
+        stays, (revoked, _), (expires, _) = self.add(), self.add(), self.add()
         self.net.sync()
         self.assertEqual((self.net.peers(), len(self.net.peers())), (self.registered(), 3))
         self.ask("DELETE", f"peers/{revoked}")
+        end = int(time.time()) + 3
+        self.ask("POST", f"peers/{expires}/lease", {"end": end})
         wait_until(end)
         for number in range(10):
             with self.subTest(number):
@@ -73,9 +74,14 @@ class Rounds(OneNetwork):
         self.assertEqual((told.stderr, self.registered(), self.net.peers()), ("", {stays}, {stays, other}))
 
     def test_leases_end_while_the_register_is_away(self):
-        end = int(time.time()) + 3
-        (_, stays), (_, later), (_, ends) = self.add(), self.add(end=end + 3600), self.add(end=end)
+        (_, stays), (number, ends) = self.add(), self.add()
+        _, later = self.add(end=int(time.time()) + 3600)
         self.net.write("url", f"http://127.0.0.1:{self.register.port}/networks/office")
+        began = time.monotonic()
+        self.net.sync()
+        # Two such rounds fit in before the lease ends, however slow the machine is.
+        end = int(time.time() + 3 + 2 * (time.monotonic() - began))
+        self.ask("POST", f"peers/{number}/lease", {"end": end})
         self.net.sync()
         self.assertEqual(self.net.peers(), {stays, later, ends})
         self.register.__exit__()
