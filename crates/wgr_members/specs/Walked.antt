@@ -21,11 +21,12 @@ pub record IsWalked (IsRow : Row → Type 0) (rows : List Row) (last : Option �
 abbrev pub IsStill : State → State → Type 0
 IsStill old new = IsTrue new.is_open → IsTrue old.is_open × (new.now ≡ old.now) × (new.committed ≡ old.committed)
 
--- how many numbers of 64 bits there are from this one on, and after the last
+-- how many signed numbers of 64 bits there are from this one on
 abbrev pub from_on : ℤ → ℕ
 from_on (pos n) = 2 ^ 63 - n
 from_on (negsuc n) = 2 ^ 63 + suc n
 
+-- It falls with each row, since rowids rise.
 abbrev pub still_to_come : Option ℤ → ℕ
 still_to_come None = 2 ^ 64 + 1
 still_to_come (Some last) = from_on last

@@ -50,7 +50,7 @@ fn passing_rowid(row: &Row, before: Option<i64>, table: Table, networks: &[u32])
 }
 
 /// Whether all rows that the table's query is about to show pass. Of the rows that passed only the
-/// last one's rowid is held. It ends, since rowids rise.
+/// last one's rowid is held. The walk ends, since rowids rise.
 pub(crate) fn all_pass<S: Alter>(
     rows: &mut Rows<'_, S>,
     table: Table,

@@ -61,7 +61,8 @@ impl<S: Alter> Register<S> {
     /// Makes the tables of a register without entries, in one commit.
     ///
     /// `NotEmpty` where one of them is there already, and `NotARegister` where the database has any
-    /// other table, index or view; the database is as before. `Store` has a cause.
+    /// other table, index or view; the database is as before. `Store` only where the disk had a fault,
+    /// the store was shut before, or a limit on steps was set.
     pub fn create(mut conn: Connection<S>) -> Result<Register<S>, OpenFault<S>>
         requires idle { conn.in_transaction ≡ false }
         ensures free { OnOk result ((state S.Store conn).now.schema ≡ no_schema) }
@@ -88,7 +89,8 @@ impl<S: Alter> Register<S> {
     ///
     /// `NotARegister` where the register's tables are missing or of another version, and `NotGood`
     /// where they are of the first version and the rows aren't those of a consistent register, and
-    /// there alone. `Store` has a cause. The database is as before.
+    /// there alone. `Store` only where the disk had a fault, the store was shut before, or a limit on
+    /// steps was set. The database is as before.
     pub fn open(alloc: Global, mut conn: Connection<S>) -> Result<Register<S>, OpenFault<S>>
         requires idle { conn.in_transaction ≡ false }
         ensures good { IfOk result (λ register. HasCleanDisk (state S.Store register) → IsGood (state S.Store conn).now × StandsAt S.Store register (state S.Store conn).now []) }

@@ -142,7 +142,8 @@ fn is_empty(schema: &Schema) -> bool
 
 /// Makes the tables of a register without entries, in a database that has no table, index or view.
 /// Where one of the register's names is taken, it is `NotEmpty`, where anything else is there,
-/// `NotARegister`, and the database is as it was. `Store` has a cause.
+/// `NotARegister`, and the database is as it was. A fault of the store has a cause: it
+/// is none of the statements, which an empty database never refuses.
 pub fn make<S: Alter>(conn: &mut Connection<S>) -> Result<(), RegisterFault>
     requires idle { conn.old.in_transaction ≡ false }
     ensures idle { conn.new.in_transaction ≡ false }

@@ -40,7 +40,7 @@ fn rows_are_good<S: Alter>(alloc: Global, conn: &mut Connection<S>) -> Result<bo
 
 /// Tells by `NotARegister` that the database lacks the register's tables or has those of another
 /// version, and by `NotGood` that it is of the first version, and its rows aren't those of a consistent
-/// register. `Store` has a cause. It changes nothing.
+/// register. A fault of the store has a cause. It changes nothing.
 pub fn check_register<S: Alter>(
     alloc: Global,
     conn: &mut Connection<S>,
