@@ -29,10 +29,18 @@ fn check_again(
     rt: &(impl Abort + AllocGlobal),
     again: Option<Result<Register<Fused>, OpenFault<Fused>>>,
 ) {
-    let Some(Ok(register)) = again else {
-        panic!(rt; "no register is found");
+    let mut conn = match again {
+        Some(Ok(register)) => register.into_connection(),
+        Some(
+            Err(
+                OpenFault {
+                    fault: _fault,
+                    connection: _conn,
+                },
+            ),
+        ) => panic!(rt; "no register is found"),
+        None => panic!(rt; "the files can't be opened"),
     };
-    let mut conn = register.into_connection();
     let rows = rows_between(rt);
     let last = rows.last().expect(rt, "rows");
     assert_eq!(rt; all_rows(rt, &mut conn).as_slice(), last.as_slice());

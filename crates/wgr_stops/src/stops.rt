@@ -58,7 +58,7 @@ fn found(
     match open_again(rt.alloc(), files, options()) {
         Ok(Ok(register)) => register,
         Ok(Err(OpenFault { fault, connection })) => {
-            assert_eq!(rt; fault, RegisterFault::NotARegister);
+            assert_eq!(rt; fault, RegisterFault::NotARegister, "after {done} steps");
             assert_eq!(rt; done, 0);
             created(rt, connection)
         }
@@ -74,7 +74,7 @@ fn place_of(rt: &impl Abort, now: &[u8], done: usize, rows: &[Vec<u8>]) -> usize
             return at;
         }
     }
-    panic!(rt; "other rows, when {done} steps were done")
+    panic!(rt; "other rows, after {done} steps")
 }
 
 // Opens what a stop left when so many steps were done, and does the others.
