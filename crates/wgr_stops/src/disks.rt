@@ -1,9 +1,12 @@
 //! Registers on disks in memory.
-use sqlite::{Alter, Connection, FileStore, Options};
+use sqlite::{Connection, FileStore, Options};
 use sqlite_disk::{Disk, Files, Fuse, Memory};
 use std::alloc::AllocGlobal;
 use std::process::Abort;
 use wgr_register::{OpenFault, Register};
+
+/// Files in memory, of which each may fail from a call on.
+pub(crate) type Stored = FileStore<Fuse<Memory>>;
 
 /// A log is copied into its database as soon as it has four pages.
 pub(crate) fn options() -> Options {
@@ -13,36 +16,21 @@ pub(crate) fn options() -> Options {
 }
 
 /// A file of these bytes, which no stop loses.
-pub(crate) fn file_of(rt: &(impl Abort + AllocGlobal), bytes: &[u8]) -> Memory {
+pub(crate) fn file_of(rt: &(impl Abort + AllocGlobal), bytes: &[u8]) -> Fuse<Memory> {
     let mut file = Memory::new(rt.alloc());
     assert!(rt; file.may_be_used());
     file.write_at(0, bytes).expect(rt, "memory");
     assert!(rt; file.may_be_used());
     file.sync().expect(rt, "memory");
-    file
+    Fuse::new(file, u64::MAX)
 }
 
-/// The register that is made in the database.
-pub(crate) fn created<S: Alter + Drop>(rt: &impl Abort, conn: Connection<S>) -> Register<S> {
-    assert!(rt; conn.is_autocommit());
-    match Register::create(conn) {
-        Ok(register) => register,
-        Err(
-            OpenFault {
-                fault: _fault,
-                connection: _conn,
-            },
-        ) => panic!(rt; "no register is made"),
-    }
-}
-
-/// The register that the database holds.
-pub(crate) fn opened<S: Alter + Drop>(
-    rt: &(impl Abort + AllocGlobal),
-    conn: Connection<S>,
-) -> Register<S> {
-    assert!(rt; conn.is_autocommit());
-    match Register::open(rt.alloc(), conn) {
+/// The register, and no reason why there is none.
+pub(crate) fn found(
+    rt: &impl Abort,
+    opened: Result<Register<Stored>, OpenFault<Stored>>,
+) -> Register<Stored> {
+    match opened {
         Ok(register) => register,
         Err(
             OpenFault {
@@ -53,12 +41,35 @@ pub(crate) fn opened<S: Alter + Drop>(
     }
 }
 
+/// The register that is made in the database.
+pub(crate) fn created(rt: &impl Abort, conn: Connection<Stored>) -> Register<Stored> {
+    assert!(rt; conn.is_autocommit());
+    found(rt, Register::create(conn))
+}
+
+/// The register that the database holds.
+pub(crate) fn opened(
+    rt: &(impl Abort + AllocGlobal),
+    conn: Connection<Stored>,
+) -> Register<Stored> {
+    assert!(rt; conn.is_autocommit());
+    found(rt, Register::open(rt.alloc(), conn))
+}
+
+/// A new register in files that don't fail.
+pub(crate) fn new_register(rt: &(impl Abort + AllocGlobal)) -> Register<Stored> {
+    match fused(rt, u64::MAX, u64::MAX) {
+        Ok(register) => register,
+        Err(_) => panic!(rt; "no register is made"),
+    }
+}
+
 /// A new register in files, of which each fails after so many calls; the files, where it isn't made.
 pub(crate) fn fused(
     rt: &(impl Abort + AllocGlobal),
     log_calls: u64,
     db_calls: u64,
-) -> Result<Register<FileStore<Fuse<Memory>>>, Files<Fuse<Memory>>> {
+) -> Result<Register<Stored>, Files<Fuse<Memory>>> {
     let files = Files {
         log: Fuse::new(Memory::new(rt.alloc()), log_calls),
         db: Fuse::new(Memory::new(rt.alloc()), db_calls),
@@ -73,8 +84,8 @@ pub(crate) fn fused(
 
 fn made(
     rt: &impl Abort,
-    conn: Connection<FileStore<Fuse<Memory>>>,
-) -> Result<Register<FileStore<Fuse<Memory>>>, Files<Fuse<Memory>>> {
+    conn: Connection<Stored>,
+) -> Result<Register<Stored>, Files<Fuse<Memory>>> {
     assert!(rt; conn.is_autocommit());
     match Register::create(conn) {
         Ok(register) => Ok(register),

@@ -1,9 +1,9 @@
 //! A stop at each call on one of the files.
-use crate::disks::{created, file_of, fused, opened, options};
+use crate::disks::{Stored, created, file_of, fused, new_register, opened, options};
 use crate::rows::all_rows;
 use crate::script::{is_done, take_from};
-use crate::steps::{STEPS, is_reading};
-use sqlite::{Connection, FileStore};
+use crate::steps::{STEPS, Step, is_reading};
+use sqlite::Connection;
 use sqlite_disk::{Crash, Disk, Files, Fuse, Memory};
 use std::alloc::AllocGlobal;
 use std::process::Abort;
@@ -13,20 +13,33 @@ use wgr_reopen::open_again;
 /// The rows of a new register, and those after each step, of a register that is opened for each.
 pub(crate) fn rows_between(rt: &(impl Abort + AllocGlobal)) -> Vec<Vec<u8>> {
     let mut all = Vec::new(rt.alloc());
-    let in_memory = Connection::open_in_memory(rt.alloc()).expect(rt, "memory");
-    let mut conn = created(rt, in_memory).into_connection();
-    let mut rows = all_rows(rt, &mut conn);
+    let mut conn = new_register(rt).into_connection();
+    all.push(all_rows(rt, &mut conn)).expect(rt, "memory");
     for step in &STEPS {
-        let mut register = opened(rt, conn);
-        assert!(rt; is_done(rt, &mut register, step));
-        conn = register.into_connection();
-        let next = all_rows(rt, &mut conn);
-        assert_eq!(rt; next.as_slice() == rows.as_slice(), is_reading(step));
-        all.push(rows).expect(rt, "memory");
-        rows = next;
+        conn = stepped(rt, conn, step);
+        all.push(all_rows(rt, &mut conn)).expect(rt, "memory");
     }
-    all.push(rows).expect(rt, "memory");
+    check_changes(rt, &all);
     all
+}
+
+fn stepped(
+    rt: &(impl Abort + AllocGlobal),
+    conn: Connection<Stored>,
+    step: &Step,
+) -> Connection<Stored> {
+    let mut register = opened(rt, conn);
+    assert!(rt; is_done(rt, &mut register, step));
+    register.into_connection()
+}
+
+// Each step changes the rows, unless it only reads.
+fn check_changes(rt: &impl Abort, rows: &[Vec<u8>]) {
+    let pairs = rows.iter().zip(rows.iter().skip(1));
+    for (at, (step, (before, after))) in STEPS.iter().zip(pairs).enumerate() {
+        let is_same = before.as_slice() == after.as_slice();
+        assert_eq!(rt; is_same, is_reading(step), "step {at}");
+    }
 }
 
 // Does the steps in new files, of which each fails after so many calls. Gives how many were done, the
@@ -48,11 +61,11 @@ fn run(
 
 // The register in files that a stop left when so many steps were done. Where it wasn't made yet, the
 // files may have none, and one can be made.
-fn found(
+fn again(
     rt: &(impl Abort + AllocGlobal),
-    files: Files<Memory>,
+    files: Files<Fuse<Memory>>,
     done: usize,
-) -> Register<FileStore<Memory>> {
+) -> Register<Stored> {
     assert!(rt; files.log.may_be_used());
     assert!(rt; files.db.may_be_used());
     match open_again(rt.alloc(), files, options()) {
@@ -89,7 +102,7 @@ fn check_left(
         log: file_of(rt, log),
         db: file_of(rt, db),
     };
-    let mut conn = found(rt, files, done).into_connection();
+    let mut conn = again(rt, files, done).into_connection();
     let now = all_rows(rt, &mut conn);
     let place = place_of(rt, &now, done, rows);
     let mut register = opened(rt, conn);
@@ -110,9 +123,9 @@ fn check_stopped(
     let db = file_of(rt, files.db.inner().bytes());
     files.log.crash();
     files.db.crash();
-    for log in [log.bytes(), files.log.inner().bytes()] {
-        for db in [db.bytes(), files.db.inner().bytes()] {
-            check_left(rt, log, db, done, rows);
+    for log in [&log, &files.log] {
+        for db in [&db, &files.db] {
+            check_left(rt, log.inner().bytes(), db.inner().bytes(), done, rows);
         }
     }
 }
