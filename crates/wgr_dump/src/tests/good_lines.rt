@@ -300,3 +300,22 @@ fn the_last_newline_may_be_absent(rt: HostRuntime) {
         check_peers(&rt, &dump, &ROWS[..3]);
     }
 }
+
+/// The lengths at which the good dump, cut there, is one: behind a word that may end its line, and
+/// behind a newline. Line 1 may end in `o` or `of`, which are marks as `off` is, and line 3 in the `2`
+/// of `25`.
+const LENGTHS: [usize; 11] = [59, 60, 61, 62, 137, 138, 258, 259, 260, 391, 392];
+
+#[test]
+fn cuts_are_read_at_ends_of_words(rt: HostRuntime) {
+    let whole = GOOD.as_bytes();
+    assert_eq!(rt; whole.len(), 392);
+    for length in 0..=whole.len() {
+        let (cut, _) = whole.split_at(length);
+        assert_eq!(rt;
+            Dump::open(cut).is_ok(),
+            LENGTHS.contains(&length),
+            "{length}"
+        );
+    }
+}
