@@ -3,6 +3,7 @@
 import ipaddress
 import sqlite3
 import tempfile
+import time
 import unittest
 from contextlib import closing
 from pathlib import Path
@@ -150,12 +151,25 @@ class Large(unittest.TestCase):
     def compare(self, moment, rows, part):
         compare(self, self.database, moment, rows, part=part)
 
+    def seconds_of_two_requests(self):
+        """How long the first two requests to a service take."""
+        times, owner = [], request("GET", f"{OFFICE}/owner/{SERVER + 1}")
+        with Server(self.database, now=7) as server:
+            for _ in range(2):
+                began = time.monotonic()
+                server.send(owner)
+                times.append(time.monotonic() - began)
+        return times
+
     def test_4096_peers(self):
         crowd = Crowd()
         self.compare(7, crowd.session(), "one program")
         self.compare(7, crowd.readings(), "opened again")
         with Server(self.database, now=7) as server, self.subTest("over a socket"):
             self.assertTrue(server.send(request("GET", f"{OFFICE}/peers")) == crowd.listed())
+        with self.subTest("a network that was asked of stays in memory"):
+            first, second = (min(times) for times in zip(*(self.seconds_of_two_requests() for _ in range(4))))
+            self.assertLess(second, first / 3)
         # A number of a peer stands in the last 20 bits of its row's id.
         self.query("UPDATE peer SET until = 100 WHERE id & 1048575 BETWEEN 1001 AND 3000")
         self.compare(100, crowd.session_of_ends(), "leases are over")
