@@ -1,5 +1,6 @@
 """dist/wgr-end-token: tokens whose text is lost or leaked are ended, and nothing else is changed."""
 
+import fcntl
 import hashlib
 import os
 import re
@@ -165,6 +166,16 @@ class EndToken(Shipped):
         ]:
             with self.subTest(words):
                 self.assertEqual(self.end(*words), Left(1, b"", f"wgr-end-token: {told}\n".encode()))
+
+    def test_another_program_that_reads_it(self):
+        """It holds the shared lock of SQLite, and came behind wgr's look at the register."""
+        self.stand_in("wgr", "exit 0")
+        names = self.names(".")
+        with open(self.database, "rb") as file:
+            fcntl.lockf(file, fcntl.LOCK_SH, 510, 0x4000_0002)
+            told = f"wgr-end-token: another program has {self.database} open\n"
+            self.assertEqual(self.end("--tenant", "acme"), Left(1, b"", told.encode()))
+        self.assert_untouched(self.before, names)
 
     def test_the_list(self):
         lines = sorted((tenant, DIGESTS[token]) for tenant, tokens in TOKENS.items() for token in tokens)
