@@ -81,6 +81,12 @@ class Shipped(unittest.TestCase):
         """All that is there, hidden files too."""
         return sorted(path.name for path in (self.folder / folder).iterdir()) if (self.folder / folder).exists() else []
 
+    def assert_untouched(self, before, names):
+        """The register is the same file, byte for byte, and these are all names beside it."""
+        # The difference of two such files would take minutes to print.
+        self.assertTrue(Path(self.database).read_bytes() == before, "the register is changed")
+        self.assertEqual(self.names("."), names)
+
 
 def rows_of(path, sql):
     """What Python's SQLite reads of a file that nobody changes."""

@@ -288,6 +288,12 @@ class Alerts(unittest.TestCase):
         names = set(re.findall(r"\bwgr_\w+", text))
         self.assertEqual({name for name in names if not re.search(rf"\b{name}\b", written)}, set())
 
+    def test_each_alert_is_in_the_page(self):
+        """docs/OPERATIONS.md says what to do at it."""
+        table = (DIST.parent / "docs/OPERATIONS.md").read_text().partition("\n## What is wrong, and what to do\n")[2]
+        names = re.findall(r"alert: (\w+)", (DIST / "prometheus-alerts.yml").read_text())
+        self.assertEqual([name for name in names if f"`{name}`" not in table], [])
+
     @needs("promtool")
     def test_each_alert_fires(self):
         names = set(re.findall(r"alert: (\w+)", (DIST / "prometheus-alerts.yml").read_text()))

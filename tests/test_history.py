@@ -262,11 +262,11 @@ class Changes(Shipped):
         for name, words, told in rows:
             with self.subTest(name):
                 self.assertEqual(self.change(*words), Left(1, b"", f"wgr-change-network: {told}\n".encode()))
-                self.assertEqual((Path(self.database).read_bytes(), self.names(".")), (before, names))
+                self.assert_untouched(before, names)
         for words in [["acme", "office"], ["acme", "office", "--port", "x"], ["acme", "office", "--key", "*"]]:
             with self.subTest(words):
                 self.assertEqual(self.change(*words).status, 2)
-                self.assertEqual((Path(self.database).read_bytes(), self.names(".")), (before, names))
+                self.assert_untouched(before, names)
 
     def test_a_register_that_is_served(self):
         self.serve()

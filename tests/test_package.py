@@ -18,7 +18,7 @@ DIST = TOP / "dist"
 RELEASE = DIST / "release/RELEASE"
 DOCUMENTS = "usr/share/doc/wgr"
 
-TOOLS = [f"wgr-{name}" for name in ["backup", "change-network", "client", "figures", "free-pool", "history", "probe"]]
+TOOLS = [f"wgr-{name}" for name in ["backup", "change-network", "client", "end-token", "figures", "free-pool", "history", "probe"]]
 TOOL_UNITS = ["wgr-backup.service", "wgr-backup.timer", "wgr-figures.service", "wgr-probe.service", "wgr-probe.timer"]
 
 # Each file of the package and the file of the repository that it is, the program and what is made of others apart.
@@ -35,7 +35,7 @@ COPIED = {
     **{f"usr/lib/wgr/{name}": DIST / name for name in ["wgr-listens", "wgr-net", "wgr-sync"]},
     **{f"{DOCUMENTS}/docs/{page.name}": page for page in (TOP / "docs").iterdir()},
     f"{DOCUMENTS}/examples/prometheus-alerts.yml": DIST / "prometheus-alerts.yml",
-    "usr/share/wgr/wgr_copies.py": DIST / "wgr_copies.py",
+    **{f"usr/share/wgr/{name}": DIST / name for name in ["wgr_changes.py", "wgr_copies.py"]},
     "usr/share/man/man8/wgr-tools.8.gz": DIST / "wgr-tools.8",
     # The scripts, and their man page under the name of each.
     **{f"usr/bin/{name}": DIST / name for name in TOOLS},

@@ -1,4 +1,4 @@
-"""docs/OPERATIONS.md on copies: its commands, from a backup to a second host, and what `VACUUM` leaves."""
+"""docs/OPERATIONS.md on copies and tokens: its commands, from a backup to a second host, and what `VACUUM` leaves."""
 
 import json
 import os
@@ -9,7 +9,7 @@ import unittest
 from pathlib import Path
 
 from program import Left
-from serving import PEERS, Server, done, free_port, key, peer, request
+from serving import PEERS, Server, done, free_port, key, peer, refused, request
 from shipped import DIST, SYSTEMCTL, Shipped, rows_of
 from test_batch import batch
 from tools import needs
@@ -159,6 +159,19 @@ class Page(Shipped):
         with self.subTest("the register as it was"):
             (kept,) = (self.folder / "first/lib").glob("register.db.until-*")
             self.assertEqual(rows_of(kept, "SELECT host, capacity FROM network"), [("vpn.example.net", 4096)])
+
+    def test_a_new_customer(self):
+        """The page's tenant is another here, since the register has `acme` already."""
+        pairs = [(re.sub(r"\bacme\b", "bolt", command), printed) for command, printed in commands("A customer gets a token")]
+        self.follow([("systemctl start wgr", ""), *pairs])
+        token = (self.folder / "bolt.token").read_text().strip()
+        self.assertEqual(self.ask("GET", "/networks", None, token), done({"networks": []}))
+
+    def test_a_lost_token(self):
+        self.follow([("systemctl start wgr", "")])
+        self.assertIn(b" 200 OK", self.ask("GET", "/networks"))
+        self.follow(commands("A lost or leaked token"))
+        self.assertEqual(self.ask("GET", "/networks"), refused(401, "unknown_token"))
 
     @needs("sqlite3")
     def test_vacuum(self):

@@ -12,7 +12,7 @@ from pathlib import Path
 from shipped import DIST
 from tools import needs
 
-PYTHON = ["change-network", "client", "figures", "free-pool", "history", "probe"]
+PYTHON = ["change-network", "client", "end-token", "figures", "free-pool", "history", "probe"]
 
 UNITS = ["wgr-backup.service", "wgr-backup.timer", "wgr-figures.service", "wgr-probe.service", "wgr-probe.timer"]
 

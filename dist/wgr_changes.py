@@ -1,0 +1,84 @@
+"""What the tools that change a register, while it isn't served, have in common.
+
+The change is made on a copy. wgr opens the copy and tests all its rows, and then the copy takes the register's
+place; the register as it was is kept beside it. Where wgr refuses the copy, nothing is changed.
+"""
+
+import fcntl
+import os
+import shutil
+import sqlite3
+import subprocess
+import tempfile
+from contextlib import closing
+from datetime import datetime, timezone
+from pathlib import Path
+
+from wgr_copies import fail, has_log
+
+# The bytes of a database's file by whose locks SQLite, and wgr, keep others out (its file format has them).
+LOCK_START, LOCK_LENGTH = 0x4000_0000, 512
+
+
+def judge(path):
+    """Lets wgr open the register, test all rows and put the log into the file; gives its message, or nothing."""
+    try:
+        told = subprocess.run(["wgr", "batch", path, "--now", "0", "/dev/null"], stdout=subprocess.PIPE, stderr=subprocess.PIPE, text=True)
+    except FileNotFoundError:
+        fail("wgr isn't installed")
+    return None if told.returncode == 0 else told.stderr.strip() or f"status {told.returncode}"
+
+
+def lock(file, register, kind):
+    try:
+        fcntl.lockf(file, kind | fcntl.LOCK_NB, LOCK_LENGTH, LOCK_START)
+    except OSError:
+        fail(f"another program has {register} open")
+
+
+def copy_to(path, file):
+    file.seek(0)
+    with open(path, "wb") as made:
+        shutil.copyfileobj(file, made)
+
+
+def put_in_place(file, copy, register):
+    """The register as it was gets another name, a copy of the same bytes, and the changed copy gets its name."""
+    now = datetime.now(timezone.utc)
+    kept = register.with_name(f"{register.name}.until-{now:%Y%m%dT%H%M%S}.{now.microsecond // 1000:03}Z")
+    copy_to(kept, file)
+    for path in [copy, kept]:
+        own = os.fstat(file.fileno())
+        os.chown(path, own.st_uid, own.st_gid)
+        os.chmod(path, own.st_mode & 0o777)
+        with open(path, "rb") as made:
+            os.fsync(made.fileno())
+    os.rename(copy, register)
+    folder = os.open(register.parent, os.O_RDONLY)
+    os.fsync(folder)
+    os.close(folder)
+    return kept
+
+
+def change_register(register, edit):
+    """Lets `edit` change the rows of a copy of the register, which takes its place, and says how the old one is called."""
+    os.umask(0o077)
+    refused = judge(register)
+    if refused:
+        fail(f"{register} can't be opened: {refused}")
+    # From here until the copy has its place, nobody else opens the register. In this process the file is opened
+    # this once, since a lock ends where any file of the process on it is closed.
+    with open(register, "r+b") as file, tempfile.TemporaryDirectory(dir=register.parent, prefix=".new.") as folder:
+        lock(file, register, fcntl.LOCK_EX)
+        if has_log(register):
+            fail(f"another program has just changed {register}: try again")
+        copy = Path(folder) / "register.db"
+        copy_to(copy, file)
+        with closing(sqlite3.connect(copy)) as link:
+            edit(link)
+            link.commit()
+            link.execute("PRAGMA wal_checkpoint(TRUNCATE)")
+        refused = judge(copy)
+        if refused:
+            fail(f"wgr refuses the change: {refused}")
+        print(f"done; {put_in_place(file, copy, register)} is the register as it was")
