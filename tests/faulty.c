@@ -5,7 +5,7 @@
    It takes no header, so that a compiler alone builds it; the numbers are those of Linux on x86-64. */
 typedef unsigned long size_t;
 
-enum { SYS_write = 1, SYS_close = 3, SYS_mmap = 9, SYS_pwrite64 = 18, SYS_getpid = 39, SYS_sendto = 44 };
+enum { SYS_write = 1, SYS_close = 3, SYS_mmap = 9, SYS_pread64 = 17, SYS_pwrite64 = 18, SYS_getpid = 39, SYS_sendto = 44 };
 enum { SYS_recvfrom = 45, SYS_kill = 62, SYS_ftruncate = 77, SYS_clock_gettime = 228, SYS_openat = 257 };
 enum { O_WRONLY = 1, O_RDWR = 2, O_CREAT = 0100, O_APPEND = 02000, O_CLOEXEC = 02000000, HERE = -100 };
 enum { EIO = 5, ENOMEM = 12, EINVAL = 22, ENOSPC = 28, EPIPE = 32, ECONNRESET = 104, SIGKILL = 9 };
@@ -34,6 +34,8 @@ struct state {
     volatile long send, sends, send_most, send_zero;
     /* Where it isn't 0, the clock fails, or gives a time before 1970. */
     volatile long clock;
+    /* The read of a file of this number fails, and each behind it; the reads seen. */
+    volatile long file_read, file_reads;
 };
 
 enum { KILL = 1, TORN, ONCE, ON, SHORT, FULL };
@@ -117,6 +119,17 @@ long pwrite(int file, const void *bytes, size_t length, long place) {
     if (how == TORN) stop();
     if (done > 0) note('w', file, place, bytes, done);
     return done;
+}
+
+long pread(int file, void *bytes, size_t length, long place) {
+    if (state && state->armed) {
+        long now = state->file_reads++;
+        if (state->file_read >= 0 && now >= state->file_read) {
+            errno = EIO;
+            return -1;
+        }
+    }
+    return syscall(SYS_pread64, file, bytes, length, place);
 }
 
 int ftruncate(int file, long length) {
