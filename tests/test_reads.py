@@ -1,7 +1,8 @@
 """Each read of the database's files fails in turn, and so do all behind it.
 
 What was asked is then done, or `store` is told, and not that memory is wanting or that the rows aren't good;
-and all rows are as before. Behind it the same is done.
+and all rows are as before. Behind it the same is done. Of a small register no page is read again once it is
+open, so the rows of a large one are read too.
 """
 
 import shutil
@@ -11,12 +12,18 @@ from pathlib import Path
 
 from faulty import Faulty, needs_faults, scratch
 from program import Left
-from register_file import DONE, failed
+from register_file import DONE, failed, network_row, put
+from serving import make_register
 from test_growths import ADD, FOLLOWING, LOOK, MORE, NOW, ORDERS, UNAVAILABLE, files, make_base, rows
 
 WORDS = {name: ORDERS[name][:2] for name in ["a tenant", "a token", "an end of a token", "a network", "an end of a full network"]}
 # Requests, each alone: a reading, a change, and one that no register is asked.
 REQUESTS = {"a list": LOOK, "a new peer": ADD, "the networks": FOLLOWING[1], "a token of nobody": FOLLOWING[1].replace(b"abc", b"no")}
+
+
+def pool(place):
+    """One of the pools of four addresses in 10.0.0.0/8, of which none is the first network's."""
+    return f"10.{16 + (place >> 14)}.{place >> 6 & 255}.{place % 64 * 4}/30"
 
 
 class Reads(unittest.TestCase):
@@ -70,3 +77,18 @@ class Reads(unittest.TestCase):
                     wrong, told = outcome.result()
                     self.assertEqual(wrong, [])
                     self.assertGreater(told, 0)
+
+    @needs_faults()
+    def test_reads_of_rows(self):
+        with scratch() as folder, Faulty() as faulty:
+            base = make_register(folder)
+            # More pages than are kept in memory.
+            rows = [network_row(place, 1, f"n{place}", pool(place), f"{240 * 'h'}{place}", 1) for place in range(2, 16_300)]
+            put(base, "network", rows)
+            self.assertEqual(faulty.run(["tenant-add", self.fresh(faulty, base), "cato"]), DONE)
+            total, pages = faulty.file_reads, Path(base).stat().st_size // 4_096
+            self.assertGreater(total, 3 * pages)
+            for eighths in [5, 6, 7]:
+                with self.subTest(eighths=eighths):
+                    left = faulty.run(["tenant-add", self.fresh(faulty, base), "cato"], file_read=total * eighths // 8)
+                    self.assertEqual(left, failed("store"))
