@@ -6,8 +6,10 @@ open, so the rows of a large one are read too.
 """
 
 import shutil
+import sqlite3
 import unittest
 from concurrent.futures import ThreadPoolExecutor
+from contextlib import closing
 from pathlib import Path
 
 from faulty import Faulty, needs_faults, scratch
@@ -86,9 +88,16 @@ class Reads(unittest.TestCase):
             rows = [network_row(place, 1, f"n{place}", pool(place), f"{240 * 'h'}{place}", 1) for place in range(2, 16_300)]
             put(base, "network", rows)
             self.assertEqual(faulty.run(["tenant-add", self.fresh(faulty, base), "cato"]), DONE)
-            total, pages = faulty.file_reads, Path(base).stat().st_size // 4_096
-            self.assertGreater(total, 3 * pages)
-            for eighths in [5, 6, 7]:
-                with self.subTest(eighths=eighths):
-                    left = faulty.run(["tenant-add", self.fresh(faulty, base), "cato"], file_read=total * eighths // 8)
+            total = faulty.file_reads
+            # Of a register of another version no row is read.
+            path = self.fresh(faulty, base)
+            with closing(sqlite3.connect(path)) as file, file:
+                file.execute("UPDATE meta SET version = 3")
+            self.assertEqual(faulty.run(["tenant-add", path, "cato"]), failed("not_a_register"))
+            opened = faulty.file_reads
+            self.assertGreater(total, opened + 100)
+            for quarters in range(4):
+                with self.subTest(quarters=quarters):
+                    read = opened + 1 + (total - opened) * quarters // 4
+                    left = faulty.run(["tenant-add", self.fresh(faulty, base), "cato"], file_read=read)
                     self.assertEqual(left, failed("store"))
