@@ -5,10 +5,10 @@
    It takes no header, so that a compiler alone builds it; the numbers are those of Linux on x86-64. */
 typedef unsigned long size_t;
 
-enum { SYS_write = 1, SYS_close = 3, SYS_mmap = 9, SYS_pwrite64 = 18, SYS_getpid = 39, SYS_sendto = 44 };
-enum { SYS_recvfrom = 45, SYS_kill = 62, SYS_ftruncate = 77, SYS_openat = 257 };
+enum { SYS_write = 1, SYS_close = 3, SYS_mmap = 9, SYS_pread64 = 17, SYS_pwrite64 = 18, SYS_getpid = 39, SYS_sendto = 44 };
+enum { SYS_recvfrom = 45, SYS_kill = 62, SYS_ftruncate = 77, SYS_clock_gettime = 228, SYS_openat = 257 };
 enum { O_WRONLY = 1, O_RDWR = 2, O_CREAT = 0100, O_APPEND = 02000, O_CLOEXEC = 02000000, HERE = -100 };
-enum { EIO = 5, ENOMEM = 12, ENOSPC = 28, EPIPE = 32, ECONNRESET = 104, SIGKILL = 9 };
+enum { EIO = 5, ENOMEM = 12, EINVAL = 22, ENOSPC = 28, EPIPE = 32, ECONNRESET = 104, SIGKILL = 9 };
 enum { PROT_READ_WRITE = 3, MAP_SHARED = 1, STDOUT = 1 };
 
 long syscall(long, ...);
@@ -32,9 +32,14 @@ struct state {
     volatile long receive, receives, receive_most;
     /* The same of the writes to a socket; the one that fails takes nothing where `send_zero` isn't 0. */
     volatile long send, sends, send_most, send_zero;
+    /* Where it isn't 0, the clock fails, or gives a time before 1970. */
+    volatile long clock;
+    /* The read of a file of this number fails, and each behind it; the reads seen. */
+    volatile long file_read, file_reads;
 };
 
 enum { KILL = 1, TORN, ONCE, ON, SHORT, FULL };
+enum { FAILS = 1, EARLY };
 
 static struct state *state;
 static int record = -1;
@@ -116,6 +121,17 @@ long pwrite(int file, const void *bytes, size_t length, long place) {
     return done;
 }
 
+long pread(int file, void *bytes, size_t length, long place) {
+    if (state && state->armed) {
+        long now = state->file_reads++;
+        if (state->file_read >= 0 && now >= state->file_read) {
+            errno = EIO;
+            return -1;
+        }
+    }
+    return syscall(SYS_pread64, file, bytes, length, place);
+}
+
 int ftruncate(int file, long length) {
     int how = meets();
     if (fails(how, EIO)) return -1;
@@ -174,4 +190,20 @@ long send(int link, const void *bytes, size_t length, int flags) {
     long done = syscall(SYS_sendto, link, bytes, length, flags, 0L, 0L);
     if (done > 0) note('a', link, 0, bytes, done);
     return done;
+}
+
+/* The clock */
+
+struct time {
+    long seconds, nanoseconds;
+};
+
+int clock_gettime(int clock, struct time *time) {
+    if (state && state->armed && state->clock == FAILS) {
+        errno = EINVAL;
+        return -1;
+    }
+    if (syscall(SYS_clock_gettime, clock, time)) return -1;
+    if (state && state->armed && state->clock == EARLY) time->seconds = -7;
+    return 0;
 }

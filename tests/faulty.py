@@ -1,4 +1,5 @@
-"""Runs of the program in which a call of the C library fails: one that takes memory, writes a file or uses a socket.
+"""Runs of the program in which a call of the C library fails: one that takes memory, reads or writes a
+file, uses a socket or reads the clock.
 
 `faulty.c` is compiled and preloaded into the program; what it shall do, and what it has seen, is in a file
 that both map. Where no C compiler is there, the tests that want it are skipped.
@@ -23,14 +24,17 @@ from serving import Server
 COMPILERS = ["cc", "gcc", "clang", "/opt/rattle/toolchain/bin/clang"]
 FIELDS = [
     *["armed", "growth", "growths", "refused", "lasting", "call", "calls", "met", "how"],
-    *["receive", "receives", "receive_most", "send", "sends", "send_most", "send_zero"],
+    *["receive", "receives", "receive_most", "send", "sends", "send_most", "send_zero", "clock"],
+    *["file_read", "file_reads"],
 ]
 # Numbers of a call of which none is that one.
-NONE = {"growth": -1, "call": -1, "receive": -1, "send": -1}
+NONE = {"growth": -1, "call": -1, "receive": -1, "send": -1, "file_read": -1}
 # What the call of that number meets: the program is killed before it; it is killed once half is written;
 # the call fails; it fails, and so does each one after it; half is written, and the call tells so; half is
 # written, and each one after it fails.
 KILL, TORN, ONCE, ON, SHORT, FULL = range(1, 7)
+# What the clock does: it can't be read, or it gives a time before 1970.
+FAILS, EARLY = 1, 2
 KILLED = -signal.SIGKILL
 # Whether each number is tried, which takes minutes.
 WHOLE = os.environ.get("WGR_ALL") == "1"

@@ -9,6 +9,8 @@ import unittest
 from concurrent.futures import ThreadPoolExecutor
 from pathlib import Path
 
+from faulty import EARLY, FAILS, Faulty, needs_faults
+from program import Left
 from serving import LIST, NOBODY, PEERS, TOKEN, Server, done, key, make_register, peer, read_all, refused, reply, request
 
 HEAD = f"GET {PEERS} HTTP/1.1\r\nAuthorization: Bearer {TOKEN}\r\n".encode()
@@ -158,3 +160,30 @@ class Clock(unittest.TestCase):
                 for what, given, due in rows:
                     with self.subTest(name, what=what):
                         self.assertEqual(given, due)
+
+
+class Broken(unittest.TestCase):
+    """A clock that gives no moment: the connection fails, is reported and counts, and the next one is answered."""
+
+    def setUp(self):
+        folder = tempfile.TemporaryDirectory()
+        self.addCleanup(folder.cleanup)
+        self.database = make_register(folder.name)
+
+    @needs_faults()
+    def test_a_clock_that_gives_no_moment(self):
+        with Faulty() as faulty, faulty.serve(self.database, count=4) as server:
+            for name, clock, due in [("fails", FAILS, b""), ("before 1970", EARLY, b""), ("fails again", FAILS, b""), ("works", 0, NOBODY)]:
+                with self.subTest(name):
+                    faulty.arm(clock=clock)
+                    self.assertEqual(server.send(LIST), due)
+            self.assertEqual(server.ended(), Left(0, b"", 3 * b"wgr: connection\n"))
+
+    @needs_faults()
+    def test_a_moment_that_is_given(self):
+        with Faulty() as faulty, faulty.serve(self.database, count=2, now=7) as server:
+            for clock in [FAILS, EARLY]:
+                with self.subTest(clock):
+                    faulty.arm(clock=clock)
+                    self.assertEqual(server.send(LIST), NOBODY)
+            self.assertEqual(server.ended(), Left(0))

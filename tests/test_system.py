@@ -8,8 +8,10 @@ import unittest
 from contextlib import closing
 from pathlib import Path
 
+from faulty import Faulty, needs_faults, recorded
 from program import Left, run, without_room
 from register_file import ACME, DONE, NETWORK, Files, failed
+from register_file import refused as refused_order
 from serving import LIST, NOBODY, PEERS, Server, Serving, done, has_ipv6, key, make_register, peer, refused, request
 from test_batch import batch
 
@@ -151,3 +153,48 @@ class Ends(Files):
     def test_readings_leave_all_rows(self):
         self.assertEqual(batch(self.db, 7, [LIST, b""]), Left(0, NOBODY + refused(400, "truncated")))
         self.assertEqual(self.alone(), self.before)
+
+
+def opened_in(record):
+    """The files that a recorded run opened."""
+    return {path.decode() for kind, _, _, path in recorded(record) if kind == "o"}
+
+
+class Opened(Files):
+    """Each word opens the database's file, its log and their folder, and the files that it names, and no other."""
+
+    def opened(self, faulty, words, text=b"", left=DONE):
+        record = self.path("record")
+        self.assertEqual(faulty.run(words, text, record=record), left)
+        found = opened_in(record)
+        os.unlink(record)
+        return found
+
+    @needs_faults()
+    def test_files_that_are_named(self):
+        files = {self.db, f"{self.db}-wal", str(Path(self.db).parent)}
+        asked = [self.path("first"), self.path("second")]
+        for path in asked:
+            Path(path).write_bytes(LIST)
+        rows = [
+            ("init", ["init", self.db], b"", DONE),
+            ("an order", ["tenant-add", self.db, "acme"], b"", DONE),
+            ("an order with a token", ["token-grant", self.db, "acme"], b"abc", DONE),
+            ("an order that is refused", ["tenant-add", self.db, "acme"], b"", refused_order("name_held")),
+            ("requests", ["batch", self.db, "--now", "7", *asked], b"", Left(0, 2 * refused(404, "no_such_network"))),
+        ]
+        with Faulty() as faulty:
+            for name, words, text, left in rows:
+                with self.subTest(name):
+                    self.assertEqual(self.opened(faulty, words, text, left), files | {*asked} if name == "requests" else files)
+            with self.subTest("no register"):
+                self.assertEqual(self.opened(faulty, ["plan", "10.8.0.0/24"], b"", Left(0)), set())
+            with self.subTest("connections"):
+                server, record = faulty.serve(self.db, count=2, now=7), self.path("record")
+                server.environment = server.environment | {"WGR_RECORD": record}
+                faulty.arm()
+                with server:
+                    for message in [LIST, b"x"]:
+                        server.send(message)
+                    self.assertEqual(server.ended(), Left(0))
+                self.assertEqual(opened_in(record), files)
