@@ -70,7 +70,7 @@ def run(words, text=b"", folder=None):
 
 
 def run_batch(program, database, now, requests, folder):
-    """What `batch` prints for these requests, which stand in files of this folder, and its time."""
+    """What `batch` prints for these requests, which are in files of this folder, and its time."""
     # Short names, since the words of a program have to fit into some 2 MB.
     names = [str(place) for place in range(len(requests))]
     for name, request in zip(names, requests):

@@ -11,7 +11,7 @@ from pathlib import Path
 POOLS = ip_network("10.0.0.0/12")
 ROUTES = int(ip_address("10.16.0.0"))
 ROUTE_LENGTH = 24
-MAKING = Path(__file__).resolve().parent.parent / "crates/wgr_store/src/making.rt"
+MAKING = Path(__file__).resolve().parent.parent / "crates/wgr_schema/src/making.rt"
 
 CAPACITY = 4096
 PORT = 51820

@@ -30,7 +30,7 @@ FIELDS = [
 # Numbers of a call of which none is that one.
 NONE = {"growth": -1, "call": -1, "receive": -1, "send": -1, "file_read": -1}
 # What the call of that number meets: the program is killed before it; it is killed once half is written;
-# the call fails; it fails, and so does each one after it; half is written, and the call tells so; half is
+# the call fails; it fails, and so does each one after it; half is written, and the call says so; half is
 # written, and each one after it fails.
 KILL, TORN, ONCE, ON, SHORT, FULL = range(1, 7)
 # What the clock does: it can't be read, or it gives a time before 1970.
@@ -125,7 +125,7 @@ class Faulty:
 
 
 def recorded(path):
-    """What a run wrote: kind, number of the open file, place, bytes. `o` opens, `w` writes, `t` cuts, `s` syncs, `a` tells."""
+    """What a run wrote: kind, number of the open file, place, bytes. `o` opens, `w` writes, `t` cuts, `s` syncs, `a` prints or sends."""
     text, place, found = Path(path).read_bytes(), 0, []
     while place < len(text):
         kind, file, where, length = struct.unpack_from("4q", text, place)

@@ -54,6 +54,8 @@ def needs_systemd(test):
 class System:
     """One such systemd, from `start` to `stop`: `units` and `scripts` are files of dist/, `drop_ins` texts by unit."""
 
+    text = BEGIN
+
     def __init__(self, folder, units, scripts=("wgr-listens",), drop_ins=None):
         self.folder = Path(folder)
         self.units, self.begin = self.folder / "units", self.folder / "begin"
@@ -77,7 +79,7 @@ class System:
         joined = ["bash", "-c", 'echo $$ > "$0/cgroup.procs"; exec "$@"', str(self.group), *APART]
         with self.begin.open("w") as told:
             self.outer = subprocess.Popen(
-                [*joined, "bash", "-c", BEGIN, "bash", str(self.folder), program.path], stdin=subprocess.DEVNULL, stdout=told, stderr=told
+                [*joined, "bash", "-c", self.text, "bash", str(self.folder), program.path], stdin=subprocess.DEVNULL, stdout=told, stderr=told
             )
         end = time.monotonic() + program.LIMIT
         while not self.is_up():

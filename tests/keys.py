@@ -12,5 +12,5 @@ K0, K1, K2, K3 = (key_text(bytes([byte]) * 32) for byte in range(4))
 
 
 def numbered_keys(count):
-    """Keys that begin with a number of 4 bytes, from 1 on, and have zeros behind it."""
+    """Keys that begin with a number of 4 bytes, from 1 on, and then zeros."""
     return [key_text(number.to_bytes(4, "big") + bytes(28)) for number in range(1, count + 1)]

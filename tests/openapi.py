@@ -25,7 +25,7 @@ GENERAL = {
 
 
 def follow(value):
-    """What a reference stands for."""
+    """What a reference refers to."""
     while "$ref" in value:
         found = PAGE
         for step in value["$ref"].removeprefix("#/").split("/"):

@@ -30,13 +30,14 @@ case "$1 $2 $3" in
     'show --property MainPID') echo "$main" ;;
     'show --property FreezerState') if is_stopped; then echo frozen; else echo running; fi ;;
     'start wgr '* | 'stop wgr '*) source "$ROOM/$1" ;;
+    'enable --now wgr-http.socket') source "$ROOM/start" ;;
     *) exit 1 ;;
 esac
 """
 
 
 class Shipped(unittest.TestCase):
-    """A folder with a register, and with commands that stand in for those of the system."""
+    """A folder with a register, and with commands in place of those of the system."""
 
     maxDiff = None
 

@@ -1,4 +1,4 @@
-"""`wgr batch`: requests from files; and that a tenant can't tell others' doings from their absence."""
+"""`wgr batch`: requests from files; and that no tenant sees what others do."""
 
 import os
 import sqlite3
@@ -40,7 +40,7 @@ def batch(database, now, requests, prepare=None):
 
 
 def replies(text):
-    """The replies that stand one after the other in a text."""
+    """The replies of a text, which follow one another."""
     found = []
     while text:
         head, _, rest = text.partition(b"\r\n\r\n")
@@ -212,7 +212,7 @@ class Batch(unittest.TestCase):
         self.assertEqual(left, Left(0, done({"added": [1], "known": 1}) + done({"peers": [taken]})))
 
     def test_a_log_that_takes_nothing(self):
-        """A change that can't be written is answered Unavailable and leaves the rows; the status tells of it."""
+        """A change that can't be written is answered Unavailable and leaves the rows; the status shows it."""
         listed, none = request("GET", PEERS), done({"peers": []})
         asked = [listed, request("POST", PEERS, {"key": key(1)}), listed]
         left = batch(self.database, 7, asked, prepare=without_room)

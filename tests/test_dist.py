@@ -21,8 +21,12 @@ class Files(unittest.TestCase):
             self.assertIn(word, re.sub(rb".\x08", b"", shown))
 
     def test_the_notice(self):
-        uses = dict(line.split(":") for line in (DIST.parent / "crates.txt").read_text().splitlines())
-        crates = {name for crate in ["wgr_prog", *uses["wgr_prog"].split()] for name in uses.get(crate, "").split()} - uses.keys()
+        lines = (DIST.parent / "crates.txt").read_text().splitlines()
+        uses = dict(line.split(":") for line in lines if not line.startswith("#"))
+        used = ["wgr_prog"]
+        for crate in used:
+            used += [name for name in uses.get(crate, "").split() if name not in used]
+        crates = set(used) - uses.keys()
         notice = (DIST.parent / "NOTICE").read_text()
         named = re.findall(r"(?m)^(?:Files:)? rattle/(\w+)/\*$", notice)
         self.assertEqual(len(named), len(set(named)))

@@ -129,7 +129,7 @@ class EndToken(Shipped):
             with self.subTest(name):
                 left = self.end(*words)
                 self.assertEqual((left.status, left.out), (status, b""))
-                # What is no command line is told behind the words that would be one.
+                # What is no command line is printed after the words that would be one.
                 begins = "wgr-end-token: " if status == 1 else "usage: "
                 self.assertTrue(left.err.decode().startswith(begins), left.err)
                 self.assertTrue(left.err.decode().endswith(f": {told}\n"), left.err)

@@ -1,4 +1,4 @@
-"""What stands before the service, nginx or HAProxy by the files of dist/: limits, refusals, the log, and that no body is
+"""What is in front of the service, nginx or HAProxy by the files of dist/: limits, refusals, the log, and that no body is
 written to the disk."""
 
 import hashlib

@@ -101,7 +101,7 @@ ADD, FILE = ASKED["a new peer"], ASKED["the server's file"]
 MORE = {**OFFICE, "pool": "10.10.0.0/24", "port": "51822"}
 HELD = ("network-add", "acme", "more", *options(port="51823", pool="10.8.0.0/16"))
 
-# Orders: the words behind the register's path, the text on standard input, and what is told with ample memory.
+# Orders: the words behind the register's path, the text on standard input, and what is printed with ample memory.
 ORDERS = {
     "a tenant": (["tenant-add", "cato"], b"", DONE),
     "a tenant that is there": (["tenant-add", "acme"], b"", refused_order("name_held")),
@@ -146,7 +146,7 @@ class Run:
         self.known = {}
 
     def leaves(self, faulty, asked=None, **wanted):
-        """What the run tells, and what those that follow tell and leave."""
+        """What the run prints, and what those that follow print and leave."""
         folder = faulty.folder.name
         database = f"{folder}/run.db"
         for name in [database, f"{database}-wal"]:
@@ -164,7 +164,7 @@ class Run:
         return left, (again, follows, rows(database)), met
 
     def due(self, faulty, left):
-        """What is due behind what the run told, by runs with ample memory; nothing where it may not tell that."""
+        """What should follow what the run printed, by runs with ample memory; nothing if it may not print that."""
         if left not in self.known:
             self.known[left] = self.leaves(faulty, [])[1] if left == NO_MEMORY else self.without_some(faulty, left)
         return self.known[left]
@@ -182,7 +182,7 @@ class Run:
         return behind if kept == [reply for _, reply in done] else None
 
     def sweep(self, script):
-        """What is told with ample memory, the growths at which something else came, and how many were refused."""
+        """What is printed with ample memory, the growths at which something else came, and how many were refused."""
         wrong, count = [], 0
         with Faulty() as faulty:
             ample, behind, (total, _) = self.leaves(faulty)

@@ -35,7 +35,7 @@ def network(name, pool, endpoint, capacity=4096, server=SERVER_KEY):
     return {"tenant": "acme", "network": name, "pool": pool, "endpoint": endpoint, "server": server, "capacity": capacity}
 
 
-# A day: by name, what is done between two copies, and the lines that tell it.
+# A day: by name, what is done between two copies, and the lines that say so.
 DAY = [
     ("nothing", [], []),
     ("a peer", [add(1, label="laptop", keepalive=25)], [{"change": "peer_added", **shown(1, 1, "10.8.0.2/32", label="laptop", keepalive=25)}]),

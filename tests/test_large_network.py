@@ -170,7 +170,7 @@ class Large(unittest.TestCase):
         with self.subTest("a network that was asked of stays in memory"):
             first, second = (min(times) for times in zip(*(self.seconds_of_two_requests() for _ in range(4))))
             self.assertLess(second, first / 3)
-        # A number of a peer stands in the last 20 bits of its row's id.
+        # A peer's number is in the last 20 bits of its row's id.
         self.query("UPDATE peer SET until = 100 WHERE id & 1048575 BETWEEN 1001 AND 3000")
         self.compare(100, crowd.session_of_ends(), "leases are over")
         self.assertEqual(self.query("SELECT count(*) FROM peer"), [(len(crowd.peers),)])

@@ -69,7 +69,7 @@ class Client:
         test.addCleanup(run, "ip", "-n", self.space, "link", "delete", self.name, allowed=None)
 
     def start(self, file, addresses):
-        """The interface by the register's file, in which the server is this one, and addresses behind it."""
+        """The interface by the register's file, in which the server is this one, and addresses on its side."""
         inside(self.space, "wireguard-go", self.name)
         text = file.replace("[Interface]", f"[Interface]\nPrivateKey = {self.private}").replace("vpn.example.net", self.server)
         inside(self.space, "wg", "setconf", self.name, "/dev/stdin", text=text)

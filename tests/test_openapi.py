@@ -15,7 +15,7 @@ from tools import needs_module
 
 DOCS = Path(openapi.__file__).resolve().parent.parent / "docs"
 
-# The refusals of each operation behind its form: by docs/SPECIFICATION.md, its tables of commands and of adoption.
+# The refusals of each operation once its form is right: by docs/SPECIFICATION.md, its sections on commands and adoption.
 NETWORK = {"no_such_network"}
 OF_PEER = NETWORK | {"no_such_path", "no_such_peer"}
 ADDRESS = {"outside_pool", "address_held", "pool_full"}

@@ -5,8 +5,8 @@ import unittest
 from pathlib import Path
 
 TOP = Path(__file__).resolve().parent.parent
-PAGES = [*TOP.glob("*.md"), *TOP.glob("docs/*.md"), TOP / "tests/README.md"]
-PROOFS = TOP / "docs/PROOFS.md"
+CRATES = sorted(it.parent.name for it in TOP.glob("crates/*/src"))
+PAGES = [*TOP.glob("*.md"), *TOP.glob("docs/*.md"), TOP / "tests/README.md", *TOP.glob("crates/*/README.md")]
 
 
 def anchors(page):
@@ -27,18 +27,34 @@ def named_tests(line):
             yield file, word
 
 
-def named_edits():
-    """The wrong edits that the tables of PROOFS.md name, each with its crate."""
-    crate, place = "", None
-    for line in PROOFS.read_text().partition("\n## From definition to test\n")[2].splitlines():
-        cells = [cell.strip() for cell in line.split("|")]
-        if line.startswith("### "):
-            crate, place = line.strip("# `"), None
-        elif "Edits" in cells:
-            place = cells.index("Edits")
+def rows(page):
+    """The rows of a page's tables of wrong edits: of each the edits, and what has seen them."""
+    place = None
+    for line in page.read_text().splitlines():
+        cells = [cell.strip() for cell in line.strip("|").split(" | ")]
+        if cells[0] == "Wrong edit":
+            place = cells.index("Seen by")
+        elif not line.startswith("|"):
+            place = None
         elif place and line.startswith("| "):
-            # A cell may name another crate, whose edits they are.
-            yield from ((crate, name) for name in re.findall(r"`([a-z]\w+)`", cells[place]) if not name.startswith("wgr_"))
+            yield re.findall(r"`(\w+)`", cells[0]), cells[place] if place < len(cells) else ""
+
+
+def rust_tests(cell):
+    """The tests of crates that a cell names, each with its file."""
+    file = None
+    for word in re.findall(r"`([^`]+)`", cell):
+        if re.search(r"\.\w+$", word):
+            file = word if word.endswith(".rt") else None
+            if file:
+                yield file, ""
+        elif file:
+            yield file, word
+
+
+def heads_of(name, code):
+    """The heads of the functions with this name, each with its contract: they end where a body or the next function begins."""
+    return "".join(re.findall(rf"(?ms)^ *(?:pub )?fn {name}\b.*?(?=^ *{{|{{}}$|^ *(?:pub )?fn |\Z)", code))
 
 
 class Pages(unittest.TestCase):
@@ -63,8 +79,86 @@ class Pages(unittest.TestCase):
                     lost.append((page.name, file, name))
         self.assertEqual(lost, [])
 
+    def test_each_crate_has_a_page(self):
+        pages = {it.parent.name: it.read_text() for it in TOP.glob("crates/*/README.md")}
+        self.assertEqual(sorted(pages), CRATES)
+        for crate, text in pages.items():
+            with self.subTest(crate):
+                self.assertTrue(text.startswith(f"# `{crate}`\n"))
+                self.assertLessEqual(len(text.splitlines()), 60)
+
     def test_edits_are_there(self):
-        named = list(named_edits())
-        self.assertGreater(len(named), 500)
-        lost = [(crate, name) for crate, name in named if not any((TOP / "crates" / crate).glob(f"*/{name}.edit"))]
+        lost, count = [], 0
+        for page in TOP.glob("crates/*/README.md"):
+            for edits, _ in rows(page):
+                count += len(edits)
+                lost += [(page.parent.name, edit) for edit in edits if len([*page.parent.glob(f"*/{edit}.edit")]) != 1]
         self.assertEqual(lost, [])
+        self.assertGreater(count, 100)
+
+    def test_what_sees_edits_is_there(self):
+        """A test of a crate is in its own files, in those of wgr_tests or in those of wgr_stops."""
+        lost = []
+        for page in TOP.glob("crates/*/README.md"):
+            for edits, cell in rows(page):
+                for file, name in rust_tests(cell):
+                    places = [TOP / f"crates/{it}/src/{file}" for it in (page.parent.name, "wgr_tests", "wgr_stops")]
+                    texts = [it.read_text() for it in places if it.is_file()]
+                    if not any(not name or re.search(rf"\bfn {name}\(", text) for text in texts):
+                        lost.append((page.parent.name, edits, file, name))
+        self.assertEqual(lost, [])
+
+    def test_names_are_there(self):
+        """Each name that a crate's page has in backticks is in the sources, or is a file's."""
+        files = [it for it in TOP.glob("crates/*/*/**/*") if it.suffix in (".rt", ".antt", ".edit") and "/out/" not in str(it)]
+        files += [*TOP.glob("tests/*"), *TOP.glob("tools/*"), *TOP.glob("bench/*"), *TOP.glob("dist/*"), *TOP.glob("docs/*"), *TOP.glob("*")]
+        files = [it for it in files if it.is_file() and it.suffix != ".xz"]
+        known = {it.stem for it in files} | {it.parent.name for it in files}
+        for it in files:
+            known |= set(re.findall(r"\w+", it.read_text(errors="replace"))) if it.suffix != ".md" else set()
+        lost = []
+        for page in TOP.glob("crates/*/README.md"):
+            for words in re.findall(r"`([^`]+)`", page.read_text()):
+                lost += [(page.parent.name, it) for it in re.findall(r"[A-Za-z_]\w+", words) if it not in known]
+        self.assertEqual(lost, [])
+
+    def test_names_of_contracts_are_there(self):
+        """A row of calls names functions, types and clauses of the crate's own code."""
+        lost = []
+        for page in TOP.glob("crates/*/README.md"):
+            code = "\n".join(it.read_text() for it in page.parent.glob("src/**/*.rt"))
+            for line in page.read_text().splitlines():
+                if line.startswith("| `") and "`)" in line.split(" | ")[0]:
+                    names = re.findall(r"`([\w:]+)`", line.split(" | ")[0])
+                    words = {part for name in names for part in name.split("::")}
+                    lost += [(page.parent.name, word) for word in sorted(words) if not re.search(rf"\b{word}\b", code)]
+        self.assertEqual(lost, [])
+
+    def test_names_of_layers_are_there(self):
+        """The contracts by which PROOFS.md builds the theorem are in the code or in a crate's laws."""
+        code = "\n".join(it.read_text() for it in TOP.glob("crates/*/src/**/*.rt"))
+        lines = [it for it in (TOP / "docs/PROOFS.md").read_text().splitlines() if it.startswith("| [`wgr_")]
+        self.assertGreater(len(lines), 10)
+        names = {name for line in lines for name in re.findall(r"`([\w:]+)`", line.rsplit(" | ", 1)[1])}
+        words = {part for name in names for part in name.split("::")}
+        self.assertEqual([it for it in sorted(words) if not re.search(rf"\b{it}\b", code)], [])
+
+    def test_promises_are_there(self):
+        """Each promise of README.md is carried by functions with these clauses in the files that its row links to."""
+        lines = [it for it in (TOP / "README.md").read_text().splitlines() if re.search(r"\.rt\) \|$", it)]
+        self.assertGreater(len(lines), 10)
+        lost = []
+        for line in lines:
+            _, names, links = line.strip("| ").rsplit(" | ", 2)
+            code = "".join((TOP / path).read_text() for path in re.findall(r"\((crates/[^)]+)\)", links))
+            heads = ""
+            for name in re.findall(r"`([\w:]+)`", names):
+                found = heads_of(name.rpartition("::")[2], code)
+                if found:
+                    heads = found
+                elif f"ensures {name} {{" not in heads:
+                    lost.append((line, name))
+        self.assertEqual(lost, [])
+
+    def test_the_first_page_is_short(self):
+        self.assertLessEqual(len((TOP / "README.md").read_text().splitlines()), 160)

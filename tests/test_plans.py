@@ -11,15 +11,15 @@ from serving import make_register
 SOURCES = Path(__file__).resolve().parent.parent / "crates"
 
 # The crates whose statements are run by requests and orders.
-CRATES = ["wgr_tables", "wgr_orders", "wgr_register"]
+CRATES = ["wgr_tables", "wgr_entries"]
 
-# An order that adds a network, and the opening, read whole tables: of these, the first alone stands in these
+# An order that adds a network, and the opening, read whole tables: of these, only the first is in these
 # crates, in this file.
 WHOLE_TABLES = "all.rt"
 
 
 def statements():
-    """The statements that requests and orders run, with the file that each stands in."""
+    """The statements that requests and orders run, with the file that each is in."""
     for crate in CRATES:
         for file in sorted((SOURCES / crate / "src").glob("*.rt")):
             for found in re.finditer(r'"((?:SELECT|INSERT|UPDATE|DELETE) [^"]*)"', file.read_text()):
@@ -39,6 +39,6 @@ class Plans(unittest.TestCase):
                     scans = [line for line in plan if line.startswith("SCAN")]
                     self.assertEqual(bool(scans), file == WHOLE_TABLES, plan)
                 seen.append(file)
-        # The list of a tenant's networks is the only one of its file.
-        self.assertEqual(seen.count("list.rt"), 1)
+        # A token, a tenant and a network by their keys, and a tenant's networks.
+        self.assertEqual(seen.count("lookup.rt"), 4)
         self.assertGreater(len(seen), 20)

@@ -1,4 +1,4 @@
-"""The first ten minutes of README.md, word for word: three machines, each a network namespace, with a shell in each."""
+"""The session of README.md and the whole of docs/TUTORIAL.md, word for word: each machine is a network namespace with a shell in it."""
 
 import os
 import queue
@@ -12,34 +12,25 @@ import unittest
 from pathlib import Path
 
 import program
+from commands import TOP, commands_of, is_printed
 from tools import needs
 
-PAGE = Path(__file__).resolve().parent.parent / "README.md"
 END = "-- end of a command --"
 # The name of the server, which the page has, and its address on the cable to each client.
 NAME = "vpn.example.net"
-# Programs that the page calls, and whose words are looked at.
-PROGRAMS = ["curl", "wg", "ip", "jq", "awk", "sed", "grep", "tail", "cat", "nsenter", "sqlite3", "base64"]
+# Programs that the pages call, and whose words are looked at.
+PROGRAMS = ["curl", "wg", "ip", "jq", "awk", "sed", "grep", "tail", "cat", "tee", "nsenter", "sqlite3", "base64"]
 CABLES = {"laptop": ("192.0.2.1", "192.0.2.2"), "desk": ("192.0.2.5", "192.0.2.6")}
 
 
-def blocks():
-    """Each block of the section, as commands with what is printed below them."""
-    section = PAGE.read_text().partition("\n## The first ten minutes\n")[2].partition("\n## ")[0]
-    return [commands_of(block) for place, block in enumerate(section.split("```\n")) if place % 2]
+def blocks(text):
+    """Each block of a text, as commands with what is printed below them."""
+    return [list(commands_of(block)) for place, block in enumerate(text.split("```\n")) if place % 2]
 
 
-def commands_of(block):
-    found = []
-    for part in re.split(r"^[$#] ", block, flags=re.MULTILINE)[1:]:
-        line, _, printed = part.partition("\n")
-        found.append((line, printed))
-    return found
-
-
-def is_printed(printed, told):
-    """Whether this was told, where `..` stands for anything."""
-    return re.fullmatch(".*".join(map(re.escape, printed.split(".."))), told, flags=re.DOTALL) is not None
+def section(page, heading):
+    """What a page has below a heading."""
+    return (TOP / page).read_text().partition(f"\n## {heading}\n")[2].partition("\n## ")[0]
 
 
 class Machine:
@@ -69,14 +60,14 @@ class Machine:
             self.lines.put(line)
 
     def run(self, command):
-        """Runs a command, and gives what is told until it ends."""
+        """Runs a command, and gives what is printed until it ends."""
         self.shell.stdin.write(f"{command}\necho '{END}'\n")
         told = self.told(lambda lines: lines and lines[-1].endswith(f"{END}\n")).removesuffix(f"{END}\n")
         # A reply has no newline at its end.
         return told + "\n" if told and told[-1] != "\n" else told
 
     def told(self, is_enough):
-        """What is told from now on until that is enough."""
+        """What is printed from now on until that is enough."""
         lines, end = [], time.monotonic() + program.LIMIT
         while not is_enough(lines):
             lines.append(self.lines.get(timeout=max(0.1, end - time.monotonic())))
@@ -90,8 +81,7 @@ class Machine:
         subprocess.run(["ip", "netns", "del", self.space], check=True)
 
 
-@needs("ip", "wg", "wg-quick", "wireguard-go", "ping", "curl", "jq", "nsenter", "sqlite3", root=True)
-class FirstTenMinutes(unittest.TestCase):
+class Page(unittest.TestCase):
     maxDiff = None
 
     def machine(self, name):
@@ -104,9 +94,49 @@ class FirstTenMinutes(unittest.TestCase):
         self.addCleanup(folder.cleanup)
         self.folder = Path(folder.name)
         os.symlink(program.path, self.folder / "wgr")
-        os.symlink(PAGE.parent / "dist", self.folder / "dist")
+        os.symlink(TOP / "dist", self.folder / "dist")
         self.server = self.machine("server")
         self.server.run(f"PATH={self.watched()}:$PATH")
+
+    def watched(self):
+        """A folder with programs that write their words to a file and then are what they should be."""
+        folder = self.folder / "programs"
+        folder.mkdir()
+        for name in filter(shutil.which, PROGRAMS):
+            (folder / name).write_text(f'#!/bin/bash\nprintf "%s\\n" "$0 $*" >>{self.folder}/words\nexec {shutil.which(name)} "$@"\n')
+            (folder / name).chmod(0o755)
+        return folder
+
+    def no_secret_was_a_word(self, secrets):
+        words = (self.folder / "words").read_text()
+        self.assertIn("/peers/1/file/quick", words)
+        for name in secrets:
+            with self.subTest(name):
+                self.assertNotIn((self.folder / name).read_text().strip(), words)
+
+    def follow(self, machine, commands):
+        for command, printed in commands:
+            with self.subTest(command):
+                told = machine.run(command)
+                if command.endswith("&") and not told:
+                    # What runs on prints it once it is ready.
+                    told = machine.told(lambda lines: "".join(lines) == printed)
+                self.assertTrue(is_printed(printed, told), (printed, told))
+
+
+@needs("ip", "wg", "curl", root=True)
+class Readme(Page):
+    def test_the_session(self):
+        (session,) = blocks(section("README.md", "A first session"))
+        self.follow(self.server, session)
+        self.server.run("kill %1; wait")
+        self.no_secret_was_a_word(["acme.token", "server.private", "laptop.private"])
+
+
+@needs("ip", "wg", "wg-quick", "wireguard-go", "ping", "curl", "jq", "nsenter", "sqlite3", root=True)
+class Tutorial(Page):
+    def setUp(self):
+        super().setUp()
         self.clients = {name: self.machine(name) for name in CABLES}
         for name, (here, there) in CABLES.items():
             client = self.clients[name]
@@ -116,31 +146,6 @@ class FirstTenMinutes(unittest.TestCase):
             client.run(f"ip address add {there}/30 dev eth0; ip link set eth0 up")
             client.run(f"echo {here} {NAME} > {name}.hosts; mount --bind {name}.hosts /etc/hosts")
 
-    def watched(self):
-        """A folder with programs that write their words to a file and then are what they should be."""
-        folder = self.folder / "programs"
-        folder.mkdir()
-        for name in PROGRAMS:
-            (folder / name).write_text(f'#!/bin/bash\nprintf "%s\\n" "$0 $*" >>{self.folder}/words\nexec {shutil.which(name)} "$@"\n')
-            (folder / name).chmod(0o755)
-        return folder
-
-    def no_secret_was_a_word(self):
-        words = (self.folder / "words").read_text()
-        self.assertIn("/peers/2/file/quick", words)
-        for name in ["acme.token", "server.private", "laptop.private", "desk.private"]:
-            with self.subTest(name):
-                self.assertNotIn((self.folder / name).read_text().strip(), words)
-
-    def follow(self, machine, commands):
-        for command, printed in commands:
-            with self.subTest(command):
-                told = machine.run(command)
-                if command.endswith("&") and not told:
-                    # What runs on tells it once it is ready.
-                    told = machine.told(lambda lines: "".join(lines) == printed)
-                self.assertTrue(is_printed(printed, told), (printed, told))
-
     def wait_for_handshakes(self):
         """Waits until each client has told the server where it is, by its first keepalive."""
         end = time.monotonic() + program.LIMIT
@@ -149,7 +154,7 @@ class FirstTenMinutes(unittest.TestCase):
             time.sleep(0.1)
 
     def test_the_page(self):
-        *of_server, of_laptop, plan = blocks()
+        *of_server, of_laptop, plan = blocks((TOP / "docs/TUTORIAL.md").read_text())
         for commands in [*of_server, plan]:
             self.follow(self.server, commands)
         for name, client in self.clients.items():
@@ -157,4 +162,4 @@ class FirstTenMinutes(unittest.TestCase):
         self.wait_for_handshakes()
         self.follow(self.clients["laptop"], of_laptop)
         self.server.run("kill %1; wait; dist/wgr-net down office")
-        self.no_secret_was_a_word()
+        self.no_secret_was_a_word(["acme.token", "server.private", "laptop.private", "desk.private"])

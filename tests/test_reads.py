@@ -1,4 +1,4 @@
-"""Each read of the database's files fails in turn, and so do all behind it.
+"""Each read of the database's files fails in turn, and so do all after it.
 
 What was asked is then done, or `store` is told, and not that memory is wanting or that the rows aren't good;
 and all rows are as before. Behind it the same is done. Of a small register no page is read again once it is

@@ -141,7 +141,7 @@ class Done(Files):
         self.assertEqual(self.query("SELECT text FROM note"), [("mine",)])
 
 
-# The orders that stand, the words, standard input, and the refusal.
+# The orders, the words, standard input, and the refusal.
 REFUSALS = [
     ("a tenant twice", [ACME], ["tenant-add", "acme"], b"", "name_held"),
     ("a token for nobody", [ACME], ["token-grant", "bolt"], TOKEN, "no_such_tenant"),
@@ -238,7 +238,7 @@ class Refused(Files):
         self.assertEqual(os.listdir(self.folder), [])
 
     def test_the_first_ill_formed_field_is_told(self):
-        # Each field in turn is mended, in the order of the words; the options stand in another order.
+        # Each field in turn is mended, in the order of the words; the options are in another order.
         order = ["tenant", "name", "pool", "host", "port", "key", "capacity"]
         good = {"tenant": "acme", "name": "office", **OFFICE}
         for count, field in enumerate(order):

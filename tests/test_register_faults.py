@@ -1,4 +1,4 @@
-"""Files that hold no register, registers whose rows are no good, and streams that fail: what the words tell, and what stays."""
+"""Files that hold no register, registers whose rows are no good, and streams that fail: what the commands print, and what stays."""
 
 import ctypes
 import os

@@ -1,4 +1,4 @@
-"""Requests to `wgr serve`: which check of several tells, and a dump that is adopted twice."""
+"""Requests to `wgr serve`: which check of several decides, and a dump that is adopted twice."""
 
 from serving import (
     PEERS,

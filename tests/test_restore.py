@@ -6,18 +6,16 @@ import re
 import shutil
 import signal
 import unittest
-from pathlib import Path
 
+from commands import blocks_of, commands_of, is_printed
 from program import Left
 from serving import PEERS, Server, done, free_port, key, peer, refused, request
 from shipped import DIST, SYSTEMCTL, Shipped, rows_of
 from test_batch import batch
 from tools import needs
 
-PAGE = Path(__file__).resolve().parent.parent / "docs/OPERATIONS.md"
+PAGE = blocks_of("docs/OPERATIONS.md")
 COPY = re.compile(r"\d{8}T\d{6}\.\d{3}Z\.db")
-# A moment or a span of time in a text.
-TIME = re.compile(r"\d{8}T\d{6}\.\d{3}Z|\d{4}-\d\d-\d\dT[\d:.]+Z|\b\d+ ms|\b\d+\.\d+ s")
 
 # In the systemctl of SYSTEMCTL: the service of the folder $HOST.
 START = """
@@ -35,21 +33,8 @@ rm "$ROOM/main"
 
 
 def commands(heading):
-    """The commands of a part of the page, without its subsections, each with what is printed below it."""
-    section = re.split(rf"(?m)^##+ {re.escape(heading)}\n", PAGE.read_text())[1]
-    section = re.split(r"(?m)^##+ ", section)[0]
-    for place, block in enumerate(section.split("```\n")):
-        if place % 2:
-            for part in re.split(r"^[$#] ", block, flags=re.MULTILINE)[1:]:
-                command, _, printed = part.partition("\n")
-                yield command, printed
-
-
-def pattern_of(printed):
-    """What may be printed in place of this text: other times, and anything for `..`."""
-    parts = [re.escape(part).replace(re.escape(".."), ".*") for part in TIME.split(printed)]
-    times = [re.sub(r"\d+", r"\\d+", re.escape(time)) for time in TIME.findall(printed)] + [""]
-    return "".join(part + time for part, time in zip(parts, times, strict=True))
+    """The commands of a part of the page, each with what is printed below it."""
+    return [pair for block in PAGE[heading] for pair in commands_of(block)]
 
 
 class Page(Shipped):
@@ -77,7 +62,7 @@ class Page(Shipped):
         room = self.folder / host
         for there, here in [
             ("standby:/var/backups/wgr", f"{self.folder}/standby/copies"),
-            ("/tmp/drill", f"{room}/drill"),
+            ("/root/drill", f"{room}/drill"),
             ("/var/lib/wgr", f"{room}/lib"),
             ("/var/backups/wgr", f"{room}/copies"),
             ("/var/log", f"{room}"),
@@ -97,7 +82,7 @@ class Page(Shipped):
                 known = {"HOST": str(self.folder / host), "PORT": str(self.port)}
                 left = self.run_script("bash", "-c", self.here(command, host), **known)
                 self.assertEqual((left.status, left.err), (0, b""))
-                self.assertRegex(left.out.decode(), f"^{pattern_of(self.here(printed, host))}$")
+                self.assertTrue(is_printed(self.here(printed, host), left.out.decode()), (printed, left.out))
 
     def ask(self, *words):
         """The reply of the service that the page's command has started."""
@@ -115,7 +100,8 @@ class Page(Shipped):
         self.follow(commands("To restore"))
         self.assertEqual(self.ask("GET", PEERS), done({"peers": [first]}))
         with self.subTest("the register is aside"):
-            self.assertIn(b'"number":2', batch(self.folder / "first/lib/aside/register.db", 0, [request("GET", PEERS)]).out)
+            [aside] = (self.folder / "first/lib").glob("aside.*/register.db")
+            self.assertIn(b'"number":2', batch(aside, 0, [request("GET", PEERS)]).out)
         with self.subTest("the drill is cleared away"):
             self.assertFalse((self.folder / "first/drill").exists())
 

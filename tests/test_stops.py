@@ -61,7 +61,7 @@ class Order:
                 shutil.copyfile(self.base + end, path + end)
 
     def do(self, faulty, path, events, **wanted):
-        """Does these events; gives what is told."""
+        """Does these events; gives what is printed."""
         if events:
             return faulty.run([self.word, path, *self.words], self.text, **wanted)
 
@@ -80,7 +80,7 @@ class Order:
         return {(0,)} if b"done\n" in told else {(), (0,)}
 
     def follows(self, faulty, path):
-        """What is told to those who follow, and the rows then."""
+        """What those who follow are answered, and the rows then."""
         word, *words = self.following
         return faulty.run([word, path, *words]), rows(path)
 

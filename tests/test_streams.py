@@ -154,7 +154,7 @@ ADDS = [
 
 DIGITS, SOME = r"[0-9]{1,20}", r"[!-\xff]{1,256}"
 KEY_OR_NONE = r"[A-Za-z0-9+/]{43}=|\(none\)"
-# The forms of the fields of a dump's lines; none stands for the prefixes.
+# The forms of the fields of a dump's lines; there is none for the prefixes.
 INTERFACE = [KEY_OR_NONE, KEY_OR_NONE, r"[0-9]{1,5}", SOME]
 LINE = [r"[A-Za-z0-9+/]{43}=", KEY_OR_NONE, SOME, None, DIGITS, DIGITS, DIGITS, r"off|[0-9]{1,5}"]
 
@@ -243,7 +243,7 @@ class Streams(Served):
         self.addCleanup(self.faulty.__exit__)
 
     def answers(self, message, look=LOOK, **wanted):
-        """What a new service writes to a message where this fails, what it shows then, and what it tells."""
+        """What a new service writes to a message where this fails, what it shows then, and what it prints."""
         with scratch() as folder, self.faulty.serve(shutil.copy(self.database, folder), count=2, now=100) as server:
             self.faulty.arm(**wanted)
             with server.connect() as link:
@@ -270,7 +270,7 @@ class Streams(Served):
                 self.assertEqual(counts, ("receive_most" in wanted, "send_most" in wanted))
 
     def test_each_read_fails(self):
-        """Nothing is done, nothing written, and the failure is told."""
+        """Nothing is done, nothing written, and the failure is printed."""
         for number in range(0, len(ADD), 1 if WHOLE else 9):
             with self.subTest(number):
                 left = self.answers(ADD, receive=number, receive_most=1)
@@ -280,7 +280,7 @@ class Streams(Served):
             self.assertEqual(self.answers(ADD, receive=len(ADD), receive_most=1), (ADDED, THERE, Left(0)))
 
     def test_each_write_fails(self):
-        """What was asked is done, the reply's beginning is written, and the failure is told."""
+        """What was asked is done, the reply's beginning is written, and the failure is printed."""
         for number in range(0, len(ADDED), 1 if WHOLE else 17):
             for name, zero in [("fails", 0), ("takes nothing", 1)]:
                 with self.subTest(name, number=number):

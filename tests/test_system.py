@@ -1,4 +1,4 @@
-"""Where the program meets the system: where it listens, which fault it tells first, and what it leaves in files."""
+"""Where the program meets the system: where it listens, which fault it prints first, and what it leaves in files."""
 
 import os
 import shutil
@@ -72,10 +72,10 @@ class Listening(Serving):
 
 
 class FirstFault(Files):
-    """Of two faults that meet, the first in the order of the words' work is told."""
+    """Of two faults that meet, the first in the order of the words' work is printed."""
 
     def bad_registers(self):
-        """Paths that hold no good register, and what is told of each."""
+        """Paths that hold no good register, and what is printed for each."""
         Path(self.path("empty.db")).touch()
         self.init(ACME, NETWORK)
         self.change("UPDATE network SET port = 0")

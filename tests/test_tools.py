@@ -1,10 +1,8 @@
 """The tools of dist/: their scripts are clean, their units well-formed, and their options those of the man page."""
 
-import os
 import re
 import shutil
 import subprocess
-import sys
 import tempfile
 import unittest
 from pathlib import Path
@@ -34,22 +32,6 @@ class Tools(unittest.TestCase):
             told = subprocess.run(["systemd-analyze", "verify", *(Path(folder) / unit.name for unit in units)], capture_output=True, text=True)
             # It says of an unknown key what it is, and is content.
             self.assertEqual((told.returncode, [line for line in told.stderr.splitlines() if "wgr" in line]), (0, []))
-
-    @unittest.skipUnless(os.geteuid() == 0, "mounts need root")
-    @unittest.skipIf(os.path.realpath(sys.executable).startswith("/usr/local/"), "Python is under /usr/local, which is covered here")
-    @needs("unshare", "mount")
-    def test_an_installation_by_hand(self):
-        """The page's commands, on empty folders in place of /usr/local and /etc/systemd: each tool finds what it needs."""
-        page = (DIST.parent / "docs/OPERATIONS.md").read_text()
-        commands = re.findall(r"(?m)^# (install .*dist/wgr[-_].*)$", page)
-        tools = [f"wgr-{name}" for name in ["backup", *PYTHON]]
-        script = "mount -t tmpfs none /usr/local; mount -t tmpfs none /etc/systemd; mkdir -p /usr/local/bin /etc/systemd/system\n"
-        script += "\n".join(commands) + "\n" + "".join(f"/usr/local/bin/{tool} --help\n" for tool in tools) + "ls /etc/systemd/system"
-        path = f"{os.path.dirname(sys.executable)}:{os.environ['PATH']}"
-        words = ["unshare", "-m", "bash", "-euc", script]
-        ran = subprocess.run(words, cwd=DIST.parent, env=os.environ | {"PATH": path}, capture_output=True, text=True)
-        self.assertEqual((ran.returncode, ran.stderr), (0, ""))
-        self.assertIn("wgr-figures.service\n", ran.stdout)
 
     @needs("mandoc")
     def test_the_page(self):

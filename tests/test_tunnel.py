@@ -113,7 +113,7 @@ class Tunnel(unittest.TestCase):
         return self.write(f"{self.server.tunnel}.conf", text)
 
     def sync_server(self, serving):
-        """The running server takes the register's file, as docs/OPERATIONS.md tells."""
+        """The running server takes the register's file, as docs/OPERATIONS.md says."""
         file = self.server_file(serving)
         stripped = self.write("stripped.conf", shell(f"wg-quick strip {file}"))
         self.server.run(f"wg syncconf {self.server.tunnel} {stripped}")
@@ -142,7 +142,7 @@ class Tunnel(unittest.TestCase):
 
     def adopt(self, pool, host, listed):
         """The running interface's dump makes the same peers in a register of its own."""
-        # Without the private keys, as docs/OPERATIONS.md tells.
+        # Without the private keys, as docs/OPERATIONS.md says.
         program = re.search(r"wg show wg0 dump \| (awk '[^']+')", PAGE.read_text())[1]
         text = shell(program, self.server.run(f"wg show {self.server.tunnel} dump"))
         self.assertNotIn(self.server.private, text)

@@ -23,7 +23,7 @@ INSTANCES = [("wgr.service", "wgr@.service"), ("wgr-http.socket", "wgr-http@.soc
 
 
 def settings(name):
-    """The settings of a unit, without what tells the units of one register from those of several."""
+    """The settings of a unit, without what differs between the units of one register and those of several."""
     lines = [line for line in (DIST / name).read_text().splitlines() if line and line[0] != "#"]
     return re.sub(r"[@/ -]%i", "", "\n".join(lines).replace(" wgr-haproxy.service", ""))
 

@@ -35,6 +35,9 @@ PACKAGES = {
     "promtool": "prometheus",
     "qrencode": "qrencode",
     "rsync": "rsync",
+    "dbus-daemon": "dbus",
+    "sudo": "sudo",
+    "apt": "apt",
     "unshare": "util-linux",
     "mount": "mount",
 }

@@ -26,13 +26,13 @@ pub(crate) fn wgr_command<'a>(alloc: Global) -> Result<Command<'a>, Error>
     Ok(command)
 }
 
-/// `wgr` without a command.
+// `wgr` without a command.
 fn bare_command<'a>(alloc: Global) -> Result<Command<'a>, Error>
     ensures app { IfOk result (λ command. app_of command ≡ wgr_alone) }
     ensures memory { IfErr result (λ error. kind_of error ≡ ErrorKind.OutOfMemory) }
 {
     let command = Command::new(alloc, "wgr")
-        .version("0.3.0")
+        .version("0.3.1")
         .about("A register of WireGuard peers and their tunnel addresses")
         .no_binary_name(true)
         .subcommand_required(true)
@@ -64,7 +64,7 @@ fn plan_command<'a>(alloc: Global) -> Result<Command<'a>, Error>
     Ok(command.arg(pool)?)
 }
 
-/// A command on the register in a file.
+// A command on the register in a file.
 fn db_command<'a>(
     alloc: Global,
     name: &'a str,
@@ -78,7 +78,7 @@ fn db_command<'a>(
     Ok(command.arg(value(alloc, "db", "DB", "The register's file"))?)
 }
 
-/// A command on a network of a tenant's.
+// A command on a network of a tenant's.
 fn network_command<'a>(
     alloc: Global,
     name: &'a str,

@@ -42,7 +42,7 @@ pub(crate) fn values<'a>(alloc: Global, id: &'a str, shown: &'a str, help: &'a s
     value(alloc, id, shown, help).num_args(1..)
 }
 
-/// The first value under this name.
+// The first value under this name.
 fn first<'a>(found: &ArgMatches<'a>, id: &str) -> Option<&'a str>
     ensures { option_map (λ text. text.now) result ≡ first_of id.now (rows_of (found_of found.now)) }
 {
@@ -132,7 +132,7 @@ pub(crate) fn network_end<'a>(found: &ArgMatches<'a>) -> Option<Invocation<'a>>
     })
 }
 
-/// All values under this name.
+// All values under this name.
 fn all<'a>(
     alloc: Global,
     found: &ArgMatches<'a>,

@@ -7,3 +7,4 @@ pub mod Change
 pub mod Parts
 pub mod Draft
 pub mod Forms
+pub mod RefusalNames

@@ -39,7 +39,8 @@ impl Network {
         Ok(done.answer(alloc, removed)?)
     }
 
-    // The network with all these lines.
+    // The network with all these lines. It is tried on a copy of the live network; what a refused line
+    // leaves there doesn't matter, since only a draft with all lines is given.
     fn adopt(&self, alloc: Global, lines: &[SeenPeer]) -> Result<Adopting<'_>, ActFault>
         ensures { MeetsLines (begun self.now) result (adoption_of self.now lines.now) }
     {

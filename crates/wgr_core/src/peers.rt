@@ -98,7 +98,8 @@ impl Live<'_> {
         Some(*address)
     }
 
-    // The lowest address that nobody holds, or that `mover` alone does.
+    // The lowest address that nobody holds, or that `mover` alone does. Its own address may also lie in a
+    // route that lies in the pool, and then isn't free for it.
     fn lowest_for(&self, mover: Option<&Peer>) -> Option<Addr>
         requires { IfSome mover (λ p. peer_of self.now.peers p.now.number ≡ Some p.now) }
         ensures { result ≡ lowest_free (vacated self.now (option_map (λ p. p.now.number) mover.entry)) }

@@ -1,4 +1,7 @@
 //! Why a command is refused.
+ghost use Rattle.std.specs.Prelude.{◌≡◌};
+ghost use Rattle.wgr_core.specs.RefusalNames.{line_refusal_name, refusal_name};
+
 use std::fmt;
 
 /// A field of a request or a word of the command line that isn't of its form.
@@ -73,8 +76,10 @@ pub enum LineRefusal {
 }
 
 impl LineRefusal {
-    // The refusal's name.
-    fn name(&self) -> &'static str {
+    /// The refusal's name: letters and underscores.
+    pub fn name(&self) -> &'static str
+        ensures { result.now ≡ line_refusal_name self.now }
+    {
         match self {
             LineRefusal::ServerKey => "server_key",
             LineRefusal::CapacityReached => "capacity_reached",
@@ -88,8 +93,10 @@ impl LineRefusal {
 }
 
 impl Refusal {
-    // The refusal's name, without its fact. That of a line is the line's.
-    fn name(&self) -> &'static str {
+    /// The refusal's name, without its fact: letters and underscores. That of a line is the line's.
+    pub fn name(&self) -> &'static str
+        ensures { result.now ≡ refusal_name self.now }
+    {
         match self {
             Refusal::NoSuchPeer => "no_such_peer",
             Refusal::KeyHeld { .. } => "key_held",

@@ -81,7 +81,8 @@ impl Live<'_> {
         Ok((Reply::Peer(view), Some(change)))
     }
 
-    // The view of the peer to which the prefix leads, once it no longer does.
+    // The view of the peer to which the prefix leads, once it no longer does. The definition has a case
+    // for a route to no peer too, which no network has.
     fn unrouted_view(&self, alloc: Global, prefix: &Prefix) -> Result<PeerView, ActFault>
         ensures ok { IfOk result (λ view. (number : ℕ) × (route_of self.now.routes prefix.now ≡ Some number) × (peer_of self.now.peers number ≡ Some view.peer) × (view.routes ≡ map (λ r. r.0) (without_route (filter (λ r. nat_eq r.1 number) self.now.routes) prefix.now))) }
         ensures err { IfErr result (λ why. (gone : List ℕ) → MeetsLive false None self.now gone (Err why) (unroute self.now prefix.now)) }

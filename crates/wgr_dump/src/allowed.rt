@@ -43,7 +43,7 @@ impl<'a> Iterator for Allowed<'a> {
     }
 }
 
-/// The prefix that the item spells, with its host bits zero.
+// The prefix that the item spells, with its host bits zero.
 fn read_masked(item: &[u8]) -> Option<Prefix>
     ensures spelled { IfSome result (SpellsMasked item.now) }
     ensures none { IfNone result ((p : PrefixValue) → ¬ (SpellsMasked item.now p)) }
@@ -67,7 +67,7 @@ pub(crate) fn read_allowed<'a>(field: &'a [u8]) -> Option<RemainingParts<'a>>
     Some(items)
 }
 
-/// Whether each item spells a prefix.
+// Whether each item spells a prefix.
 fn are_prefixes(items: RemainingParts<'_>) -> bool
     ensures { MatchBool result ((ps : List PrefixValue) × Each SpellsMasked (left items.entry) ps) ((ps : List PrefixValue) → ¬ (Each SpellsMasked (left items.entry) ps)) }
 {

@@ -72,7 +72,7 @@ impl<'a> Dump<'a> {
     }
 }
 
-/// The first bad line of peers, after the line of the interface, if there is one.
+// The first bad line of peers, after the line of the interface, if there is one.
 fn first_bad_peer(peers: &[u8]) -> Option<BadDump>
     requires { length peers.now < usize.MAX }
     ensures { MatchOption result ((lines : List LineValue) × Each IsPeerLine (lines_of peers.now) lines) (λ bad. (line : ℕ) × (n : ℕ) × (bad.line ≡ line + 2) × (bad.field ≡ n + 1) × IsBadPeer (lines_of peers.now) line n) }

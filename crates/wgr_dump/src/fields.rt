@@ -15,7 +15,7 @@ pub(crate) fn read_key(field: &[u8]) -> Option<Key>
     Some(key)
 }
 
-/// What a slice of bytes holds is known to be bytes.
+// What a slice of bytes holds is known to be bytes.
 fn are_bytes(bytes: &[u8])
     ensures { (i : ℕ) → slice_index bytes.now i < 256 }
 {}

@@ -3,6 +3,9 @@
 //! [`Dump::open`] judges a whole text in one pass. What it hands out are slices of the text, and
 //! values that are read when a line is reached, so no call takes memory. Private and preshared
 //! keys, firewall marks and endpoints have to be of their form, and are in no result.
+//!
+//! Contracts speak of the values that will be read, and not of bytes: each type keeps a ghost proof that
+//! its text spells one value.
 #![tactic(auto)]
 
 mod allowed;

@@ -44,7 +44,7 @@ impl<'a> Iterator for Lines<'a> {
     }
 }
 
-/// The line, where it is a peer's.
+// The line, where it is a peer's.
 fn read_peer_line<'a>(line: &'a [u8]) -> Option<PeerLine<'a>>
     ensures spelled { IfSome result (IsPeerLine line.entry.now) }
     ensures none { IfNone result ((v : LineValue) → ¬ (IsPeerLine line.entry.now v)) }

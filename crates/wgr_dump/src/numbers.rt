@@ -22,7 +22,7 @@ pub(crate) fn read_number(field: &[u8], most: usize) -> Option<u128>
     }
 }
 
-/// Whether each byte is a decimal digit.
+// Whether each byte is a decimal digit.
 fn are_digits(field: &[u8]) -> bool
     ensures { result ≡ list_all is_ascii_digit field.now }
 {

@@ -49,7 +49,7 @@ impl<'a> RemainingParts<'a> {
     }
 }
 
-/// The place of the first such byte.
+// The place of the first such byte.
 fn separator(text: &[u8], separator: u8) -> Option<usize>
     ensures { result ≡ position (λ byte. byte == separator) text.now }
 {

@@ -53,7 +53,7 @@ impl<'a> WrittenCount<'a> {
     }
 }
 
-/// The number, or the greatest that is kept.
+// The number, or the greatest that is kept.
 fn kept(number: u128) -> u64
     ensures { result ≡ kept_count number }
 {

@@ -1,5 +1,5 @@
 -- A register in two files: what they held, and what they hold once they are closed.
-use Rattle.std.proofs.Common.{◌≡◌, ◌∙◌, [], ◌∷◌, List, Bool, not, Option, Some, None, Result, Ok, Err, IsTrue, false, sym, ap, subst, inl, inr}
+use Rattle.std.proofs.Common.{◌≡◌, ◌∙◌, [], ◌∷◌, List, Bool, not, Option, Some, None, Result, Ok, Err, IfSome, IsTrue, false, sym, ap, subst, inl, inr}
 use Rattle.std.proofs.Math.Logic.{∥∥₁_elim}
 use Rattle.sqlite_trees.specs.Props.{Trees-set}
 use Rattle.sqlite_disk.specs.declared.Disk as disk
@@ -14,10 +14,10 @@ use Rattle.sqlite.specs.Start.{FindsIn}
 use Rattle.sqlite.specs.State.{HasCleanDisk}
 use Rattle.sqlite.specs.WalFiles.{outcomes}
 use Rattle.sqlite.specs.WalReads.{AreClean}
-use Rattle.wgr_model.specs.Calls.{order_event}
+use Rattle.wgr_orders.specs.Orders.{order_event}
 use Rattle.wgr_model.specs.RowLaws.{IsRowStep}
 use Rattle.wgr_model.specs.Steps.{Answer, Event}
-use Rattle.wgr_model.specs.declared.order.Order.{Order}
+use Rattle.wgr_orders.specs.declared.order.Order.{Order}
 use Rattle.wgr_register.specs.Ends.{EndsAt, OrderEnds, is_change}
 use Rattle.wgr_register.specs.Standing.{StandsAt}
 use Rattle.wgr_register.specs.declared.fault.Done as done
@@ -25,9 +25,9 @@ use Rattle.wgr_register.specs.declared.fault.OrderFault.{OrderFault}
 use Rattle.wgr_register.specs.declared.fault.OrderFault.TheVariants as order_fault
 use Rattle.wgr_register.proofs.LeftLemmas.{one_database}
 use Rattle.wgr_sql.specs.Calls.{IsKept}
-use Rattle.wgr_store.specs.Fresh.{IsFresh, no_schema}
-use Rattle.wgr_tables.specs.Decode.{tables_of}
-use Rattle.wgr_whole.specs.Good.{IsGood}
+use Rattle.wgr_schema.specs.Fresh.{IsFresh, no_schema}
+use Rattle.wgr_columns.specs.Decode.{tables_of}
+use Rattle.wgr_opening.specs.Good.{IsGood}
 use Rattle.wgr_file.specs.OnFiles.{AreThoseOf, EndsIn, HasEnded, IsClosedIn, IsClosedTo, IsMade, IsOpen, StandIn, Stays, StoodIn}
 
 -- files that hold a good register are found to hold it
@@ -72,6 +72,19 @@ module _ {D : Type 0} {g : disk.Ghosts D} where
       let c = is honest in
       let same = kept c.clean c.live in
       ((file_state left).now.trees, subst (λ (d : Database). AreThoseOf start d.trees) (sym same.1) (those (clean c.clean)), c.holds)
+
+  -- what the database that was found is, as the connection is left
+  pub found_as : (conn left : Held (FileStore D g)) (start : Image) (closed : Option (Files D)) (P : Database → Type 0) → (HasCleanDisk (file_state conn) → AreThoseOf start (file_state conn).now.trees)
+      → (HasCleanDisk (file_state left) → HasCleanDisk (file_state conn)) → (HasCleanDisk (file_state left) → P (file_state conn).now) → IsClosedTo g closed left
+      → IfSome closed (λ files. AreClean g files.log files.db → (db : Database) × AreThoseOf start db.trees × P db)
+  found_as conn left start None P those clean is closed = tt
+  found_as conn left start (Some files) P those clean is closed = λ honest. let now = (closed honest).clean in ((file_state conn).now, those (clean now), is now)
+
+  pub found_both : (conn left : Held (FileStore D g)) (start : Image) (closed : Option (Files D)) (P Q : Database → Type 0) → (HasCleanDisk (file_state conn) → AreThoseOf start (file_state conn).now.trees)
+      → (HasCleanDisk (file_state left) → HasCleanDisk (file_state conn)) → (HasCleanDisk (file_state left) → P (file_state conn).now) → (HasCleanDisk (file_state left) → Q (file_state conn).now) → IsClosedTo g closed left
+      → IfSome closed (λ files. AreClean g files.log files.db → (db : Database) × AreThoseOf start db.trees × P db × Q db)
+  found_both conn left start None P Q those clean one other closed = tt
+  found_both conn left start (Some files) P Q those clean one other closed = λ honest. let now = (closed honest).clean in ((file_state conn).now, those (clean now), one now, other now)
 
   -- a register that was opened and closed as it was
   pub stays_open : (register left : Held (FileStore D g)) (start : Image) (closed : Option (Files D)) → IsOpen start register → left ≡ register → IsClosedTo g closed left → Stays g start closed

@@ -11,11 +11,11 @@ use Rattle.sqlite_disk.specs.declared.Disk as disk
 use Rattle.sqlite_disk.specs.declared.Files.{Files}
 use Rattle.sqlite_store.specs.declared.store.FileStore.{FileStore}
 use Rattle.wgr_model.specs.Steps.{Event}
-use Rattle.wgr_model.specs.declared.order.Order.{Order}
+use Rattle.wgr_orders.specs.declared.order.Order.{Order}
 use Rattle.wgr_register.specs.Standing.{StandsAt}
 use Rattle.wgr_register.specs.declared.fault.Done.{Done}
 use Rattle.wgr_register.specs.declared.fault.OrderFault.{OrderFault}
-use Rattle.wgr_whole.specs.Good.{IsGood}
+use Rattle.wgr_opening.specs.Good.{IsGood}
 use Rattle.wgr_file.specs.OnFiles.{EndsIn, HasEnded, IsClosedIn, IsMade, StandIn, StoodIn}
 
 -- an order that ended leaves its step's rows in the files

@@ -12,18 +12,19 @@ use Rattle.sqlite.specs.WalReads.{AreClean}
 use Rattle.sqlite_disk.specs.declared.Disk as disk
 use Rattle.sqlite_disk.specs.declared.Files.{Files}
 use Rattle.sqlite_store.specs.declared.store.FileStore.{FileStore}
-use Rattle.wgr_model.specs.Calls.{order_event, refusal_of}
+use Rattle.wgr_orders.specs.Orders.{order_event, refusal_of}
 use Rattle.wgr_model.specs.RowLaws.{IsRowStep}
 use Rattle.wgr_model.specs.Steps.{Done, Refused}
-use Rattle.wgr_model.specs.declared.order.Order.{Order}
+use Rattle.wgr_orders.specs.declared.order.Order.{Order}
 use Rattle.wgr_register.specs.Ends.{OrderEnds}
 use Rattle.wgr_register.specs.Standing.{StandsAt}
 use Rattle.wgr_register.specs.declared.fault.Done as done
 use Rattle.wgr_register.specs.declared.fault.OrderFault.{OrderFault}
 use Rattle.wgr_register.specs.declared.fault.OrderFault.TheVariants as order_fault
-use Rattle.wgr_store.specs.Fresh.{IsFresh, no_schema}
-use Rattle.wgr_tables.specs.Decode.{tables_of}
-use Rattle.wgr_whole.specs.Good.{IsGood}
+use Rattle.wgr_schema.specs.FirstVersion.{IsFirstVersion}
+use Rattle.wgr_schema.specs.Fresh.{IsFresh, no_schema}
+use Rattle.wgr_columns.specs.Decode.{tables_of}
+use Rattle.wgr_opening.specs.Good.{IsGood}
 
 -- ---- what the files held as they were opened
 
@@ -67,6 +68,14 @@ pub record StandIn {D : Type 0} (g : disk.Ghosts D) (files : Files D) (db : Data
 -- they hold what they held
 abbrev pub Stays : {D : Type 0} → disk.Ghosts D → Image → Option (Files D) → Type 0
 Stays g start closed = IfSome closed (λ files. AreClean g files.log files.db → (trees : Trees) × AreThoseOf start trees × Hold g files trees)
+
+-- the rows that they held are not those of a register of the first version
+abbrev pub WereForeign : {D : Type 0} → disk.Ghosts D → Image → Option (Files D) → Type 0
+WereForeign g start closed = IfSome closed (λ files. AreClean g files.log files.db → (db : Database) × AreThoseOf start db.trees × (IsFirstVersion db → ⊥))
+
+-- they are those of one, and not good
+abbrev pub WereNotGood : {D : Type 0} → disk.Ghosts D → Image → Option (Files D) → Type 0
+WereNotGood g start closed = IfSome closed (λ files. AreClean g files.log files.db → (db : Database) × AreThoseOf start db.trees × IsFirstVersion db × (IsGood db → ⊥))
 
 -- ---- words
 

@@ -12,8 +12,7 @@ use std::fs;
 use wgr_register::Fault;
 use wgr_sql::fault_of;
 
-/// Both files as they were closed; none where they could not be, and then what was committed is in the
-/// log or in the file of the database, and the next word finds it there.
+/// Both files as they were closed; none where they couldn't be, and then no contract says what they hold.
 pub type Closed<S> = Option<Files<FileFrom<S>>>;
 
 /// The database in the file at this path; none where no file is, and then none is made.

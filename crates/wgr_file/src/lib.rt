@@ -2,7 +2,8 @@
 //!
 //! Each function takes what the files held as they were opened (`start`), which a contract can name and
 //! the program can't know, and gives the files back as they were closed. So the contracts say what is in
-//! the files before and after, whatever they held.
+//! the files before and after, whatever they held. A clause about a connection that isn't given back would
+//! only say that there is one, and any connection whose disk isn't clean would meet it.
 #![tactic(auto)]
 
 mod database;

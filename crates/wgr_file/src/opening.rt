@@ -1,7 +1,8 @@
 //! A register that is found or made in files, and closed.
 ghost use Rattle.std.specs.Prelude.{◌≡◌, Err, IfErr, IfOk, None};
 ghost use Rattle.sqlite.specs.WalFiles.{image_at};
-ghost use Rattle.wgr_file.specs.OnFiles.{IsClosedTo, IsMade, IsOpen, Stays};
+ghost use Rattle.wgr_file.specs.OnFiles.{IsClosedTo, IsMade, IsOpen, Stays, WereForeign, WereNotGood};
+ghost use Rattle.wgr_schema.specs.declared.fault.RegisterFault.TheVariants.{NotARegister, NotEmpty, NotGood};
 
 use crate::database::{self, Closed};
 use sqlite::{Connection, FileFrom, FileStore, Files, Start};
@@ -15,7 +16,8 @@ pub struct Unopened<S: Start> {
     pub files: Closed<S>,
 }
 
-/// The register in the file at this path; none is one that is missing.
+/// The register in the file at this path. `NotARegister` where there is no file, or where its rows
+/// aren't those of a register of the first version; `NotGood` where they are, and aren't good.
 pub fn open_register<S: Start>(
     rt: &HostRuntime,
     path: &str,
@@ -23,6 +25,9 @@ pub fn open_register<S: Start>(
 ) -> Result<Register<FileStore<FileFrom<S>>>, Unopened<S>>
     ensures open { IfOk result (IsOpen (image_at S.Start)) }
     ensures kept { IfErr result (λ e. Stays ⟦<FileFrom<S> as Disk>⟧ (image_at S.Start) e.files) }
+    ensures foreign { IfErr result (λ e. e.fault ≡ NotARegister → WereForeign ⟦<FileFrom<S> as Disk>⟧ (image_at S.Start) e.files) }
+    ensures bad { IfErr result (λ e. e.fault ≡ NotGood → WereNotGood ⟦<FileFrom<S> as Disk>⟧ (image_at S.Start) e.files) }
+    ensures taken { IfErr result (λ e. e.fault ≡ NotEmpty → ⊥) }
 {
     let conn = match database::find(rt, path, start) {
         Ok(Some(conn)) => conn,
@@ -39,7 +44,7 @@ pub fn open_register<S: Start>(
 }
 
 /// Makes a register without entries in the file at this path, and gives the files back as they were
-/// closed.
+/// closed. `NotEmpty` where a table of a register is there, `NotARegister` where anything else is.
 pub fn make_register<S: Start>(
     rt: &HostRuntime,
     path: &str,
@@ -47,6 +52,7 @@ pub fn make_register<S: Start>(
 ) -> Result<Closed<S>, Unopened<S>>
     ensures made { IfOk result (IsMade ⟦<FileFrom<S> as Disk>⟧ (image_at S.Start)) }
     ensures kept { IfErr result (λ e. Stays ⟦<FileFrom<S> as Disk>⟧ (image_at S.Start) e.files) }
+    ensures good { IfErr result (λ e. e.fault ≡ NotGood → ⊥) }
 {
     let conn = match database::make(rt, path, start) {
         Ok(conn) => conn,

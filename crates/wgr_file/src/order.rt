@@ -1,7 +1,8 @@
 //! An order of the operator on the register in files.
-ghost use Rattle.std.specs.Prelude.{IfErr, IfOk};
+ghost use Rattle.std.specs.Prelude.{◌≡◌, IfErr, IfOk};
 ghost use Rattle.sqlite.specs.WalFiles.{image_at};
-ghost use Rattle.wgr_file.specs.OnFiles.{HasEnded, Stays};
+ghost use Rattle.wgr_file.specs.OnFiles.{HasEnded, Stays, WereForeign, WereNotGood};
+ghost use Rattle.wgr_schema.specs.declared.fault.RegisterFault.TheVariants.{NotARegister, NotEmpty, NotGood};
 
 use crate::database::Closed;
 use crate::opening::{Unopened, close, open_register};
@@ -19,6 +20,9 @@ pub fn operate<S: Start>(
 ) -> Result<(Result<Done, OrderFault>, Closed<S>), Unopened<S>>
     ensures ended { IfOk result (λ r. HasEnded ⟦<FileFrom<S> as Disk>⟧ (image_at S.Start) r.1 order.now r.0) }
     ensures kept { IfErr result (λ e. Stays ⟦<FileFrom<S> as Disk>⟧ (image_at S.Start) e.files) }
+    ensures foreign { IfErr result (λ e. e.fault ≡ NotARegister → WereForeign ⟦<FileFrom<S> as Disk>⟧ (image_at S.Start) e.files) }
+    ensures bad { IfErr result (λ e. e.fault ≡ NotGood → WereNotGood ⟦<FileFrom<S> as Disk>⟧ (image_at S.Start) e.files) }
+    ensures taken { IfErr result (λ e. e.fault ≡ NotEmpty → ⊥) }
 {
     let mut register = open_register(rt, path, start)?;
     let ended = register.operate(rt.alloc(), order);

@@ -82,3 +82,10 @@ fault_status BadHead = status.BadRequest
 fault_status TooLarge = status.ContentTooLarge
 fault_status LengthRequired = status.LengthRequired
 fault_status Truncated = status.BadRequest
+
+-- its name there
+abbrev pub fault_name : MessageFault → List ℕ
+fault_name BadHead = codes "bad_head"
+fault_name TooLarge = codes "too_large"
+fault_name LengthRequired = codes "length_required"
+fault_name Truncated = codes "truncated"

@@ -30,7 +30,8 @@ pub(crate) struct Head<'a> {
 }
 
 impl<'a> Head<'a> {
-    /// The head at the front of the bytes.
+    /// The head at the front of the bytes. It doesn't say why there is none, though `httparse` tells
+    /// an incomplete head from a wrong one: so the definition of a message needs only the grammar.
     pub(crate) fn read(bytes: &'a [u8]) -> Option<Head<'a>>
         ensures none { IfNone result (HasNoHead bytes.now) }
         ensures some { IfSome result (λ head. (h : RequestHead)
@@ -68,7 +69,7 @@ pub(crate) fn extent_of(bytes: &[u8]) -> Option<usize>
     )
 }
 
-/// How many bytes of a body decide the message: none where its head does.
+// How many bytes of a body decide the message: none where its head does.
 fn wanted_of(
     authorization: FieldLines,
     content_length: FieldLines,
@@ -104,7 +105,7 @@ fn wanted_of(
     }
 }
 
-/// Where the parts of the head are in the front of the bytes.
+// Where the parts of the head are in the front of the bytes.
 fn spans_of(bytes: &[u8], headers: &mut [HeaderSpan; MAX_HEADERS]) -> Option<RequestSpans>
     ensures none { IfNone result (HasNoHead bytes.now) }
     ensures head { IfSome result (λ spans. (h : RequestHead)
@@ -118,7 +119,7 @@ fn spans_of(bytes: &[u8], headers: &mut [HeaderSpan; MAX_HEADERS]) -> Option<Req
     }
 }
 
-/// The bytes in which the head has to lie.
+// The bytes in which the head has to lie.
 fn front_of(bytes: &[u8]) -> &[u8]
     ensures { result.now ≡ take 8192 bytes.now }
 {

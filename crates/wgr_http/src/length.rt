@@ -25,7 +25,7 @@ fn all_digits(text: &[u8]) -> bool
     text.iter().all(|b| b.is_ascii_digit())
 }
 
-/// The number that at most 20 digits write. It has 67 bits at most.
+// The number that at most 20 digits write. It has 67 bits at most.
 fn number_of(text: &[u8]) -> u128
     requires digits { list_all is_ascii_digit text.now ≡ true }
     requires short { length text.now ≤ 20 }

@@ -2,14 +2,13 @@
 ghost use Rattle.std.specs.Prelude.{◌≡◌};
 ghost use Rattle.wgr_http.specs.Field.{field_view};
 ghost use Rattle.wgr_http.specs.Length.{length_value};
-ghost use Rattle.wgr_http.specs.Message.{Answers, body_view, fault_status, headless, judged, sized_by, view_result};
+ghost use Rattle.wgr_http.specs.Message.{Answers, body_view, fault_name, fault_status, headless, judged, sized_by, view_result};
 
 use crate::StatusCode;
 use crate::field_lines::FieldLines;
 use crate::head::{Head, MAX_HEAD};
 use crate::length::{MAX_BODY, length_of};
 use crate::token::token_of;
-use std::fmt;
 
 /// A request message, as slices of its bytes. What comes after its body is no part of it.
 #[derive(Clone, Copy)]
@@ -49,16 +48,17 @@ impl MessageFault {
             MessageFault::Truncated => StatusCode::BadRequest,
         }
     }
-}
 
-impl fmt::Display for MessageFault {
-    fn fmt<W: fmt::Write>(&self, f: &mut fmt::Formatter<W>) -> fmt::Result {
-        f.write_str(match self {
+    /// Its name in the reply that tells it: letters and underscores.
+    pub fn name(self) -> &'static str
+        ensures { result.now ≡ fault_name self }
+    {
+        match self {
             MessageFault::BadHead => "bad_head",
             MessageFault::TooLarge => "too_large",
             MessageFault::LengthRequired => "length_required",
             MessageFault::Truncated => "truncated",
-        })
+        }
     }
 }
 
@@ -81,7 +81,7 @@ impl<'a> Message<'a> {
     }
 }
 
-/// The message of a head and of the bytes after it.
+// The message of a head and of the bytes after it.
 fn judge<'a>(
     method: &'a [u8],
     target: &'a [u8],
@@ -120,7 +120,7 @@ fn judge<'a>(
     })
 }
 
-/// The body of the length that the value of `Content-Length` writes.
+// The body of the length that the value of `Content-Length` writes.
 fn body_of<'a>(value: &[u8], rest: &'a [u8]) -> Result<&'a [u8], MessageFault>
     ensures { body_view result ≡ sized_by rest.now (length_value value.now) }
 {
@@ -137,7 +137,7 @@ fn body_of<'a>(value: &[u8], rest: &'a [u8]) -> Result<&'a [u8], MessageFault>
     Ok(&rest[..length])
 }
 
-/// The fault of bytes that have no head.
+// The fault of bytes that have no head.
 fn headless_fault(bytes: &[u8]) -> MessageFault
     ensures { result ≡ headless bytes.now }
 {

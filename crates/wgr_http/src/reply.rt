@@ -36,7 +36,7 @@ pub fn write_reply(
     Ok(reply)
 }
 
-/// The lines of each reply, up to the length of its body.
+// The lines of each reply, up to the length of its body.
 fn first_lines_of(
     alloc: Global,
     status: StatusCode,
@@ -62,7 +62,7 @@ fn media_type_of(kind: Kind) -> &'static str
     }
 }
 
-/// The line that only replies of this status have.
+// The line that only replies of this status have.
 fn push_extra_line(status: StatusCode, allow: &[u8], reply: &mut Vec<u8>) -> Result<(), AllocError>
     ensures { OnOk result (reply.new.items ≡ reply.old.items ++ extra_line status allow.now) }
 {

@@ -2,7 +2,8 @@
 ghost use Rattle.std.specs.Prelude.{◌≡◌};
 ghost use Rattle.wgr_http.specs.StatusCode.{status_number, reason};
 
-/// A status code that a reply may have (RFC 9110 section 15).
+/// A status code that a reply may have (RFC 9110 section 15). A number would need a condition, or a
+/// reply for numbers that nobody wants.
 #[derive(Clone, Copy, Debug, PartialEq, Eq)]
 pub enum StatusCode {
     /// 200 OK

@@ -12,10 +12,7 @@ use wgr_io::{Device, DeviceError, Read, ReadFault};
 fn check(rt: &(impl Abort + AllocGlobal), bytes: &[u8], wanted: &str) {
     match Message::read(bytes) {
         Ok(_) => assert_eq!(rt; "message", wanted),
-        Err(fault) => {
-            let told = fault.to_string(rt.alloc()).expect(rt, "memory");
-            assert_eq!(rt; told.as_str(), wanted);
-        }
+        Err(fault) => assert_eq!(rt; fault.name(), wanted),
     }
 }
 

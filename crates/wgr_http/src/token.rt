@@ -31,7 +31,7 @@ fn is_visible(text: &[u8]) -> bool
     text.iter().all(|b| *b >= 0x21 && *b <= 0x7E)
 }
 
-/// The bytes from the first that is no space.
+// The bytes from the first that is no space.
 fn after_spaces(bytes: &[u8]) -> &[u8]
     ensures { result.now ≡ skip_spaces bytes.now }
 {

@@ -4,7 +4,6 @@ use Rattle.wgr_core.specs.declared.command.Command.{Command}
 use Rattle.wgr_core.specs.declared.refusal.Refusal.{Refusal}
 use Rattle.wgr_core.specs.declared.reply.Reply.{Reply}
 use Rattle.wgr_core.specs.Network.{NetworkValue}
-use Rattle.wgr_model.specs.Calls.{IsActed}
 use Rattle.wgr_model.specs.Listing.{Entries, EntriesOf}
 use Rattle.wgr_model.specs.Register.{Bytes, IsSame, Register}
 use Rattle.wgr_model.specs.Steps.{Answer, Ask, Declined, Event, IsStep, IsUnused, Listed, Networks, NoSuchNetwork, Outcome, Replied, UnknownToken, act, acted, ask, asked, is_done, listed, network_at, outcome, put_network, tenant_of_token}
@@ -48,18 +47,3 @@ stranger_lists r digest none = quiet r (Networks digest) UnknownToken refl (ap (
 
 pub tenant_lists : (r : Register) (digest : Bytes) (id : ℕ) (entries : Entries) → tenant_of_token r.tokens digest ≡ Some id → EntriesOf r.networks id entries → IsStep r (Networks digest) (Listed entries) r
 tenant_lists r digest id entries known is = quiet r (Networks digest) (Listed entries) refl (ap (listed r) known ∙ ap (λ (es : Entries). (Listed es, r)) (sym is))
-
-module _ (r : Register) (digest name : Bytes) (now : ℕ) (command : Command) (id : ℕ) (known : tenant_of_token r.tokens digest ≡ Some id) (n : NetworkValue) (found : network_at r.networks id name ≡ Some n) (answer : Answer) where
-  -- a command that is refused
-  pub refusal_step : IsActed (act n now command) answer None → IsStep r (Ask digest name now command) answer r
-  refusal_step e = by_case (act n now command) refl e where
-    by_case : (given : Result (Reply × NetworkValue) Refusal) → act n now command ≡ given → IsActed given answer None → IsStep r (Ask digest name now command) answer r
-    by_case (Err why) is e = subst (λ (a : Answer). IsStep r (Ask digest name now command) a r) (sym e) (declined r digest name now command id known n why found is)
-    by_case (Ok done) is e = absurd e
-
-  -- and one that is done
-  pub reply_step : (after : NetworkValue) (s : Register) → IsActed (act n now command) answer (Some after) → s ≡ put_network r id name after → IsStep r (Ask digest name now command) answer s
-  reply_step after s e put = by_case (act n now command) refl e where
-    by_case : (given : Result (Reply × NetworkValue) Refusal) → act n now command ≡ given → IsActed given answer (Some after) → IsStep r (Ask digest name now command) answer s
-    by_case (Err why) is e = absurd e
-    by_case (Ok done) is e = subst (λ (a : Answer). IsStep r (Ask digest name now command) a s) (sym e.0) (replied r digest name now command id known n done s found is (put ∙ ap (put_network r id name) e.1))

@@ -1,6 +1,5 @@
 -- Lists and bytes: look-ups, places, and lists in another order.
 pub mod LookLemmas
-pub mod PlaceLemmas
 pub mod MemberLemmas
 pub mod PoolLemmas
 -- What a tenant sees: each event, its answer, and the order of entries.
@@ -16,12 +15,9 @@ pub mod HolderLemmas
 pub mod StepLemmas
 pub mod CallLemmas
 pub mod OrderSteps
-pub mod ActLemmas
 pub mod NewNetworkLemmas
-pub mod CopyLemmas
 -- Runs, and the law of two worlds.
 pub mod RunLemmas
-pub mod ServeLemmas
 pub mod WorldLemmas
 -- The same over rows.
 pub mod CollectLemmas

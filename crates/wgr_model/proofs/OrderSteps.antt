@@ -1,15 +1,10 @@
 -- Single orders.
 use Rattle.std.proofs.Common.{◌≡◌, ℕ, Bool, true, false, not, List, [], ◌∷◌, ◌++◌, map, nat_eq, Some, None, Option, Err, is_some, refl, sym, ap, ap₂, subst, ◌∙◌, ◌<◌, arith}
 use Rattle.std.specs.List.{list_any}
-use Rattle.std.specs.Prelude.{MatchOption}
 use Rattle.std.specs.List.Sorted.{IsPermutation}
 use Rattle.std.proofs.lemmas.List.Sorted.{IsPermutation-append_comm, IsPermutation-refl}
 use Rattle.std.proofs.lemmas.Bool.Decides.{nat_tests}
-use Rattle.wgr_model.specs.declared.answer.OrderFault.{OrderFault}
-use Rattle.wgr_model.specs.declared.answer.OrderFault.TheVariants as faulted
-use Rattle.wgr_model.specs.Calls.{IsChecked, IsOrdered, refusal_of}
 use Rattle.wgr_model.specs.Consistent.{IsId, is_pool}
-use Rattle.wgr_model.specs.Places.{IsPlace}
 use Rattle.wgr_model.specs.Register.{Bytes, Holding, IsSame, Register, Tenant, Token, id_of}
 use Rattle.wgr_model.specs.Steps.{AddNetwork, AddTenant, BadPool, DigestHeld, Done, EndNetwork, EndToken, Event, Grant, IsStep, NameHeld, NoNetwork, NoSuchTenant, NoSuchToken, OrderRefusal, Outcome, PortHeld, Refused, RegisterFull, Settings, first_refusal, given, granted, has_digest, has_endpoint, has_name, has_slot, is_full, network_added, network_at, network_checks, network_ended, new_network, ordered, outcome, overlapping, pool_refusal, refuse, tenant_of_token, with_new_network, with_tenant, with_token, without_network, without_token}
 use Rattle.wgr_model.proofs.CallLemmas.{quiet, step_is}
@@ -29,11 +24,6 @@ digest_is_held (t ∷ ts) digest = grind (arith, nat_tests, digest_is_held ts di
 pub slot_is_held : (hs : List Holding) (id : ℕ) (name : Bytes) → has_slot hs id name ≡ is_some (network_at hs id name)
 slot_is_held [] id name = refl
 slot_is_held (h ∷ hs) id name = grind (arith, nat_tests, slot_is_held hs id name, eqb_sym id h.tenant)
-
-pub place_tells : (hs : List Holding) (id : ℕ) (name : Bytes) (place : Option ℕ) → MatchOption place (network_at hs id name ≡ None) (λ i. IsPlace hs id name i) → is_some place ≡ is_some (network_at hs id name)
-place_tells hs id name None e = sym (ap is_some e)
-place_tells [] id name (Some i) e = let none : i < 0 = e.within in absurd (omega (arith, none))
-place_tells (h ∷ hs) id name (Some i) e = sym (ap is_some (e.found h))
 
 -- ---- an entry at the end stands for one in front
 
@@ -168,8 +158,3 @@ module _ (r : Register) (id : ℕ) (name : Bytes) (s : Settings) where
 
         pub room_decides : (full : Bool) → has_endpoint r.networks (s.host, s.port) ≡ false → is_full r.networks ≡ full → first_refusal (network_checks r id name s) ≡ five false true None false full
         room_decides full d e = five_checks false true None false full a b c d e
-
--- a network that isn't added
-pub fault_ordered : (r : Register) (tenant name : Bytes) (s : Settings) (id : ℕ) → id_of r.tenants tenant ≡ Some id → (fault : OrderFault) → IsChecked r id name s (Err fault) → IsOrdered r (AddNetwork tenant name s) (Err fault) r
-fault_ordered r tenant name s id known (faulted.Refused why) is = not_added r tenant name s id known (refusal_of why) is
-fault_ordered r tenant name s id known faulted.NoMemory is = refl

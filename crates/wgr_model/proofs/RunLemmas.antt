@@ -1,5 +1,5 @@
 -- Whole runs.
-use Rattle.std.proofs.Common.{◌≡◌, true, List, [], ◌∷◌, Some, None, sym, ap, subst, ◌∙◌, arith}
+use Rattle.std.proofs.Common.{◌++◌, Option, ◌≡◌, true, List, [], ◌∷◌, Some, None, sym, ap, subst, ◌∙◌, arith}
 use Rattle.std.specs.List.{IsDistinct}
 use Rattle.std.proofs.lemmas.List.Sorted.{IsPermutation-refl, IsPermutation-trans}
 use Rattle.wgr_model.specs.Consistent.{IsConsistent}
@@ -80,3 +80,8 @@ pub runs_isolated : RunsAreIsolated
 runs_isolated r s es good proper run =
     let law = run_law es r s good proper run in
     record { answers = λ me. (law.1 me).answers; views = λ me. (law.1 me).view; consistent = law.0; holders = one_holder s law.0 }
+
+-- one more event
+pub proper_more : (es : List Served) (e : Event) (a : Option Answer) → AreProper es → IsProper e → AreProper (es ++ (e, a) ∷ [])
+proper_more [] e a so_far proper = (proper, tt)
+proper_more (x ∷ es) e a so_far proper = (so_far.0, proper_more es e a so_far.1 proper)

@@ -22,8 +22,12 @@ pub record IsDigest (digest : Bytes) : Type 0 where
   pub long : length digest ≡ 32
   pub bytes : AllByRecursion (λ b. b < 256) digest
 
+-- how many tenants, how many tokens and how many networks a register may have
+abbrev pub max_entries : ℕ
+max_entries = 65536
+
 abbrev pub IsId : ℕ → Type 0
-IsId id = (1 ≤ id) × (id ≤ 65536)
+IsId id = (1 ≤ id) × (id ≤ max_entries)
 
 -- ---- pools
 
@@ -86,6 +90,6 @@ pub record IsConsistent (r : Register) : Type 0 where
   pub tenants : AllByRecursion IsTenant r.tenants
   pub tokens : AllByRecursion (λ t. IsDigest t.digest) r.tokens
   pub networks : AllByRecursion IsHolding r.networks
-  pub few_tenants : length r.tenants ≤ 65536
-  pub few_tokens : length r.tokens ≤ 65536
-  pub few_networks : length r.networks ≤ 65536
+  pub few_tenants : length r.tenants ≤ max_entries
+  pub few_tokens : length r.tokens ≤ max_entries
+  pub few_networks : length r.networks ≤ max_entries

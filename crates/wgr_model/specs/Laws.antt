@@ -7,7 +7,7 @@ use Rattle.wgr_pool.specs.Pool.{IsPool}
 use Rattle.wgr_peers.specs.declared.peer.Peer.{Peer}
 use Rattle.wgr_core.specs.Network.{NetworkValue}
 use Rattle.wgr_model.specs.Register.{Bytes, Register, View, Holding, IsSame, empty_register, tenant_view}
-use Rattle.wgr_model.specs.Consistent.{IsConsistent, IsId, is_pool, overlaps}
+use Rattle.wgr_model.specs.Consistent.{IsConsistent, IsId, is_pool, overlaps, max_entries}
 use Rattle.wgr_model.specs.Steps.{AddNetwork, Event, Answer, Done, PoolOverlaps, Settings, IsProper, IsStep, comes_before, is_done, overlapping, pool_refusal}
 use Rattle.wgr_model.specs.Tenants.{Agree, Fits, own_events, tenant_after, tenant_answer, tenant_run, told}
 use Rattle.wgr_model.specs.Runs.{Served, AreProper, IsRun, acknowledged}
@@ -64,7 +64,7 @@ EveryEventHasAStep = (r : Register) (e : Event) → (answer : Answer) × (s : Re
 
 -- below 65,536 entries some id is unused
 abbrev pub AnIdIsUnused : Type 0
-AnIdIsUnused = (ids : List ℕ) → length ids < 65536 → (id : ℕ) × IsId id × (list_any (nat_eq id) ids ≡ false)
+AnIdIsUnused = (ids : List ℕ) → length ids < max_entries → (id : ℕ) × IsId id × (list_any (nat_eq id) ids ≡ false)
 
 -- ---- pools
 

@@ -1,9 +1,7 @@
 pub mod Register
 pub mod Consistent
 pub mod Steps
-pub mod Places
 pub mod Listing
-pub mod Calls
 pub mod Tenants
 pub mod Runs
 pub mod Laws

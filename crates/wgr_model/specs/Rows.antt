@@ -61,12 +61,16 @@ pub record Tables : Type 0 where
   pub peers : List PeerRow
   pub allowed : List AllowedRow
 
+-- how many ids of peers belong to a network
+abbrev pub ids_per_network : ℕ
+ids_per_network = 1048576
+
 -- a peer's id has its network's and its number, which is below 2 ^ 20
 abbrev pub peer_id : ℕ → ℕ → ℕ
-peer_id network number = network * 1048576 + number
+peer_id network number = network * ids_per_network + number
 
 abbrev pub number_in : ℕ → ℕ → ℕ
-number_in network id = id - network * 1048576
+number_in network id = id - network * ids_per_network
 
 -- ---- keys
 

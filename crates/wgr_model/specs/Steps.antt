@@ -15,7 +15,7 @@ use Rattle.wgr_core.specs.Network.{NetworkValue}
 use Rattle.wgr_core.specs.Outcome.{IsAsked, outcome_of}
 use Rattle.wgr_core.specs.Forms.{IsFormedCommand, IsKey}
 use Rattle.wgr_model.specs.Register.{Bytes, Tenant, Token, Holding, Register, IsSame, id_of, is_same, view_at}
-use Rattle.wgr_model.specs.Consistent.{IsDigest, IsId, IsName, endpoint, has_tenant, is_pool, overlaps, same_endpoint, same_slot, slot}
+use Rattle.wgr_model.specs.Consistent.{IsDigest, IsId, IsName, endpoint, has_tenant, is_pool, overlaps, same_endpoint, same_slot, slot, max_entries}
 
 -- what a command gives on a network: a refusal, or a reply and the network after it
 unfoldable pub act : NetworkValue → ℕ → Command → Result (Reply × NetworkValue) Refusal
@@ -163,7 +163,7 @@ abbrev pub has_endpoint : List Holding → Bytes × ℕ → Bool
 has_endpoint hs e = list_any (same_endpoint e) (map endpoint hs)
 
 abbrev pub is_full : {A : Type 0} → List A → Bool
-is_full xs = not (nat_lt (length xs) 65536)
+is_full xs = not (nat_lt (length xs) max_entries)
 
 abbrev pub name_of : List Tenant → ℕ → Bytes
 name_of [] id = []

@@ -14,7 +14,7 @@ use Rattle.wgr_office.specs.declared.run.Event as event
 use Rattle.wgr_office.proofs.RunLemmas.{agree_given, row_run}
 use Rattle.wgr_register.specs.Standing.{StandsAt}
 use Rattle.wgr_register.proofs.LeftLemmas.{stop_leaves}
-use Rattle.wgr_tables.specs.Decode.{tables_of}
+use Rattle.wgr_columns.specs.Decode.{tables_of}
 
 module _ {S : Type 0} (g : Ghosts S) where
   -- one call more

@@ -1,4 +1,3 @@
-pub mod Examples
 pub mod OfficeLemmas
 pub mod RunLemmas
 pub mod WorldLemmas

@@ -23,7 +23,7 @@ use Rattle.wgr_register.proofs.AskLemmas.{still}
 use Rattle.wgr_register.proofs.StandLemmas.{at_more}
 use Rattle.wgr_request.specs.Request.{RequestView, refused}
 use Rattle.wgr_request.specs.declared.fault.RequestFault.{RequestFault}
-use Rattle.wgr_tables.specs.Decode.{tables_of}
+use Rattle.wgr_columns.specs.Decode.{tables_of}
 
 page_of : (o : Option GivenValue) (text : Bytes) → option_map page o ≡ Some text → text ≡ page_if o
 page_of None text is = cc

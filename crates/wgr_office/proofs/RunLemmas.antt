@@ -8,13 +8,13 @@ use Rattle.sqlite.specs.Effect.{Database}
 use Rattle.sqlite.specs.State.{HasCleanDisk}
 use Rattle.sqlite.specs.Store.{Ghosts}
 use Rattle.sqlite.specs.Held.{Held, state}
-use Rattle.wgr_model.specs.Calls.{order_event, refusal_of}
-use Rattle.wgr_model.specs.declared.order.Order.{Order}
+use Rattle.wgr_orders.specs.Orders.{order_event, refusal_of}
+use Rattle.wgr_orders.specs.declared.order.Order.{Order}
 use Rattle.wgr_model.specs.RowLaws.{AreConsistent, RowsAreIsolated, IsRowRun, IsRowServed, IsRowStep}
 use Rattle.wgr_model.specs.Runs.{Served, acknowledged}
 use Rattle.wgr_model.specs.Steps.{Answer, Event, IsProper, Refused}
 use Rattle.wgr_model.specs.Tenants.{Agree, Fits}
-use Rattle.wgr_model.proofs.ServeLemmas.{proper_more}
+use Rattle.wgr_model.proofs.RunLemmas.{proper_more}
 use Rattle.wgr_office.specs.Events.{AgreeAsGiven, AreServed, Goes, GoesAll, HasRun, HaveBeenServed, IsAnswerTo, IsServed, IsSettled, Serves, Settles, Tells, unread}
 use Rattle.wgr_office.specs.Pages.{IsAnswered, event_of}
 use Rattle.wgr_office.specs.declared.answer.Answer as given
@@ -26,7 +26,7 @@ use Rattle.wgr_register.specs.Standing.{IsAtRest, StandsAt}
 use Rattle.wgr_register.specs.declared.fault.Done as done
 use Rattle.wgr_register.specs.declared.fault.OrderFault.{OrderFault}
 use Rattle.wgr_register.specs.declared.fault.OrderFault.TheVariants as order_fault
-use Rattle.wgr_tables.specs.Decode.{tables_of}
+use Rattle.wgr_columns.specs.Decode.{tables_of}
 
 -- ---- one more
 

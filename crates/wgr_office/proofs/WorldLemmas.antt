@@ -4,14 +4,14 @@ use Rattle.std.specs.Prelude.{if◌then◌else◌}
 use Rattle.std.specs.FinSet as set_
 use Rattle.std.specs.declared.vec.Vec.{Vec}
 use Rattle.std.specs.declared.alloc.Global.{Global}
-use Rattle.wgr_model.specs.Calls.{order_event}
+use Rattle.wgr_orders.specs.Orders.{order_event}
 use Rattle.wgr_model.specs.Register.{Bytes, View}
 use Rattle.wgr_model.specs.RowLaws.{rows_view}
 use Rattle.wgr_model.specs.Runs.{Served, acknowledged}
 use Rattle.wgr_model.specs.Steps.{Answer, Event, Listed, Plain, is_done}
 use Rattle.wgr_model.specs.Tenants.{is_own, own_events, tenant_after, tenant_answer, tenant_run}
-use Rattle.wgr_model.specs.declared.order.Order.{Order}
-use Rattle.wgr_model.specs.declared.order.Order.TheVariants as ordered
+use Rattle.wgr_orders.specs.declared.order.Order.{Order}
+use Rattle.wgr_orders.specs.declared.order.Order.TheVariants as ordered
 use Rattle.wgr_model.proofs.WorldLemmas.{not_own, two_worlds}
 use Rattle.wgr_office.specs.Events.{AgreeAsGiven, AreServed, Tells}
 use Rattle.wgr_office.specs.Pages.{answer_bytes, event_of, fault_page}

@@ -3,7 +3,7 @@ use Rattle.std.specs.Prelude.{◌≡◌, ◌⊎◌, Bool, true, false, List, [],
 use Rattle.sqlite.specs.Effect.{Database}
 use Rattle.sqlite.specs.Store.{Ghosts}
 use Rattle.sqlite.specs.Held.{Held}
-use Rattle.wgr_model.specs.Calls.{order_event, refusal_of}
+use Rattle.wgr_orders.specs.Orders.{order_event, refusal_of}
 use Rattle.wgr_model.specs.Register.{Bytes}
 use Rattle.wgr_model.specs.RowLaws.{HasOneRow, IsRowRun, IsRowStep, rows_view}
 use Rattle.wgr_model.specs.Rows.{Tables}
@@ -21,7 +21,7 @@ use Rattle.wgr_register.specs.declared.fault.Done as done
 use Rattle.wgr_register.specs.declared.fault.OrderFault.{OrderFault}
 use Rattle.wgr_register.specs.declared.fault.OrderFault.TheVariants as order_fault
 use Rattle.wgr_request.specs.Request.{RequestView, Requests}
-use Rattle.wgr_tables.specs.Decode.{tables_of}
+use Rattle.wgr_columns.specs.Decode.{tables_of}
 
 -- ---- events and answers
 
@@ -105,7 +105,7 @@ AgreeAsGiven events answers alone = ⊥
 
 -- For every tenant, the answers to its requests and its rows at the end are those that its own
 -- requests and the accepted orders about it give on its own rows alone, requests answered
--- Unavailable left out; and no two peers hold one address.
+-- Unavailable left out; and no two peers, of whatever networks, have the same address.
 pub record AreApart (rows : Tables) (asked : List event.Event) (answers : List given.Answer) (served : List Served) (after : Tables) : Type 0 where
   pub answered : (tenant : Bytes) → AgreeAsGiven asked answers (tenant_run tenant (rows_view rows tenant) (acknowledged served)).0
   pub views : (tenant : Bytes) → (tenant_run tenant (rows_view rows tenant) (acknowledged served)).1 ≡ rows_view after tenant

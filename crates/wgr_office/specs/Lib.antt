@@ -1,6 +1,4 @@
 pub mod Between
-pub mod Refused
-pub mod Response
 pub mod Pages
 pub mod Events
 pub mod Worlds

@@ -8,12 +8,13 @@ use Rattle.sqlite.specs.Store.{Ghosts}
 use Rattle.sqlite.specs.Held.{Held}
 use Rattle.wgr_core.specs.declared.refusal.Refusal.{Refusal}
 use Rattle.wgr_core.specs.declared.reply.Reply.TheVariants as reply
-use Rattle.wgr_json.specs.Bodies.{adopted_data, networks_data, owner_data, peers_data, revoked_data}
-use Rattle.wgr_json.specs.Shown.{peer_data}
+use Rattle.wgr_reply.specs.Bodies.{adopted_data, networks_data, owner_data, peers_data, revoked_data}
+use Rattle.wgr_reply.specs.Shown.{peer_data}
 use Rattle.wgr_model.specs.Register.{Bytes}
 use Rattle.wgr_model.specs.Steps.{Answer, Ask, Decided, Declined, Event, NoSuchNetwork, Networks, Plain, UnknownToken, IsProper}
-use Rattle.wgr_office.specs.Refused.{refusal_facts, refusal_name, refusal_status}
-use Rattle.wgr_office.specs.Response.{Shown, done, fault_shown, json, plain, problem, shown_bytes, text}
+use Rattle.wgr_core.specs.RefusalNames.{refusal_name}
+use Rattle.wgr_reply.specs.Refused.{refusal_facts, refusal_status}
+use Rattle.wgr_reply.specs.Response.{Shown, done, fault_shown, json, plain, problem, shown_bytes, text}
 use Rattle.wgr_http.specs.declared.status_code.StatusCode.TheVariants as status
 use Rattle.wgr_office.specs.declared.answer.Answer as given
 use Rattle.wgr_office.specs.declared.answer.Answer.TheVariants as givens

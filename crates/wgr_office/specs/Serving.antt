@@ -1,5 +1,5 @@
 -- What a connection is given.
-use Rattle.std.specs.Prelude.{◌≡◌, ◌<◌, ℕ, Bool, true, List, length, take, Option, IfSome}
+use Rattle.std.specs.Prelude.{◌≡◌, ◌<◌, ℕ, Bool, true, List, [], length, take, Option, IfSome}
 use Rattle.std.specs.declared.vec.Vec.{Vec}
 use Rattle.std.specs.declared.alloc.Global.{Global}
 use Rattle.std.specs.Io.KnownBytes.{Appends, Consumes}
@@ -10,7 +10,7 @@ use Rattle.wgr_http.specs.Reading.{IsNoMore, IsReadInTime}
 use Rattle.wgr_model.specs.Register.{Bytes}
 use Rattle.wgr_model.specs.Steps.{Event}
 use Rattle.wgr_office.specs.Pages.{IsAnswered}
-use Rattle.wgr_office.specs.Response.{shown_bytes, unavailable_shown}
+use Rattle.wgr_reply.specs.Response.{shown_bytes, unavailable_shown}
 use Rattle.wgr_office.specs.declared.answer.Answer as given
 use Rattle.wgr_office.specs.declared.answer.Answer.TheVariants as givens
 use Rattle.wgr_office.specs.declared.serve.ServeFault.{ServeFault}
@@ -18,11 +18,11 @@ use Rattle.wgr_office.specs.declared.serve.ServeFault.TheVariants as fault
 use Rattle.wgr_register.specs.Standing.{StandsAt}
 use Rattle.wgr_request.specs.Laws.{RequestsAs}
 
--- the bytes that are written for an answer
+-- the bytes that are written for an answer, which an order has none of
 abbrev pub reply_of : given.Answer → Bytes
 reply_of (givens.Bytes bytes) = bytes.items
 reply_of givens.Unavailable = shown_bytes unavailable_shown
-reply_of (givens.Order done) = shown_bytes unavailable_shown
+reply_of (givens.Order done) = []
 
 -- a message was answered at this moment, wherever the register stood
 abbrev pub IsAnsweredAt : {S : Type 0} → Ghosts S → Held S → Held S → ℕ → Bytes → given.Answer → Type 0

@@ -3,9 +3,9 @@ ghost use Rattle.std.specs.Prelude.{◌≡◌};
 ghost use Rattle.wgr_office.specs.Pages.{IsEnd, IsMade};
 ghost use Rattle.wgr_office.specs.Serving.{reply_of};
 
-use crate::response::{Response, unavailable, write_response};
 use std::alloc::{AllocError, Global};
 use wgr_register::{AskFault, Done, OrderRefusal};
+use wgr_reply::{Response, unavailable, write_response};
 use wgr_request::RequestFault;
 
 /// What an event is answered.
@@ -15,19 +15,19 @@ pub enum Answer {
     Bytes(Vec<u8>),
     /// Memory or the store failed; the rows are as before.
     Unavailable,
-    /// The order is done or refused.
+    /// The order is done or refused. `Office::answer` never gives it, `Office::run` does.
     Order(Result<Done, OrderRefusal>),
 }
 
 impl Answer {
-    /// The bytes that are written to a client: of the reply, or of [`unavailable`].
+    /// The bytes that are written to a client: of the reply, or of [`unavailable`]. An order has none.
     pub fn reply(&self) -> &[u8]
         ensures { result.now ≡ reply_of self.now }
     {
         match self {
             Answer::Bytes(bytes) => bytes.as_slice(),
             Answer::Unavailable => unavailable(),
-            Answer::Order(_) => unavailable(),
+            Answer::Order(_) => &[],
         }
     }
 }

@@ -2,16 +2,13 @@
 ghost use Rattle.std.specs.Prelude.{◌≡◌, ℕ, List, length, IfErr, IfOk, OnErr, OnOk};
 ghost use Rattle.std.specs.declared.vec.Vec.{Vec};
 ghost use Rattle.std.specs.declared.alloc.Global.{Global};
-ghost use Rattle.std.specs.Io.KnownBytes.{Appends};
 ghost use Rattle.sqlite.specs.Effect.{Database};
 ghost use Rattle.sqlite.specs.State.{HasCleanDisk};
 ghost use Rattle.sqlite.specs.Held.{state};
 ghost use Rattle.wgr_model.specs.Steps.{Event, IsProper};
-ghost use Rattle.wgr_model.specs.Calls.{order_event};
+ghost use Rattle.wgr_orders.specs.Orders.{order_event};
 ghost use Rattle.wgr_office.specs.Between.{HasPassed};
 ghost use Rattle.wgr_office.specs.Events.{HasRun};
-ghost use Rattle.wgr_office.specs.Serving.{IsReplied, IsServeFault, IsTaken, Takes, reply_of};
-ghost use Rattle.wgr_office.specs.declared.answer.Answer as given;
 ghost use Rattle.wgr_register.specs.Ends.{OrderEnds};
 ghost use Rattle.wgr_office.specs.Pages.{IsAnswered, Responds, event_of};
 ghost use Rattle.wgr_register.specs.Standing.{IsAtRest, StandsAt};
@@ -19,14 +16,12 @@ ghost use Rattle.wgr_request.specs.Request.{request_view};
 
 use crate::answer::{Answer, ended, made};
 use crate::pages::Pages;
-use crate::response::{Response, write_response};
 use crate::run;
-use crate::serve::{self, ServeFault};
 use sqlite::Alter;
 use std::alloc::{AllocError, Global};
 use std::marker::Model;
-use wgr_io::{Read, Write};
 use wgr_register::{Done, Order, OrderFault, Register};
+use wgr_reply::{Response, write_response};
 use wgr_request::{Paths, Request, request_of};
 
 /// Answers the requests of tenants over a register.
@@ -97,9 +92,9 @@ impl<S: Alter> Office<S> {
     /// Answers all events in turn, each in its place. Where there is no memory for the answers, none is
     /// done.
     ///
-    /// Each tenant has the answers, byte for byte, and in the end the rows that its own requests and the
-    /// accepted orders about it give on its own rows alone, requests answered `Unavailable` left out; and
-    /// no two peers hold one address.
+    /// Each tenant gets the answers, byte for byte, and in the end has the tokens and networks that its own
+    /// requests and the accepted orders about it give on its own rows alone, requests answered
+    /// `Unavailable` left out; and no two peers, of whatever networks, have the same address.
     pub fn run(&mut self, alloc: Global, events: &[run::Event]) -> Result<Vec<Answer>, AllocError>
         ensures each { IfOk result (λ answers. length answers.items ≡ length events.now) }
         ensures clean { HasCleanDisk (state S.Store self.new) → HasCleanDisk (state S.Store self.old) }
@@ -111,31 +106,6 @@ impl<S: Alter> Office<S> {
     {
         self.register.tell_rules();
         run::run(alloc, self, events)
-    }
-
-    /// Reads a message, answers it at this moment (seconds since 1970-01-01), and writes the reply.
-    ///
-    /// Want of memory to read it is answered by the bytes of [`unavailable`](crate::unavailable).
-    pub fn serve_one<R: Read, W: Write>(
-        &mut self,
-        alloc: Global,
-        now: u64,
-        input: &mut R,
-        out: &mut W,
-    ) -> Result<(), ServeFault>
-        ensures clean { HasCleanDisk (state S.Store self.new) → HasCleanDisk (state S.Store self.old) }
-        ensures ok { OnOk result ((answer : given.Answer) × Takes S.Store self.old self.new now (R.remaining input.old) answer × Appends (W.contents out.old) (W.contents out.new) (reply_of answer)) }
-        // No read is made once the message is decided: a client may keep its side open.
-        ensures taken { (message : Vec ℕ Global)
-            × IsTaken (R.remaining input.old) (R.remaining input.new) (R.pieces input.old) (R.pieces input.new) message.items
-            × OnOk result (IsReplied S.Store self.old self.new now message.items (W.contents out.old) (W.contents out.new)) }
-        ensures sound { OnOk result ((R.failed input.new ≡ R.failed input.old) × (W.failed out.new ≡ W.failed out.old)) }
-        ensures fault { IfErr result (λ fault. IsServeFault S.Store self.old self.new now
-            (record { input = R.remaining input.old; read_failed = R.failed input.old; written = W.contents out.old; write_failed = W.failed out.old })
-            (record { input = R.remaining input.new; read_failed = R.failed input.new; written = W.contents out.new; write_failed = W.failed out.new })
-            fault) }
-    {
-        serve::serve_one(alloc, self, now, input, out)
     }
 }
 

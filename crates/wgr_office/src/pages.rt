@@ -3,10 +3,10 @@ ghost use Rattle.std.specs.Prelude.{◌≡◌, IfOk};
 ghost use Rattle.wgr_office.specs.Pages.{page};
 ghost use Rattle.wgr_register.specs.Given.{OfReply};
 
-use crate::response::{Response, write_response};
 use std::alloc::{AllocError, Global};
 use wgr_core::Reply;
 use wgr_register::{Given, Render};
+use wgr_reply::{Response, write_response};
 
 /// Makes the whole reply of what an accepted request gives.
 pub(crate) struct Pages;

@@ -25,32 +25,39 @@ pub enum ServeFault {
     Write { sent: usize },
 }
 
-// Reads a message, answers it, and writes the reply.
-pub(crate) fn serve_one<S: Alter, R: Read, W: Write>(
-    alloc: Global,
-    office: &mut Office<S>,
-    now: u64,
-    input: &mut R,
-    out: &mut W,
-) -> Result<(), ServeFault>
-    ensures clean { HasCleanDisk (state S.Store office.new) → HasCleanDisk (state S.Store office.old) }
-    ensures ok { OnOk result ((answer : given.Answer) × Takes S.Store office.old office.new now (R.remaining input.old) answer × Appends (W.contents out.old) (W.contents out.new) (reply_of answer)) }
-    ensures taken { (message : Vec ℕ Global)
-        × IsTaken (R.remaining input.old) (R.remaining input.new) (R.pieces input.old) (R.pieces input.new) message.items
-        × OnOk result (IsReplied S.Store office.old office.new now message.items (W.contents out.old) (W.contents out.new)) }
-    ensures sound { OnOk result ((R.failed input.new ≡ R.failed input.old) × (W.failed out.new ≡ W.failed out.old)) }
-    ensures fault { IfErr result (λ fault. IsServeFault S.Store office.old office.new now
-        (record { input = R.remaining input.old; read_failed = R.failed input.old; written = W.contents out.old; write_failed = W.failed out.old })
-        (record { input = R.remaining input.new; read_failed = R.failed input.new; written = W.contents out.new; write_failed = W.failed out.new })
-        fault) }
-{
-    let answer = match answered(alloc, office, now, input) {
-        Ok(answer) => answer,
-        Err(_) => return Err(ServeFault::Read),
-    };
-    match write_all(out, answer.reply()) {
-        Ok(()) => Ok(()),
-        Err(WriteFault { sent }) => Err(ServeFault::Write { sent }),
+impl<S: Alter> Office<S> {
+    /// Reads a message, answers it at this moment (seconds since 1970-01-01), and writes the reply.
+    ///
+    /// Want of memory to read it is answered by the bytes of [`unavailable`](wgr_reply::unavailable).
+    /// Nobody knows which request such a message is. In a list of events it stands as one that asks
+    /// nothing, and is left out of what is compared.
+    pub fn serve_one<R: Read, W: Write>(
+        &mut self,
+        alloc: Global,
+        now: u64,
+        input: &mut R,
+        out: &mut W,
+    ) -> Result<(), ServeFault>
+        ensures clean { HasCleanDisk (state S.Store self.new) → HasCleanDisk (state S.Store self.old) }
+        ensures ok { OnOk result ((answer : given.Answer) × Takes S.Store self.old self.new now (R.remaining input.old) answer × Appends (W.contents out.old) (W.contents out.new) (reply_of answer)) }
+        // No read is made once the message is decided: a client may keep its side open.
+        ensures taken { (message : Vec ℕ Global)
+            × IsTaken (R.remaining input.old) (R.remaining input.new) (R.pieces input.old) (R.pieces input.new) message.items
+            × OnOk result (IsReplied S.Store self.old self.new now message.items (W.contents out.old) (W.contents out.new)) }
+        ensures sound { OnOk result ((R.failed input.new ≡ R.failed input.old) × (W.failed out.new ≡ W.failed out.old)) }
+        ensures fault { IfErr result (λ fault. IsServeFault S.Store self.old self.new now
+            (record { input = R.remaining input.old; read_failed = R.failed input.old; written = W.contents out.old; write_failed = W.failed out.old })
+            (record { input = R.remaining input.new; read_failed = R.failed input.new; written = W.contents out.new; write_failed = W.failed out.new })
+            fault) }
+    {
+        let answer = match answered(alloc, self, now, input) {
+            Ok(answer) => answer,
+            Err(_) => return Err(ServeFault::Read),
+        };
+        match write_all(out, answer.reply()) {
+            Ok(()) => Ok(()),
+            Err(WriteFault { sent }) => Err(ServeFault::Write { sent }),
+        }
     }
 }
 

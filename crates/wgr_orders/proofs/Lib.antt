@@ -1,6 +1,1 @@
-pub mod Meanings
-pub mod AllLemmas
-pub mod KeptLemmas
-pub mod StopLemmas
-pub mod ComeLemmas
-pub mod GoLemmas
+pub mod PlaceLemmas

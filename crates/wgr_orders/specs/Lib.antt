@@ -1,3 +1,2 @@
-pub mod OrderSteps
-pub mod Kept
-pub mod Stops
+pub mod Places
+pub mod Orders

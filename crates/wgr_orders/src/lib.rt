@@ -1,16 +1,19 @@
-//! What an operator's orders write in the register's tables: tenants, their tokens and their
-//! networks come and go, each in one commit.
-//!
-//! Whether an order is refused is not decided here, only what it asks of every entry is read. A key
-//! that a row has already is a fault of the store.
+//! What an operator orders, and when it is refused.
 #![tactic(auto)]
 
-mod all;
-mod network;
-mod tenant;
-mod token;
+mod admit;
+mod forms;
+mod holding;
+mod listing;
+mod look;
+mod order;
+mod overlap;
+mod refusal;
 
-pub use all::{count_tokens, settled_networks, tenant_ids, tenants};
-pub use network::{add_network, end_network};
-pub use tenant::add_tenant;
-pub use token::{add_token, end_token};
+pub use admit::{admit_network, checked_pool, is_full, new_id};
+pub use forms::{tell_digest, tell_name, tell_settings};
+pub use holding::{Holding, Tenant};
+pub use listing::put_entry;
+pub use look::{is_same, place_of, unused_id};
+pub use order::{Order, Settings};
+pub use refusal::{OrderFault, OrderRefusal};

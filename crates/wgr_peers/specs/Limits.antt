@@ -13,6 +13,10 @@ max_routes = 4096
 abbrev pub max_number : ℕ
 max_number = 1000000
 
+-- how many characters a label may have
+abbrev pub max_label : ℕ
+max_label = 64
+
 abbrev pub IsPort : ℕ → Type 0
 IsPort n = (1 ≤ n) × (n ≤ 65535)
 

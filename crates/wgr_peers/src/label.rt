@@ -2,11 +2,13 @@
 ghost use Rattle.std.specs.Prelude.{◌≡◌, ℕ, List, [], IfOk, IfSome, IfNone, IsTrue, ◌↔◌, string_bytes};
 ghost use Rattle.wgr_peers.specs.Label.{IsLabel};
 
+use crate::limits::MAX_LABEL;
 use std::alloc::{AllocError, Global};
 use std::marker::Model;
 use std::str;
 
-/// An operator's note on a peer: 0 to 64 printable ASCII characters.
+/// An operator's note on a peer: 0 to 64 printable ASCII characters. They are kept as a `String`, which
+/// is shown and put into texts without another check.
 #[derive(Debug, Drop)]
 pub struct Label {
     text: String,
@@ -66,5 +68,5 @@ impl Label {
 fn is_label(text: &[u8]) -> bool
     ensures { IsTrue result ↔ IsLabel text.now }
 {
-    text.len() <= 64 && text.iter().all(|byte| matches!(byte, b' '..=b'~'))
+    text.len() <= MAX_LABEL && text.iter().all(|byte| matches!(byte, b' '..=b'~'))
 }

@@ -17,7 +17,7 @@ mod route_slots;
 pub use host::Host;
 pub use items::Items;
 pub use label::Label;
-pub use limits::{Capacity, Count, LeaseEnd, MAX_NUMBER, MAX_ROUTES, Port};
+pub use limits::{Capacity, Count, LeaseEnd, MAX_LABEL, MAX_NUMBER, MAX_ROUTES, Port};
 pub use name::Name;
 pub use number_set::NumberSet;
 pub use peer::{Peer, Status};

@@ -7,6 +7,9 @@ use std::marker::Model;
 /// The greatest number of a peer.
 pub const MAX_NUMBER: u32 = 1_000_000;
 
+/// How many characters a label may have.
+pub const MAX_LABEL: usize = 64;
+
 /// How many routes a network may have.
 pub const MAX_ROUTES: usize = 4096;
 

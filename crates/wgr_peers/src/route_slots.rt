@@ -16,7 +16,7 @@ use wgr_pool::{AddressSet, Pool, lowest_address};
 use wgr_text::{Addr, Prefix};
 
 /// Routes in the order of their prefixes, with vacant slots for prefixes that are expected, so that
-/// a route that comes there moves no other.
+/// a route that comes there moves no other. A prefix that wasn't expected is only slower.
 #[derive(Drop)]
 pub struct RouteSlots {
     slots: Vec<(Prefix, u32)>,

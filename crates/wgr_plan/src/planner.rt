@@ -31,7 +31,8 @@ pub enum PlanFault {
 /// Reads one key a line to the end of the input, gives each the lowest free address of the pool,
 /// and writes a line for each: its number, the key and its address, separated by tabs.
 ///
-/// All is read before anything is written. The capacity is 4,096 keys.
+/// All is read before anything is written, so a reader that fails leaves no half of an output. The
+/// capacity is 4,096 keys.
 pub fn plan<R: Read, W: Write>(
     alloc: Global,
     pool: &Pool,
@@ -84,7 +85,8 @@ fn plan_text(alloc: Global, pool: &Pool, text: &[u8]) -> Result<Output, AllocErr
     })
 }
 
-// The network that a plan begins with.
+// The network that a plan begins with. Its endpoint has no effect on what is printed. Its server key is
+// one that no computation of a public key gives (RFC 7748 section 5); a line with it is refused.
 fn empty_network(alloc: Global, pool: Pool) -> Result<Network, AllocError>
     ensures { IfOk result (λ n. n ≡ plan_network pool) }
 {

@@ -27,7 +27,7 @@ struct RouteSpans<'a> {
 }
 
 impl RouteSpans<'_> {
-    /// The span of the next route in the pool.
+    // The span of the next route in the pool.
     fn next(&mut self) -> Option<Span>
         ensures next { Takes (to_come self.old) result (to_come self.new) }
         ensures pool { self.new.pool ≡ self.old.pool }

@@ -55,7 +55,7 @@ module _ {D : Type 0} (g : disk.Ghosts D) (start : Image) (closed : Option (File
   ends_batch now files requests asked same spelled old new (Ok whole) answers = (asked, subst (AreSpelled now files) (sym same) spelled, answers)
   ends_batch now files requests asked same spelled old new (Err (failure.Field field)) answers = absurd answers
   ends_batch now files requests asked same spelled old new (Err (failure.Refused why)) answers = absurd answers
-  ends_batch now files requests asked same spelled old new (Err (failure.Register why)) answers = answers
+  ends_batch now files requests asked same spelled old new (Err (failure.Register why)) answers = (answers.0, answers.1, inr (asked, subst (AreSpelled now files) (sym same) spelled))
   ends_batch now files requests asked same spelled old new (Err failure.Device) answers = inr (asked, subst (AreSpelled now files) (sym same) spelled, answers)
 
   -- ---- connections
@@ -75,5 +75,5 @@ module _ {D : Type 0} (g : disk.Ghosts D) (start : Image) (closed : Option (File
   ends_serve place count now s spelled before after old new (Ok done) serves = (s, spelled, serves)
   ends_serve place count now s spelled before after old new (Err (failure.Field f)) serves = absurd serves
   ends_serve place count now s spelled before after old new (Err (failure.Refused why)) serves = absurd serves
-  ends_serve place count now s spelled before after old new (Err (failure.Register why)) serves = serves
+  ends_serve place count now s spelled before after old new (Err (failure.Register why)) serves = (serves.0, serves.1, serves.2, inr (s, spelled))
   ends_serve place count now s spelled before after old new (Err failure.Device) serves = (s, spelled, serves)

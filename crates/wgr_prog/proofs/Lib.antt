@@ -1,4 +1,2 @@
 pub mod AnsweringLemmas
-pub mod EndpointLemmas
-pub mod OrderLemmas
 pub mod RegisterLemmas

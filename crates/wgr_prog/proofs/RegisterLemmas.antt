@@ -5,14 +5,14 @@ use Rattle.sqlite_disk.specs.declared.Disk as disk
 use Rattle.sqlite_disk.specs.declared.Files.{Files}
 use Rattle.wgr_command_line.specs.Words.{OrderAsked}
 use Rattle.wgr_file.specs.OnFiles.{HasEnded}
-use Rattle.wgr_model.specs.declared.order.Order.{Order}
+use Rattle.wgr_orders.specs.declared.order.Order.{Order}
 use Rattle.wgr_register.specs.declared.fault.Done.{Done}
 use Rattle.wgr_register.specs.declared.fault.OrderFault.{OrderFault}
 use Rattle.wgr_register.specs.declared.fault.OrderFault.TheVariants as order_fault
 use Rattle.wgr_prog.specs.declared.register_words.Failure.{Failure}
 use Rattle.wgr_prog.specs.declared.register_words.Failure.TheVariants as failure
 use Rattle.wgr_prog.specs.OnRegister.{CarriesOut, EndsAs, as_ended, of_order}
-use Rattle.wgr_prog.specs.Order.{Input, IsTaken, OrdersBy}
+use Rattle.wgr_words.specs.Order.{Input, IsTaken, OrdersBy}
 
 module _ {D : Type 0} (g : disk.Ghosts D) (start : Image) (closed : Option (Files D)) where
   -- an order that wasn't done, as a failure
@@ -33,6 +33,6 @@ module _ {D : Type 0} (g : disk.Ghosts D) (start : Image) (closed : Option (File
   carried asked old new order (Ok done) made ended = (made.0, order, made.1, made.2, ended)
   carried asked old new order (Err (failure.Refused why)) made ended = (made.0, order, made.1, made.2, ended)
   carried asked old new order (Err (failure.Field field)) made ended = absurd ended
-  carried asked old new order (Err (failure.Register why)) made (inl stays) = (sound _ old new made.0 made.1, inl stays)
+  carried asked old new order (Err (failure.Register why)) made (inl stays) = (sound _ old new made.0 made.1, inl (stays, inr (made.0, order, made.1, made.2)))
   carried asked old new order (Err (failure.Register why)) made (inr ended) = (sound _ old new made.0 made.1, inr (ended.0, ended.1, (made.0, order, made.1, made.2, ended.2)))
   carried asked old new order (Err failure.Device) made ended = absurd ended

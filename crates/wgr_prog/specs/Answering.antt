@@ -19,14 +19,16 @@ use Rattle.wgr_office.specs.declared.run.Event.TheVariants as events
 use Rattle.wgr_service.specs.Batch.{IsCut, is_available}
 use Rattle.wgr_service.specs.Connections.{AreServed, Outcome, contacts_of}
 use Rattle.wgr_service.specs.Network.{Log, Logs, bound}
-use Rattle.wgr_prog.specs.declared.field.WordField.{WordField}
-use Rattle.wgr_prog.specs.declared.field.WordField.TheVariants as of
-use Rattle.wgr_prog.specs.declared.field.WordFault.{WordFault}
-use Rattle.wgr_prog.specs.declared.field.WordFault.TheVariants as word_fault
+use Rattle.wgr_schema.specs.declared.fault.RegisterFault.{RegisterFault}
+use Rattle.wgr_schema.specs.declared.fault.RegisterFault.TheVariants as register_fault
+use Rattle.wgr_words.specs.declared.field.WordField.{WordField}
+use Rattle.wgr_words.specs.declared.field.WordField.TheVariants as of
+use Rattle.wgr_words.specs.declared.field.WordFault.{WordFault}
+use Rattle.wgr_words.specs.declared.field.WordFault.TheVariants as word_fault
 use Rattle.wgr_prog.specs.declared.register_words.Failure.{Failure}
 use Rattle.wgr_prog.specs.declared.register_words.Failure.TheVariants as failure
-use Rattle.wgr_prog.specs.Order.{IsFirst}
-use Rattle.wgr_prog.specs.Words.{IsRead, SpellsEndpoint, SpellsWhole}
+use Rattle.wgr_words.specs.Order.{IsFirst}
+use Rattle.wgr_words.specs.Words.{IsRead, SpellsEndpoint, SpellsWhole}
 use Rattle.wgr_prog.specs.declared.request_words.Serving.{Serving}
 
 -- what was written to a writer, and whether a write has failed
@@ -95,12 +97,16 @@ Answers g start closed asked old new (Err (failure.Register why)) = (new ≡ old
 Answers g start closed asked old new (Err failure.Device) = HasBrokenOff g start closed asked old new
 Answers g start closed asked old new (Err other) = ⊥
 
+-- The register was asked for, so this was read of the words; or memory was refused before.
+abbrev pub OnceRead : RegisterFault → Type 0 → Type 0
+OnceRead why read = (why ≡ register_fault.NoMemory) ⊎ read
+
 -- How the requests in these files end: where they end by a fault, nothing is written, or a beginning of the replies.
 abbrev pub EndsBatch : {D : Type 0} → disk.Ghosts D → Image → Option (Files D) → List ℕ → List (List ℕ) → Output → Output → Result Bool Failure → Type 0
 EndsBatch g start closed now files old new (Ok whole) = (asked : List event.Event) × AreSpelled now files asked × HasReplied g start closed asked old new whole
-EndsBatch g start closed now files old new (Err (failure.Field field)) = (new ≡ old) × IsFirst field ((of.Now, now) ∷ [])
+EndsBatch g start closed now files old new (Err (failure.Field field)) = (new ≡ old) × Stays g start closed × IsFirst field ((of.Now, now) ∷ [])
 EndsBatch g start closed now files old new (Err (failure.Refused why)) = ⊥
-EndsBatch g start closed now files old new (Err (failure.Register why)) = (new ≡ old) × Stays g start closed
+EndsBatch g start closed now files old new (Err (failure.Register why)) = (new ≡ old) × Stays g start closed × OnceRead why ((asked : List event.Event) × AreSpelled now files asked)
 EndsBatch g start closed now files old new (Err failure.Device) = ((new ≡ old) × Stays g start closed) ⊎ ((asked : List event.Event) × AreSpelled now files asked × HasBrokenOff g start closed asked old new)
 
 -- ---- connections
@@ -167,7 +173,7 @@ ServesAll g start closed s before after old new (Err other) = ⊥
 -- none is served.
 abbrev pub EndsServe : {D : Type 0} → disk.Ghosts D → Image → Option (Files D) → List ℕ → List ℕ → Option (List ℕ) → Log → Log → Output → Output → Result (Unit {0}) Failure → Type 0
 EndsServe g start closed place count now before after old new (Ok done) = (s : Serving) × IsServing place count now s × ServesAll g start closed s before after old new (Ok done)
-EndsServe g start closed place count now before after old new (Err (failure.Field field)) = (after ≡ before) × (new ≡ old) × IsFirst field (serve_fields place count now)
+EndsServe g start closed place count now before after old new (Err (failure.Field field)) = (after ≡ before) × (new ≡ old) × Stays g start closed × IsFirst field (serve_fields place count now)
 EndsServe g start closed place count now before after old new (Err (failure.Refused why)) = ⊥
-EndsServe g start closed place count now before after old new (Err (failure.Register why)) = (after ≡ before) × (new ≡ old) × Stays g start closed
+EndsServe g start closed place count now before after old new (Err (failure.Register why)) = (after ≡ before) × (new ≡ old) × Stays g start closed × OnceRead why ((s : Serving) × IsServing place count now s)
 EndsServe g start closed place count now before after old new (Err failure.Device) = (s : Serving) × IsServing place count now s × ServesAll g start closed s before after old new (Err failure.Device)

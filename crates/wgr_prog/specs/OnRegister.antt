@@ -5,18 +5,19 @@ use Rattle.sqlite_disk.specs.declared.Disk as disk
 use Rattle.sqlite_disk.specs.declared.Files.{Files}
 use Rattle.wgr_command_line.specs.Words.{OrderAsked}
 use Rattle.wgr_file.specs.OnFiles.{HasEnded, Stays}
-use Rattle.wgr_model.specs.declared.order.Order.{Order}
+use Rattle.wgr_orders.specs.declared.order.Order.{Order}
 use Rattle.wgr_register.specs.declared.fault.Done.{Done}
 use Rattle.wgr_register.specs.declared.fault.OrderFault.{OrderFault}
 use Rattle.wgr_register.specs.declared.fault.OrderFault.TheVariants as order_fault
 use Rattle.wgr_sql.specs.declared.fault.Fault.{Fault}
-use Rattle.wgr_store.specs.Faults.{as_register_fault}
-use Rattle.wgr_store.specs.declared.fault.RegisterFault.TheVariants as register_fault
-use Rattle.wgr_prog.specs.declared.field.WordFault.{WordFault}
-use Rattle.wgr_prog.specs.declared.field.WordFault.TheVariants as word_fault
+use Rattle.wgr_schema.specs.Faults.{as_register_fault}
+use Rattle.wgr_schema.specs.declared.fault.RegisterFault.TheVariants as register_fault
+use Rattle.wgr_words.specs.declared.field.WordFault.{WordFault}
+use Rattle.wgr_words.specs.declared.field.WordFault.TheVariants as word_fault
 use Rattle.wgr_prog.specs.declared.register_words.Failure.{Failure}
 use Rattle.wgr_prog.specs.declared.register_words.Failure.TheVariants as failure
-use Rattle.wgr_prog.specs.Order.{Input, MakesOrder, TakesToken, TellsField}
+use Rattle.wgr_words.specs.Order.{Input, MakesOrder, TakesToken, TellsField}
+use Rattle.wgr_prog.specs.Answering.{OnceRead}
 
 -- ---- faults as failures
 
@@ -46,12 +47,17 @@ EndsAs g start closed order (Err other) = ⊥
 abbrev pub HasOrdered : {D : Type 0} → disk.Ghosts D → Image → Option (Files D) → OrderAsked → Input → Input → Result Done OrderFault → Type 0
 HasOrdered g start closed asked old new ended = (token : List ℕ) × (order : Order) × TakesToken asked old new token × MakesOrder asked token order × HasEnded g start closed order ended
 
+-- the words and the input spell an order
+abbrev pub SpellOrder : OrderAsked → Input → Input → Type 0
+SpellOrder asked old new = (token : List ℕ) × (order : Order) × TakesToken asked old new token × MakesOrder asked token order
+
 -- The order that the words and the input spell is done or refused on the register; or a field is not of its form. A
--- fault of the input is told as one, and any other leaves the input sound, and the rows as they were.
+-- fault of the input is told as one, and any other leaves the input sound, and the rows as they were. The register is
+-- opened only for an order that was read.
 abbrev pub CarriesOut : {D : Type 0} → disk.Ghosts D → Image → Option (Files D) → OrderAsked → Input → Input → Result Done Failure → Type 0
 CarriesOut g start closed asked old new (Ok done) = HasOrdered g start closed asked old new (Ok done)
 CarriesOut g start closed asked old new (Err (failure.Refused why)) = HasOrdered g start closed asked old new (Err (order_fault.Refused why))
-CarriesOut g start closed asked old new (Err (failure.Field field)) = TellsField asked old new field
+CarriesOut g start closed asked old new (Err (failure.Field field)) = Stays g start closed × TellsField asked old new field
 CarriesOut g start closed asked old new (Err (failure.Register why)) =
-    (new.failed ≡ old.failed) × (Stays g start closed ⊎ ((fault : Fault) × (why ≡ as_register_fault fault) × HasOrdered g start closed asked old new (Err (order_fault.Fault fault))))
-CarriesOut g start closed asked old new (Err failure.Device) = new.failed ≡ true
+    (new.failed ≡ old.failed) × ((Stays g start closed × OnceRead why (SpellOrder asked old new)) ⊎ ((fault : Fault) × (why ≡ as_register_fault fault) × HasOrdered g start closed asked old new (Err (order_fault.Fault fault))))
+CarriesOut g start closed asked old new (Err failure.Device) = Stays g start closed × (new.failed ≡ true)

@@ -22,7 +22,7 @@ use Rattle.wgr_service.specs.Network.{Log}
 use Rattle.wgr_prog.specs.Answering.{EndsBatch, EndsServe, Output}
 use Rattle.wgr_file.specs.OnFiles.{IsMade, Stays}
 use Rattle.wgr_prog.specs.OnRegister.{CarriesOut}
-use Rattle.wgr_prog.specs.Order.{Input, wants_token}
+use Rattle.wgr_words.specs.Order.{Input, wants_token}
 use Rattle.wgr_prog.specs.declared.register_words.Failure.{Failure}
 use Rattle.wgr_prog.specs.declared.register_words.Failure.TheVariants as failure
 

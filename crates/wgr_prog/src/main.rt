@@ -1,11 +1,7 @@
 //! The program `wgr`.
 #![tactic(auto)]
 
-mod endpoint;
-mod field;
 mod messages;
-mod numbers;
-mod order;
 mod program;
 mod register_words;
 mod request_words;
@@ -17,7 +13,7 @@ use std::{env, io};
 use wgr_io::Device;
 use wgr_service::Sockets;
 
-/// The program's own name and the words behind it.
+// The program's own name and the words behind it.
 fn arguments(rt: &HostRuntime) -> io::Result<Vec<String>> {
     Ok(env::args(rt)?.collect(rt.alloc())?)
 }

@@ -51,7 +51,7 @@ pub fn run<S: Start, N: Network, R: Read, W: Write, E: Write>(
     }
 }
 
-/// All but the first of the arguments.
+// All but the first of the arguments.
 fn words_of(arguments: &[String]) -> &[String]
     ensures { result.now ≡ drop 1 arguments.now }
 {
@@ -61,7 +61,7 @@ fn words_of(arguments: &[String]) -> &[String]
     }
 }
 
-/// Does what the words ask for, and answers the exit status.
+// Does what the words ask for, and answers the exit status.
 fn program<S: Start, T: AsStr, N: Network, R: Read, W: Write, E: Write>(
     rt: &HostRuntime,
     start: S,
@@ -93,11 +93,12 @@ fn program<S: Start, T: AsStr, N: Network, R: Read, W: Write, E: Write>(
     }
 }
 
-/// Says why the words of the command line can't be had.
+// Says why the words of the command line can't be had.
 fn no_words<E: Write>(error: &io::Error, err: &mut E) -> u8
     ensures not_utf8 { error_kind error.now ≡ InvalidData → result ≡ REFUSED }
     ensures fault { error_kind error.now ≢ InvalidData → result ≡ FAULT }
 {
+    // Std gives words as strings. No word of the program could be another text, so it is refused.
     if error.kind() == io::ErrorKind::InvalidData {
         refusal(err, b"wgr: the command line is not UTF-8\n")
     } else {
@@ -105,7 +106,7 @@ fn no_words<E: Write>(error: &io::Error, err: &mut E) -> u8
     }
 }
 
-/// Prints the help or the version, or says what is wrong with the command line.
+// Prints the help or the version, or says what is wrong with the command line.
 fn no_invocation<W: Write, E: Write>(
     alloc: Global,
     answer: &clap::Error,

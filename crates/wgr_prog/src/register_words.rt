@@ -2,20 +2,19 @@
 ghost use Rattle.std.specs.Prelude.{◌≡◌, ℕ, Bool, List, Option, false};
 ghost use Rattle.sqlite.specs.WalFiles.{image_at};
 ghost use Rattle.wgr_command_line.specs.Words.{order_asked};
-ghost use Rattle.wgr_prog.specs.Order.{input_of, wants_token};
+ghost use Rattle.wgr_words.specs.Order.{input_of, wants_token};
 ghost use Rattle.wgr_prog.specs.OnRegister.{CarriesOut, EndsAs, as_ended};
 ghost use Rattle.wgr_prog.specs.Status.{RunsInit, RunsOrder, streams};
 
-use crate::field::{WordFault, WordField};
 use crate::messages;
-use crate::order::order_of;
 use sqlite::{FileFrom, Start};
 use sqlite_disk::Disk;
 use wgr_command_line::OrderWords;
 use wgr_file::{Closed, Unopened, make_register, operate};
 use wgr_io::{Read, Write};
-use wgr_model::{Order, OrderRefusal};
+use wgr_orders::{Order, OrderRefusal};
 use wgr_register::{Done, OrderFault, RegisterFault, register_fault};
+use wgr_words::{WordFault, WordField, order_of};
 
 /// Why a word on a register is not done.
 #[derive(Drop)]
@@ -109,7 +108,7 @@ pub(crate) fn run_order<S: Start, R: Read, W: Write, E: Write>(
     (messages::ended(&ended, out, err), files)
 }
 
-/// Makes the order, and only then opens the database.
+// Makes the order, and only then opens the database.
 fn carry_out<S: Start, R: Read>(
     rt: &HostRuntime,
     path: &str,
@@ -126,7 +125,7 @@ fn carry_out<S: Start, R: Read>(
     }
 }
 
-/// Does an order on the register in the file at this path.
+// Does an order on the register in the file at this path.
 fn done_or_failed<S: Start>(
     rt: &HostRuntime,
     path: &str,

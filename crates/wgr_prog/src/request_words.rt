@@ -3,10 +3,9 @@ ghost use Rattle.std.specs.Prelude.{◌≡◌, ℕ, Bool, IfErr, IfOk, List, Opt
 ghost use Rattle.sqlite.specs.WalFiles.{image_at};
 ghost use Rattle.wgr_file.specs.OnFiles.{IsClosedTo, IsOpen, Stays};
 ghost use Rattle.wgr_prog.specs.Answering.{Answers, AreSpelled, EndsBatch, EndsServe, IsBatchFault, IsChoice, IsServing, Listens, ServesAll, output_of, serve_fields};
-ghost use Rattle.wgr_prog.specs.Order.{IsFaultIn};
+ghost use Rattle.wgr_words.specs.Order.{IsFaultIn};
 ghost use Rattle.wgr_prog.specs.Status.{RunsBatch, RunsServe, batch_status, serve_status};
 
-use crate::field::{WordFault, WordField, read_endpoint_field, read_whole_field};
 use crate::messages::{self, DONE, FAULT};
 use crate::register_words::Failure;
 use crate::requests::read_requests;
@@ -20,6 +19,7 @@ use wgr_io::{Write, write_all};
 use wgr_office::{Event, Office};
 use wgr_register::RegisterFault;
 use wgr_service::{BatchFault, Network, answer_all, serve_connections};
+use wgr_words::{WordFault, WordField, read_endpoint_field, read_whole_field};
 
 /// Answers the requests in files in turn, and answers the exit status.
 pub(crate) fn run_batch<S: Start, W: Write, E: Write>(
@@ -51,7 +51,7 @@ fn batch_status<E: Write>(answered: &Result<bool, Failure>, err: &mut E) -> u8
     }
 }
 
-/// Reads all files, and only then opens the register.
+// Reads all files, and only then opens the register.
 fn answer_files<S: Start, W: Write>(
     rt: &HostRuntime,
     path: &str,
@@ -68,7 +68,7 @@ fn answer_files<S: Start, W: Write>(
     }
 }
 
-/// The requests in the files, at this moment.
+// The requests in the files, at this moment.
 fn read_batch(rt: &HostRuntime, now: &str, files: &[&str]) -> Result<Vec<Event>, WordFault>
     ensures ok { IfOk result (λ requests. AreSpelled now.now (map (λ file. file.now) files.now) requests.items) }
     ensures err { IfErr result (IsBatchFault now.now) }
@@ -77,8 +77,8 @@ fn read_batch(rt: &HostRuntime, now: &str, files: &[&str]) -> Result<Vec<Event>,
     read_requests(rt, moment, files)
 }
 
-/// Answers requests over the register in the file at this path. Tells whether none of the replies is
-/// that of want of memory or of a fault of the store.
+// Answers requests over the register in the file at this path. Tells whether none of the replies is
+// that of want of memory or of a fault of the store.
 fn answer_requests<S: Start, W: Write>(
     rt: &HostRuntime,
     path: &str,
@@ -142,7 +142,7 @@ fn serve_status<E: Write>(served: &Result<(), Failure>, err: &mut E) -> u8
     }
 }
 
-/// Reads the fields, and only then opens the register.
+// Reads the fields, and only then opens the register.
 fn serve<S: Start, N: Network, W: Write, E: Write>(
     rt: &HostRuntime,
     path: &str,
@@ -162,7 +162,7 @@ fn serve<S: Start, N: Network, W: Write, E: Write>(
     }
 }
 
-/// The fields in the order of the words.
+// The fields in the order of the words.
 fn read_serving(place: &str, count: &str, now: Option<&str>) -> Result<Serving, WordFault>
     ensures ok { IfOk result (IsServing place.now count.now (option_map (λ now. now.now) now.entry)) }
     ensures err { IfErr result (IsFaultIn (serve_fields place.now count.now (option_map (λ now. now.now) now.entry))) }
@@ -190,7 +190,7 @@ fn read_choice(now: Option<&str>) -> Result<Option<u64>, WordFault>
     }
 }
 
-/// Opens the register in the file at this path, and only then binds the address and serves.
+// Opens the register in the file at this path, and only then binds the address and serves.
 fn serve_all<S: Start, N: Network, W: Write, E: Write>(
     rt: &HostRuntime,
     path: &str,
@@ -210,7 +210,7 @@ fn serve_all<S: Start, N: Network, W: Write, E: Write>(
     (served, close_office(office))
 }
 
-/// Listens, tells so, and serves so many connections.
+// Listens, tells so, and serves so many connections.
 fn listen<S: Start, N: Network, W: Write, E: Write>(
     alloc: Global,
     office: &mut Office<FileStore<FileFrom<S>>>,
@@ -232,7 +232,7 @@ fn listen<S: Start, N: Network, W: Write, E: Write>(
     Ok(())
 }
 
-/// An office over the register in the file at this path.
+// An office over the register in the file at this path.
 fn open_office<S: Start>(
     rt: &HostRuntime,
     path: &str,

@@ -2,10 +2,10 @@
 ghost use Rattle.std.specs.Prelude.{IfErr, IfOk, length};
 ghost use Rattle.wgr_prog.specs.Answering.{AreAsked, IsNoField};
 
-use crate::field::WordFault;
 use std::fs::File;
 use wgr_io::{Device, ReadFault, read_to_end};
 use wgr_office::Event;
+use wgr_words::WordFault;
 
 /// The request in each of these files, which came at this moment.
 pub(crate) fn read_requests(

@@ -28,7 +28,7 @@ use Rattle.wgr_model.proofs.HolderLemmas.{one_or_apart}
 use Rattle.wgr_model.proofs.RowRunLemmas.{row_step}
 use Rattle.wgr_model.proofs.SameLemmas.{at_has, eqb_sym}
 use Rattle.wgr_tables.proofs.SameBytes.{same_is}
-use Rattle.wgr_tables.specs.Decode.{tables_of}
+use Rattle.wgr_columns.specs.Decode.{tables_of}
 use Rattle.wgr_tables.specs.Writes.{Replaced, Written}
 use Rattle.wgr_register.specs.Ends.{CommitsIf, EndsWith, FailsIf, IsFound}
 use Rattle.wgr_register.specs.Given.{GivenValue, IsShown, reply_given}

@@ -32,16 +32,16 @@ use Rattle.wgr_core.specs.declared.command.Command.{Command}
 use Rattle.wgr_core.specs.declared.reply.Reply.{Reply}
 use Rattle.wgr_sql.specs.declared.fault.Fault.{Fault}
 use Rattle.wgr_sql.specs.declared.fault.Fault.TheVariants.{NoMemory, Store}
-use Rattle.wgr_tables.specs.Decode.{network_in}
-use Rattle.wgr_tables.specs.Stored.{AreSettings, AreStored, IsKeptNetwork, stored_network}
+use Rattle.wgr_columns.specs.Decode.{network_in}
+use Rattle.wgr_columns.specs.Stored.{AreSettings, AreStored, IsKeptNetwork, stored_network}
 use Rattle.wgr_tables.specs.Told.{IsTold}
-use Rattle.wgr_orders.specs.Kept.{AreOf}
-use Rattle.wgr_orders.proofs.KeptLemmas as kept
+use Rattle.wgr_entries.specs.Kept.{AreOf}
+use Rattle.wgr_entries.proofs.KeptLemmas as kept
 use Rattle.wgr_tables.proofs.ToldLemmas.{told_settings}
-use Rattle.wgr_whole.proofs.ConsistentLemmas.{consistent_is_whole, holding}
+use Rattle.wgr_opening.proofs.ConsistentLemmas.{consistent_is_whole, holding}
 use Rattle.wgr_register.specs.Causes.{AskStops, IfFault, StopsIf}
 use Rattle.wgr_register.specs.Ends.{IsFound, ask_fault}
-use Rattle.wgr_register.specs.Listing.{ShowNetworksOf}
+use Rattle.wgr_entries.specs.Lookups.{ShowNetworksOf}
 use Rattle.wgr_register.specs.declared.fault.AskFault.{AskFault}
 use Rattle.wgr_register.specs.declared.fault.AskFault.TheVariants as fault
 use Rattle.wgr_register.proofs.AskLemmas.{changing}

@@ -10,7 +10,7 @@ use Rattle.sqlite.specs.Store.{Ghosts}
 use Rattle.sqlite.specs.Tree.{Trees}
 use Rattle.wgr_model.specs.Steps.{Event}
 use Rattle.wgr_model.proofs.RowRunLemmas.{row_step}
-use Rattle.wgr_tables.specs.Decode.{tables_of}
+use Rattle.wgr_columns.specs.Decode.{tables_of}
 use Rattle.wgr_register.specs.Left.{LeavesGood}
 
 pub stop_leaves : {S : Type 0} (g : Ghosts S) (conn : Held S) (db : Database) (late : List Event) → LeavesGood g conn db late

@@ -4,7 +4,10 @@ pub mod AskLemmas
 pub mod OrderLemmas
 pub mod NetworkLemmas
 pub mod ListLemmas
+pub mod CacheLemmas
 pub mod LoadedLemmas
+pub mod CachedLemmas
+pub mod StayLemmas
 pub mod CauseLemmas
 pub mod OrderCauses
 pub mod LeftLemmas

@@ -31,41 +31,18 @@ use Rattle.wgr_model.proofs.CollectLemmas.{from_map, has_map}
 use Rattle.wgr_model.proofs.ListingLemmas.{none_listed}
 use Rattle.wgr_model.proofs.SameLemmas.{find_has, has_find, has_permutation, network_found, slot_tells}
 use Rattle.wgr_model.proofs.ViewLemmas.{get_view, same_networks}
-use Rattle.wgr_tables.specs.Decode.{IsRegister, network_in, number_at, tables_of}
+use Rattle.wgr_columns.specs.Decode.{IsRegister, network_in, number_at, tables_of}
 use Rattle.wgr_sql.specs.Causes.{IsAnswered}
-use Rattle.wgr_tables.specs.Layout.{Others, schema_with}
-use Rattle.wgr_tables.specs.Stored.{AreStored, stored_network}
-use Rattle.wgr_tables.proofs.AskedLemmas.{never_refused}
+use Rattle.wgr_columns.specs.Layout.{Others, schema_with}
+use Rattle.wgr_columns.specs.Stored.{AreStored, stored_network}
+use Rattle.wgr_columns.proofs.Statements.{never_refused}
 use Rattle.wgr_tables.proofs.StoredLemmas.{network_is, stored_rows}
-use Rattle.wgr_tables.specs.Lookups.{settings_of, settled}
+use Rattle.wgr_entries.specs.Lookups.{settings_of, settled}
 use Rattle.wgr_tables.proofs.ListedLemmas.{listed}
-use Rattle.wgr_tables.proofs.Meanings.{Asks, network_places, of_network}
+use Rattle.wgr_tables.proofs.Meanings.{network_places, of_network}
+use Rattle.wgr_columns.proofs.Statements.{Asks}
 use Rattle.wgr_register.specs.Given.{as_added, settings_in}
-use Rattle.wgr_register.specs.Listing.{ShowNetworksOf, by_name, seen_by}
-
--- ---- the rows
-
-abbrev pub networks_text : List ℕ
-networks_text = codes "SELECT id, NULL, tenant, name, family, lo, length, host, port, server, capacity, next FROM network WHERE tenant = ?1"
-
-module _ (others : Others) where
-  pub networks_asks : Asks others networks_text (Select (record { lets = []; body = plain_query 5 (of_network 2) network_places [] }) (codes "id" ∷ codes "NULL" ∷ codes "tenant" ∷ codes "name" ∷ codes "family" ∷ codes "lo" ∷ codes "length" ∷ codes "host" ∷ codes "port" ∷ codes "server" ∷ codes "capacity" ∷ codes "next" ∷ []))
-  unfolding understood everything
-  networks_asks = record { means = record { command_is = refl; plain = (refl, refl) }; unlisted = refl }
-
-module _ (others : Others) where
-  pub networks_answered : (tenant : ℕ) → IsAnswered (schema_with others) networks_text (Int (pos tenant) ∷ [])
-  unfolding understood everything
-  networks_answered tenant = record { given = (refl, refl, omega arith, refl); unlisted = refl; plain = λ limit trees e refused. never_refused _ refl limit (trees 5) refused }
-
-pub networks_stored : (old new : State) → IsRegister old.now → (tenant : ℕ) (rows : List Row) → Shown networks_text (Int (pos tenant) ∷ []) old new rows → AreStored stored_network network_in rows
-networks_stored old new register tenant rows shown =
-    stored_rows old new register networks_text (Int (pos tenant) ∷ []) 5 (of_network 2) network_places [] _ (networks_asks register.others) rows shown network_in (λ r. refl) stored_network (network_is old new register tenant rows)
-
-pub networks_shown : (old new : State) → IsRegister old.now → (tenant : ℕ) (rows : List Row) → Shown networks_text (Int (pos tenant) ∷ []) old new rows → ShowNetworksOf tenant (tables_of old.now) rows
-networks_shown old new register tenant rows shown =
-    listed old new register networks_text (Int (pos tenant) ∷ []) 5 (of_network 2) network_places [] _ (networks_asks register.others) rows shown network_in (λ w. nat_eq w.tenant tenant) (λ r. refl)
-    (λ r here. ap (λ v. is_true (binary (Compare Eq Binary) v (Int (pos tenant))) && true) (register.written.networks.numbers_are r here 2 (inr (inl refl))) ∙ and_true _ ∙ equal_nats (number_at r 2) tenant)
+use Rattle.wgr_register.specs.Listing.{by_name, seen_by}
 
 -- ---- their order
 

@@ -31,74 +31,38 @@ use Rattle.wgr_model.proofs.HolderLemmas.{one_or_apart}
 use Rattle.wgr_model.proofs.RowRunLemmas.{row_step}
 use Rattle.wgr_model.proofs.SameLemmas.{eqb_sym, has_permutation, slot_sym}
 use Rattle.wgr_sql.specs.declared.fault.Fault.{Fault}
-use Rattle.wgr_tables.specs.Decode.{tables_of}
-use Rattle.wgr_tables.specs.Lookups.{IsSlotOf}
+use Rattle.wgr_columns.specs.Decode.{tables_of}
+use Rattle.wgr_entries.specs.Lookups.{IsSlotOf}
 use Rattle.wgr_tables.specs.Standing.{Stands}
 use Rattle.wgr_tables.specs.Writes.{Written}
 use Rattle.wgr_register.specs.Ends.{CommitsIf, IsFound}
 use Rattle.wgr_register.specs.Loaded.{AreFormed, AreOthersFormed, IsFormed, Loaded, Shows, UnlessFault}
 use Rattle.wgr_register.specs.declared.fault.AskFault.{AskFault}
 use Rattle.wgr_register.specs.declared.fault.AskFault.TheVariants as fault
+use Rattle.wgr_register.proofs.CacheLemmas.{apart, found_put, lookup_rest}
 use Rattle.wgr_register.proofs.AskLemmas.{act_done, changed_rows, one_row}
 
 -- ---- one is taken, and one is kept
 
-cond_true : {A : Type 0} {b : Bool} (x y : A) → b ≡ true → cond b x y ≡ x
-cond_true x y is = ap (λ b. cond b x y) is
-
-cond_false : {A : Type 0} {b : Bool} (x y : A) → b ≡ false → cond b x y ≡ y
-cond_false x y is = ap (λ b. cond b x y) is
-
-apart : (id other : ℕ) → nat_eq id other ≡ false → AreApart (nat_eq id) (nat_eq other)
-apart id other off key is = ap (nat_eq other) (sym (eqb-true id key is)) ∙ eqb_sym other id ∙ off
-
--- what stands under another key stays
-lookup_rest : (test other : ℕ → Bool) → AreApart test other → (loaded : Loaded) → lookup other (remove_entry test loaded) ≡ lookup other loaded
-lookup_rest test other off [] = refl
-lookup_rest test other off (e ∷ loaded) = (elim (test e.0) as (λ b. test e.0 ≡ b → lookup other (remove_entry test (e ∷ loaded)) ≡ lookup other (e ∷ loaded)) [
-  | true ↦ λ is. ap (lookup other) (cond_true loaded _ is) ∙ sym (cond_false _ _ (off e.0 is))
-  | false ↦ λ is. ap (lookup other) (cond_false loaded _ is) ∙ ap (cond (other e.0) (Some e.1)) (lookup_rest test other off loaded)
-]) refl
-
 pub others_left : (id : ℕ) (loaded : Loaded) (t : Tables) → AreFormed loaded t → AreOthersFormed id (remove_entry (nat_eq id) loaded) t
 others_left id loaded t formed other n off found = formed other n (sym (lookup_rest (nat_eq id) (nat_eq other) (apart id other off) loaded) ∙ found)
 
-in_first : (test : ℕ → Bool) (count : ℕ) (loaded : Loaded) (n : NetworkValue) → lookup test (take count loaded) ≡ Some n → lookup test loaded ≡ Some n
-in_first test zero loaded n found = cc
-in_first test (suc count) [] n found = found
-in_first test (suc count) (e ∷ loaded) n found = (elim (test e.0) as (λ b. test e.0 ≡ b → lookup test (e ∷ loaded) ≡ Some n) [
-  | true ↦ λ is. cond_true _ _ is ∙ sym (cond_true _ _ is) ∙ found
-  | false ↦ λ is. cond_false _ _ is ∙ in_first test count loaded n (sym (cond_false _ _ is) ∙ found)
-]) refl
-
-module _ (c : LruCache ℕ NetworkValue) (id : ℕ) (n : NetworkValue) where
-  abbrev entries : Option (ℕ × NetworkValue) → Loaded
-  entries o = option_map_or (λ e. (e.0, n) ∷ remove_entry (nat_eq id) c.entries) o ((id, n) ∷ take (c.cap - 1) c.entries)
-
-  other_put : (other : ℕ) (m : NetworkValue) (o : Option (ℕ × NetworkValue)) → nat_eq id other ≡ false → lookup_entry (nat_eq id) c.entries ≡ o → lookup (nat_eq other) (entries o) ≡ Some m → lookup (nat_eq other) c.entries ≡ Some m
-  other_put other m None off is found = in_first (nat_eq other) (c.cap - 1) c.entries m (sym (cond_false _ _ (eqb_sym other id ∙ off)) ∙ found)
-  other_put other m (Some e) off is found =
-      let test = apart id other off in
-      sym (lookup_rest (nat_eq id) (nat_eq other) test c.entries)
-      ∙ sym (cond_false _ _ (test e.0 (Contains-lookup_entry (nat_eq id) c.entries e is).1))
-      ∙ found
-
-  pub put_formed : (t : Tables) → AreOthersFormed id c.entries t → IsFormed t id n → AreFormed (put_entries nat_eq c id n) t
-  put_formed t others own other m found = (elim (nat_eq id other) as (λ b. nat_eq id other ≡ b → IsFormed t other m) [
-    | true ↦ λ is.
-        let same = eqb-true id other is in
-        let found_here = subst (λ i. lookup (nat_eq i) (put_entries nat_eq c id n) ≡ Some m) (sym same) found in
-        let put : lookup (nat_eq id) (put_entries nat_eq c id n) ≡ Some n = lookup-put_entries nat_eq c id n nat_eq_equiv in
-        let both : Some n ≡ Some m = sym put ∙ found_here in
-        let value : n ≡ m = cc in
-        subst (λ i. IsFormed t i m) same (subst (IsFormed t id) value own)
-    | false ↦ λ off. others other m off (other_put other m (lookup_entry (nat_eq id) c.entries) off refl found)
-  ]) refl
+pub put_formed : (c : LruCache ℕ NetworkValue) (id : ℕ) (n : NetworkValue) (t : Tables) → AreOthersFormed id c.entries t → IsFormed t id n → AreFormed (put_entries nat_eq c id n) t
+put_formed c id n t others own other m found = elim (found_put c id n other m found) [
+  | inl same ↦ subst (λ i. IsFormed t i m) same.0 (subst (IsFormed t id) same.1 own)
+  | inr was ↦ others other m was.0 was.1
+]
 
 pub none_formed : (t : Tables) → AreFormed [] t
 none_formed t id n found = cc
 
 -- ---- the rows change
+
+-- a network among those of a register that rows are of is formed by them
+pub formed_in : (u : Tables) (hs : List Holding) → IsPermutation hs (register_of u).networks → (h : Holding) → Has hs h → IsFormed u h.id h.network
+formed_in u hs same h there =
+    let row = from_map (holding_of u) u.networks h (has_permutation hs (map (holding_of u) u.networks) h same there) in
+    (row.0, row.1, ap (λ k. k.id) row.2, sym (ap (λ k. k.network) row.2))
 
 module _ (t u : Tables) (is : AreConsistent t) (digest name : Bytes) (now : ℕ) (command : Command) (proper : IsProperCommand command) (id : ℕ) (n : NetworkValue) (found : IsFound t digest name id n)
     (reply : Reply) (change : Change) (meets : Meets n (Ok (reply, Some change)) (outcome_of n now command)) (replaces : Replaces id (applied change (holding_of t found.row).network) t u) where
@@ -125,9 +89,7 @@ module _ (t u : Tables) (is : AreConsistent t) (digest name : Bytes) (now : ℕ)
       subst (λ (o : Outcome). IsPermutation o.1.networks (register_of u).networks) put law.1.rows.networks
 
   formed_after : (h : Holding) → Has (with_network held w.tenant w.name after) h → IsFormed u h.id h.network
-  formed_after h there =
-      let row = from_map (holding_of u) u.networks h (has_permutation (with_network held w.tenant w.name after) (map (holding_of u) u.networks) h same_networks there) in
-      (row.0, row.1, ap (λ k. k.id) row.2, sym (ap (λ k. k.network) row.2))
+  formed_after = formed_in u (with_network held w.tenant w.name after) same_networks
 
   -- the network of this id is as the change leaves it
   pub changed_own : IsFormed u id (applied change n)
@@ -136,15 +98,17 @@ module _ (t u : Tables) (is : AreConsistent t) (digest name : Bytes) (now : ℕ)
       subst (λ i. IsFormed u i (applied change n)) found.at (subst (IsFormed u w.id) (ap (applied change) (sym found.value)) own)
 
   -- each other is as it was
-  pub changed_others : (loaded : Loaded) → AreOthersFormed id loaded t → AreOthersFormed id loaded u
-  changed_others loaded others other m off there =
-      let v = others other m off there in
+  pub changed_other : (other : ℕ) (m : NetworkValue) → nat_eq id other ≡ false → IsFormed t other m → IsFormed u other m
+  changed_other other m off v =
       let apart : same_slot (slot (holding_of t w)) (slot (holding_of t v.0)) ≡ false = elim (one_or_apart slot same_slot slot_sym held (holding_of t w) (holding_of t v.0) is.consistent.slots (is_held w found.there) (is_held v.0 v.1)) [
         | inl same ↦ let ids : id ≡ other = sym found.at ∙ ap (λ h. h.id) same ∙ v.2 in absurd (true≢false (sym (eqb_self id) ∙ ap (nat_eq id) ids ∙ off))
         | inr is ↦ is
       ] in
       let formed = formed_after (holding_of t v.0) (put_other (holding_of t w) after held (holding_of t v.0) (is_held v.0 v.1) apart) in
       subst (λ i. IsFormed u i m) v.2 (subst (IsFormed u v.0.id) (sym v.3) formed)
+
+  pub changed_others : (loaded : Loaded) → AreOthersFormed id loaded t → AreOthersFormed id loaded u
+  changed_others loaded others other m off there = changed_other other m off (others other m off there)
 
 pub found_formed : (t : Tables) (digest name : Bytes) (id : ℕ) (n : NetworkValue) → IsFound t digest name id n → IsFormed t id n
 found_formed t digest name id n found = (found.row, found.there, found.at, found.value)

@@ -4,21 +4,21 @@ use Rattle.std.specs.List.{list_any}
 use Rattle.std.specs.List.Sorted.{IsPermutation}
 use Rattle.std.proofs.lemmas.List.Sorted.{IsPermutation-map, IsPermutation-refl, list_any-IsPermutation}
 use Rattle.wgr_text.specs.Prefix.{PrefixValue}
-use Rattle.wgr_model.specs.Calls.{IsAdmitted, refusal_of}
+use Rattle.wgr_orders.specs.Orders.{IsAdmitted, refusal_of}
 use Rattle.wgr_model.specs.Consistent.{endpoint, is_pool, overlaps, same_endpoint, same_slot, slot}
 use Rattle.wgr_model.specs.Register.{Bytes, Holding, IsSame, Register, Tenant, id_of}
 use Rattle.wgr_model.specs.RowLaws.{AreConsistent, IsRowStep}
 use Rattle.wgr_model.specs.Rows.{AreRowsOf, NetworkRow, Tables, holding_of, register_of}
 use Rattle.wgr_model.specs.Steps.{AddNetwork, BadPool, Done, Event, NameHeld, NoSuchTenant, OrderRefusal, Outcome, PortHeld, Refused, RegisterFull, Settings, first_refusal, given, has_network, network_added, network_checks, new_network, outcome, overlapping, pool_refusal, refuse, with_new_network}
-use Rattle.wgr_model.specs.declared.answer.OrderRefusal as declared
+use Rattle.wgr_orders.specs.declared.refusal.OrderRefusal as declared
 use Rattle.wgr_model.proofs.GatherLemmas.{map_map}
 use Rattle.wgr_model.proofs.OrderLemmas.{outcome_alike}
 use Rattle.wgr_model.proofs.OrderRowLemmas.{networks_gain}
 use Rattle.wgr_model.proofs.OrderSteps.{nobody_adds}
 use Rattle.wgr_model.proofs.RowRunLemmas.{same_rows}
 use Rattle.wgr_model.proofs.SameLemmas.{same_id}
-use Rattle.wgr_orders.specs.OrderSteps.{new_row}
-use Rattle.wgr_tables.specs.Lookups.{settled}
+use Rattle.wgr_entries.specs.OrderSteps.{new_row}
+use Rattle.wgr_entries.specs.Lookups.{settled}
 use Rattle.wgr_tables.specs.Writes.{Changes, NetworkGained}
 use Rattle.wgr_register.proofs.AskLemmas.{still}
 use Rattle.wgr_register.specs.Ends.{Admits}

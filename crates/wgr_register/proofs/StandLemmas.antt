@@ -15,15 +15,15 @@ use Rattle.wgr_model.specs.Register.{Bytes}
 use Rattle.wgr_model.specs.RowLaws.{AreConsistent, IsRowStep}
 use Rattle.wgr_model.specs.Rows.{Tables}
 use Rattle.wgr_model.specs.Steps.{Answer, Declined, Event, IsProper, NoSuchNetwork, UnknownToken}
-use Rattle.wgr_model.specs.Calls.{refusal_of}
+use Rattle.wgr_orders.specs.Orders.{refusal_of}
 use Rattle.wgr_model.specs.Steps as answered
-use Rattle.wgr_model.specs.declared.answer.OrderRefusal as refusal
+use Rattle.wgr_orders.specs.declared.refusal.OrderRefusal as refusal
 use Rattle.wgr_model.proofs.RowRunLemmas.{no_rows_consistent, row_step}
-use Rattle.wgr_store.specs.Fresh.{IsFresh}
-use Rattle.wgr_whole.specs.Good.{IsGood}
+use Rattle.wgr_schema.specs.Fresh.{IsFresh}
+use Rattle.wgr_opening.specs.Good.{IsGood}
 use Rattle.wgr_sql.specs.declared.fault.Fault.{Fault}
 use Rattle.wgr_sql.specs.declared.fault.Fault.TheVariants.{NoMemory}
-use Rattle.wgr_tables.specs.Decode.{IsRegister, tables_of}
+use Rattle.wgr_columns.specs.Decode.{IsRegister, tables_of}
 use Rattle.wgr_tables.specs.Standing.{IsDone, Stands}
 use Rattle.wgr_tables.specs.Writes.{Changes, Written}
 use Rattle.wgr_register.specs.Ends.{AskEnds, EndsAt, EndsStill, EndsWith, OrderEnds, ask_fault, is_change}
@@ -91,7 +91,7 @@ module _ {S : Type 0} (g : Ghosts S) where
   changed_at conn db next late false is at = absurd (true≢false (sym is))
 
   -- in one of two ways, whichever it was
-  either_way : (conn : Held S) (db next : Database) (late : List Event) (b : Bool) → EndsAt g conn b db late next → StandsAt g conn next [] ⊎ ((next ≡ db) × StandsAt g conn db late)
+  pub either_way : (conn : Held S) (db next : Database) (late : List Event) (b : Bool) → EndsAt g conn b db late next → StandsAt g conn next [] ⊎ ((next ≡ db) × StandsAt g conn db late)
   either_way conn db next late true at = inl at
   either_way conn db next late false at = inr at
 

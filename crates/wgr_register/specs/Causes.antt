@@ -13,7 +13,7 @@ use Rattle.wgr_model.specs.RowLaws.{IsRowStep}
 use Rattle.wgr_model.specs.Rows.{Tables}
 use Rattle.wgr_model.specs.Steps.{Event}
 use Rattle.wgr_model.specs.Steps as answered
-use Rattle.wgr_orders.specs.Stops.{WriteStops}
+use Rattle.wgr_entries.specs.Stops.{WriteStops}
 use Rattle.wgr_sql.specs.declared.fault.Fault.{Fault}
 use Rattle.wgr_tables.specs.Stops.{ChangeStops}
 use Rattle.wgr_tables.specs.Writes.{Changes, Written}

@@ -12,7 +12,7 @@ use Rattle.wgr_core.specs.Outcome.{is_reading}
 use Rattle.wgr_core.specs.declared.change.Change.{Change}
 use Rattle.wgr_core.specs.declared.fault.ActFault.{ActFault}
 use Rattle.wgr_core.specs.declared.fault.ActFault.TheVariants as act_fault
-use Rattle.wgr_model.specs.Calls.{IsAdmitted, refusal_of}
+use Rattle.wgr_orders.specs.Orders.{IsAdmitted, refusal_of}
 use Rattle.wgr_model.specs.Laws.{Has}
 use Rattle.wgr_model.specs.Register.{Bytes, Register}
 use Rattle.wgr_model.specs.RowLaws.{IsRowStep}
@@ -20,7 +20,7 @@ use Rattle.wgr_model.specs.Rows.{NetworkRow, Tables, holding_of}
 use Rattle.wgr_model.specs.Steps.{Answer, Ask, Declined, Event, NoSuchNetwork, Replied, Settings, UnknownToken, tenant_of_token}
 use Rattle.wgr_model.specs.Steps as answered
 use Rattle.wgr_sql.specs.declared.fault.Fault.TheVariants.{NoMemory}
-use Rattle.wgr_tables.specs.Decode.{tables_of}
+use Rattle.wgr_columns.specs.Decode.{tables_of}
 use Rattle.wgr_tables.specs.Standing.{IsDone, Stands}
 use Rattle.wgr_tables.specs.Writes.{Replaced, Written}
 use Rattle.wgr_register.specs.Given.{GivenValue, IsShown}

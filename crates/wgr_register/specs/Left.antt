@@ -8,8 +8,8 @@ use Rattle.sqlite.specs.Tree.{Trees}
 use Rattle.wgr_model.specs.Steps.{Event}
 use Rattle.wgr_model.specs.Stops.{IsLeft}
 use Rattle.wgr_register.specs.Standing.{StandsAt}
-use Rattle.wgr_tables.specs.Decode.{tables_of}
-use Rattle.wgr_whole.specs.Good.{IsGood}
+use Rattle.wgr_columns.specs.Decode.{tables_of}
+use Rattle.wgr_opening.specs.Good.{IsGood}
 
 -- these are the trees of a good register whose rows a stop leaves
 abbrev pub LeavesRegister : Database → List Event → Trees → Type 0

@@ -1,7 +1,10 @@
 pub mod Given
+pub mod Recent
 pub mod Standing
 pub mod Ends
 pub mod Listing
 pub mod Loaded
+pub mod Moments
+pub mod Cached
 pub mod Left
 pub mod Causes

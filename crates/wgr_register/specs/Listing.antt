@@ -1,18 +1,11 @@
 -- A tenant's networks, read from their rows.
-use Rattle.std.specs.Prelude.{ℕ, List, filter, map, nat_eq}
-use Rattle.std.specs.List.Sorted.{IsPermutation}
+use Rattle.std.specs.Prelude.{ℕ, List, map}
 use Rattle.std.specs.Ordering.{nat_cmp}
 use Rattle.std.specs.Cmp.Lexicographic.{slice_cmp}
 use Rattle.std.specs.FinMap as map_
-use Rattle.sqlite_value.specs.Order.{Row}
 use Rattle.wgr_core.specs.Network.{NetworkValue}
 use Rattle.wgr_model.specs.Register.{Bytes, Holding, view_at}
 use Rattle.wgr_model.specs.Rows.{Tables, register_of}
-use Rattle.wgr_tables.specs.Decode.{network_in}
-
--- the rows are those of the networks of the tenant of this id
-abbrev pub ShowNetworksOf : ℕ → Tables → List Row → Type 0
-ShowNetworksOf tenant t rows = IsPermutation (filter (λ w. nat_eq w.tenant tenant) t.networks) (map network_in rows)
 
 -- networks in the order of their names
 abbrev pub by_name : List Holding → List (Bytes × NetworkValue)

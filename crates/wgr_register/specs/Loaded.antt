@@ -10,9 +10,12 @@ use Rattle.sqlite.specs.Held.{Held, state}
 use Rattle.wgr_core.specs.Network.{NetworkValue}
 use Rattle.wgr_model.specs.Laws.{Has}
 use Rattle.wgr_model.specs.Rows.{NetworkRow, Tables, holding_of}
-use Rattle.wgr_tables.specs.Decode.{tables_of}
+use Rattle.wgr_columns.specs.Decode.{tables_of}
 use Rattle.wgr_register.specs.declared.fault.AskFault.{AskFault}
 use Rattle.wgr_register.specs.declared.fault.AskFault.TheVariants as fault
+use Rattle.wgr_register.specs.declared.fault.Done.{Done}
+use Rattle.wgr_register.specs.declared.fault.OrderFault.{OrderFault}
+use Rattle.wgr_register.specs.declared.fault.OrderFault.TheVariants as order_fault
 
 -- networks by the ids of their rows
 abbrev pub Loaded : Type 0
@@ -45,3 +48,9 @@ UnlessFault (Err (fault.Refused why)) P = P
 UnlessFault (Err fault.UnknownToken) P = P
 UnlessFault (Err fault.NoSuchNetwork) P = P
 UnlessFault (Err (fault.Fault why)) P = Unit {0}
+
+-- this holds, or an order ended by a fault
+abbrev pub UnlessUndone : Result Done OrderFault → Type 0 → Type 0
+UnlessUndone (Ok done) P = P
+UnlessUndone (Err (order_fault.Refused why)) P = P
+UnlessUndone (Err (order_fault.Fault why)) P = Unit {0}

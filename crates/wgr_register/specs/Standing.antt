@@ -9,7 +9,7 @@ use Rattle.wgr_model.specs.Laws as model
 use Rattle.wgr_model.specs.RowLaws.{AreConsistent, IsRowStep}
 use Rattle.wgr_model.specs.Rows.{Tables}
 use Rattle.wgr_model.specs.Steps.{Answer, Event, IsProper}
-use Rattle.wgr_tables.specs.Decode.{tables_of}
+use Rattle.wgr_columns.specs.Decode.{tables_of}
 use Rattle.wgr_tables.specs.Standing.{Stands}
 use Rattle.wgr_tables.specs.Writes.{Changes, Written}
 

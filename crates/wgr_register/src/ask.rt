@@ -12,22 +12,28 @@ ghost use Rattle.wgr_model.specs.Rows.{NetworkRow, holding_of, register_of};
 ghost use Rattle.wgr_model.specs.Steps.{Ask, Event, network_at};
 ghost use Rattle.wgr_sql.specs.Causes.{HasCause, HasCauseOr};
 ghost use Rattle.wgr_sql.specs.declared.fault.Fault.TheVariants.{NoMemory};
-ghost use Rattle.wgr_tables.specs.Decode.{tables_of};
-ghost use Rattle.wgr_tables.specs.Lookups.{IsSlotOf};
+ghost use Rattle.wgr_columns.specs.Decode.{tables_of};
+ghost use Rattle.wgr_entries.specs.Lookups.{IsSlotOf};
 ghost use Rattle.wgr_tables.specs.Standing.{Stands};
 ghost use Rattle.wgr_tables.specs.Writes.{Written};
+ghost use Rattle.wgr_conf.specs.Files.{server_config};
+ghost use Rattle.wgr_core.specs.Network.{NetworkValue};
+ghost use Rattle.wgr_register.specs.Cached.{AreCurrent, files_of};
+ghost use Rattle.wgr_register.specs.Given.{OfFile};
 ghost use Rattle.wgr_register.specs.Causes.{AskStops, IfFault, StopsIf};
 ghost use Rattle.wgr_register.specs.Ends.{AskEnds, CommitsIf, FailsIf, IsFound};
 ghost use Rattle.wgr_register.specs.Loaded.{AreFormed, AreOthersFormed, IsFormed, Shows, UnlessFault, entries_of};
 ghost use Rattle.wgr_register.specs.Standing.{StandsAt};
 
 use crate::fault::AskFault;
+use crate::files::{Files, drop_changed, kept_text, made_text};
 use crate::given::{Render, render_reply};
 use crate::loaded::{Networks, keep, keep_changed, take};
 use sqlite::{Alter, Connection};
 use std::alloc::Global;
-use wgr_core::{Change, Command, Name, Network};
-use wgr_tables::{Fault, commit_change, load_network, network_id, tenant_of_token};
+use wgr_core::{Change, Command, Form, Name, Network};
+use wgr_entries::{network_id, tenant_of_token};
+use wgr_tables::{Fault, commit_change, load_network};
 
 // The network whose row has this id: the one that is kept, which is taken, or else what its rows form.
 fn take_network<S: Alter>(
@@ -111,6 +117,7 @@ fn act_on<S: Alter, R: Render>(
     alloc: Global,
     conn: &mut Connection<S>,
     loaded: &mut Option<Networks>,
+    files: &mut Option<Files>,
     id: u32,
     network: Network,
     now: u64,
@@ -124,6 +131,8 @@ fn act_on<S: Alter, R: Render>(
         → AskEnds S.Store R.shown conn.new db late (Ask digest name now command.now) now result }
     ensures formed { (db : Database) (late : List Event) (digest name : Bytes) → StandsAt S.Store conn.old db late → IsFound (tables_of db) digest name id network → AreOthersFormed id (entries_of loaded.old) (tables_of db)
         → UnlessFault result (Shows S.Store conn.new (AreFormed (entries_of loaded.new))) }
+    ensures current { (db : Database) (late : List Event) (digest name : Bytes) → StandsAt S.Store conn.old db late → IsFound (tables_of db) digest name id network → AreCurrent (files_of files.old) (tables_of db)
+        → UnlessFault result (Shows S.Store conn.new (AreCurrent (files_of files.new))) }
     ensures memory { is_reading command.now ≡ true → IfFault (λ why. why ≡ NoMemory) result }
     ensures survives { Survives (state S.Store conn.old) (state S.Store conn.new) (λ _. ⊤) }
     ensures stops { (db : Database) (late : List Event) (digest name : Bytes) → StandsAt S.Store conn.old db late → IsFound (tables_of db) digest name id network → IfFault (HasCauseOr (AskStops (tables_of db) digest name now command.now) (state S.Store conn.old) (state S.Store conn.new)) result }
@@ -137,8 +146,48 @@ fn act_on<S: Alter, R: Render>(
         }
     };
     let text = render_reply(alloc, render, &network, now, &reply)?;
+    drop_changed(files, id, &change);
     commit_if(conn, id, &change)?;
     keep_changed(alloc, loaded, id, network, change);
+    Ok(text)
+}
+
+// The text of the server's file of the network whose row has this id: of the file that is kept, or of
+// one that is made.
+fn file_at<S: Alter, R: Render>(
+    alloc: Global,
+    conn: &mut Connection<S>,
+    loaded: &mut Option<Networks>,
+    files: &mut Option<Files>,
+    id: u32,
+    form: Form,
+    now: u64,
+    render: &R,
+) -> Result<Vec<u8>, Fault>
+    requires idle { conn.old.in_transaction ≡ false }
+    ensures idle { conn.new.in_transaction ≡ false }
+    ensures stands { (db : Database) (pending : List Written) → Stands S.Store conn.old db pending → Stands S.Store conn.new db pending }
+    ensures clean { HasCleanDisk (state S.Store conn.new) → HasCleanDisk (state S.Store conn.old) }
+    ensures text { (db : Database) (pending : List Written) → Stands S.Store conn.old db pending → AreConsistent (tables_of db) → AreFormed (entries_of loaded.old) (tables_of db) → AreCurrent (files_of files.old) (tables_of db) → HasCleanDisk (state S.Store conn.new)
+        → IfOk result (λ text. (n : NetworkValue) × IsFormed (tables_of db) id n × (R.shown (OfFile (server_config n now form)) ≡ text.items)) }
+    ensures formed { (db : Database) (pending : List Written) → Stands S.Store conn.old db pending → AreConsistent (tables_of db) → AreFormed (entries_of loaded.old) (tables_of db) → HasCleanDisk (state S.Store conn.new)
+        → OnOk result (AreFormed (entries_of loaded.new) (tables_of db)) }
+    ensures current { (db : Database) (pending : List Written) → Stands S.Store conn.old db pending → AreConsistent (tables_of db) → AreFormed (entries_of loaded.old) (tables_of db) → AreCurrent (files_of files.old) (tables_of db) → HasCleanDisk (state S.Store conn.new)
+        → OnOk result (AreCurrent (files_of files.new) (tables_of db)) }
+    ensures survives { Survives (state S.Store conn.old) (state S.Store conn.new) (λ _. ⊥) }
+    ensures cause { (db : Database) (pending : List Written) → Stands S.Store conn.old db pending → AreConsistent (tables_of db) → (HasCleanDisk (state S.Store conn.new) → (w : NetworkRow) × Has (tables_of db).networks w × (w.id ≡ id)) → IfErr result (HasCause (state S.Store conn.old) (state S.Store conn.new)) }
+{
+    let Ok(kept) = kept_text(alloc, files, id, form, now, render) else {
+        return Err(Fault::NoMemory);
+    };
+    if let Some(text) = kept {
+        return Ok(text);
+    }
+    let network = take_network(alloc, conn, loaded, id)?;
+    let Ok(text) = made_text(alloc, files, id, &network, form, now, render) else {
+        return Err(Fault::NoMemory);
+    };
+    keep(alloc, loaded, id, network);
     Ok(text)
 }
 
@@ -147,6 +196,7 @@ pub(crate) fn ask<S: Alter, R: Render>(
     alloc: Global,
     conn: &mut Connection<S>,
     loaded: &mut Option<Networks>,
+    files: &mut Option<Files>,
     digest: &[u8; 32],
     name: &[u8],
     now: u64,
@@ -155,10 +205,12 @@ pub(crate) fn ask<S: Alter, R: Render>(
 ) -> Result<Vec<u8>, AskFault>
     requires idle { conn.old.in_transaction ≡ false }
     requires formed { Shows S.Store conn.old (AreFormed (entries_of loaded.old)) }
+    requires current { Shows S.Store conn.old (AreCurrent (files_of files.old)) }
     ensures idle { conn.new.in_transaction ≡ false }
     ensures clean { HasCleanDisk (state S.Store conn.new) → HasCleanDisk (state S.Store conn.old) }
     ensures ends { (db : Database) (late : List Event) → StandsAt S.Store conn.old db late → AskEnds S.Store R.shown conn.new db late (Ask digest.now name.now now command.now) now result }
     ensures formed { (db : Database) (late : List Event) → StandsAt S.Store conn.old db late → UnlessFault result (Shows S.Store conn.new (AreFormed (entries_of loaded.new))) }
+    ensures current { (db : Database) (late : List Event) → StandsAt S.Store conn.old db late → UnlessFault result (Shows S.Store conn.new (AreCurrent (files_of files.new))) }
     ensures cause { (db : Database) (late : List Event) → StandsAt S.Store conn.old db late → is_reading command.now ≡ true → IfFault (HasCause (state S.Store conn.old) (state S.Store conn.new)) result }
     ensures stops { (db : Database) (late : List Event) → StandsAt S.Store conn.old db late → IfFault (HasCauseOr (AskStops (tables_of db) digest.now name.now now command.now) (state S.Store conn.old) (state S.Store conn.new)) result }
 {
@@ -168,6 +220,12 @@ pub(crate) fn ask<S: Alter, R: Render>(
     let Some(id) = find_id(alloc, conn, tenant, name)? else {
         return Err(AskFault::NoSuchNetwork);
     };
+    if let Command::ServerFile { form } = command {
+        let text = file_at(alloc, conn, loaded, files, id, *form, now, render)?;
+        return Ok(text);
+    }
     let network = take_network(alloc, conn, loaded, id)?;
-    act_on(alloc, conn, loaded, id, network, now, command, render)
+    act_on(
+        alloc, conn, loaded, files, id, network, now, command, render,
+    )
 }

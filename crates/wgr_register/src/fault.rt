@@ -2,8 +2,8 @@
 use sqlite::{Alter, Connection};
 use std::alloc::AllocError;
 use wgr_core::{ActFault, Refusal};
-use wgr_model::OrderRefusal;
-use wgr_store::RegisterFault;
+use wgr_orders::OrderRefusal;
+use wgr_schema::RegisterFault;
 use wgr_tables::Fault;
 
 /// Why no register was made or opened, and the connection, whose rows are as before.

@@ -3,15 +3,20 @@
 
 mod ask;
 mod fault;
+mod files;
 mod given;
+mod kept_file;
 mod list;
 mod loaded;
 mod order;
+mod recent;
 mod register;
 
 pub use fault::{AskFault, Done, OpenFault, OrderFault};
+pub use files::FILES_IN_MEMORY;
 pub use given::{Given, Render};
+pub use loaded::NETWORKS_IN_MEMORY;
 pub use register::Register;
-pub use wgr_model::{Order, OrderRefusal};
-pub use wgr_store::{RegisterFault, register_fault};
+pub use wgr_orders::{Order, OrderRefusal};
+pub use wgr_schema::{RegisterFault, register_fault};
 pub use wgr_tables::Fault;

@@ -6,18 +6,18 @@ ghost use Rattle.sqlite.specs.Held.{state};
 ghost use Rattle.wgr_model.specs.Listing.{put_entry};
 ghost use Rattle.wgr_model.specs.RowLaws.{AreConsistent};
 ghost use Rattle.wgr_model.specs.Steps.{Event, Networks};
-ghost use Rattle.wgr_orders.specs.Kept.{AreOf};
+ghost use Rattle.wgr_entries.specs.Kept.{AreOf};
 ghost use Rattle.wgr_sql.specs.Causes.{HasCause};
 ghost use Rattle.wgr_sql.specs.declared.fault.Fault.TheVariants.{NoMemory, Store};
-ghost use Rattle.wgr_tables.specs.Decode.{network_in, tables_of};
-ghost use Rattle.wgr_tables.specs.Lookups.{settled};
+ghost use Rattle.wgr_columns.specs.Decode.{network_in, tables_of};
+ghost use Rattle.wgr_entries.specs.Lookups.{settled};
 ghost use Rattle.wgr_tables.specs.Standing.{Stands};
-ghost use Rattle.wgr_tables.specs.Stored.{AreStored, IsKeptNetwork, stored_network};
+ghost use Rattle.wgr_columns.specs.Stored.{IsKeptNetwork, stored_network};
 ghost use Rattle.wgr_tables.specs.Writes.{Written};
 ghost use Rattle.wgr_register.specs.Causes.{IfFault};
 ghost use Rattle.wgr_register.specs.Ends.{AskEnds};
 ghost use Rattle.wgr_register.specs.Given.{as_added};
-ghost use Rattle.wgr_register.specs.Listing.{ShowNetworksOf, by_name, seen_by};
+ghost use Rattle.wgr_register.specs.Listing.{by_name, seen_by};
 ghost use Rattle.wgr_register.specs.Loaded.{UnlessFault};
 ghost use Rattle.wgr_register.specs.Standing.{StandsAt};
 
@@ -26,28 +26,9 @@ use crate::given::{Given, Render};
 use sqlite::{Alter, Connection, Row};
 use std::alloc::Global;
 use wgr_core::{Name, Network};
-use wgr_model::{Holding, put_entry};
-use wgr_sql::query;
-use wgr_tables::{Fault, number_value, read_settled, tenant_of_token};
-
-// The rows of the networks of the tenant of this id.
-fn network_rows<S: Alter>(conn: &mut Connection<S>, tenant: u32) -> Result<Vec<Row>, Fault>
-    requires idle { conn.old.in_transaction ≡ false }
-    ensures idle { conn.new.in_transaction ≡ false }
-    ensures stands { (db : Database) (pending : List Written) → Stands S.Store conn.old db pending → Stands S.Store conn.new db pending }
-    ensures clean { HasCleanDisk (state S.Store conn.new) → HasCleanDisk (state S.Store conn.old) }
-    ensures listed { (db : Database) (pending : List Written) → Stands S.Store conn.old db pending → HasCleanDisk (state S.Store conn.new)
-        → IfOk result (λ rows. ShowNetworksOf tenant (tables_of db) rows.items) }
-    ensures survives { Survives (state S.Store conn.old) (state S.Store conn.new) (λ _. ⊥) }
-    ensures cause { (db : Database) (pending : List Written) → Stands S.Store conn.old db pending → IfErr result (HasCause (state S.Store conn.old) (state S.Store conn.new)) }
-    ensures stored { (db : Database) (pending : List Written) → Stands S.Store conn.old db pending → HasCleanDisk (state S.Store conn.new) → IfOk result (λ rows. AreStored stored_network network_in rows.items) }
-{
-    query(
-        conn,
-        "SELECT id, NULL, tenant, name, family, lo, length, host, port, server, capacity, next FROM network WHERE tenant = ?1",
-        &[number_value(tenant)],
-    )
-}
+use wgr_entries::{networks_of_tenant, read_settled, tenant_of_token};
+use wgr_orders::{Holding, put_entry};
+use wgr_tables::Fault;
 
 // Puts a network in the place that its name has.
 fn put(entries: &mut Vec<(Name, Network)>, name: Name, network: Network) -> Result<(), Fault>
@@ -90,7 +71,7 @@ fn added_networks<S: Alter>(
     ensures survives { Survives (state S.Store conn.old) (state S.Store conn.new) (λ _. ⊥) }
     ensures cause { (db : Database) (pending : List Written) → Stands S.Store conn.old db pending → AreConsistent (tables_of db) → IfErr result (HasCause (state S.Store conn.old) (state S.Store conn.new)) }
 {
-    let rows = network_rows(conn, tenant)?;
+    let rows = networks_of_tenant(conn, tenant)?;
     entries_in(alloc, rows.as_slice())
 }
 

@@ -3,27 +3,32 @@
 //! The least recently asked of gives way. Where memory is refused, and after a fault, none is kept:
 //! the next request loads its network from the rows.
 ghost use Rattle.std.specs.Prelude.{◌≡◌, None, IfOk, IfSome, nat_eq};
-ghost use Rattle.std.specs.Map.{lookup, remove_entry};
+ghost use Rattle.std.specs.List.{IsDistinct};
+ghost use Rattle.std.specs.Map.{keys_of, lookup, remove_entry};
 ghost use Rattle.wgr_core.specs.Change.{Fits, applied_if};
 ghost use Rattle.wgr_model.specs.Rows.{Tables};
-ghost use Rattle.wgr_register.specs.Loaded.{AreFormed, AreOthersFormed, IsFormed, UnlessFault, entries_of};
+ghost use Rattle.wgr_register.specs.Loaded.{AreFormed, AreOthersFormed, IsFormed, UnlessFault, UnlessUndone, entries_of};
 
-use crate::fault::AskFault;
-use lru::LruCache;
+use crate::fault::{AskFault, Done, OrderFault};
+use crate::recent::{MAX_RECENT, Recent};
 use std::alloc::{AllocError, Global};
-use std::num::NonZeroUsize;
 use wgr_core::{Change, Network};
 
-/// Networks by the ids of their rows, at most 64.
-pub(crate) type Networks = LruCache<u32, Network>;
+/// How many networks stay in memory between requests, of all tenants together.
+pub const NETWORKS_IN_MEMORY: usize = MAX_RECENT;
+
+/// Networks by the ids of their rows, [`NETWORKS_IN_MEMORY`] at most.
+pub(crate) type Networks = Recent<Network>;
 
 /// Takes out the network of this id, if it is kept.
 pub(crate) fn take(loaded: &mut Option<Networks>, id: u32) -> Option<Network>
     ensures value { result ≡ lookup (nat_eq id) (entries_of loaded.old) }
     ensures rest { entries_of loaded.new ≡ remove_entry (nat_eq id) (entries_of loaded.old) }
+    ensures distinct { IsDistinct nat_eq (keys_of (entries_of loaded.old)) }
 {
     let mut networks = loaded.take()?;
-    let network = networks.pop(&id);
+    let _count = networks.len();
+    let network = networks.pop(u64::from(id));
     *loaded = Some(networks);
     network
 }
@@ -35,7 +40,7 @@ pub(crate) fn keep(alloc: Global, loaded: &mut Option<Networks>, id: u32, networ
     let Ok(mut networks) = taken_or_new(alloc, loaded) else {
         return;
     };
-    if let Ok(_) = networks.put(id, network) {
+    if let Ok(_) = networks.put(u64::from(id), network) {
         *loaded = Some(networks);
     }
 }
@@ -47,7 +52,7 @@ fn taken_or_new(alloc: Global, loaded: &mut Option<Networks>) -> Result<Networks
 {
     match loaded.take() {
         Some(networks) => Ok(networks),
-        None => LruCache::new(alloc, NonZeroUsize::new(64).unwrap()),
+        None => Recent::new(alloc),
     }
 }
 
@@ -72,11 +77,27 @@ pub(crate) fn keep_changed(
     }
 }
 
+/// Keeps the network of this id no longer.
+pub(crate) fn forget(loaded: &mut Option<Networks>, id: u32)
+    ensures { (t : Tables) → AreOthersFormed id (entries_of loaded.old) t → AreFormed (entries_of loaded.new) t }
+{
+    let _gone = take(loaded, id);
+}
+
 /// Keeps none after a fault.
 pub(crate) fn drop_after_fault(loaded: &mut Option<Networks>, answered: &Result<Vec<u8>, AskFault>)
     ensures { (t : Tables) → UnlessFault answered.now (AreFormed (entries_of loaded.old) t) → AreFormed (entries_of loaded.new) t }
 {
     if let Err(AskFault::Fault(_)) = answered {
+        *loaded = None;
+    }
+}
+
+/// Keeps none after an order that failed.
+pub(crate) fn drop_after_failure(loaded: &mut Option<Networks>, ended: &Result<Done, OrderFault>)
+    ensures { (t : Tables) → UnlessUndone ended.now (AreFormed (entries_of loaded.old) t) → AreFormed (entries_of loaded.new) t }
+{
+    if let Err(OrderFault::Fault(_)) = ended {
         *loaded = None;
     }
 }

@@ -1,34 +1,49 @@
 //! Orders of the operator.
-ghost use Rattle.std.specs.Prelude.{◌≡◌, List, [], false, nat_lt, not};
+ghost use Rattle.std.specs.Prelude.{◌≡◌, List, [], IsTrue, false, nat_lt, not};
 ghost use Rattle.sqlite.specs.Effect.{Database};
 ghost use Rattle.sqlite.specs.State.{HasCleanDisk};
 ghost use Rattle.sqlite.specs.Held.{state};
-ghost use Rattle.wgr_model.specs.Calls.{order_event};
+ghost use Rattle.wgr_orders.specs.Orders.{order_event};
+ghost use Rattle.wgr_model.specs.Consistent.{max_entries};
 ghost use Rattle.wgr_model.specs.Steps.{AddNetwork, AddTenant, EndNetwork, EndToken, Event, Grant, IsProper};
 ghost use Rattle.wgr_sql.specs.Causes.{HasCauseOr};
-ghost use Rattle.wgr_tables.specs.Decode.{tables_of};
+ghost use Rattle.wgr_columns.specs.Decode.{tables_of};
+ghost use Rattle.wgr_register.specs.Cached.{AreCurrent, files_of};
 ghost use Rattle.wgr_register.specs.Causes.{IfOrderFault, OrderStops};
 ghost use Rattle.wgr_register.specs.Ends.{Admits, OrderEnds};
+ghost use Rattle.wgr_register.specs.Loaded.{AreFormed, Shows, UnlessUndone, entries_of};
 ghost use Rattle.wgr_register.specs.Standing.{StandsAt};
 
 use crate::fault::{Done, OrderFault};
+use crate::files::{Files, drop_files};
+use crate::loaded::{Networks, forget};
 use sqlite::{Alter, Connection};
 use std::alloc::Global;
 use wgr_core::Name;
-use wgr_model::{Holding, Order, OrderRefusal, Settings, Tenant, admit_network, unused_id};
-use wgr_orders::{add_token, count_tokens, settled_networks, tenant_ids, tenants};
-use wgr_tables::{Fault, network_id, tenant_id, tenant_of_token};
+use wgr_entries::{
+    add_token, count_tokens, network_id, settled_networks, tenant_id, tenant_ids, tenant_of_token,
+    tenants,
+};
+use wgr_model::MAX_ENTRIES;
+use wgr_orders::{Holding, Order, OrderRefusal, Settings, Tenant, admit_network, unused_id};
+use wgr_tables::Fault;
 
-// Does the order, or refuses it.
+// Does the order, or refuses it. The networks and files that are kept stay, but for those of a network
+// that ends.
 pub(crate) fn operate<S: Alter>(
     alloc: Global,
     conn: &mut Connection<S>,
+    loaded: &mut Option<Networks>,
+    files: &mut Option<Files>,
     order: &Order,
 ) -> Result<Done, OrderFault>
     requires idle { conn.old.in_transaction ≡ false }
     ensures idle { conn.new.in_transaction ≡ false }
     ensures clean { HasCleanDisk (state S.Store conn.new) → HasCleanDisk (state S.Store conn.old) }
+    ensures open { HasCleanDisk (state S.Store conn.new) → UnlessUndone result (IsTrue (state S.Store conn.old).is_open) }
     ensures ends { (db : Database) (late : List Event) → StandsAt S.Store conn.old db late → OrderEnds S.Store conn.new db late (order_event order.now) result }
+    ensures formed { (db : Database) (late : List Event) → StandsAt S.Store conn.old db late → AreFormed (entries_of loaded.old) (tables_of db) → UnlessUndone result (Shows S.Store conn.new (AreFormed (entries_of loaded.new))) }
+    ensures current { (db : Database) (late : List Event) → StandsAt S.Store conn.old db late → AreCurrent (files_of files.old) (tables_of db) → UnlessUndone result (Shows S.Store conn.new (AreCurrent (files_of files.new))) }
     ensures stops { (db : Database) (late : List Event) → StandsAt S.Store conn.old db late → IfOrderFault (HasCauseOr (OrderStops (tables_of db) (order_event order.now)) (state S.Store conn.old) (state S.Store conn.new)) result }
 {
     order.tell_forms();
@@ -41,7 +56,7 @@ pub(crate) fn operate<S: Alter>(
             name,
             settings,
         } => add_network(alloc, conn, tenant, name, settings),
-        Order::EndNetwork { tenant, name } => end_network(conn, tenant, name),
+        Order::EndNetwork { tenant, name } => end_network(conn, loaded, files, tenant, name),
     }
 }
 
@@ -50,26 +65,32 @@ fn end_token<S: Alter>(conn: &mut Connection<S>, digest: &[u8; 32]) -> Result<Do
     requires idle { conn.old.in_transaction ≡ false }
     ensures idle { conn.new.in_transaction ≡ false }
     ensures clean { HasCleanDisk (state S.Store conn.new) → HasCleanDisk (state S.Store conn.old) }
+    ensures open { HasCleanDisk (state S.Store conn.new) → UnlessUndone result (IsTrue (state S.Store conn.old).is_open) }
     ensures ends { (db : Database) (late : List Event) → StandsAt S.Store conn.old db late → OrderEnds S.Store conn.new db late (EndToken digest.now) result }
     ensures stops { (db : Database) (late : List Event) → StandsAt S.Store conn.old db late → IfOrderFault (HasCauseOr (OrderStops (tables_of db) (EndToken digest.now)) (state S.Store conn.old) (state S.Store conn.new)) result }
 {
     let Some(_holder) = tenant_of_token(conn, digest)? else {
         return Err(OrderFault::Refused(OrderRefusal::NoSuchToken));
     };
-    wgr_orders::end_token(conn, digest)?;
+    wgr_entries::end_token(conn, digest)?;
     Ok(Done)
 }
 
 // The network of this name that the tenant has goes, with its peers and routes.
 fn end_network<S: Alter>(
     conn: &mut Connection<S>,
+    loaded: &mut Option<Networks>,
+    files: &mut Option<Files>,
     tenant: &Name,
     name: &Name,
 ) -> Result<Done, OrderFault>
     requires idle { conn.old.in_transaction ≡ false }
     ensures idle { conn.new.in_transaction ≡ false }
     ensures clean { HasCleanDisk (state S.Store conn.new) → HasCleanDisk (state S.Store conn.old) }
+    ensures open { HasCleanDisk (state S.Store conn.new) → UnlessUndone result (IsTrue (state S.Store conn.old).is_open) }
     ensures ends { (db : Database) (late : List Event) → StandsAt S.Store conn.old db late → OrderEnds S.Store conn.new db late (EndNetwork tenant.now name.now) result }
+    ensures formed { (db : Database) (late : List Event) → StandsAt S.Store conn.old db late → AreFormed (entries_of loaded.old) (tables_of db) → UnlessUndone result (Shows S.Store conn.new (AreFormed (entries_of loaded.new))) }
+    ensures current { (db : Database) (late : List Event) → StandsAt S.Store conn.old db late → AreCurrent (files_of files.old) (tables_of db) → UnlessUndone result (Shows S.Store conn.new (AreCurrent (files_of files.new))) }
     ensures stops { (db : Database) (late : List Event) → StandsAt S.Store conn.old db late → IfOrderFault (HasCauseOr (OrderStops (tables_of db) (EndNetwork tenant.now name.now)) (state S.Store conn.old) (state S.Store conn.new)) result }
 {
     let Some(id) = tenant_id(conn, tenant)? else {
@@ -78,7 +99,9 @@ fn end_network<S: Alter>(
     let Some(network) = network_id(conn, id, name)? else {
         return Err(OrderFault::Refused(OrderRefusal::NoNetwork));
     };
-    wgr_orders::end_network(conn, network)?;
+    forget(loaded, network);
+    drop_files(files, network);
+    wgr_entries::end_network(conn, network)?;
     Ok(Done)
 }
 
@@ -91,6 +114,7 @@ fn grant<S: Alter>(
     requires idle { conn.old.in_transaction ≡ false }
     ensures idle { conn.new.in_transaction ≡ false }
     ensures clean { HasCleanDisk (state S.Store conn.new) → HasCleanDisk (state S.Store conn.old) }
+    ensures open { HasCleanDisk (state S.Store conn.new) → UnlessUndone result (IsTrue (state S.Store conn.old).is_open) }
     ensures ends { (db : Database) (late : List Event) → StandsAt S.Store conn.old db late → IsProper (Grant tenant.now digest.now) → OrderEnds S.Store conn.new db late (Grant tenant.now digest.now) result }
     ensures stops { (db : Database) (late : List Event) → StandsAt S.Store conn.old db late → IfOrderFault (HasCauseOr (OrderStops (tables_of db) (Grant tenant.now digest.now)) (state S.Store conn.old) (state S.Store conn.new)) result }
 {
@@ -117,6 +141,7 @@ fn add_tenant<S: Alter>(
     requires idle { conn.old.in_transaction ≡ false }
     ensures idle { conn.new.in_transaction ≡ false }
     ensures clean { HasCleanDisk (state S.Store conn.new) → HasCleanDisk (state S.Store conn.old) }
+    ensures open { HasCleanDisk (state S.Store conn.new) → UnlessUndone result (IsTrue (state S.Store conn.old).is_open) }
     ensures ends { (db : Database) (late : List Event) → StandsAt S.Store conn.old db late → IsProper (AddTenant name.now) → OrderEnds S.Store conn.new db late (AddTenant name.now) result }
     ensures stops { (db : Database) (late : List Event) → StandsAt S.Store conn.old db late → IfOrderFault (HasCauseOr (OrderStops (tables_of db) (AddTenant name.now)) (state S.Store conn.old) (state S.Store conn.new)) result }
 {
@@ -127,7 +152,7 @@ fn add_tenant<S: Alter>(
     if is_full(ids.as_slice().len()) {
         return Err(OrderFault::Refused(OrderRefusal::RegisterFull));
     }
-    wgr_orders::add_tenant(conn, unused_id(ids.as_slice()), name)?;
+    wgr_entries::add_tenant(conn, unused_id(ids.as_slice()), name)?;
     Ok(Done)
 }
 
@@ -143,6 +168,7 @@ fn add_network<S: Alter>(
     requires idle { conn.old.in_transaction ≡ false }
     ensures idle { conn.new.in_transaction ≡ false }
     ensures clean { HasCleanDisk (state S.Store conn.new) → HasCleanDisk (state S.Store conn.old) }
+    ensures open { HasCleanDisk (state S.Store conn.new) → UnlessUndone result (IsTrue (state S.Store conn.old).is_open) }
     ensures ends { (db : Database) (late : List Event) → StandsAt S.Store conn.old db late → IsProper (AddNetwork tenant.now name.now settings.now) → OrderEnds S.Store conn.new db late (AddNetwork tenant.now name.now settings.now) result }
     ensures stops { (db : Database) (late : List Event) → StandsAt S.Store conn.old db late → IfOrderFault (HasCauseOr (OrderStops (tables_of db) (AddNetwork tenant.now name.now settings.now)) (state S.Store conn.old) (state S.Store conn.new)) result }
 {
@@ -159,7 +185,7 @@ fn add_network<S: Alter>(
         name,
         settings,
     )?;
-    wgr_orders::add_network(conn, new, id, name, settings)?;
+    wgr_entries::add_network(conn, new, id, name, settings)?;
     Ok(Done)
 }
 
@@ -183,7 +209,7 @@ fn admit(
 
 // Whether no more than so many entries are taken.
 fn is_full(count: usize) -> bool
-    ensures { result ≡ not (nat_lt count 65536) }
+    ensures { result ≡ not (nat_lt count max_entries) }
 {
-    count >= 65536
+    count >= MAX_ENTRIES
 }

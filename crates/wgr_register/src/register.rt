@@ -1,50 +1,55 @@
 //! The register.
-ghost use Rattle.std.specs.Prelude.{◌≡◌, ◌↔◌, ℕ, List, [], true, false, IfErr, IfOk, OnOk};
+ghost use Rattle.std.specs.Prelude.{◌≡◌, ◌↔◌, ◌≤◌, ℕ, List, [], true, false, IfErr, IfOk, OnOk};
 ghost use Rattle.sqlite.specs.Effect.{Database};
 ghost use Rattle.sqlite.specs.State.{HasCleanDisk, Survives};
 ghost use Rattle.sqlite.specs.Held.{state};
-ghost use Rattle.wgr_model.specs.Calls.{order_event};
+ghost use Rattle.wgr_orders.specs.Orders.{order_event};
 ghost use Rattle.wgr_model.specs.Steps.{Ask, Event, Networks};
 ghost use Rattle.wgr_core.specs.Outcome.{is_reading};
 ghost use Rattle.wgr_register.specs.Causes.{AskStops, IfFault, IfOrderFault, OrderStops};
 ghost use Rattle.wgr_register.specs.Ends.{AskEnds, OrderEnds};
 ghost use Rattle.wgr_register.specs.Left.{LeavesGood};
+ghost use Rattle.wgr_register.specs.Recent.{max_recent};
 ghost use Rattle.wgr_register.specs.Standing.{IsAtRest, StandsAt};
 ghost use Rattle.wgr_sql.specs.Calls.{IsKept};
 ghost use Rattle.wgr_sql.specs.Causes.{HasCause, HasCauseOr};
-ghost use Rattle.wgr_store.specs.Faults.{IfStatementFails};
-ghost use Rattle.wgr_store.specs.Fresh.{IsFresh, LeavesFresh, is_any_taken, no_schema};
-ghost use Rattle.wgr_store.specs.FirstVersion.{IsFirstVersion};
-ghost use Rattle.wgr_store.specs.declared.fault.RegisterFault.TheVariants.{NotARegister, NotEmpty, NotGood};
-ghost use Rattle.wgr_tables.specs.Decode.{tables_of};
-ghost use Rattle.wgr_whole.specs.Good.{IsGood};
+ghost use Rattle.wgr_schema.specs.Faults.{IfStatementFails};
+ghost use Rattle.wgr_schema.specs.Fresh.{IsFresh, LeavesFresh, is_any_taken, no_schema};
+ghost use Rattle.wgr_schema.specs.FirstVersion.{IsFirstVersion};
+ghost use Rattle.wgr_schema.specs.declared.fault.RegisterFault.TheVariants.{NotARegister, NotEmpty, NotGood};
+ghost use Rattle.wgr_columns.specs.Decode.{tables_of};
+ghost use Rattle.wgr_opening.specs.Good.{IsGood};
 
 use crate::fault::{AskFault, Done, OpenFault, OrderFault};
+use crate::files::{self, Files};
 use crate::given::Render;
-use crate::loaded::{Networks, drop_after_fault};
+use crate::loaded::{Networks, drop_after_failure, drop_after_fault};
 use crate::{ask, list, order};
 use sqlite::{Alter, Connection};
 use std::alloc::Global;
 use std::marker::Model;
 use wgr_core::Command;
-use wgr_model::Order;
-use wgr_store::make;
-use wgr_whole::check_register;
+use wgr_opening::check_register;
+use wgr_orders::Order;
+use wgr_schema::make;
 
 /// The networks of many tenants, in a database whose rows are consistent at all times.
 ///
-/// The 64 networks that were last asked of stay in memory as their rows form them, so a request
-/// loads a network only where it isn't one of them.
+/// The [`NETWORKS_IN_MEMORY`](crate::NETWORKS_IN_MEMORY) networks that were last asked of stay in
+/// memory as their rows form them, so a request loads a network only where it isn't one of them. So
+/// do the [`FILES_IN_MEMORY`](crate::FILES_IN_MEMORY) servers' files that were last asked of.
 ///
 /// Every contract names the database at which the register stands, and the events that a stop at
 /// this moment may leave done: those that were answered by a fault since the last acknowledged change.
 pub struct Register<S: Alter> {
     conn: Connection<S>,
     loaded: Option<Networks>,
+    files: Option<Files>,
 }
 
 impl<S: Alter> Model for Register<S> {
     ghost use Rattle.sqlite.specs.Held.{Held, held_code};
+    ghost use Rattle.wgr_register.specs.Cached.{AreCurrent, files_of};
     ghost use Rattle.wgr_register.specs.Loaded.{AreFormed, Shows, entries_of};
     ghost use Rattle.wgr_register.specs.Standing.{IsAtRest};
 
@@ -54,7 +59,7 @@ impl<S: Alter> Model for Register<S> {
 
     ghost view = { λ r. r.conn };
 
-    ghost invariant = { λ r. IsAtRest S.Store r.conn × Shows S.Store r.conn (AreFormed (entries_of r.loaded)) };
+    ghost invariant = { λ r. IsAtRest S.Store r.conn × Shows S.Store r.conn (AreFormed (entries_of r.loaded)) × Shows S.Store r.conn (AreCurrent (files_of r.files)) };
 }
 
 impl<S: Alter> Register<S> {
@@ -77,7 +82,11 @@ impl<S: Alter> Register<S> {
         ensures idle { IfErr result (λ e. e.connection.in_transaction ≡ false) }
     {
         match make(&mut conn) {
-            Ok(()) => Ok(Register { conn, loaded: None }),
+            Ok(()) => Ok(Register {
+                conn,
+                loaded: None,
+                files: None,
+            }),
             Err(fault) => Err(OpenFault {
                 fault,
                 connection: conn,
@@ -106,7 +115,11 @@ impl<S: Alter> Register<S> {
         ensures idle { IfErr result (λ e. e.connection.in_transaction ≡ false) }
     {
         match check_register(alloc, &mut conn) {
-            Ok(()) => Ok(Register { conn, loaded: None }),
+            Ok(()) => Ok(Register {
+                conn,
+                loaded: None,
+                files: None,
+            }),
             Err(fault) => Err(OpenFault {
                 fault,
                 connection: conn,
@@ -129,6 +142,15 @@ impl<S: Alter> Register<S> {
         let _rest = &self.conn;
     }
 
+    /// How many servers' files stay in memory now, of all tenants together: at most
+    /// [`FILES_IN_MEMORY`](crate::FILES_IN_MEMORY), one for each network and form. Files are no part of a
+    /// register's value, so no clause says which there are.
+    pub fn cached(&self) -> usize
+        ensures at_most { result ≤ max_recent }
+    {
+        files::count(&self.files)
+    }
+
     /// The connection, as it stands.
     pub fn into_connection(self) -> Connection<S>
         ensures { result ≡ self }
@@ -136,20 +158,29 @@ impl<S: Alter> Register<S> {
         let Register {
             conn,
             loaded: _loaded,
+            files: _files,
         } = self;
         conn
     }
 
     /// Does an order of the operator, in one commit, or refuses it. A refusal and a fault leave the rows
     /// as they are. A fault is want of memory, or it has a cause, or the database refuses a statement of
-    /// the order. No network stays in memory.
+    /// the order.
     pub fn operate(&mut self, alloc: Global, order: &Order) -> Result<Done, OrderFault>
         ensures clean { HasCleanDisk (state S.Store self.new) → HasCleanDisk (state S.Store self.old) }
         ensures ends { (db : Database) (late : List Event) → StandsAt S.Store self.old db late → OrderEnds S.Store self.new db late (order_event order.now) result }
         ensures stops { (db : Database) (late : List Event) → StandsAt S.Store self.old db late → IfOrderFault (HasCauseOr (OrderStops (tables_of db) (order_event order.now)) (state S.Store self.old) (state S.Store self.new)) result }
     {
-        self.loaded = None;
-        order::operate(alloc, &mut self.conn, order)
+        let ended = order::operate(
+            alloc,
+            &mut self.conn,
+            &mut self.loaded,
+            &mut self.files,
+            order,
+        );
+        drop_after_failure(&mut self.loaded, &ended);
+        files::drop_after_failure(&mut self.files, &ended);
+        ended
     }
 
     /// The text of what the command answers at this moment, on the network of this name that the
@@ -176,6 +207,7 @@ impl<S: Alter> Register<S> {
             alloc,
             &mut self.conn,
             &mut self.loaded,
+            &mut self.files,
             digest,
             name,
             now,
@@ -183,6 +215,7 @@ impl<S: Alter> Register<S> {
             render,
         );
         drop_after_fault(&mut self.loaded, &answered);
+        files::drop_after_fault(&mut self.files, &answered);
         answered
     }
 
@@ -202,6 +235,7 @@ impl<S: Alter> Register<S> {
     {
         let answered = list::networks(alloc, &mut self.conn, digest, render);
         drop_after_fault(&mut self.loaded, &answered);
+        files::drop_after_fault(&mut self.files, &answered);
         answered
     }
 }

@@ -22,10 +22,10 @@ use Rattle.sqlite.specs.State.{HasCleanDisk}
 use Rattle.sqlite.specs.Tree.{Trees}
 use Rattle.wgr_model.specs.Steps.{Event}
 use Rattle.wgr_model.specs.Stops.{IsLeft}
-use Rattle.wgr_store.specs.FirstVersion.{IsFirstVersion}
-use Rattle.wgr_store.proofs.VersionLemmas.{version_read}
-use Rattle.wgr_tables.specs.Decode.{tables_of}
-use Rattle.wgr_whole.specs.Good.{IsGood}
+use Rattle.wgr_schema.specs.FirstVersion.{IsFirstVersion}
+use Rattle.wgr_schema.proofs.VersionLemmas.{version_read}
+use Rattle.wgr_columns.specs.Decode.{tables_of}
+use Rattle.wgr_opening.specs.Good.{IsGood}
 use Rattle.wgr_register.specs.Left.{LeavesRegister}
 use Rattle.wgr_register.specs.Standing.{StandsAt}
 use Rattle.wgr_register.proofs.LeftLemmas.{one_database, stop_leaves}

@@ -13,7 +13,7 @@ use Rattle.wgr_register.specs.Given.{GivenValue}
 use Rattle.wgr_model.specs.Register.{Bytes}
 use Rattle.wgr_register.specs.Standing.{StandsAt}
 use Rattle.wgr_register.proofs.LeftLemmas.{stop_leaves}
-use Rattle.wgr_tables.specs.Decode.{tables_of}
+use Rattle.wgr_columns.specs.Decode.{tables_of}
 use Rattle.wgr_reopen.specs.Laws.{AnsweredStays, DoneStays, Keeps}
 
 -- where no event is late, a stop leaves the rows themselves

@@ -16,8 +16,8 @@ use Rattle.sqlite_trees.specs.declared.error.StoreError.{StoreError}
 use Rattle.wgr_model.specs.Steps.{Event}
 use Rattle.wgr_model.specs.Stops.{IsLeft}
 use Rattle.wgr_register.specs.Standing.{StandsAt}
-use Rattle.wgr_tables.specs.Decode.{tables_of}
-use Rattle.wgr_whole.specs.Good.{IsGood}
+use Rattle.wgr_columns.specs.Decode.{tables_of}
+use Rattle.wgr_opening.specs.Good.{IsGood}
 
 -- the register is at the rows of a good database that a stop of the other one left, and no event is late
 abbrev pub StandsOn : {S : Type 0} → Ghosts S → Held S → Database → List Event → Type 0

@@ -15,8 +15,8 @@ use Rattle.wgr_model.specs.Stops.{IsLeft}
 use Rattle.wgr_register.specs.Ends.{AskEnds, OrderEnds, is_change}
 use Rattle.wgr_register.specs.Given.{GivenValue, IsShown}
 use Rattle.wgr_register.specs.declared.fault.Done.{Done}
-use Rattle.wgr_tables.specs.Decode.{tables_of}
-use Rattle.wgr_whole.specs.Good.{IsGood}
+use Rattle.wgr_columns.specs.Decode.{tables_of}
+use Rattle.wgr_opening.specs.Good.{IsGood}
 
 -- Whatever a stop leaves is a good register: at the rows of a change that was done, or else at those
 -- that a stop left before.

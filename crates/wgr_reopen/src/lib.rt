@@ -11,7 +11,7 @@ ghost use Rattle.sqlite.specs.Tree.{Trees};
 ghost use Rattle.sqlite.specs.WalReads.{AreClean};
 ghost use Rattle.wgr_model.specs.Steps.{Event};
 ghost use Rattle.wgr_register.specs.Standing.{StandsAt};
-ghost use Rattle.wgr_store.specs.declared.fault.RegisterFault.TheVariants.{NotARegister, NotEmpty, NotGood};
+ghost use Rattle.wgr_schema.specs.declared.fault.RegisterFault.TheVariants.{NotARegister, NotEmpty, NotGood};
 ghost use Rattle.wgr_reopen.specs.Again.{FailsByFault, HoldsLeft, StandsAgain, StandsOn};
 
 pub use laws::{answered_stays, done_stays};

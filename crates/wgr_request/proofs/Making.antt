@@ -4,13 +4,13 @@ use Rattle.std.specs.Prelude.{bytes_eq}
 use Rattle.std.proofs.lemmas.Slice.Eq.{bytes_eq-Decides}
 use Rattle.serde_json.specs.Data.{Data}
 use Rattle.serde_json.specs.Find.{get}
-use Rattle.wgr_adopt.specs.Adopting.{adoption_asked}
 use Rattle.wgr_dump.specs.Dump.{DumpValue, IsDump}
 use Rattle.wgr_text.specs.Prefix.{AddrValue, PrefixValue}
 use Rattle.wgr_text.specs.PrefixText.{SpellsAddr}
 use Rattle.wgr_core.specs.declared.command.Command.{Command}
 use Rattle.wgr_core.specs.declared.command.Command.TheVariants as command
 use Rattle.wgr_http.specs.Message.{MessageView}
+use Rattle.wgr_request.specs.Adopting.{adoption_asked}
 use Rattle.wgr_request.specs.Bodies.{Outcome, IsBody, OrBody, or_bad, AddFields, MoveFields, RouteFields, UnrouteFields, RenewFields, IsAdd, IsMove, IsRoute, IsUnroute, IsRenew}
 use Rattle.wgr_request.specs.Commands.{IsAdoption, IsCommand, IsOwner, IsPeers}
 use Rattle.wgr_request.specs.Fields.{end_value, field_value, keepalive_value}

@@ -3,7 +3,6 @@ use Rattle.std.proofs.Common.{◌≡◌, ℕ, List, [], ◌∷◌, codes, Option
 use Rattle.std.specs.Prelude.{option_and_then}
 use Rattle.serde_json.specs.Data.{Data}
 use Rattle.serde_json.specs.Find.{as_str, get}
-use Rattle.wgr_adopt.specs.Adopting.{adoption_asked, seen_peer}
 use Rattle.wgr_core.specs.declared.command.Command.{Command}
 use Rattle.wgr_core.specs.declared.command.Command.TheVariants.{Adopt}
 use Rattle.wgr_core.specs.declared.command.Command.TheVariants as command
@@ -15,6 +14,7 @@ use Rattle.wgr_text.specs.PrefixText.{SpellsAddr}
 use Rattle.wgr_text.proofs.RoundTrips.{Spells_unique}
 use Rattle.wgr_text.proofs.Spelled.{SpellsAddr_unique}
 use Rattle.wgr_dump.specs.Fields.{SpellsKey, SpellsMasked}
+use Rattle.wgr_request.specs.Adopting.{adoption_asked, seen_peer}
 use Rattle.wgr_request.specs.Bodies.{Outcome, With, IsJson, IsObject, OrBody, IsBody, has_only, AddFields, MoveFields, RouteFields, UnrouteFields, RenewFields, IsAdd, IsMove, IsRoute, IsUnroute, IsRenew}
 use Rattle.wgr_request.specs.Commands.{IsCommand, IsPeers, IsAdoption, IsOwner}
 use Rattle.wgr_request.specs.Fields.{IsField, IsText, SpellsFull, SpellsLabel, SpellsNamed, KeyField, LabelField, NamedField, PrefixField}

@@ -1,11 +1,11 @@
 -- Commands that are read of no JSON body.
 use Rattle.std.specs.Prelude.{◌≡◌, ◌⊎◌, ℕ, Bool, true, false, List, Some, Ok, Err}
-use Rattle.wgr_adopt.specs.Adopting.{adoption_asked}
 use Rattle.wgr_core.specs.declared.command.Command.{Command}
 use Rattle.wgr_core.specs.declared.command.Command.TheVariants as command
 use Rattle.wgr_dump.specs.Dump.{DumpValue, IsDump}
 use Rattle.wgr_dump.specs.Fault.{IsFirstBad}
 use Rattle.wgr_text.specs.PrefixText.{SpellsAddr}
+use Rattle.wgr_request.specs.Adopting.{adoption_asked}
 use Rattle.wgr_request.specs.Bodies.{Outcome, IsAdd, With}
 use Rattle.wgr_request.specs.Fields.{IsText}
 use Rattle.wgr_request.specs.declared.fault.RequestFault.TheVariants.{BadDump}

@@ -1,6 +1,5 @@
 -- What follows of the definition of a request.
 use Rattle.std.specs.Prelude.{◌≡◌, ◌↔◌, ◌⊎◌, ℕ, List, codes, Option, Some, None, Ok}
-use Rattle.wgr_adopt.specs.Adopting.{adoption_asked}
 use Rattle.wgr_core.specs.declared.command.Command.{Command}
 use Rattle.wgr_core.specs.declared.command.Command.TheVariants as command
 use Rattle.wgr_dump.specs.Dump.{DumpValue, IsDump}
@@ -10,6 +9,7 @@ use Rattle.wgr_http.specs.Reading.{AnswersAs}
 use Rattle.wgr_text.specs.declared.key.Key.{Key}
 use Rattle.wgr_text.specs.Prefix.{AddrValue, PrefixValue}
 use Rattle.wgr_text.specs.PrefixText.{SpellsAddr}
+use Rattle.wgr_request.specs.Adopting.{adoption_asked}
 use Rattle.wgr_request.specs.Bodies.{IsAdd, IsMove, IsRenew, IsRoute, IsUnroute}
 use Rattle.wgr_request.specs.Commands.{IsAdoption, IsOwner}
 use Rattle.wgr_request.specs.Request.{MessageAsks, RequestView, Requests, ask, digest_given, networks, refused}

@@ -1,3 +1,4 @@
+pub mod Adopting
 pub mod Bodies
 pub mod Commands
 pub mod Digest

@@ -1,4 +1,4 @@
-//! What the bytes of a request alone refuse.
+//! What is wrong with a request, as its bytes alone show.
 ghost use Rattle.std.specs.Prelude.{◌≡◌};
 ghost use Rattle.wgr_request.specs.Fault.{field_name};
 

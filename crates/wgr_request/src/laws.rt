@@ -1,4 +1,5 @@
 //! What follows of the definition of a request. Each function does nothing: its contract is the law.
+ghost use Rattle.wgr_request.specs.Adopting.{AdoptionsHaveNoSecrets};
 ghost use Rattle.wgr_request.specs.Laws.{BeginningsAsk, OneOutcome, OnePathListsNetworks, OneRequest, PathsMakeCommands, SecretsAreUnasked, TokensAreKept};
 
 /// Bytes are one request at most, and a body, a dump or an address has one outcome at most.
@@ -24,7 +25,12 @@ pub fn tokens_are_kept()
     ensures { TokensAreKept }
 {}
 
-/// No private and no preshared key of a dump is part of what is asked.
+/// No private and no preshared key of a dump is part of the command that adopts it.
+pub fn adoptions_have_no_secrets()
+    ensures { AdoptionsHaveNoSecrets }
+{}
+
+/// No private and no preshared key of a dump is part of what a message asks that carries it.
 pub fn secrets_are_unasked()
     ensures { SecretsAreUnasked }
 {}

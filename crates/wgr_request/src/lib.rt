@@ -6,6 +6,7 @@
 //! a token is known by.
 #![tactic(auto)]
 
+mod adoption;
 mod bodies;
 mod commands;
 mod digest;
@@ -18,6 +19,7 @@ mod target;
 #[cfg(test)]
 mod tests;
 
+pub use adoption::adoption_of;
 pub use bodies::{BodyFault, read_add, read_move, read_renew, read_route, read_unroute};
 pub use commands::{read_adoption, read_owner};
 pub use digest::token_digest;

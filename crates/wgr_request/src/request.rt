@@ -1,11 +1,13 @@
 //! What a message asks of the register, by its bytes alone.
-ghost use Rattle.std.specs.Prelude.{◌≡◌, IfOk, option_and_then, option_map};
+ghost use Rattle.std.specs.Prelude.{◌≡◌, IfOk, bytes_eq, codes, option_and_then, option_map};
+ghost use Rattle.wgr_request.specs.Bodies.{ReadsAs};
+ghost use Rattle.wgr_request.specs.Commands.{IsPeers};
 ghost use Rattle.wgr_request.specs.Digest.{digest_of};
 ghost use Rattle.wgr_request.specs.Request.{Asks, IsOn, MessageAsks, Requests, message_view, request_view};
 ghost use Rattle.wgr_request.specs.Target.{target_view};
 
-use crate::bodies::{BodyFault, read_move, read_renew, read_route, read_unroute};
-use crate::commands::{read_adoption, read_owner, read_peers};
+use crate::bodies::{BodyFault, read_add, read_move, read_renew, read_route, read_unroute};
+use crate::commands::{read_adoption, read_owner};
 use crate::digest::token_digest;
 use crate::fault::RequestFault;
 use crate::paths::Paths;
@@ -107,6 +109,17 @@ fn asked<'a>(
         Target::ServerFile(name, form) => {
             on_network(digest, name, Ok(Command::ServerFile { form }))
         }
+    }
+}
+
+// The command on the peers of a network: POST adds the one of the body, GET lists all.
+fn read_peers(alloc: Global, method: &[u8], body: &[u8]) -> Result<Command, BodyFault>
+    ensures { ReadsAs (IsPeers (bytes_eq method.now (codes "POST")) body.now) result }
+{
+    if method == b"POST".as_slice() {
+        read_add(alloc, body)
+    } else {
+        Ok(Command::List)
     }
 }
 

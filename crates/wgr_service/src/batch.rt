@@ -24,8 +24,7 @@ pub enum BatchFault {
 }
 
 /// Answers all requests in turn, as [`Office::run`] does, and writes their replies one after the other.
-/// Tells whether all were available, none of them answered by the bytes of
-/// [`unavailable`](wgr_office::unavailable).
+/// Tells whether all were available, none of them answered by the bytes of `unavailable`.
 pub fn answer_all<S: Alter, W: Write>(
     alloc: Global,
     office: &mut Office<S>,

@@ -20,6 +20,10 @@ pub struct Arrival<R, W> {
 ///
 /// [`Sockets`](crate::Sockets) is the system's, of which no log is known. What is proved of a server
 /// over any network holds for one that knows its log.
+///
+/// A connection comes together with its moment, so the moment of an earlier one can't be taken for it.
+/// Reader and writer aren't `Drop`, so each has to be handed to `end`. Both own a handle of the socket,
+/// since a type of a trait has no lifetime here that a borrowed stream would need.
 pub trait Network {
     /// The reader of a connection.
     type Reader: Read;

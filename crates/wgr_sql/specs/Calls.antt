@@ -1,5 +1,5 @@
 -- What a call that only reads finds and leaves.
-use Rattle.std.specs.Prelude.{◌≡◌, true, IsTrue, List, ℕ}
+use Rattle.std.specs.Prelude.{◌≡◌, true, IsTrue, List, [], ◌∷◌, ℕ, ⊤}
 use Rattle.sqlite_value.specs.Order.{Row}
 use Rattle.sqlite.specs.State.{State, HasCleanDisk, Shown}
 use Rattle.sqlite.specs.Store.{Ghosts}
@@ -14,3 +14,9 @@ pub record Answered {S : Type 0} (g : Ghosts S) (sql : List ℕ) (params : Row) 
   pub after : Held S
   pub was_open : IsTrue (state g old).is_open
   pub shown : Shown sql params (state g (record old { in_transaction = true })) (state g after) rows
+
+-- more rows than one
+abbrev pub AreMany : List Row → Type 0
+AreMany [] = ⊥
+AreMany (row ∷ []) = ⊥
+AreMany (row ∷ next ∷ more) = ⊤

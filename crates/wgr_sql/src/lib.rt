@@ -10,4 +10,4 @@ mod fault;
 mod statement;
 
 pub use fault::{Fault, fault_of};
-pub use statement::{execute, query};
+pub use statement::{execute, only, query};

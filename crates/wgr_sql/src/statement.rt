@@ -1,11 +1,11 @@
 //! A reading in a transaction of its own, and a statement in its caller's.
-ghost use Rattle.std.specs.Prelude.{◌≡◌, false, true, IsTrue, Ok, IfErr, IfOk};
+ghost use Rattle.std.specs.Prelude.{◌≡◌, [], ◌∷◌, false, true, IsTrue, Ok, IfErr, IfOk, IfSome, IfNone, OnErr};
 ghost use Rattle.sqlite.specs.Values.{bound};
 ghost use Rattle.sqlite.specs.State.{HasCleanDisk, Survives, Executes, KeepsCommit, Shows};
 ghost use Rattle.sqlite.specs.Held.{state};
 ghost use Rattle.sqlite.specs.Given.{IsPlain};
 ghost use Rattle.sqlite.specs.Listing.{understood};
-ghost use Rattle.wgr_sql.specs.Calls.{IsKept, Answered};
+ghost use Rattle.wgr_sql.specs.Calls.{AreMany, IsKept, Answered};
 ghost use Rattle.wgr_sql.specs.Causes.{HasCause, HasCauseOr, IsAnswered, IsWriting, Refuses};
 
 use crate::fault::{Fault, fault_of};
@@ -29,6 +29,19 @@ pub fn query<S: Alter>(
     let _settled = conn.is_autocommit();
     let mut tx = conn.transaction();
     tx.query_all(sql, values).map_err(fault_of)
+}
+
+/// The one row, if there is one. A key can't have two.
+pub fn only(mut rows: Vec<Row>) -> Result<Option<Row>, Fault>
+    ensures some { IfOk result (λ found. IfSome found (λ row. rows.items ≡ row ∷ [])) }
+    ensures none { IfOk result (λ found. IfNone found (rows.items ≡ [])) }
+    ensures only { OnErr result (AreMany rows.items) }
+{
+    let row = rows.pop();
+    if !rows.is_empty() {
+        return Err(Fault::Store);
+    }
+    Ok(row)
 }
 
 /// Runs a statement in its caller's transaction, and tells how many rows it wrote.

@@ -3,11 +3,11 @@ use crate::steps::{Asked, FILE, STEPS, Step};
 use sqlite::Alter;
 use std::alloc::{AllocError, AllocGlobal, Global};
 use std::process::Abort;
-use wgr_adopt::adoption;
 use wgr_core::{Capacity, Command, Form, Host, Label, LeaseEnd, Name, Port};
 use wgr_dump::Dump;
-use wgr_model::Settings;
+use wgr_orders::Settings;
 use wgr_register::{AskFault, Given, Order, OrderFault, Register, Render};
+use wgr_request::adoption_of;
 use wgr_text::{Key, Prefix, read_loose};
 
 // Ends the test where a file or a list isn't that of acme's.
@@ -90,7 +90,7 @@ fn order(rt: &(impl Abort + AllocGlobal), step: &Step) -> Order {
 // The command by which the peers of the dump are taken over.
 fn taking(rt: &(impl Abort + AllocGlobal), dump: &str) -> Command {
     match Dump::open(dump.as_bytes()) {
-        Ok(dump) => adoption(rt.alloc(), &dump).expect(rt, "memory"),
+        Ok(dump) => adoption_of(rt.alloc(), &dump).expect(rt, "memory"),
         Err(_) => panic!(rt; "no dump"),
     }
 }

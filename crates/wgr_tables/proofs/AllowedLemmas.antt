@@ -20,9 +20,7 @@ use Rattle.sqlite.specs.Effect.{IsDatabase, value_rows}
 use Rattle.sqlite_trees.specs.Tree.{rowid, put_row}
 use Rattle.sqlite_rules.specs.Edit.{id_in, next_rowid}
 use Rattle.sqlite_rules.specs.Lists.{Has}
-use Rattle.wgr_text.specs.declared.addr.Family.{Family}
-use Rattle.wgr_text.specs.declared.addr.Family.TheVariants.{V4, V6}
-use Rattle.wgr_text.specs.Prefix.{PrefixValue, width}
+use Rattle.wgr_text.specs.Prefix.{PrefixValue}
 use Rattle.wgr_model.specs.Rows.{family_number, last_of, allowed_row, allowed_key, same_allowed, peer_id}
 use Rattle.wgr_model.proofs.GatherLemmas.{eqb_self}
 use Rattle.wgr_model.proofs.CollectLemmas.{from_map}
@@ -32,17 +30,19 @@ use Rattle.sqlite_schema.specs.Rules.{agree, differ}
 use Rattle.wgr_tables.proofs.UniqueLemmas.{from_model, differ_ints, allowed_apart, agree_four, four}
 use Rattle.sqlite.specs.Command.TheVariants.{Insert}
 use Rattle.sqlite.specs.Source.TheVariants.{Values}
-use Rattle.wgr_tables.specs.Layout.{Others, schema_with, allowed_at}
-use Rattle.wgr_tables.specs.Decode.{IsKindAt, IsRegister, tables_of, allowed_in, number_at, bytes_at, bytes_of, number_of, family_of, address_kind, route_kind, allowed_numbers, allowed_addresses}
+use Rattle.wgr_columns.specs.Layout.{Others, schema_with, allowed_at}
+use Rattle.wgr_columns.specs.Decode.{IsKindAt, IsRegister, tables_of, allowed_in, number_at, bytes_at, bytes_of, number_of, family_of, address_kind, route_kind, allowed_numbers, allowed_addresses}
 use Rattle.wgr_tables.specs.TableSteps.{AllowedComes, RouteGoes, is_route_at}
-use Rattle.wgr_tables.proofs.ByteLemmas.{number_back}
+use Rattle.wgr_columns.proofs.ByteLemmas.{number_back}
+use Rattle.wgr_columns.proofs.FieldLemmas.{family_back}
 use Rattle.wgr_sql.proofs.KeyedLemmas.{has_moved, not_taken}
 use Rattle.wgr_sql.proofs.RowLemmas.{equal_nats, map_filter}
 use Rattle.wgr_tables.proofs.EditLemmas.{allowed_after, register_allowed}
 use Rattle.wgr_tables.proofs.Made.{Made}
 use Rattle.wgr_tables.proofs.WriteLemmas.{rows_deleted, row_inserted}
 use Rattle.wgr_tables.proofs.WrittenLemmas.{IsWritten, each_filter, each_put, written_filter, written_put}
-use Rattle.wgr_tables.proofs.Meanings.{Means, drop_route_text, drop_route_means, of_route, allowed_values}
+use Rattle.wgr_tables.proofs.Meanings.{drop_route_text, drop_route_means, of_route, allowed_values}
+use Rattle.wgr_columns.proofs.Statements.{Means}
 use Rattle.wgr_sql.proofs.TableLemmas.{cast_null, cast_int, put_one}
 use Rattle.wgr_sql.proofs.TextLemmas.{text_at, equal_texts}
 use Rattle.wgr_sql.proofs.Values.{and_true, equal_blob, equal_itself}
@@ -70,10 +70,6 @@ equal_spelled m n p q = go (nat_eq m n) refl
 
 spelled_back : (v : Value) → v ≡ Blob (bytes_of (number_of (bytes v))) → number_of (bytes_of (number_of (bytes v))) ≡ number_of (bytes v)
 spelled_back v is = sym (ap (λ x. number_of (bytes x)) is)
-
-pub family_back : (f : Family) → family_of (family_number f) ≡ f
-family_back V4 = refl
-family_back V6 = refl
 
 -- a row of `allowed`, as the table stores it
 abbrev pub stored_allowed : List Row → List ℕ → ℕ → PrefixValue → ℕ → ℕ → Row
@@ -210,7 +206,3 @@ allowed_came kind text is_kind means old new register network p hi number count 
         ap (λ v. is_true (binary (Compare Eq Binary) v (Blob (bytes_of p.address.number)))) span ∙ equal_spelled _ _ (spelled_back (column r 3) span) (number_back p.address.number low) in
         let length_same : at (Int (pos p.length)) 4 ≡ nat_eq (number_at r 4) p.length = ap (λ v. is_true (binary (Compare Eq Binary) v (Int (pos p.length)))) (good.numbers_are r here 4 (inr (inr (inl refl)))) ∙ equal_nats (number_at r 4) p.length in
         agree_four r (stored_allowed (old.now.trees 10) kind network p hi (peer_id network number)) ∙ (λ k. one k && (two k && (three k && (and_true (at (Int (pos p.length)) 4) ∙ length_same) k))) ∙ left_four (nat_eq (number_at r 1) network) (nat_eq (family_number (family_of (number_at r 2))) (family_number p.address.family)) (nat_eq (number_of (bytes_at r 3)) p.address.number) (nat_eq (number_at r 4) p.length)
-
-pub fits_128 : (f : Family) (n : ℕ) → n < 2 ^ width f → n < 2 ^ 128
-fits_128 V4 n h = omega (arith, h)
-fits_128 V6 n h = h

@@ -22,7 +22,7 @@ use Rattle.wgr_core.proofs.Arranged.{peers_arranged}
 use Rattle.wgr_core.proofs.FreedLemmas.{given_in_pool}
 use Rattle.wgr_model.specs.Rows.{AllowedRow, address_row, peer_id, peer_row, route_row}
 use Rattle.wgr_sql.proofs.Answers.{from_map, map-both}
-use Rattle.wgr_tables.specs.Stored.{IsKeptPeer, IsKeptRoute}
+use Rattle.wgr_columns.specs.Stored.{IsKeptPeer, IsKeptRoute}
 
 numbers_rise : (id : ℕ) (peers : List Peer) → IsSorted nat_cmp (map (λ p. peer_id id p.number) peers) → IsNonDecreasingBy (λ p. p.number) peers
 numbers_rise id peers up i j d below low =

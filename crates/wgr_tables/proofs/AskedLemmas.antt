@@ -1,6 +1,6 @@
 -- The queries of the register are answered, whatever rows there are, unless something hinders them.
 use Rattle.std.proofs.Common.{◌≡◌, ◌⊎◌, ℕ, pos, List, [], ◌∷◌, Bool, true, false, Any, Option, IsSome, IsTrue, inl, inr, refl, sym, ap, subst, ◌∙◌, arith, true≢false}
-use Rattle.sqlite.specs.declared.types.Value.TheVariants.{Int, Text, Blob}
+use Rattle.sqlite.specs.declared.types.Value.TheVariants.{Int}
 use Rattle.sqlite.specs.Order.{Row}
 use Rattle.sqlite.specs.Effect.{Database}
 use Rattle.sqlite.specs.Held.{Held, state}
@@ -9,31 +9,13 @@ use Rattle.sqlite.specs.State.{HasCleanDisk, Survives}
 use Rattle.sqlite.specs.Store.{Ghosts}
 use Rattle.sqlite_tied.specs.Compute.{everything}
 use Rattle.wgr_sql.specs.Causes.{IsAnswered}
-use Rattle.wgr_tables.specs.Layout.{Others, schema_with}
+use Rattle.wgr_columns.specs.Layout.{Others, schema_with}
 use Rattle.wgr_tables.specs.Writes.{Written}
 use Rattle.wgr_tables.specs.Standing.{Stands}
-use Rattle.wgr_tables.proofs.Meanings.{token_text, tenant_text, slot_text, peers_text, addresses_text, routes_text, network_text, first_route_text}
-
--- a query over one table whose values are accepted is refused by a limit alone
-pub never_refused : {A B C : Type 0} (accepts : Bool) → accepts ≡ true → (limit : Option ℕ) (rows : List Row) → (A × (accepts ≡ false)) ⊎ ((B × (⊥ ⊎ Any (λ r. ⊥) rows)) ⊎ (C × IsSome limit)) → IsSome limit
-never_refused accepts good limit rows (inl bad) = absurd (true≢false (sym good ∙ bad.1))
-never_refused accepts good limit rows (inr (inl (same, inl none))) = absurd none
-never_refused accepts good limit rows (inr (inl (same, inr none))) = absurd none.4
-never_refused accepts good limit rows (inr (inr limited)) = limited.1
+use Rattle.wgr_columns.proofs.Statements.{never_refused}
+use Rattle.wgr_tables.proofs.Meanings.{peers_text, addresses_text, routes_text, network_text, first_route_text}
 
 module _ (others : Others) where
-  pub token_answered : (digest : List ℕ) → IsAnswered (schema_with others) token_text (Blob digest ∷ [])
-  unfolding understood everything
-  token_answered digest = record { given = (refl, refl, omega arith, refl); unlisted = refl; plain = λ limit trees e refused. never_refused _ refl limit (trees 3) refused }
-
-  pub tenant_answered : (name : List ℕ) → IsAnswered (schema_with others) tenant_text (Text name ∷ [])
-  unfolding understood everything
-  tenant_answered name = record { given = (refl, refl, omega arith, refl); unlisted = refl; plain = λ limit trees e refused. never_refused _ refl limit (trees 1) refused }
-
-  pub slot_answered : (tenant : ℕ) (name : List ℕ) → IsAnswered (schema_with others) slot_text (Int (pos tenant) ∷ Text name ∷ [])
-  unfolding understood everything
-  slot_answered tenant name = record { given = (refl, refl, omega arith, refl); unlisted = refl; plain = λ limit trees e refused. never_refused _ refl limit (trees 5) refused }
-
   pub peers_answered : (id : ℕ) → IsAnswered (schema_with others) peers_text (Int (pos id) ∷ [])
   unfolding understood everything
   peers_answered id = record { given = (refl, refl, omega arith, refl); unlisted = refl; plain = λ limit trees e refused. never_refused _ refl limit (trees 8) refused }

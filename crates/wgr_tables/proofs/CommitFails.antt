@@ -14,7 +14,7 @@ use Rattle.wgr_sql.specs.Causes.{HasCauseOr, IsHindered}
 use Rattle.wgr_sql.specs.declared.fault.Fault.{Fault}
 use Rattle.wgr_sql.specs.declared.fault.Fault.TheVariants.{NoMemory, Store}
 use Rattle.wgr_sql.proofs.CauseLemmas.{commit_cause, hindered_after, hindered_before, mapped_cause}
-use Rattle.wgr_tables.specs.Decode.{IsRegister, tables_of}
+use Rattle.wgr_columns.specs.Decode.{IsRegister, tables_of}
 use Rattle.wgr_tables.specs.Standing.{Stands, StepsOn}
 use Rattle.wgr_tables.specs.Stops.{FailsBy}
 use Rattle.wgr_tables.specs.Writes.{Written}

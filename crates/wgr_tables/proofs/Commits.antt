@@ -11,7 +11,7 @@ use Rattle.wgr_model.specs.Rows.{Tables}
 use Rattle.wgr_sql.specs.declared.fault.Fault.{Fault}
 use Rattle.wgr_sql.proofs.CommitLemmas.{stands_undone, stands_done, stands_left, step_keeps}
 use Rattle.wgr_sql.proofs.StandingLemmas.{stands_more}
-use Rattle.wgr_tables.specs.Decode.{IsRegister, tables_of}
+use Rattle.wgr_columns.specs.Decode.{IsRegister, tables_of}
 use Rattle.wgr_tables.specs.Writes.{Written, Writes, Changes}
 use Rattle.wgr_tables.specs.Standing.{IsDone, Stands, StepsOn}
 use Rattle.wgr_tables.proofs.Made.{Made}

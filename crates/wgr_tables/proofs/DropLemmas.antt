@@ -12,8 +12,8 @@ use Rattle.sqlite.specs.Term.{holds}
 use Rattle.sqlite.specs.State.{State, Executes}
 use Rattle.sqlite_rules.specs.Lists.{Has}
 use Rattle.sqlite.specs.Effect.{IsDatabase}
-use Rattle.wgr_tables.specs.Layout.{schema_with, peer_at, allowed_at}
-use Rattle.wgr_tables.specs.Decode.{IsKindAt, IsRegister, IsStatusRow, tables_of, peer_in, allowed_in, number_at, bytes_at, route_kind, peer_numbers, allowed_numbers, allowed_addresses}
+use Rattle.wgr_columns.specs.Layout.{schema_with, peer_at, allowed_at}
+use Rattle.wgr_columns.specs.Decode.{IsKindAt, IsRegister, IsStatusRow, tables_of, peer_in, allowed_in, number_at, bytes_at, route_kind, peer_numbers, allowed_numbers, allowed_addresses}
 use Rattle.wgr_tables.specs.TableSteps.{PeerGoes, AllowedGoes, is_peer, is_of_peer, is_address_of}
 use Rattle.wgr_tables.proofs.Made.{Made}
 use Rattle.wgr_sql.proofs.RowLemmas.{equal_nats, map_filter}

@@ -6,8 +6,8 @@ use Rattle.sqlite.specs.Order.{Row}
 use Rattle.sqlite_trees.specs.Tree.{with_tree}
 use Rattle.sqlite.specs.Effect.{Database, IsDatabase}
 use Rattle.wgr_sql.specs.Effects.{Edits}
-use Rattle.wgr_tables.specs.Layout.{register_indexes, schema_with}
-use Rattle.wgr_tables.specs.Decode.{AreTrees, AreWritten, AreTenants, AreTokens, AreNetworks, ArePeers, AreAllowed, HaveStatuses, HaveKinds, IsRegister, tables_in, tables_of, meta_in, tenant_in, token_in, network_in, peer_in, allowed_in}
+use Rattle.wgr_columns.specs.Layout.{register_indexes, schema_with}
+use Rattle.wgr_columns.specs.Decode.{AreTrees, AreWritten, AreTenants, AreTokens, AreNetworks, ArePeers, AreAllowed, HaveStatuses, HaveKinds, IsRegister, tables_in, tables_of, meta_in, tenant_in, token_in, network_in, peer_in, allowed_in}
 use Rattle.wgr_tables.proofs.LayoutLemmas.{is_no_index}
 
 module _ (old new : Database) (register : IsRegister old) (tree : ℕ) (after : List Row) (e : Edits (schema_with register.others) tree after old new) where

@@ -15,7 +15,7 @@ use Rattle.sqlite_schema.specs.Rules.{ParentKey, parent_key, key_in, key_places,
 use Rattle.sqlite_rules.specs.declared.action.Deed.{Deed}
 use Rattle.sqlite_rules.specs.Action.{work_by, work_for, works}
 use Rattle.sqlite_rules.specs.Edit.{IsNoIndex}
-use Rattle.wgr_tables.specs.Layout.{register_tables, register_indexes, Others, schema_with, AreApart, refers, is_apart, is_past}
+use Rattle.wgr_columns.specs.Layout.{register_tables, register_indexes, Others, schema_with, AreApart, refers, is_apart, is_past}
 
 both : (a b : Bool) → (a && b) ≡ true → (a ≡ true) × (b ≡ true)
 both true true h = (refl, refl)

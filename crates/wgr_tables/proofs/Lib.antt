@@ -1,10 +1,7 @@
 -- Values: numbers and bytes, texts, hosts, and what stored values are read as.
-pub mod ByteLemmas
 pub mod SameBytes
-pub mod HostLemmas
-pub mod FieldLemmas
+pub mod PlaceLemmas
 -- The tables, and what the statements mean over them.
-pub mod DefinedLemmas
 pub mod LayoutLemmas
 pub mod Meanings
 pub mod EditLemmas
@@ -33,14 +30,13 @@ pub mod CommitRows
 pub mod ReadLemmas
 pub mod QuerySteps
 pub mod FirstRow
+pub mod FewRows
 pub mod ListedLemmas
 pub mod SortedRows
 pub mod StoredLemmas
-pub mod LookupLemmas
 pub mod ArrangeLemmas
 pub mod LoadLemmas
 pub mod ToldLemmas
 pub mod AskedLemmas
-pub mod WordLemmas
 pub mod StopLemmas
 pub mod CommitFails

@@ -14,11 +14,9 @@ use Rattle.sqlite.specs.Listing.{understood, reads_listing}
 use Rattle.sqlite_value.specs.declared.keys.Key.{Key}
 use Rattle.sqlite.proofs.Callers.{IsPlain, command_of}
 use Rattle.wgr_sql.specs.Effects.{plain_query}
-use Rattle.wgr_tables.specs.Layout.{Others, schema_with}
+use Rattle.wgr_columns.specs.Layout.{Others, schema_with}
+use Rattle.wgr_columns.proofs.Statements.{Asks, Means, equal_to, rising}
 use Rattle.wgr_tables.proofs.FirstRow.{first_of}
-
-abbrev pub equal_to : ℕ → ℕ → Term
-equal_to place given = op2 (Compare Eq Binary) (col 1 place) (col 0 given)
 
 -- ---- DELETE
 
@@ -97,9 +95,6 @@ peers_text = codes "SELECT id, NULL, network, key, label, until, keepalive, hand
 abbrev pub peer_places : List Term
 peer_places = col 1 0 ∷ lit Null ∷ col 1 2 ∷ col 1 3 ∷ col 1 4 ∷ col 1 5 ∷ col 1 6 ∷ col 1 7 ∷ col 1 8 ∷ col 1 9 ∷ []
 
-abbrev pub rising : ℕ → Term × Key
-rising place = (col 1 place, record { collation = Binary; descending = false })
-
 abbrev pub of_network : ℕ → List Term
 of_network place = equal_to place 0 ∷ []
 
@@ -129,42 +124,6 @@ network_text = codes "SELECT id, NULL, tenant, name, family, lo, length, host, p
 
 abbrev pub network_places : List Term
 network_places = col 1 0 ∷ lit Null ∷ col 1 2 ∷ col 1 3 ∷ col 1 4 ∷ col 1 5 ∷ col 1 6 ∷ col 1 7 ∷ col 1 8 ∷ col 1 9 ∷ col 1 10 ∷ col 1 11 ∷ []
-
--- ---- SELECT by a key
-
-abbrev pub token_text : List ℕ
-token_text = codes "SELECT NULL, digest, tenant FROM token WHERE digest = ?1"
-
-abbrev pub of_digest : List Term
-of_digest = equal_to 1 0 ∷ []
-
-abbrev pub token_places : List Term
-token_places = lit Null ∷ col 1 1 ∷ col 1 2 ∷ []
-
-abbrev pub tenant_text : List ℕ
-tenant_text = codes "SELECT id, NULL, name FROM tenant WHERE name = ?1"
-
-abbrev pub of_name : List Term
-of_name = equal_to 2 0 ∷ []
-
-abbrev pub tenant_places : List Term
-tenant_places = col 1 0 ∷ lit Null ∷ col 1 2 ∷ []
-
-abbrev pub slot_text : List ℕ
-slot_text = codes "SELECT id, NULL, tenant, name, family, lo, length, host, port, server, capacity, next FROM network WHERE tenant = ?1 AND name = ?2"
-
-abbrev pub of_slot : List Term
-of_slot = equal_to 2 0 ∷ equal_to 3 1 ∷ []
-
--- what a text does where the register's tables stand first; it begins no transaction, and ends none
-pub record Means (others : Others) (text : List ℕ) (command : Command) : Type 0 where
-  pub command_is : command_of (understood (schema_with others) text) ≡ command
-  pub plain : IsPlain (understood (schema_with others) text)
-
--- a query that lists no tables
-pub record Asks (others : Others) (text : List ℕ) (command : Command) : Type 0 where
-  pub means : Means others text command
-  pub unlisted : reads_listing (schema_with others) text ≡ false
 
 module _ (others : Others) where
   pub drop_peer_means : Means others drop_peer_text (Delete 4 (record { lets = []; body = plain_query 8 of_peer_row (col 1 0 ∷ []) [] }))
@@ -226,15 +185,3 @@ module _ (others : Others) where
   pub network_asks : Asks others network_text (Select (record { lets = []; body = plain_query 5 by_id network_places [] }) (codes "id" ∷ codes "NULL" ∷ codes "tenant" ∷ codes "name" ∷ codes "family" ∷ codes "lo" ∷ codes "length" ∷ codes "host" ∷ codes "port" ∷ codes "server" ∷ codes "capacity" ∷ codes "next" ∷ []))
   unfolding understood everything
   network_asks = record { means = record { command_is = refl; plain = (refl, refl) }; unlisted = refl }
-
-  pub token_asks : Asks others token_text (Select (record { lets = []; body = plain_query 3 of_digest token_places [] }) (codes "NULL" ∷ codes "digest" ∷ codes "tenant" ∷ []))
-  unfolding understood everything
-  token_asks = record { means = record { command_is = refl; plain = (refl, refl) }; unlisted = refl }
-
-  pub tenant_asks : Asks others tenant_text (Select (record { lets = []; body = plain_query 1 of_name tenant_places [] }) (codes "id" ∷ codes "NULL" ∷ codes "name" ∷ []))
-  unfolding understood everything
-  tenant_asks = record { means = record { command_is = refl; plain = (refl, refl) }; unlisted = refl }
-
-  pub slot_asks : Asks others slot_text (Select (record { lets = []; body = plain_query 5 of_slot network_places [] }) (codes "id" ∷ codes "NULL" ∷ codes "tenant" ∷ codes "name" ∷ codes "family" ∷ codes "lo" ∷ codes "length" ∷ codes "host" ∷ codes "port" ∷ codes "server" ∷ codes "capacity" ∷ codes "next" ∷ []))
-  unfolding understood everything
-  slot_asks = record { means = record { command_is = refl; plain = (refl, refl) }; unlisted = refl }

@@ -21,8 +21,8 @@ use Rattle.sqlite.specs.Effect.{Database, IsDatabase}
 use Rattle.sqlite.specs.Schema.{Schema}
 use Rattle.sqlite.specs.State.{State, Executes}
 use Rattle.wgr_model.specs.Rows.{with_next, family_number}
-use Rattle.wgr_tables.specs.Layout.{network_at, schema_with}
-use Rattle.wgr_tables.specs.Decode.{IsRegister, network_in, network_numbers, number_at, bytes_at, number_of, bytes_of, family_of}
+use Rattle.wgr_columns.specs.Layout.{network_at, schema_with}
+use Rattle.wgr_columns.specs.Decode.{IsRegister, network_in, network_numbers, number_at, bytes_at, number_of, bytes_of, family_of}
 use Rattle.wgr_tables.specs.TableSteps.{NextSets}
 use Rattle.wgr_tables.proofs.Made.{Made}
 use Rattle.wgr_tables.proofs.Meanings.{by_id, next_terms, set_next_text, set_next_means}

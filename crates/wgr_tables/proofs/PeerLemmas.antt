@@ -20,10 +20,10 @@ use Rattle.wgr_model.specs.Rows.{PeerRow}
 use Rattle.wgr_model.proofs.CollectLemmas.{from_map}
 use Rattle.wgr_sql.proofs.KeyedLemmas.{not_taken}
 use Rattle.wgr_sql.proofs.TableLemmas.{cast_null, cast_int, put_one}
-use Rattle.wgr_tables.specs.Layout.{peer_at}
-use Rattle.wgr_tables.specs.Decode.{IsRegister, IsStatusRow, peer_in, number_at, peer_numbers}
-use Rattle.wgr_tables.specs.Stored.{stored_peer}
-use Rattle.wgr_tables.specs.Parameters.{status_value}
+use Rattle.wgr_columns.specs.Layout.{peer_at}
+use Rattle.wgr_columns.specs.Decode.{IsRegister, IsStatusRow, peer_in, number_at, peer_numbers}
+use Rattle.wgr_columns.specs.Stored.{stored_peer}
+use Rattle.wgr_columns.specs.Parameters.{status_value}
 use Rattle.wgr_tables.specs.TableSteps.{PeerRowComes}
 use Rattle.wgr_tables.proofs.EditLemmas.{peers_after, register_peers}
 use Rattle.wgr_tables.proofs.Made.{Made}

@@ -18,8 +18,8 @@ use Rattle.std.specs.Ordering.{int_cmp}
 use Rattle.wgr_sql.proofs.RowLemmas.{equal_nats, map_filter}
 use Rattle.wgr_sql.proofs.TextLemmas.{text_at, differ_texts}
 use Rattle.wgr_sql.proofs.Values.{and_true, truth_of}
-use Rattle.wgr_tables.specs.Layout.{schema_with, peer_at, allowed_at}
-use Rattle.wgr_tables.specs.Decode.{IsKindAt, IsRegister, IsStatusRow, tables_of, peer_in, allowed_in, number_at, bytes_at, route_kind, peer_numbers, allowed_numbers, allowed_addresses}
+use Rattle.wgr_columns.specs.Layout.{schema_with, peer_at, allowed_at}
+use Rattle.wgr_columns.specs.Decode.{IsKindAt, IsRegister, IsStatusRow, tables_of, peer_in, allowed_in, number_at, bytes_at, route_kind, peer_numbers, allowed_numbers, allowed_addresses}
 use Rattle.wgr_tables.specs.TableSteps.{PeersGo, AllowedGoes, is_peer_within, is_address_within}
 use Rattle.wgr_tables.proofs.Made.{Made}
 use Rattle.wgr_tables.proofs.EditLemmas.{peers_after, register_peers, allowed_after, register_allowed}

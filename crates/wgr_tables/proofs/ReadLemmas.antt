@@ -10,8 +10,8 @@ use Rattle.sqlite.proofs.Callers.{IsPlain}
 use Rattle.wgr_model.specs.Rows.{Tables}
 use Rattle.wgr_sql.specs.Calls.{Answered, IsKept}
 use Rattle.wgr_sql.proofs.StandingLemmas.{stands_kept, plain_at}
-use Rattle.wgr_tables.specs.Layout.{Others, schema_with}
-use Rattle.wgr_tables.specs.Decode.{IsRegister, tables_of}
+use Rattle.wgr_columns.specs.Layout.{Others, schema_with}
+use Rattle.wgr_columns.specs.Decode.{IsRegister, tables_of}
 use Rattle.wgr_tables.specs.Writes.{Written, Writes}
 use Rattle.wgr_tables.specs.Standing.{Stands}
 

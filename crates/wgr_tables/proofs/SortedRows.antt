@@ -8,7 +8,7 @@ use Rattle.std.proofs.Math.ListN.{length-map}
 use Rattle.sqlite.specs.Order.{Row}
 use Rattle.sqlite_trees.proofs.ListLemmas.{all-permutation}
 use Rattle.wgr_sql.proofs.Answers.{map-both}
-use Rattle.wgr_tables.specs.Stored.{AreRising, AreStored}
+use Rattle.wgr_columns.specs.Stored.{AreRising, AreStored}
 
 -- the keys of rows that were sorted by them rise
 pub sorted_rise : {T : Type 0} (key : T → ℕ) (read : Row → T) (rows : List Row) → IsSortedByKey (λ (r : Row). key (read r)) nat_cmp rows → AreRising key read rows

@@ -12,8 +12,8 @@ use Rattle.wgr_sql.specs.Steps.{Each}
 use Rattle.wgr_sql.specs.declared.fault.Fault.{Fault}
 use Rattle.wgr_sql.specs.declared.fault.Fault.TheVariants.{NoMemory, Store}
 use Rattle.wgr_sql.proofs.CauseLemmas.{hindered_after, cause_weaker}
-use Rattle.wgr_tables.specs.Decode.{IsRegister, tables_of}
-use Rattle.wgr_tables.specs.Layout.{Others, schema_with}
+use Rattle.wgr_columns.specs.Decode.{IsRegister, tables_of}
+use Rattle.wgr_columns.specs.Layout.{Others, schema_with}
 use Rattle.wgr_tables.specs.Standing.{StepsFrom, StepsOn}
 use Rattle.wgr_tables.specs.Stops.{FailsBy, IsRefused, OneOfEach, OneOfTwo}
 use Rattle.wgr_tables.proofs.Meanings.{drop_peer_text, drop_allowed_text, drop_address_text, drop_peer_range_text, drop_address_range_text, drop_route_text, insert_peer_text, insert_address_text, insert_route_text, set_next_text}

@@ -28,28 +28,11 @@ use Rattle.wgr_sql.proofs.RowLemmas.{map_alike}
 use Rattle.wgr_sql.proofs.TableLemmas.{unmapped}
 use Rattle.wgr_sql.proofs.TextLemmas.{text_at}
 use Rattle.wgr_sql.proofs.Values.{blob_at}
-use Rattle.wgr_tables.specs.Layout.{schema_with, network_at, peer_at}
-use Rattle.wgr_tables.specs.Decode.{IsKindAt, IsRegister, IsStatusRow, allowed_in, bytes_at, family_of, network_in, number_at, peer_in, route_kind, status_at}
-use Rattle.wgr_tables.specs.Stored.{AreRising, AreStored, kind_of, status_values, stored_allowed, stored_network, stored_peer}
-use Rattle.wgr_tables.proofs.Meanings.{
-  Asks,
-  peers_text,
-  peers_asks,
-  peer_places,
-  of_network,
-  rising,
-  addresses_text,
-  addresses_asks,
-  allowed_places,
-  of_addresses,
-  routes_text,
-  routes_asks,
-  of_routes,
-  network_text,
-  network_asks,
-  network_places,
-  by_id,
-}
+use Rattle.wgr_columns.specs.Layout.{schema_with, network_at, peer_at}
+use Rattle.wgr_columns.specs.Decode.{IsKindAt, IsRegister, IsStatusRow, allowed_in, bytes_at, family_of, network_in, number_at, peer_in, route_kind, status_at}
+use Rattle.wgr_columns.specs.Stored.{AreRising, AreStored, kind_of, status_values, stored_allowed, stored_network, stored_peer}
+use Rattle.wgr_tables.proofs.Meanings.{peers_text, peers_asks, peer_places, of_network, addresses_text, addresses_asks, allowed_places, of_addresses, routes_text, routes_asks, of_routes, network_text, network_asks, network_places, by_id}
+use Rattle.wgr_columns.proofs.Statements.{Asks, rising}
 
 has_place : {X : Type 0} (xs : List X) (k : ℕ) (d : X) → k < length xs → Has xs (get_or xs k d)
 has_place [] k d low = absurd (omega (arith, low))

@@ -7,7 +7,7 @@ use Rattle.wgr_core.specs.Forms.{IsKey}
 use Rattle.wgr_core.specs.Network.{NetworkValue}
 use Rattle.wgr_model.specs.Rows.{Tables}
 use Rattle.wgr_sql.proofs.ResultLemmas.{if_ok, if_some, if_none}
-use Rattle.wgr_tables.specs.Stored.{AreSettings}
+use Rattle.wgr_columns.specs.Stored.{AreSettings}
 use Rattle.wgr_tables.specs.Told.{IsTold}
 
 pub told_as : {X E : Type 0} (read : Result X E) (r : Result (Option X) E) (P : X → Type 0) → IfOk read P → IfOk r (λ found. IfSome found (λ x. read ≡ Ok x)) → IfOk r (λ found. IfSome found P)

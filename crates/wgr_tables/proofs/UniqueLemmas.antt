@@ -19,7 +19,7 @@ use Rattle.sqlite_rules.proofs.ListLemmas.{all_has, some_from}
 use Rattle.sqlite_schema.specs.declared.schema.Constraint.TheVariants.{Unique}
 use Rattle.sqlite_schema.specs.Rules.{agree, differ, equal, passes, clashes}
 use Rattle.wgr_model.specs.Laws as model
-use Rattle.wgr_tables.specs.Layout.{Others, schema_with, allowed_at}
+use Rattle.wgr_columns.specs.Layout.{Others, schema_with, allowed_at}
 use Rattle.wgr_sql.proofs.Values.{truth_of}
 
 ne_of : (o : Ordering) → is_eq o ≡ false → is_ne o ≡ true

@@ -22,10 +22,10 @@ use Rattle.wgr_sql.specs.Effects.{plain_query}
 use Rattle.wgr_sql.proofs.KeyedLemmas.{revised}
 use Rattle.wgr_sql.proofs.RowLemmas.{deleted, inserted, updated}
 use Rattle.wgr_sql.proofs.Statements.{Wrote}
-use Rattle.wgr_tables.specs.Layout.{schema_with}
-use Rattle.wgr_tables.specs.Decode.{IsRegister}
+use Rattle.wgr_columns.specs.Layout.{schema_with}
+use Rattle.wgr_columns.specs.Decode.{IsRegister}
 use Rattle.wgr_tables.proofs.LayoutLemmas.{works_none}
-use Rattle.wgr_tables.proofs.Meanings.{Means}
+use Rattle.wgr_columns.proofs.Statements.{Means}
 
 module _ (old new : State) (register : IsRegister old.now) (sql : List ℕ) (params : Row) (count : ℕ) (ran : Executes sql params old new (Ok count)) where
   abbrev schema : Schema

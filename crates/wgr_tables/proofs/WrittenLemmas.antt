@@ -11,7 +11,7 @@ use Rattle.sqlite_rules.proofs.ListLemmas.{has_filtered}
 use Rattle.wgr_model.specs.Rows.{family_number}
 use Rattle.wgr_sql.proofs.KeyedLemmas.{keyed_filter, keyed_put, keyed_moved, keyed_revised, has_moved, revised}
 use Rattle.wgr_sql.proofs.TableLemmas.{put_one, unmapped}
-use Rattle.wgr_tables.specs.Decode.{AreWritten, number_at, bytes_at, bytes_of, number_of, family_of}
+use Rattle.wgr_columns.specs.Decode.{AreWritten, number_at, bytes_at, bytes_of, number_of, family_of}
 
 -- what is said of one row
 pub record IsWritten (numbers addresses families : List ℕ) (r : Row) : Type 0 where

@@ -1,11 +1,5 @@
-pub mod Layout
-pub mod Texts
-pub mod Decode
-pub mod Stored
-pub mod Parameters
 pub mod TableSteps
 pub mod Loads
-pub mod Lookups
 pub mod Writes
 pub mod Standing
 pub mod Told

@@ -6,7 +6,7 @@ use Rattle.wgr_peers.specs.Routes.{Routes}
 use Rattle.wgr_core.specs.Network.{NetworkValue, IsNetwork}
 use Rattle.sqlite_value.specs.Order.{Row}
 use Rattle.wgr_model.specs.Rows.{NetworkRow, Tables}
-use Rattle.wgr_tables.specs.Decode.{network_in, peer_in, allowed_in}
+use Rattle.wgr_columns.specs.Decode.{network_in, peer_in, allowed_in}
 
 -- these are the rows of the network's peers, in whatever order; of their addresses; of its routes
 abbrev pub ShowPeers : ℕ → Tables → List Row → Type 0

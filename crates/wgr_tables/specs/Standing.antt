@@ -7,7 +7,7 @@ use Rattle.sqlite.specs.Held.{Held}
 use Rattle.wgr_model.specs.Rows.{Tables}
 use Rattle.wgr_sql.specs.Steps as steps
 use Rattle.wgr_sql.specs.Standing as standing
-use Rattle.wgr_tables.specs.Decode.{IsRegister, tables_of}
+use Rattle.wgr_columns.specs.Decode.{IsRegister, tables_of}
 use Rattle.wgr_tables.specs.Writes.{Written, Writes}
 
 -- The register is held by this database, in no transaction. A stop at this moment leaves its rows,

@@ -13,8 +13,8 @@ use Rattle.wgr_model.specs.Rows.{AllowedRow, PeerRow, Tables, address_row, famil
 use Rattle.wgr_sql.specs.Causes.{HasCauseOr, Refuses}
 use Rattle.wgr_sql.specs.Steps.{Each}
 use Rattle.wgr_sql.specs.declared.fault.Fault.{Fault}
-use Rattle.wgr_tables.specs.Decode.{IsRegister, bytes_of, tables_of}
-use Rattle.wgr_tables.specs.Parameters.{status_value}
+use Rattle.wgr_columns.specs.Decode.{IsRegister, bytes_of, tables_of}
+use Rattle.wgr_columns.specs.Parameters.{status_value}
 use Rattle.wgr_tables.specs.TableSteps.{AreFrom, PeerGoes, PeerLeaves, PeerComes, PeerRowComes, PeerRowsGo, PeersGo, PeersPut, RouteComes, RouteGoes, RoutePuts}
 
 -- on a register of these rows

@@ -8,7 +8,7 @@ use Rattle.wgr_model.specs.Register.{Bytes, Tenant, Token, is_same}
 use Rattle.wgr_model.specs.Rows.{NetworkRow, Tables, Replaces}
 use Rattle.wgr_model.specs.RowRules.{Removes}
 use Rattle.wgr_sql.specs.Steps as steps
-use Rattle.wgr_tables.specs.Decode.{IsRegister, tables_of}
+use Rattle.wgr_columns.specs.Decode.{IsRegister, tables_of}
 
 -- A network's value takes the place of the one whose rows have this id; a tenant, a token and a
 -- network come; the token of this digest goes; and so do all rows of the network of this id.

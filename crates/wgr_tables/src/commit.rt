@@ -10,7 +10,7 @@ ghost use Rattle.wgr_model.specs.Laws.{Has};
 ghost use Rattle.wgr_model.specs.RowLaws.{AreConsistent};
 ghost use Rattle.wgr_model.specs.Rows.{NetworkRow, holding_of};
 ghost use Rattle.wgr_sql.specs.Causes.{HasCauseOr};
-ghost use Rattle.wgr_tables.specs.Decode.{tables_of};
+ghost use Rattle.wgr_columns.specs.Decode.{tables_of};
 ghost use Rattle.wgr_sql.specs.declared.fault.Fault.TheVariants.{NoMemory};
 ghost use Rattle.wgr_tables.specs.Stops.{ChangeStops, FailsBy, NextStays};
 ghost use Rattle.wgr_tables.specs.TableSteps.{NextSets, ChangeMakes};
@@ -20,12 +20,12 @@ ghost use Rattle.wgr_tables.specs.Standing.{IsDone, Stands, StepsOn};
 use crate::enter::put_peers;
 use crate::leave::remove_peers;
 use crate::route::{drop_routes, put_routes};
-use crate::value::number_value;
 use sqlite::{Alter, Connection, Transaction};
+use wgr_columns::number_value;
 use wgr_core::Change;
 use wgr_sql::{Fault, execute, fault_of};
 
-/// Sets the next number of a network.
+// Sets the next number of a network.
 fn set_next<S: Alter>(tx: &mut Transaction<'_, S>, network: u32, next: u32) -> Result<usize, Fault>
     ensures same_reference { tx.new.conn.ghost_name ≡ tx.old.conn.ghost_name }
     ensures step { HasCleanDisk (state S.Store tx.new.conn.now) → StepsOn (NextSets network next) (state S.Store tx.old.conn.now) (state S.Store tx.new.conn.now) result }
@@ -39,8 +39,8 @@ fn set_next<S: Alter>(tx: &mut Transaction<'_, S>, network: u32, next: u32) -> R
     )
 }
 
-/// Writes a change of a network. Peers go before others take their keys, and routes and addresses
-/// before others take theirs.
+// Writes a change of a network. Peers go before others take their keys, and routes and addresses
+// before others take theirs.
 fn write_change<S: Alter>(
     tx: &mut Transaction<'_, S>,
     network: u32,

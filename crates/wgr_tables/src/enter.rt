@@ -1,56 +1,22 @@
 //! Peers that come to a network, or take the place of the one of their number.
-ghost use Rattle.std.specs.Prelude.{◌≡◌, pos};
-ghost use Rattle.sqlite.specs.declared.types.ValueRef.TheVariants.{Int};
+ghost use Rattle.std.specs.Prelude.{◌≡◌};
 ghost use Rattle.sqlite.specs.State.{HasCleanDisk, Survives};
 ghost use Rattle.sqlite.specs.Held.{state};
 ghost use Rattle.wgr_model.specs.Rows.{peer_id, peer_row, address_row};
 ghost use Rattle.wgr_sql.specs.Steps.{Each};
-ghost use Rattle.wgr_tables.specs.Parameters.{status_value};
 ghost use Rattle.wgr_tables.specs.Stops.{AddressStays, AddressStaysOut, AllRowsStay, FailsBy, OneOfEach, PeerRowStaysOut, PeerRowsStay, PeerStaysOut, PeersStayOut};
 ghost use Rattle.wgr_tables.specs.TableSteps.{AllowedGoes, AllowedComes, PeerRowsGo, PeerRowComes, PeerComes, PeersPut, is_address_of};
 ghost use Rattle.wgr_tables.specs.Standing.{StepsOn, StepsFrom};
 
 use crate::leave::drop_peer_row;
 use crate::range::{drop_range, range_of};
-use crate::value::{bytes_of, family_value, number_value, peer_id_value};
 use sqlite::types::ValueRef;
 use sqlite::{Alter, Transaction};
-use wgr_peers::{Count, LeaseEnd, Peer, Status};
+use wgr_columns::{bytes_of, end_value, family_value, number_value, peer_id_value, status_values};
+use wgr_peers::Peer;
 use wgr_sql::{Fault, execute};
 
-/// When a lease ends.
-fn end_value(end: LeaseEnd) -> ValueRef<'static>
-    ensures { result ≡ Int (pos end) }
-{
-    ValueRef::Int(end.seconds() as i64)
-}
-
-/// A count.
-fn count_value(count: Count) -> ValueRef<'static>
-    ensures { result ≡ Int (pos count) }
-{
-    ValueRef::Int(count.value() as i64)
-}
-
-/// The latest handshake, and the bytes received and sent; all three NULL where there is no status.
-fn status_values(
-    status: Option<Status>,
-) -> (ValueRef<'static>, ValueRef<'static>, ValueRef<'static>)
-    ensures handshake { result.0 ≡ status_value (λ s. s.handshake) status }
-    ensures received { result.1 ≡ status_value (λ s. s.received) status }
-    ensures sent { result.2 ≡ status_value (λ s. s.sent) status }
-{
-    match status {
-        None => (ValueRef::Null, ValueRef::Null, ValueRef::Null),
-        Some(status) => (
-            count_value(status.handshake),
-            count_value(status.received),
-            count_value(status.sent),
-        ),
-    }
-}
-
-/// Takes the row of a peer's address away.
+// Takes the row of a peer's address away.
 fn drop_address<S: Alter>(
     tx: &mut Transaction<'_, S>,
     network: u32,
@@ -68,7 +34,7 @@ fn drop_address<S: Alter>(
     )
 }
 
-/// Takes the rows of a peer and of its address away; the routes to it stay.
+// Takes the rows of a peer and of its address away; the routes to it stay.
 fn drop_rows<S: Alter>(
     tx: &mut Transaction<'_, S>,
     network: u32,
@@ -83,7 +49,7 @@ fn drop_rows<S: Alter>(
     drop_address(tx, network, number)
 }
 
-/// Takes the rows of each of these peers away, one peer after the other.
+// Takes the rows of each of these peers away, one peer after the other.
 fn drop_one_by_one<S: Alter>(
     tx: &mut Transaction<'_, S>,
     network: u32,
@@ -100,7 +66,7 @@ fn drop_one_by_one<S: Alter>(
     Ok(())
 }
 
-/// Takes the rows of each of these peers away.
+// Takes the rows of each of these peers away.
 fn drop_all_rows<S: Alter>(
     tx: &mut Transaction<'_, S>,
     network: u32,
@@ -118,7 +84,7 @@ fn drop_all_rows<S: Alter>(
     drop_one_by_one(tx, network, peers)
 }
 
-/// Adds the row of a peer.
+// Adds the row of a peer.
 fn add_peer_row<S: Alter>(
     tx: &mut Transaction<'_, S>,
     network: u32,
@@ -147,7 +113,7 @@ fn add_peer_row<S: Alter>(
     )
 }
 
-/// Adds the row of a peer's address.
+// Adds the row of a peer's address.
 fn add_address<S: Alter>(
     tx: &mut Transaction<'_, S>,
     network: u32,
@@ -174,7 +140,7 @@ fn add_address<S: Alter>(
     )
 }
 
-/// Adds the rows of a peer and of its address.
+// Adds the rows of a peer and of its address.
 fn add_peer<S: Alter>(
     tx: &mut Transaction<'_, S>,
     network: u32,
@@ -189,7 +155,7 @@ fn add_peer<S: Alter>(
     add_address(tx, network, peer)
 }
 
-/// Adds the rows of each of these peers.
+// Adds the rows of each of these peers.
 fn add_peers<S: Alter>(
     tx: &mut Transaction<'_, S>,
     network: u32,

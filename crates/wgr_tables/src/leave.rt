@@ -8,8 +8,8 @@ ghost use Rattle.wgr_tables.specs.Stops.{AllowedStays, FailsBy, OneOfEach, PeerR
 ghost use Rattle.wgr_tables.specs.TableSteps.{PeerGoes, AllowedGoes, PeerLeaves, is_of_peer};
 ghost use Rattle.wgr_tables.specs.Standing.{StepsOn, StepsFrom};
 
-use crate::value::{number_value, peer_id_value};
 use sqlite::{Alter, Transaction};
+use wgr_columns::{number_value, peer_id_value};
 use wgr_sql::{Fault, execute};
 
 /// Takes the row of a peer away.
@@ -30,7 +30,7 @@ pub(crate) fn drop_peer_row<S: Alter>(
     )
 }
 
-/// Takes away what leads to a peer.
+// Takes away what leads to a peer.
 fn drop_allowed_rows<S: Alter>(
     tx: &mut Transaction<'_, S>,
     network: u32,
@@ -48,7 +48,7 @@ fn drop_allowed_rows<S: Alter>(
     )
 }
 
-/// Takes a peer away.
+// Takes a peer away.
 fn remove_peer<S: Alter>(
     tx: &mut Transaction<'_, S>,
     network: u32,

@@ -10,22 +10,23 @@ ghost use Rattle.wgr_model.specs.Laws.{Has};
 ghost use Rattle.wgr_model.specs.Rows.{AreKeyed, NetworkRow, address_row, holding_of, peer_row, route_row};
 ghost use Rattle.wgr_sql.specs.Causes.{HasCause};
 ghost use Rattle.wgr_sql.specs.declared.fault.Fault.TheVariants.{Store};
-ghost use Rattle.wgr_tables.specs.Decode.{tables_of, allowed_in, network_in, number_at, peer_in};
-ghost use Rattle.wgr_tables.specs.Stored.{AreRising, AreSettings, AreStored, stored_allowed, stored_network, stored_peer};
-ghost use Rattle.wgr_tables.specs.Lookups.{AreMany};
+ghost use Rattle.wgr_columns.specs.Decode.{tables_of, allowed_in, network_in, number_at, peer_in};
+ghost use Rattle.wgr_columns.specs.Stored.{AreRising, AreSettings, AreStored, stored_allowed, stored_network, stored_peer};
 ghost use Rattle.wgr_tables.specs.Told.{IsTold};
 ghost use Rattle.wgr_tables.specs.Loads.{IsMade, ShowAddresses, ShowNetwork, ShowPeers, ShowRoutes, network_with};
 ghost use Rattle.wgr_tables.specs.Writes.{Written};
 ghost use Rattle.wgr_tables.specs.Standing.{Stands};
 
-use crate::field::{host_at, key_at, magnitude_at, pool_in, short_at, word_at};
 use crate::read::{peers_of, routes_of};
-use crate::value::number_value;
 use sqlite::{Alter, Connection, Row};
 use std::alloc::Global;
+use wgr_columns::{
+    allowed, capacity_at, host_at, key_at, magnitude_at, network, number_value, pool_in, port_at,
+    word_at,
+};
 use wgr_core::{Network, Parts};
-use wgr_peers::{Capacity, Peer, Port};
-use wgr_sql::{Fault, query};
+use wgr_peers::Peer;
+use wgr_sql::{Fault, only, query};
 use wgr_text::Prefix;
 
 /// The rows of the network's peers, in the order of their ids.
@@ -50,7 +51,7 @@ pub(crate) fn peer_rows<S: Alter>(conn: &mut Connection<S>, network: u32) -> Res
     )
 }
 
-/// The rows of their addresses, in the order of an index, which costs the database no sort.
+// The rows of their addresses, in the order of an index, which costs the database no sort.
 fn unsorted_addresses<S: Alter>(conn: &mut Connection<S>, network: u32) -> Result<Vec<Row>, Fault>
     requires idle { conn.old.in_transaction ≡ false }
     ensures idle { conn.new.in_transaction ≡ false }
@@ -70,12 +71,13 @@ fn unsorted_addresses<S: Alter>(conn: &mut Connection<S>, network: u32) -> Resul
     )
 }
 
-/// Puts rows of addresses in the order of their peers.
+// Puts rows of addresses in the order of their peers, to be read side by side with the rows of peers.
+// Std's sort takes no memory, and only walks over rows that are in order already.
 fn sort_by_peer(rows: &mut Vec<Row>)
     ensures same { IsPermutation rows.old.items rows.new.items }
     ensures sorted { AreRising (λ a. a.peer) allowed_in rows.new.items }
 {
-    rows.sort_unstable_by_key(|row| magnitude_at(row, 6));
+    rows.sort_unstable_by_key(|row| magnitude_at(row, allowed::PEER));
 }
 
 /// The rows of their addresses, in the order of the peers.
@@ -124,7 +126,7 @@ pub(crate) fn route_rows<S: Alter>(
     )
 }
 
-/// The row of the network of this id, if there is one.
+// The row of the network of this id, if there is one.
 fn network_rows<S: Alter>(conn: &mut Connection<S>, network: u32) -> Result<Vec<Row>, Fault>
     requires idle { conn.old.in_transaction ≡ false }
     ensures idle { conn.new.in_transaction ≡ false }
@@ -144,7 +146,7 @@ fn network_rows<S: Alter>(conn: &mut Connection<S>, network: u32) -> Result<Vec<
     )
 }
 
-/// The network's peers.
+// The network's peers.
 fn load_peers<S: Alter>(
     alloc: Global,
     conn: &mut Connection<S>,
@@ -167,7 +169,7 @@ fn load_peers<S: Alter>(
     peers_of(alloc, rows.as_slice(), addresses.as_slice(), network)
 }
 
-/// The network's routes.
+// The network's routes.
 fn load_routes<S: Alter>(
     alloc: Global,
     conn: &mut Connection<S>,
@@ -186,7 +188,7 @@ fn load_routes<S: Alter>(
     routes_of(alloc, rows.as_slice(), network)
 }
 
-/// The parts of the network whose row this is, with these peers and routes.
+// The parts of the network whose row this is, with these peers and routes.
 fn parts_of(
     alloc: Global,
     row: &Row,
@@ -196,16 +198,12 @@ fn parts_of(
     ensures value { IfOk result (λ parts. network_of parts ≡ network_with (network_in row.now) peers.items routes.items) }
     ensures only { IfErr result (λ e. e ≡ Store → (w : NetworkRow) → AreSettings w → row.now ≡ stored_network w → ⊥) }
 {
-    let pool = pool_in(row)?;
-    let Some(port) = Port::new(short_at(row, 8)?) else {
-        return Err(Fault::Store);
-    };
-    let Some(capacity) = Capacity::new(short_at(row, 10)?) else {
-        return Err(Fault::Store);
-    };
-    let server = key_at(row, 9)?;
-    let next = word_at(row, 11)?;
-    let host = host_at(alloc, row, 7)?;
+    let pool = pool_in(row).ok_or(Fault::Store)?;
+    let host = host_at(alloc, row, network::HOST)?.ok_or(Fault::Store)?;
+    let port = port_at(row, network::PORT).ok_or(Fault::Store)?;
+    let server = key_at(row, network::SERVER).ok_or(Fault::Store)?;
+    let capacity = capacity_at(row, network::CAPACITY).ok_or(Fault::Store)?;
+    let next = word_at(row, network::NEXT).ok_or(Fault::Store)?;
     Ok(Parts {
         pool,
         host,
@@ -239,7 +237,7 @@ pub(crate) fn make_network(
     }
 }
 
-/// The network whose row this is.
+// The network whose row this is.
 fn load_row<S: Alter>(
     alloc: Global,
     conn: &mut Connection<S>,
@@ -258,19 +256,6 @@ fn load_row<S: Alter>(
     let peers = load_peers(alloc, conn, network)?;
     let routes = load_routes(alloc, conn, network)?;
     make_network(alloc, row, peers, routes)
-}
-
-/// The one row, if there is one. A key can't have two.
-pub(crate) fn only(mut rows: Vec<Row>) -> Result<Option<Row>, Fault>
-    ensures some { IfOk result (λ found. IfSome found (λ row. rows.items ≡ row ∷ [])) }
-    ensures none { IfOk result (λ found. IfNone found (rows.items ≡ [])) }
-    ensures only { OnErr result (AreMany rows.items) }
-{
-    let row = rows.pop();
-    if !rows.is_empty() {
-        return Err(Fault::Store);
-    }
-    Ok(row)
 }
 
 /// The row of the network of this id.

@@ -9,12 +9,12 @@ ghost use Rattle.wgr_tables.specs.Stops.{AddressRangeStays, FailsBy, PeerRangeSt
 ghost use Rattle.wgr_tables.specs.TableSteps.{AllowedGoes, AreFrom, PeersGo, RangeGoes, is_address_within};
 ghost use Rattle.wgr_tables.specs.Standing.{StepsOn};
 
-use crate::value::{number_value, peer_id_value};
 use sqlite::{Alter, Transaction};
+use wgr_columns::{number_value, peer_id_value};
 use wgr_peers::Peer;
 use wgr_sql::{Fault, execute};
 
-/// Whether each number is one more than the one before it.
+// Whether each number is one more than the one before it.
 fn follow_one_another(peers: &[Peer]) -> bool
     ensures { IsTrue result → (k : ℕ) (d : Peer) → k + 1 < length peers.now → (get_or peers.now (k + 1) d).number ≡ (get_or peers.now k d).number + 1 }
 {
@@ -32,7 +32,7 @@ pub(crate) fn range_of(peers: &[Peer]) -> Option<(u32, u32)>
     Some((peers[0].number, peers[peers.len() - 1].number))
 }
 
-/// Takes the rows of the peers of these numbers away.
+// Takes the rows of the peers of these numbers away.
 fn drop_peer_range<S: Alter>(
     tx: &mut Transaction<'_, S>,
     network: u32,
@@ -55,7 +55,7 @@ fn drop_peer_range<S: Alter>(
     )
 }
 
-/// Takes the rows of their addresses away.
+// Takes the rows of their addresses away.
 fn drop_address_range<S: Alter>(
     tx: &mut Transaction<'_, S>,
     network: u32,

@@ -1,5 +1,5 @@
 //! Peers and routes of a network, read from their rows.
-ghost use Rattle.std.specs.Prelude.{◌≡◌, ℕ, List, Option, IfErr, IfOk, IfSome, OnErr, map, false};
+ghost use Rattle.std.specs.Prelude.{◌≡◌, ℕ, List, Option, IfErr, IfOk, IfSome, IfNone, map, false};
 ghost use Rattle.std.specs.List.{AllByRecursion};
 ghost use Rattle.wgr_text.specs.Prefix.{AddrValue, PrefixValue, IsAddr};
 ghost use Rattle.wgr_pool.specs.PrefixTests.{full};
@@ -9,69 +9,71 @@ ghost use Rattle.wgr_peers.specs.declared.peer.Status.{Status};
 ghost use Rattle.wgr_core.specs.Forms.{IsStatus};
 ghost use Rattle.wgr_model.specs.Rows.{allowed_row, peer_row, address_row, route_row};
 ghost use Rattle.wgr_sql.specs.declared.fault.Fault.TheVariants.{Store};
-ghost use Rattle.wgr_tables.specs.Decode.{status_at, peer_in, allowed_in};
-ghost use Rattle.wgr_tables.specs.Stored.{HasStatus, IsKeptPeer, IsKeptRoute, stored_allowed, stored_peer};
+ghost use Rattle.wgr_columns.specs.Decode.{status_at, peer_in, allowed_in};
+ghost use Rattle.wgr_columns.specs.Stored.{HasStatus, IsKeptPeer, IsKeptRoute, stored_allowed, stored_peer};
 
-use crate::field::{
-    address_at, address_number_at, count_at, end_at, is_null_at, is_number, is_route, key_at,
-    label_at, peer_number_at, prefix_in, short_at,
-};
 use sqlite::Row;
 use std::alloc::Global;
+use wgr_columns::{
+    address_at, address_number_at, allowed, count_at, end_at, has_number, is_null_at, is_route_at,
+    key_at, label_at, peer, peer_number_at, prefix_in, short_at,
+};
 use wgr_peers::{Peer, Status};
 use wgr_sql::Fault;
 use wgr_text::{Addr, Prefix};
 
-/// What a running interface last showed of a peer, at the places 7 to 9.
-fn status_of(row: &Row) -> Result<Option<Status>, Fault>
-    ensures value { IfOk result (λ status. status ≡ status_at row.now) }
-    ensures only { OnErr result ((status : Option Status) → IfSome status IsStatus → HasStatus row.now status → ⊥) }
+// What a running interface last showed of a peer, if it showed it.
+fn status_of(row: &Row) -> Option<Option<Status>>
+    ensures value { IfSome result (λ status. status ≡ status_at row.now) }
+    ensures only { IfNone result ((status : Option Status) → IfSome status IsStatus → HasStatus row.now status → ⊥) }
 {
-    if is_null_at(row, 7) {
-        return Ok(None);
+    if is_null_at(row, peer::HANDSHAKE) {
+        return Some(None);
     }
-    Ok(Some(Status {
-        handshake: count_at(row, 7)?,
-        received: count_at(row, 8)?,
-        sent: count_at(row, 9)?,
+    Some(Some(Status {
+        handshake: count_at(row, peer::HANDSHAKE)?,
+        received: count_at(row, peer::RECEIVED)?,
+        sent: count_at(row, peer::SENT)?,
     }))
 }
 
-/// The address of the network's peer of this number, whose row of `allowed` this is.
-fn address_of(row: &Row, network: u32, number: u32) -> Result<Addr, Fault>
-    ensures value { IfOk result (λ address. allowed_row network false (full address) number ≡ allowed_in row.now) }
-    ensures only { OnErr result ((a : AddrValue) → IsAddr a → row.now ≡ stored_allowed (allowed_row network false (full a) number) → ⊥) }
+// The address of the network's peer of this number, whose row of `allowed` this is.
+fn address_of(row: &Row, network: u32, number: u32) -> Option<Addr>
+    ensures value { IfSome result (λ address. allowed_row network false (full address) number ≡ allowed_in row.now) }
+    ensures only { IfNone result ((a : AddrValue) → IsAddr a → row.now ≡ stored_allowed (allowed_row network false (full a) number) → ⊥) }
 {
-    let address = address_at(row, 2, 3)?;
+    let address = address_at(row, allowed::FAMILY, allowed::LO)?;
     let width = u64::from(address.family().width());
-    if !is_number(row, 1, u64::from(network))? || !is_number(row, 4, width)? {
-        return Err(Fault::Store);
+    if !has_number(row, allowed::NETWORK, u64::from(network))
+        || !has_number(row, allowed::LENGTH, width)
+    {
+        return None;
     }
-    if address_number_at(row, 5)? != address.number() {
-        return Err(Fault::Store);
+    if address_number_at(row, allowed::HI)? != address.number() {
+        return None;
     }
-    if peer_number_at(row, 6, network)? != number || is_route(row)? {
-        return Err(Fault::Store);
+    if peer_number_at(row, allowed::PEER, network)? != number || is_route_at(row, allowed::KIND)? {
+        return None;
     }
-    Ok(address)
+    Some(address)
 }
 
-/// The network's peer whose rows of `peer` and of `allowed` these are.
+// The network's peer whose rows of `peer` and of `allowed` these are.
 fn peer_of(alloc: Global, row: &Row, address: &Row, network: u32) -> Result<Peer, Fault>
     ensures row { IfOk result (λ p. peer_row network p ≡ peer_in row.now) }
     ensures address { IfOk result (λ p. address_row network p ≡ allowed_in address.now) }
     ensures only { IfErr result (λ e. e ≡ Store → (p : Peer) → IsKeptPeer p → row.now ≡ stored_peer (peer_row network p) → address.now ≡ stored_allowed (address_row network p) → ⊥) }
 {
-    if !is_number(row, 2, u64::from(network))? {
+    if !has_number(row, peer::NETWORK, u64::from(network)) {
         return Err(Fault::Store);
     }
-    let number = peer_number_at(row, 0, network)?;
-    let key = key_at(row, 3)?;
-    let until = end_at(row, 5)?;
-    let keepalive = short_at(row, 6)?;
-    let status = status_of(row)?;
-    let address = address_of(address, network, number)?;
-    let label = label_at(alloc, row, 4)?;
+    let number = peer_number_at(row, peer::ID, network).ok_or(Fault::Store)?;
+    let key = key_at(row, peer::KEY).ok_or(Fault::Store)?;
+    let label = label_at(alloc, row, peer::LABEL)?.ok_or(Fault::Store)?;
+    let until = end_at(row, peer::UNTIL).ok_or(Fault::Store)?;
+    let keepalive = short_at(row, peer::KEEPALIVE).ok_or(Fault::Store)?;
+    let status = status_of(row).ok_or(Fault::Store)?;
+    let address = address_of(address, network, number).ok_or(Fault::Store)?;
     Ok(Peer {
         number,
         key,
@@ -108,19 +110,19 @@ pub(crate) fn peers_of(
     Ok(peers)
 }
 
-/// The route of the network whose row this is.
-fn route_of(row: &Row, network: u32) -> Result<(Prefix, u32), Fault>
-    ensures value { IfOk result (λ r. route_row network r ≡ allowed_in row.now) }
-    ensures only { OnErr result ((r : PrefixValue × ℕ) → IsKeptRoute r → row.now ≡ stored_allowed (route_row network r) → ⊥) }
+// The route of the network whose row this is.
+fn route_of(row: &Row, network: u32) -> Option<(Prefix, u32)>
+    ensures value { IfSome result (λ r. route_row network r ≡ allowed_in row.now) }
+    ensures only { IfNone result ((r : PrefixValue × ℕ) → IsKeptRoute r → row.now ≡ stored_allowed (route_row network r) → ⊥) }
 {
     let prefix = prefix_in(row)?;
-    if !is_number(row, 1, u64::from(network))? || !is_route(row)? {
-        return Err(Fault::Store);
+    if !has_number(row, allowed::NETWORK, u64::from(network)) || !is_route_at(row, allowed::KIND)? {
+        return None;
     }
-    if address_number_at(row, 5)? != prefix.span().hi.number() {
-        return Err(Fault::Store);
+    if address_number_at(row, allowed::HI)? != prefix.span().hi.number() {
+        return None;
     }
-    Ok((prefix, peer_number_at(row, 6, network)?))
+    Some((prefix, peer_number_at(row, allowed::PEER, network)?))
 }
 
 /// The routes of a network, of their rows.
@@ -134,7 +136,9 @@ pub(crate) fn routes_of(
 {
     let mut routes = Vec::new(alloc);
     for row in rows {
-        let route = route_of(row, network)?;
+        let Some(route) = route_of(row, network) else {
+            return Err(Fault::Store);
+        };
         if routes.push(route).is_err() {
             return Err(Fault::NoMemory);
         }

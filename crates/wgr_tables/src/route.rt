@@ -11,9 +11,9 @@ ghost use Rattle.wgr_tables.specs.Stops.{FailsBy, OneOfEach, RouteIsNotPut, Rout
 ghost use Rattle.wgr_tables.specs.TableSteps.{HasNoRoute, RouteGoes, RouteComes, RoutePuts};
 ghost use Rattle.wgr_tables.specs.Standing.{StepsOn, StepsFrom};
 
-use crate::value::{bytes_of, family_value, number_value, peer_id_value};
 use sqlite::types::ValueRef;
 use sqlite::{Alter, Row, Transaction};
+use wgr_columns::{bytes_of, family_value, number_value, peer_id_value};
 use wgr_peers::order::comes_before;
 use wgr_sql::{Fault, execute, fault_of};
 use wgr_text::Prefix;
@@ -21,7 +21,7 @@ use wgr_text::Prefix;
 /// From so many routes on, a query whether the network has any costs less than it saves.
 const MANY: usize = 64;
 
-/// Takes a route away.
+// Takes a route away.
 fn drop_route<S: Alter>(
     tx: &mut Transaction<'_, S>,
     network: u32,
@@ -46,7 +46,7 @@ fn drop_route<S: Alter>(
     )
 }
 
-/// Adds a route.
+// Adds a route.
 fn add_route<S: Alter>(
     tx: &mut Transaction<'_, S>,
     network: u32,
@@ -75,7 +75,7 @@ fn add_route<S: Alter>(
     )
 }
 
-/// Leads a prefix to a peer.
+// Leads a prefix to a peer.
 fn put_route<S: Alter>(
     tx: &mut Transaction<'_, S>,
     network: u32,
@@ -90,7 +90,7 @@ fn put_route<S: Alter>(
     add_route(tx, network, &route.0, route.1)
 }
 
-/// Leads each of these prefixes to its peer, in place of the route that it has.
+// Leads each of these prefixes to its peer, in place of the route that it has.
 fn replace_routes<S: Alter>(
     tx: &mut Transaction<'_, S>,
     network: u32,
@@ -107,7 +107,7 @@ fn replace_routes<S: Alter>(
     Ok(())
 }
 
-/// Adds each of these routes.
+// Adds each of these routes.
 fn add_routes<S: Alter>(
     tx: &mut Transaction<'_, S>,
     network: u32,
@@ -124,7 +124,7 @@ fn add_routes<S: Alter>(
     Ok(())
 }
 
-/// A route of the network, if it has any.
+// A route of the network, if it has any.
 fn first_route<S: Alter>(tx: &mut Transaction<'_, S>, network: u32) -> Result<Vec<Row>, Fault>
     ensures same_reference { tx.new.conn.ghost_name ≡ tx.old.conn.ghost_name }
     ensures step { HasCleanDisk (state S.Store tx.new.conn.now) → StepsOn (λ t u. (t ≡ u) × IfOk result (λ rows. rows.items ≡ [] → HasNoRoute network t)) (state S.Store tx.old.conn.now) (state S.Store tx.new.conn.now) result }
@@ -142,14 +142,14 @@ fn first_route<S: Alter>(tx: &mut Transaction<'_, S>, network: u32) -> Result<Ve
     )
 }
 
-/// Whether each prefix comes before the next one.
+// Whether each prefix comes before the next one.
 fn are_ordered(routes: &[(Prefix, u32)]) -> bool
     ensures { IsTrue result → AreOrdered routes.now }
 {
     routes.is_sorted_by(|one, other| comes_before(&one.0, &other.0))
 }
 
-/// Whether none of these routes takes the place of another; where they are few, it isn't asked.
+// Whether none of these routes takes the place of another; where they are few, it isn't asked.
 fn are_new<S: Alter>(
     tx: &mut Transaction<'_, S>,
     network: u32,
@@ -169,7 +169,8 @@ fn are_new<S: Alter>(
 }
 
 /// Leads each of these prefixes to its peer. Many that come to a network without routes come without
-/// a statement for each that takes away what isn't there.
+/// a statement for each that takes away what isn't there: they have to be in strict order, so that no
+/// prefix stands twice.
 pub(crate) fn put_routes<S: Alter>(
     tx: &mut Transaction<'_, S>,
     network: u32,

@@ -8,7 +8,7 @@ ghost use Rattle.wgr_core.specs.Network.{NetworkValue};
 ghost use Rattle.wgr_model.specs.Rows.{address_row, peer_row, route_row};
 ghost use Rattle.wgr_sql.specs.Causes.{HasCause};
 ghost use Rattle.wgr_sql.specs.declared.fault.Fault.TheVariants.{NoMemory, Store};
-ghost use Rattle.wgr_tables.specs.Decode.{tables_of};
+ghost use Rattle.wgr_columns.specs.Decode.{tables_of};
 ghost use Rattle.wgr_tables.specs.Told.{IsTold};
 ghost use Rattle.wgr_tables.specs.Writes.{Written};
 ghost use Rattle.wgr_tables.specs.Standing.{Stands};
@@ -22,7 +22,7 @@ use wgr_peers::Peer;
 use wgr_sql::Fault;
 use wgr_text::Prefix;
 
-/// What rows tell, or `None` where they tell nothing of the sort.
+// What rows tell, or `None` where they tell nothing of the sort.
 fn told<T>(read: Result<T, Fault>) -> Result<Option<T>, Fault>
     ensures some { IfOk result (λ found. IfSome found (λ x. read ≡ Ok x)) }
     ensures none { IfOk result (λ found. IfNone found (read ≡ Err Store)) }
@@ -35,7 +35,7 @@ fn told<T>(read: Result<T, Fault>) -> Result<Option<T>, Fault>
     }
 }
 
-/// The network's peers, if its rows tell them.
+// The network's peers, if its rows tell them.
 fn told_peers<S: Alter>(
     alloc: Global,
     conn: &mut Connection<S>,
@@ -61,7 +61,7 @@ fn told_peers<S: Alter>(
     told(peers_of(alloc, rows.as_slice(), addresses.as_slice(), network))
 }
 
-/// The network's routes, if its rows tell them.
+// The network's routes, if its rows tell them.
 fn told_routes<S: Alter>(
     alloc: Global,
     conn: &mut Connection<S>,

@@ -5,9 +5,9 @@ use crate::network::answer;
 use crate::shown::Shown;
 use std::alloc::AllocGlobal;
 use std::process::Abort;
-use wgr_adopt::adoption;
 use wgr_core::{Network, Peer};
 use wgr_dump::{BadDump, Dump};
+use wgr_request::adoption_of;
 
 /// The text of the key of a name: of 32 bytes 0, 1, 2, 3, or 9, which is the server's.
 fn key_text(name: &str) -> Option<&'static str> {
@@ -83,7 +83,7 @@ fn refused(rt: &(impl Abort + AllocGlobal), bad: &BadDump) -> Vec<u8> {
 fn taken(rt: &(impl Abort + AllocGlobal), network: &mut Network, text: &[u8]) -> Vec<u8> {
     match Dump::open(text) {
         Ok(dump) => {
-            let command = adoption(rt.alloc(), &dump).expect(rt, "memory");
+            let command = adoption_of(rt.alloc(), &dump).expect(rt, "memory");
             answer(rt, network, 7, &command)
         }
         Err(bad) => refused(rt, &bad),

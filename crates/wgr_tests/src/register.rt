@@ -10,6 +10,7 @@
 //! where `TOKEN` is the byte that a digest repeats. Answers are written as `shown.rt` says, and
 //! networks are answered by their names.
 mod answered;
+mod files;
 mod opened;
 mod orders;
 mod random;
@@ -23,7 +24,8 @@ use std::alloc::AllocGlobal;
 use std::process::Abort;
 use std::str::Split;
 use wgr_core::{Name, Network};
-use wgr_model::{Answer, Event, Order, OrderRefusal, Register, Settings};
+use wgr_orders::{Order, OrderRefusal, Settings};
+use wgr_plain::{Answer, Event, Register};
 use wgr_text::read_loose;
 
 type Words<'a> = Split<'a, char>;

@@ -3,8 +3,8 @@ use crate::disks::{in_files, in_memory, in_new_files};
 use sqlite::{Alter, Connection, MemStore};
 use std::alloc::AllocGlobal;
 use std::process::Abort;
-use wgr_audit::{read_networks, read_tenants};
-use wgr_store::{RegisterFault, check_layout, make};
+use wgr_checks::{read_networks, read_tenants};
+use wgr_schema::{RegisterFault, check_layout, make};
 
 fn run<S: Alter>(rt: &(impl Abort + AllocGlobal), conn: &mut Connection<S>, statements: &str) {
     conn.execute_batch(statements).expect(rt, "a statement");

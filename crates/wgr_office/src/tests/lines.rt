@@ -7,7 +7,7 @@ use std::alloc::AllocGlobal;
 use std::process::Abort;
 use std::str::Split;
 use wgr_core::{Capacity, Host, Name, Port};
-use wgr_model::{Order, Settings};
+use wgr_orders::{Order, Settings};
 use wgr_register::{OpenFault, Register};
 use wgr_request::token_digest;
 use wgr_text::{Key, read_loose};

@@ -1,8 +1,8 @@
 use Rattle.std.proofs.Common.{◌≡◌}
 use Rattle.sqlite.specs.Files.{file_state}
-use Rattle.wgr_store.specs.FirstVersion.{IsFirstVersion}
-use Rattle.wgr_store.specs.declared.fault.RegisterFault.TheVariants.{NotARegister, NotGood}
-use Rattle.wgr_whole.specs.Good.{IsGood}
+use Rattle.wgr_schema.specs.FirstVersion.{IsFirstVersion}
+use Rattle.wgr_schema.specs.declared.fault.RegisterFault.TheVariants.{NotARegister, NotGood}
+use Rattle.wgr_opening.specs.Good.{IsGood}
 use Rattle.wgr_reopen.proofs.AgainLemmas.{fails_by_fault, good_is_first, never_told, stands_again}
 use Rattle.wgr_reopen.proofs.open_again.Goals as goal
 

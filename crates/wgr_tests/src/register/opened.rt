@@ -6,7 +6,7 @@ use sqlite::{Alter, Connection};
 use sqlite_disk::{Files, Memory};
 use std::alloc::AllocGlobal;
 use std::process::Abort;
-use wgr_model::Register;
+use wgr_plain::Register;
 use wgr_register::RegisterFault;
 
 // Peers of the networks 1, of acme's, and 2, of bolt's.

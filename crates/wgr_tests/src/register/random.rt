@@ -12,8 +12,9 @@ use sqlite::{Alter, Connection};
 use std::alloc::AllocGlobal;
 use std::process::Abort;
 use wgr_core::{Name, Network};
-use wgr_model::{Answer, Event, Register};
-use wgr_tables::{load_network, network_id, tenant_of_token};
+use wgr_entries::{network_id, tenant_of_token};
+use wgr_plain::{Answer, Event, Register};
+use wgr_tables::load_network;
 
 // Events, in which a capital stands for one of its choices. What is to come more often stands here
 // more often.
@@ -236,7 +237,27 @@ fn check_views<S: Alter + Drop>(
     );
 }
 
-// Takes a random event in both registers, compares all views, and opens the register anew.
+// What is asked before and after each event.
+const FILES: [&str; 3] = [
+    "server 1 office wg",
+    "server 2 office wg",
+    "server 2 office quick",
+];
+
+// Asks both registers for these files, each at a random moment.
+fn take_files<S: Alter + Drop>(
+    rt: &(impl Abort + AllocGlobal),
+    register: &mut wgr_register::Register<S>,
+    plain: &mut Register,
+    dice: &mut Dice,
+) {
+    for line in FILES {
+        take(rt, register, plain, dice.below(200), line);
+    }
+}
+
+// Takes a random event in both registers, and asks for files before and after it; compares all views,
+// and opens the register anew.
 fn check_next<S: Alter + Drop>(
     rt: &(impl Abort + AllocGlobal),
     mut register: wgr_register::Register<S>,
@@ -246,7 +267,9 @@ fn check_next<S: Alter + Drop>(
     let line = dice.line(rt);
     let now = dice.below(200);
     let line = str::from_utf8(line.as_slice()).expect(rt, "a text");
+    take_files(rt, &mut register, plain, dice);
     take(rt, &mut register, plain, now, line);
+    take_files(rt, &mut register, plain, dice);
     let mut conn = register.into_connection();
     check_views(rt, &mut conn, plain);
     opened(rt, conn).expect(rt, "a register")

@@ -9,7 +9,8 @@ use std::alloc::{AllocError, AllocGlobal, Global};
 use std::process::Abort;
 use wgr_conf::{peer_file, server_file};
 use wgr_core::{Command, Name, Network, Reply};
-use wgr_model::{Answer, Event, Order};
+use wgr_orders::Order;
+use wgr_plain::{Answer, Event};
 use wgr_register::{AskFault, Given, OpenFault, OrderFault, Register, RegisterFault, Render};
 
 /// What an event is answered by the plain register.
@@ -22,6 +23,16 @@ pub(super) struct Meant {
 }
 
 impl Meant {
+    /// A request that is accepted and gives this text.
+    pub(super) fn giving(rt: &(impl Abort + AllocGlobal), want: &str) -> Meant {
+        let mut text = Shown::new(rt);
+        text.put(want);
+        Meant {
+            shown: Vec::new(rt.alloc()),
+            given: Some(text.into_text()),
+        }
+    }
+
     /// What the register in a database tells: of an accepted request, that it gave a text.
     pub(super) fn told(&self) -> &[u8] {
         match &self.given {
@@ -88,7 +99,7 @@ fn moment(event: &Event) -> u64 {
 /// What the event is answered by the plain register.
 pub(super) fn answer_meant(
     rt: &(impl Abort + AllocGlobal),
-    plain: &mut wgr_model::Register,
+    plain: &mut wgr_plain::Register,
     event: &Event,
 ) -> Meant {
     let answer = plain.answer(rt.alloc(), event).expect(rt, "memory");
@@ -212,7 +223,7 @@ pub(super) fn told<S: Alter + Drop>(
 pub(super) fn take<S: Alter + Drop>(
     rt: &(impl Abort + AllocGlobal),
     register: &mut Register<S>,
-    plain: &mut wgr_model::Register,
+    plain: &mut wgr_plain::Register,
     now: u64,
     line: &str,
 ) -> Vec<u8> {
@@ -227,7 +238,7 @@ pub(super) fn take<S: Alter + Drop>(
 pub(super) fn run<S: Alter + Drop>(
     rt: &(impl Abort + AllocGlobal),
     register: &mut Register<S>,
-    plain: &mut wgr_model::Register,
+    plain: &mut wgr_plain::Register,
     script: &[Step<'_>],
 ) {
     for (now, line, want) in script {
@@ -281,7 +292,7 @@ fn check_on<S: Alter + Drop>(
     scripts: &[&[Step<'_>]],
 ) {
     let mut register = empty(rt, conn);
-    let mut plain = wgr_model::Register::new(rt.alloc());
+    let mut plain = wgr_plain::Register::new(rt.alloc());
     for script in scripts {
         run(rt, &mut register, &mut plain, script);
     }

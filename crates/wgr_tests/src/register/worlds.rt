@@ -10,11 +10,11 @@ use sqlite::{Alter, Connection};
 use std::alloc::AllocGlobal;
 use std::process::Abort;
 use wgr_core::{Command, Label, LeaseEnd};
-use wgr_model::{Answer, Event, Register};
+use wgr_plain::{Answer, Event, Register};
 use wgr_text::Key;
 
-// Office, a network of acme's, whose token is of ones.
-const OFFICE: [Step<'static>; 3] = [
+/// Office, a network of acme's, whose token is of ones.
+pub(super) const OFFICE: [Step<'static>; 3] = [
     (0, "tenant acme", "done"),
     (0, "grant acme 1", "done"),
     (
@@ -24,8 +24,8 @@ const OFFICE: [Step<'static>; 3] = [
     ),
 ];
 
-// The same of bolt's, whose token is of twos.
-const BOLT: [Step<'static>; 3] = [
+/// The same of bolt's, whose token is of twos.
+pub(super) const BOLT: [Step<'static>; 3] = [
     (0, "tenant bolt", "done"),
     (0, "grant bolt 2", "done"),
     (

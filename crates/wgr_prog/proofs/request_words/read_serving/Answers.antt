@@ -1,9 +1,9 @@
 use Rattle.std.proofs.Common.{ℕ, List, ◌∷◌, Bor, option_map}
-use Rattle.wgr_prog.specs.declared.field.WordField.TheVariants as of
+use Rattle.wgr_words.specs.declared.field.WordField.TheVariants as of
 use Rattle.wgr_prog.specs.Answering.{choice_fields, serve_fields}
-use Rattle.wgr_prog.specs.Order.{IsFaultIn}
-use Rattle.wgr_prog.specs.Words.{SpellsEndpoint}
-use Rattle.wgr_prog.proofs.OrderLemmas.{here, passed}
+use Rattle.wgr_words.specs.Order.{IsFaultIn}
+use Rattle.wgr_words.specs.Words.{SpellsEndpoint}
+use Rattle.wgr_words.proofs.OrderLemmas.{here, passed}
 use Rattle.wgr_prog.proofs.request_words.read_serving.Goals as goal
 
 pub returns-in_err-endpoint-clause-err : goal.returns-in_err-endpoint-clause-err

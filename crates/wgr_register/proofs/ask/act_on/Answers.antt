@@ -4,7 +4,7 @@ use Rattle.wgr_core.specs.Outcome.{outcome_of}
 use Rattle.wgr_core.specs.declared.fault.ActFault.{ActFault}
 use Rattle.wgr_model.specs.Steps.{Ask}
 use Rattle.wgr_sql.specs.declared.fault.Fault.TheVariants.{NoMemory}
-use Rattle.wgr_tables.specs.Decode.{tables_of}
+use Rattle.wgr_columns.specs.Decode.{tables_of}
 use Rattle.wgr_register.specs.Loaded.{AreFormed, entries_of}
 use Rattle.wgr_register.proofs.AskLemmas.{acts_done, acts_late, refused_rows}
 use Rattle.wgr_register.proofs.LoadedLemmas.{committed_so, found_formed, shown_so, unless}
@@ -14,6 +14,8 @@ use Rattle.sqlite.specs.Held.{state}
 use Rattle.wgr_sql.specs.Causes.{HasCauseOr}
 use Rattle.wgr_register.specs.Causes.{AskStops, StopsIf}
 use Rattle.wgr_sql.proofs.CauseLemmas.{cause_weaker}
+use Rattle.wgr_register.specs.Cached.{AreCurrent, files_of}
+use Rattle.wgr_register.proofs.CachedLemmas.{current_so}
 use Rattle.wgr_register.proofs.ask.act_on.Goals as goal
 
 -- ---- the command isn't done
@@ -85,3 +87,15 @@ returns-in-Err-clause-survives g c = survives_as_is (state g.S.Store c.args.conn
 
 pub returns-in_err-text-clause-survives : goal.returns-in_err-text-clause-survives
 returns-in_err-text-clause-survives g c = survives_as_is (state g.S.Store c.args.conn.now)
+
+-- ---- which files stay in memory
+
+pub returns-in-Err-clause-current : goal.returns-in-Err-clause-current
+returns-in-Err-clause-current g c db late digest name at found current =
+    unless (Err c.from.result) _ (shown_so g.S.Store c.args.conn.now db at.pending (AreCurrent (files_of c.args.files.now)) at.stands current)
+
+pub returns-clause-current : goal.returns-clause-current
+returns-clause-current g c db late digest name at found current clean live =
+    current_so g.S.Store c.commit_if.new.conn db at.pending at.consistent digest name c.args.now c.args.command.now (c.tell_forms.ensures.asked, c.tell_forms.ensures.forms) c.args.id c.args.network found c.in-Ok.done.0
+    (files_of c.args.files.now) (files_of c.drop_changed.new.files) current c.in-Ok.done.1 c.in-Ok.ensures.outcome (c.in_ok-commit_if.ensures.done db at.pending found.row at.stands at.consistent found.there found.at clean)
+    (λ none. ap files_of (c.drop_changed.ensures.none none)) c.drop_changed.ensures.some clean live

@@ -1,7 +1,7 @@
 use Rattle.std.proofs.Common.{◌≡◌, false, subst, ◌∙◌}
 use Rattle.wgr_sql.proofs.ResultLemmas.{if_none, if_ok, if_some}
 use Rattle.wgr_model.specs.Consistent.{same_slot}
-use Rattle.wgr_tables.specs.Decode.{tables_of}
+use Rattle.wgr_columns.specs.Decode.{tables_of}
 use Rattle.wgr_register.proofs.AskLemmas.{no_name, no_network}
 use Rattle.wgr_register.proofs.ask.find_id.Goals as goal
 

@@ -4,7 +4,7 @@ use Rattle.wgr_sql.specs.Causes.{HasCause}
 use Rattle.wgr_model.specs.Laws.{Has}
 use Rattle.wgr_model.specs.Rows.{NetworkRow}
 use Rattle.wgr_model.proofs.GatherLemmas.{eqb_self}
-use Rattle.wgr_tables.specs.Decode.{tables_of}
+use Rattle.wgr_columns.specs.Decode.{tables_of}
 use Rattle.wgr_sql.proofs.CauseLemmas.{handed}
 use Rattle.wgr_register.proofs.CauseLemmas.{if_clean, ids_apart, told_at}
 use Rattle.wgr_register.proofs.ask.take_network.Goals as goal

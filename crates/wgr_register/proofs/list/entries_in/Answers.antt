@@ -3,15 +3,15 @@ use Rattle.std.proofs.lemmas.List.{nil_from_length, length-drop}
 use Rattle.sqlite_value.specs.Order.{Row}
 use Rattle.wgr_model.specs.Listing.{put_entry}
 use Rattle.wgr_model.specs.Register.{Holding}
-use Rattle.wgr_tables.specs.Decode.{network_in}
-use Rattle.wgr_tables.specs.Lookups.{settled}
+use Rattle.wgr_columns.specs.Decode.{network_in}
+use Rattle.wgr_entries.specs.Lookups.{settled}
 use Rattle.wgr_register.specs.Listing.{by_name}
 use Rattle.wgr_register.proofs.ListLemmas.{none_by_name, one_by_name, step_back}
 use Rattle.wgr_sql.specs.declared.fault.Fault.TheVariants.{Store}
 use Rattle.wgr_sql.proofs.CauseLemmas.{handed}
-use Rattle.wgr_tables.specs.Stored.{IsKeptNetwork, stored_network}
-use Rattle.wgr_orders.specs.Kept.{AreOf}
-use Rattle.wgr_orders.proofs.KeptLemmas.{has_at}
+use Rattle.wgr_columns.specs.Stored.{IsKeptNetwork, stored_network}
+use Rattle.wgr_entries.specs.Kept.{AreOf}
+use Rattle.wgr_entries.proofs.KeptLemmas.{has_at}
 use Rattle.wgr_register.proofs.list.entries_in.Goals as goal
 
 pub loop-rest-init : goal.loop-rest-init

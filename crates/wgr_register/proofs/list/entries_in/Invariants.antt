@@ -1,6 +1,6 @@
 use Rattle.std.proofs.Common.{◌≡◌, ◌≤◌, length, drop, map}
-use Rattle.wgr_tables.specs.Decode.{network_in}
-use Rattle.wgr_tables.specs.Lookups.{settled}
+use Rattle.wgr_columns.specs.Decode.{network_in}
+use Rattle.wgr_entries.specs.Lookups.{settled}
 use Rattle.wgr_register.specs.Listing.{by_name}
 use Rattle.wgr_register.proofs.list.entries_in.Given as goal
 

@@ -1,7 +1,7 @@
 use Rattle.std.proofs.Common.{◌≡◌, None, Some, refl, sym, ap, ◌∙◌}
 use Rattle.wgr_sql.specs.declared.fault.Fault.TheVariants.{NoMemory}
 use Rattle.wgr_model.specs.Steps.{Listed, Networks, tenant_of_token}
-use Rattle.wgr_tables.specs.Decode.{tables_of}
+use Rattle.wgr_columns.specs.Decode.{tables_of}
 use Rattle.wgr_register.specs.Given.{IsShown, OfNetworks}
 use Rattle.wgr_register.specs.Listing.{seen_by}
 use Rattle.wgr_register.proofs.ListLemmas.{holder_lists, nobody_lists}

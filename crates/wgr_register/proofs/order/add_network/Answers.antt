@@ -1,9 +1,9 @@
 use Rattle.std.proofs.Common.{◌≡◌, [], None, Some, Ok, Err, map, sym, subst, ◌∙◌}
 use Rattle.wgr_model.specs.Register.{Register, id_of}
 use Rattle.wgr_model.specs.Steps.{AddNetwork}
-use Rattle.wgr_orders.specs.OrderSteps.{new_row}
-use Rattle.wgr_tables.specs.Decode.{tables_of}
-use Rattle.wgr_tables.specs.Lookups.{settled}
+use Rattle.wgr_entries.specs.OrderSteps.{new_row}
+use Rattle.wgr_columns.specs.Decode.{tables_of}
+use Rattle.wgr_entries.specs.Lookups.{settled}
 use Rattle.wgr_tables.specs.Writes.{NetworkGained}
 use Rattle.wgr_register.specs.Ends.{Admits}
 use Rattle.wgr_register.specs.declared.fault.OrderFault.{OrderFault}
@@ -13,8 +13,9 @@ use Rattle.sqlite.specs.Held.{state}
 use Rattle.wgr_sql.proofs.SurvivesLemmas.{survives_next, survives_still}
 use Rattle.wgr_register.specs.Causes.{OrderStops}
 use Rattle.wgr_register.proofs.OrderCauses.{admitted_stops, unread_stops, unwritten_stops}
-use Rattle.wgr_orders.specs.Stops.{NetworkStaysOut}
+use Rattle.wgr_entries.specs.Stops.{NetworkStaysOut}
 use Rattle.wgr_register.proofs.CauseLemmas.{network_kept, tenant_kept}
+use Rattle.wgr_register.proofs.StayLemmas.{undone, unless_undone}
 use Rattle.wgr_register.proofs.order.add_network.Goals as goal
 
 pub returns-in_err-id-clause-ends : goal.returns-in_err-id-clause-ends
@@ -123,3 +124,26 @@ returns-in_err-add_network-clause-stops g c db late at =
           network_comes (tables_of db) at.consistent c.args.tenant.now c.args.name.now c.args.settings.now c.in_ok-tenants.tenants.items networks.0 tenants networks.1 c.in-Some.id known c.in_ok-new.new told u made;
       stops = refused;
     }) (c.in_err-add_network.ensures.cause db at.pending (c.settled_networks.ensures.stands db at.pending (c.tenants.ensures.stands db at.pending (c.tenant_id.ensures.stands db at.pending at.stands))))
+
+-- ---- where it isn't undone, the store was open
+
+pub returns-in_err-id-clause-open : goal.returns-in_err-id-clause-open
+returns-in_err-id-clause-open g c clean = undone c.from_residual.result c.in_err-id.field-0.0 _ c.from_residual.ensures.1
+
+pub returns-in_default-clause-open : goal.returns-in_default-clause-open
+returns-in_default-clause-open g c clean = c.in_ok-id.ensures.open clean
+
+pub returns-in_err-tenants-clause-open : goal.returns-in_err-tenants-clause-open
+returns-in_err-tenants-clause-open g c clean = undone c.from_residual-in_err-tenants.result c.in_err-tenants.field-0.0 _ c.from_residual-in_err-tenants.ensures.1
+
+pub returns-in_err-networks-clause-open : goal.returns-in_err-networks-clause-open
+returns-in_err-networks-clause-open g c clean = undone c.from_residual-in_err-networks.result c.in_err-networks.field-0.0 _ c.from_residual-in_err-networks.ensures.1
+
+pub returns-in_err-new-clause-open : goal.returns-in_err-new-clause-open
+returns-in_err-new-clause-open g c clean = unless_undone c.from_residual-in_err-new.result _ (c.in_ok-id.ensures.open (c.tenants.ensures.clean (c.settled_networks.ensures.clean clean)))
+
+pub returns-in_err-add_network-clause-open : goal.returns-in_err-add_network-clause-open
+returns-in_err-add_network-clause-open g c clean = undone c.from_residual-in_err-add_network.result c.in_err-add_network.field-0.0 _ c.from_residual-in_err-add_network.ensures.1
+
+pub returns-clause-open : goal.returns-clause-open
+returns-clause-open g c clean = c.in_ok-id.ensures.open (c.tenants.ensures.clean (c.settled_networks.ensures.clean (c.add_network.ensures.clean clean)))

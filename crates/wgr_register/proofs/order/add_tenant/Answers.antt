@@ -1,7 +1,7 @@
 use Rattle.std.proofs.Common.{◌≡◌, None, Some, false, true, sym, ◌∙◌}
 use Rattle.wgr_model.specs.Register.{id_of}
 use Rattle.wgr_model.specs.Steps.{AddTenant}
-use Rattle.wgr_tables.specs.Decode.{tables_of}
+use Rattle.wgr_columns.specs.Decode.{tables_of}
 use Rattle.wgr_tables.specs.Writes.{TenantGained}
 use Rattle.wgr_register.proofs.OrderLemmas.{name_held, room_by, tenant_comes, tenants_full, unused_by}
 use Rattle.wgr_register.proofs.StandLemmas.{at_read, order_done, order_unread, order_unwritten}
@@ -9,8 +9,9 @@ use Rattle.sqlite.specs.Held.{state}
 use Rattle.wgr_sql.proofs.SurvivesLemmas.{survives_next, survives_still}
 use Rattle.wgr_register.specs.Causes.{OrderStops}
 use Rattle.wgr_register.proofs.OrderCauses.{unread_stops, unwritten_stops}
-use Rattle.wgr_orders.specs.Stops.{TenantStaysOut}
+use Rattle.wgr_entries.specs.Stops.{TenantStaysOut}
 use Rattle.wgr_register.proofs.CauseLemmas.{tenant_kept}
+use Rattle.wgr_register.proofs.StayLemmas.{undone}
 use Rattle.wgr_register.proofs.order.add_tenant.Goals as goal
 
 pub returns-in_err-tenant_id-clause-ends : goal.returns-in_err-tenant_id-clause-ends
@@ -92,3 +93,23 @@ returns-in_err-add_tenant-clause-stops g c db late at =
           tenant_comes (tables_of db) at.consistent c.args.name.now free room c.unused_id.result c.unused_id.ensures.id unused u made;
       stops = refused;
     }) (c.in_err-add_tenant.ensures.cause db at.pending (c.tenant_ids.ensures.stands db at.pending (c.tenant_id.ensures.stands db at.pending at.stands)))
+
+-- ---- where it isn't undone, the store was open
+
+pub returns-in_err-tenant_id-clause-open : goal.returns-in_err-tenant_id-clause-open
+returns-in_err-tenant_id-clause-open g c clean = undone c.from_residual.result c.in_err-tenant_id.field-0.0 _ c.from_residual.ensures.1
+
+pub returns-in_default-clause-open : goal.returns-in_default-clause-open
+returns-in_default-clause-open g c clean = c.in_ok-tenant_id.ensures.open clean
+
+pub returns-in_err-ids-clause-open : goal.returns-in_err-ids-clause-open
+returns-in_err-ids-clause-open g c clean = undone c.from_residual-in_err-ids.result c.in_err-ids.field-0.0 _ c.from_residual-in_err-ids.ensures.1
+
+pub returns-then-is_full-clause-open : goal.returns-then-is_full-clause-open
+returns-then-is_full-clause-open g c clean = c.in_ok-tenant_id.ensures.open (c.tenant_ids.ensures.clean clean)
+
+pub returns-in_err-add_tenant-clause-open : goal.returns-in_err-add_tenant-clause-open
+returns-in_err-add_tenant-clause-open g c clean = undone c.from_residual-in_err-add_tenant.result c.in_err-add_tenant.field-0.0 _ c.from_residual-in_err-add_tenant.ensures.1
+
+pub returns-clause-open : goal.returns-clause-open
+returns-clause-open g c clean = c.in_ok-tenant_id.ensures.open (c.tenant_ids.ensures.clean (c.add_tenant.ensures.clean clean))

@@ -1,6 +1,6 @@
 use Rattle.std.proofs.Common.{◌≡◌, None, Some, sym, ◌∙◌}
 use Rattle.wgr_model.specs.Steps.{EndToken, tenant_of_token}
-use Rattle.wgr_tables.specs.Decode.{tables_of}
+use Rattle.wgr_columns.specs.Decode.{tables_of}
 use Rattle.wgr_tables.specs.Writes.{TokenLost}
 use Rattle.wgr_register.proofs.OrderLemmas.{no_such_token, token_ends}
 use Rattle.wgr_register.proofs.StandLemmas.{at_read, order_done, order_unread, order_unwritten}
@@ -8,7 +8,8 @@ use Rattle.sqlite.specs.Held.{state}
 use Rattle.wgr_sql.proofs.SurvivesLemmas.{survives_next, survives_still}
 use Rattle.wgr_register.specs.Causes.{OrderStops}
 use Rattle.wgr_register.proofs.OrderCauses.{unread_stops, unwritten_stops}
-use Rattle.wgr_orders.specs.Stops.{TokenStays}
+use Rattle.wgr_entries.specs.Stops.{TokenStays}
+use Rattle.wgr_register.proofs.StayLemmas.{undone}
 use Rattle.wgr_register.proofs.order.end_token.Goals as goal
 
 pub returns-in_err-_holder-clause-ends : goal.returns-in_err-_holder-clause-ends
@@ -55,3 +56,17 @@ returns-in_err-end_token-clause-stops g c db late at =
           token_ends (tables_of db) at.consistent c.args.digest.now c.in-Some._holder known u made;
       stops = refused;
     }) (c.in_err-end_token.ensures.cause db at.pending (c.tenant_of_token.ensures.stands db at.pending at.stands))
+
+-- ---- where it isn't undone, the store was open
+
+pub returns-in_err-_holder-clause-open : goal.returns-in_err-_holder-clause-open
+returns-in_err-_holder-clause-open g c clean = undone c.from_residual.result c.in_err-_holder.field-0.0 _ c.from_residual.ensures.1
+
+pub returns-in_default-clause-open : goal.returns-in_default-clause-open
+returns-in_default-clause-open g c clean = c.in_ok-_holder.ensures.open clean
+
+pub returns-in_err-end_token-clause-open : goal.returns-in_err-end_token-clause-open
+returns-in_err-end_token-clause-open g c clean = undone c.from_residual-in_err-end_token.result c.in_err-end_token.field-0.0 _ c.from_residual-in_err-end_token.ensures.1
+
+pub returns-clause-open : goal.returns-clause-open
+returns-clause-open g c clean = c.in_ok-_holder.ensures.open (c.end_token.ensures.clean clean)

@@ -1,7 +1,7 @@
 use Rattle.std.proofs.Common.{◌≡◌, None, Some, false, true, sym, ◌∙◌}
 use Rattle.wgr_model.specs.Register.{id_of}
 use Rattle.wgr_model.specs.Steps.{Grant, tenant_of_token}
-use Rattle.wgr_tables.specs.Decode.{tables_of}
+use Rattle.wgr_columns.specs.Decode.{tables_of}
 use Rattle.wgr_tables.specs.Writes.{TokenGained}
 use Rattle.wgr_register.proofs.OrderLemmas.{held_already, nobody_gets, token_comes, tokens_by, tokens_full}
 use Rattle.wgr_register.proofs.StandLemmas.{at_read, order_done, order_unread, order_unwritten}
@@ -9,7 +9,8 @@ use Rattle.sqlite.specs.Held.{state}
 use Rattle.wgr_sql.proofs.SurvivesLemmas.{survives_next, survives_still}
 use Rattle.wgr_register.specs.Causes.{OrderStops}
 use Rattle.wgr_register.proofs.OrderCauses.{unread_stops, unwritten_stops}
-use Rattle.wgr_orders.specs.Stops.{TokenStaysOut}
+use Rattle.wgr_entries.specs.Stops.{TokenStaysOut}
+use Rattle.wgr_register.proofs.StayLemmas.{undone}
 use Rattle.wgr_register.proofs.order.grant.Goals as goal
 
 pub returns-in_err-id-clause-ends : goal.returns-in_err-id-clause-ends
@@ -115,3 +116,29 @@ returns-in_err-add_token-clause-stops g c db late at =
           token_comes (tables_of db) at.consistent c.args.tenant.now c.args.digest.now c.in-Some.id known free room u made;
       stops = refused;
     }) (c.in_err-add_token.ensures.cause db at.pending (c.count_tokens.ensures.stands db at.pending (c.tenant_of_token.ensures.stands db at.pending (c.tenant_id.ensures.stands db at.pending at.stands))))
+
+-- ---- where it isn't undone, the store was open
+
+pub returns-in_err-id-clause-open : goal.returns-in_err-id-clause-open
+returns-in_err-id-clause-open g c clean = undone c.from_residual.result c.in_err-id.field-0.0 _ c.from_residual.ensures.1
+
+pub returns-in_default-clause-open : goal.returns-in_default-clause-open
+returns-in_default-clause-open g c clean = c.in_ok-id.ensures.open clean
+
+pub returns-in_err-tenant_of_token-clause-open : goal.returns-in_err-tenant_of_token-clause-open
+returns-in_err-tenant_of_token-clause-open g c clean = undone c.from_residual-in_err-tenant_of_token.result c.in_err-tenant_of_token.field-0.0 _ c.from_residual-in_err-tenant_of_token.ensures.1
+
+pub returns-in_default-2-clause-open : goal.returns-in_default-2-clause-open
+returns-in_default-2-clause-open g c clean = c.in_ok-id.ensures.open (c.tenant_of_token.ensures.clean clean)
+
+pub returns-in_err-count-clause-open : goal.returns-in_err-count-clause-open
+returns-in_err-count-clause-open g c clean = undone c.from_residual-in_err-count.result c.in_err-count.field-0.0 _ c.from_residual-in_err-count.ensures.1
+
+pub returns-then-is_full-clause-open : goal.returns-then-is_full-clause-open
+returns-then-is_full-clause-open g c clean = c.in_ok-id.ensures.open (c.tenant_of_token.ensures.clean (c.count_tokens.ensures.clean clean))
+
+pub returns-in_err-add_token-clause-open : goal.returns-in_err-add_token-clause-open
+returns-in_err-add_token-clause-open g c clean = undone c.from_residual-in_err-add_token.result c.in_err-add_token.field-0.0 _ c.from_residual-in_err-add_token.ensures.1
+
+pub returns-clause-open : goal.returns-clause-open
+returns-clause-open g c clean = c.in_ok-id.ensures.open (c.tenant_of_token.ensures.clean (c.count_tokens.ensures.clean (c.add_token.ensures.clean clean)))

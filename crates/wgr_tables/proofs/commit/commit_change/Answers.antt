@@ -10,7 +10,7 @@ use Rattle.wgr_model.specs.Laws.{Has}
 use Rattle.wgr_model.specs.RowLaws.{AreConsistent}
 use Rattle.wgr_model.specs.Rows.{NetworkRow, Replaces, Tables, holding_of}
 use Rattle.wgr_sql.proofs.ResultLemmas.{on_err, on_ok, if_err, push_if}
-use Rattle.wgr_tables.specs.Decode.{tables_of}
+use Rattle.wgr_columns.specs.Decode.{tables_of}
 use Rattle.wgr_tables.specs.TableSteps.{ChangeMakes}
 use Rattle.wgr_tables.specs.Writes.{Written, Replaced}
 use Rattle.wgr_tables.specs.Standing.{IsDone, Stands}

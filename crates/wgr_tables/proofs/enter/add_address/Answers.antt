@@ -5,8 +5,9 @@ use Rattle.wgr_text.specs.declared.addr.Family.TheVariants.{V4, V6}
 use Rattle.wgr_pool.specs.PrefixTests.{full}
 use Rattle.sqlite.specs.Held.{state}
 use Rattle.wgr_sql.proofs.ResultLemmas.{if_ok}
-use Rattle.wgr_tables.specs.Decode.{address_kind, bytes_of}
-use Rattle.wgr_tables.proofs.AllowedLemmas.{allowed_came, fits_128}
+use Rattle.wgr_columns.specs.Decode.{address_kind, bytes_of}
+use Rattle.wgr_tables.proofs.AllowedLemmas.{allowed_came}
+use Rattle.wgr_columns.proofs.FieldLemmas.{fits_128}
 use Rattle.wgr_tables.proofs.Meanings.{insert_address_text, insert_address_means}
 use Rattle.sqlite.specs.declared.types.Value.TheVariants.{Blob, Int}
 use Rattle.wgr_tables.proofs.StopLemmas.{written_fails, insert_address_writes}

@@ -6,7 +6,7 @@ use Rattle.wgr_tables.specs.TableSteps.{PeerRowsGo, RangeGoes}
 use Rattle.wgr_tables.proofs.RangeLemmas.{as_chain, range_goes}
 use Rattle.wgr_sql.specs.Causes.{HasCauseOr}
 use Rattle.wgr_sql.proofs.CauseLemmas.{handed}
-use Rattle.wgr_tables.specs.Decode.{tables_of}
+use Rattle.wgr_columns.specs.Decode.{tables_of}
 use Rattle.wgr_tables.specs.Stops.{AllRowsStay, OneOfEach, PeerRowsStay, RangeStays}
 use Rattle.wgr_tables.proofs.StopLemmas.{weaker_fails}
 use Rattle.wgr_tables.proofs.enter.drop_all_rows.Goals as goal

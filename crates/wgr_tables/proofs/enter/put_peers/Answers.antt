@@ -5,7 +5,7 @@ use Rattle.wgr_peers.specs.declared.peer.Peer.{Peer}
 use Rattle.wgr_sql.specs.declared.fault.Fault.{Fault}
 use Rattle.wgr_sql.specs.Steps.{Each}
 use Rattle.wgr_sql.proofs.StepLemmas.{chain_then_chain}
-use Rattle.wgr_tables.specs.Decode.{IsRegister, tables_of}
+use Rattle.wgr_columns.specs.Decode.{IsRegister, tables_of}
 use Rattle.wgr_tables.specs.TableSteps.{PeerRowsGo, PeerComes}
 use Rattle.wgr_sql.specs.Causes.{HasCauseOr}
 use Rattle.wgr_sql.proofs.CauseLemmas.{handed}

@@ -5,7 +5,7 @@ use Rattle.wgr_model.specs.Rows.{peer_id}
 use Rattle.wgr_tables.specs.TableSteps.{PeerGoes, AllowedGoes, is_of_peer}
 use Rattle.wgr_sql.specs.declared.fault.Fault.{Fault}
 use Rattle.wgr_sql.proofs.StepLemmas.{steps_then, from_step}
-use Rattle.wgr_tables.specs.Decode.{IsRegister, tables_of}
+use Rattle.wgr_columns.specs.Decode.{IsRegister, tables_of}
 use Rattle.wgr_sql.specs.Causes.{HasCauseOr}
 use Rattle.wgr_sql.proofs.CauseLemmas.{handed}
 use Rattle.wgr_tables.specs.Stops.{PeerRowStays, AllowedStays, OneOfTwo}

@@ -1,7 +1,7 @@
 use Rattle.std.proofs.Common.{map, filter, nat_eq, not, ◌&&◌}
 use Rattle.std.proofs.lemmas.List.Sorted.{IsPermutation-map, IsPermutation-trans}
-use Rattle.wgr_tables.specs.Decode.{tables_of, allowed_in}
-use Rattle.wgr_tables.specs.Stored.{stored_allowed}
+use Rattle.wgr_columns.specs.Decode.{tables_of, allowed_in}
+use Rattle.wgr_columns.specs.Stored.{stored_allowed}
 use Rattle.wgr_tables.proofs.SortedRows.{sorted_stored}
 use Rattle.sqlite.specs.Held.{state}
 use Rattle.wgr_sql.specs.Causes.{HasCause}

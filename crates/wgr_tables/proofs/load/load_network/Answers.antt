@@ -1,12 +1,12 @@
 use Rattle.std.proofs.Common.{◌≡◌, IfSome, IfNone, nat_eq, false, subst}
 use Rattle.wgr_model.specs.Laws.{Has}
 use Rattle.wgr_model.specs.Rows.{NetworkRow}
-use Rattle.wgr_tables.specs.Decode.{tables_of, network_in, number_at}
+use Rattle.wgr_columns.specs.Decode.{tables_of, network_in, number_at}
 use Rattle.sqlite.specs.State.{HasCleanDisk}
 use Rattle.sqlite.specs.Held.{state}
 use Rattle.wgr_sql.specs.Causes.{HasCause}
 use Rattle.wgr_sql.proofs.CauseLemmas.{handed, cause_after}
-use Rattle.wgr_tables.specs.Stored.{stored_network}
+use Rattle.wgr_columns.specs.Stored.{stored_network}
 use Rattle.wgr_tables.proofs.load.load_network.Goals as goal
 
 pub returns-in_err-loaded-clause-stands : goal.returns-in_err-loaded-clause-stands

@@ -1,11 +1,11 @@
 use Rattle.std.proofs.Common.{map, filter, nat_eq, not, ◌&&◌, sym, ap, ◌∙◌, subst, IsPermutation, refl}
 use Rattle.wgr_sql.proofs.ResultLemmas.{if_ok, if_both}
-use Rattle.wgr_tables.specs.Decode.{tables_of, peer_in, allowed_in}
+use Rattle.wgr_columns.specs.Decode.{tables_of, peer_in, allowed_in}
 use Rattle.sqlite.specs.Held.{state}
 use Rattle.wgr_sql.specs.Causes.{HasCause}
 use Rattle.wgr_sql.proofs.CauseLemmas.{handed, cause_after, never_stores}
 use Rattle.wgr_model.specs.Rows.{AllowedRow, PeerRow, address_row, peer_row}
-use Rattle.wgr_tables.specs.Stored.{stored_allowed, stored_peer}
+use Rattle.wgr_columns.specs.Stored.{stored_allowed, stored_peer}
 use Rattle.wgr_tables.proofs.ArrangeLemmas.{arranged_peers, kept_peers, peers_once}
 use Rattle.wgr_tables.proofs.load.load_peers.Goals as goal
 

@@ -1,10 +1,10 @@
 use Rattle.std.proofs.Common.{map, filter, nat_eq, ◌&&◌, sym, ap, ◌∙◌, subst, IsPermutation}
 use Rattle.wgr_sql.proofs.ResultLemmas.{if_ok}
-use Rattle.wgr_tables.specs.Decode.{tables_of, allowed_in}
+use Rattle.wgr_columns.specs.Decode.{tables_of, allowed_in}
 use Rattle.sqlite.specs.Held.{state}
 use Rattle.wgr_sql.specs.Causes.{HasCause}
 use Rattle.wgr_sql.proofs.CauseLemmas.{handed, never_stores}
-use Rattle.wgr_tables.specs.Stored.{stored_allowed}
+use Rattle.wgr_columns.specs.Stored.{stored_allowed}
 use Rattle.wgr_tables.proofs.ArrangeLemmas.{arranged_routes}
 use Rattle.wgr_tables.proofs.load.load_routes.Goals as goal
 

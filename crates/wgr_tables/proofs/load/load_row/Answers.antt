@@ -1,5 +1,5 @@
 use Rattle.wgr_sql.proofs.ResultLemmas.{if_ok}
-use Rattle.wgr_tables.specs.Decode.{tables_of, network_in}
+use Rattle.wgr_columns.specs.Decode.{tables_of, network_in}
 use Rattle.wgr_tables.proofs.LoadLemmas.{network_is_read}
 use Rattle.sqlite.specs.Held.{state}
 use Rattle.wgr_sql.specs.Causes.{HasCause}
@@ -8,7 +8,7 @@ use Rattle.std.proofs.Common.{filter, nat_eq, ◌&&◌, sym, ap, subst, ◌∙�
 use Rattle.std.proofs.lemmas.List.Sorted.{IsPermutation-refl}
 use Rattle.std.specs.List.Sorted.{IsPermutation}
 use Rattle.wgr_tables.specs.Loads.{IsMade, network_with}
-use Rattle.wgr_tables.specs.Stored.{AreSettings}
+use Rattle.wgr_columns.specs.Stored.{AreSettings}
 use Rattle.wgr_tables.proofs.ArrangeLemmas.{same_routes}
 use Rattle.wgr_tables.proofs.ToldLemmas.{told_settings}
 use Rattle.wgr_tables.proofs.load.load_row.Goals as goal

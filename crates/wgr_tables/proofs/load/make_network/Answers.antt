@@ -1,8 +1,8 @@
 use Rattle.std.proofs.Common.{rules, ◌≡◌, IfSome, subst}
 use Rattle.wgr_sql.specs.declared.fault.Fault.TheVariants.{Store}
 use Rattle.wgr_core.specs.Parts.{IsNetworkOf}
-use Rattle.wgr_tables.specs.Decode.{network_in}
-use Rattle.wgr_tables.specs.Stored.{AreSettings, stored_network}
+use Rattle.wgr_columns.specs.Decode.{network_in}
+use Rattle.wgr_columns.specs.Stored.{AreSettings, stored_network}
 use Rattle.wgr_tables.proofs.LoadLemmas.{network_is_made}
 use Rattle.wgr_tables.proofs.load.make_network.Goals as goal
 

@@ -1,12 +1,12 @@
 use Rattle.std.proofs.Common.{◌≡◌, get_or, ap, map, filter, nat_eq, subst, IsPermutation}
 use Rattle.wgr_sql.proofs.ResultLemmas.{if_ok, if_some, if_none}
-use Rattle.wgr_tables.specs.Decode.{tables_of, network_in}
-use Rattle.wgr_tables.specs.Stored.{stored_network}
+use Rattle.wgr_columns.specs.Decode.{tables_of, network_in}
+use Rattle.wgr_columns.specs.Stored.{stored_network}
 use Rattle.wgr_tables.proofs.LoadLemmas.{none_listed, one_listed, only_listed}
 use Rattle.sqlite.specs.Held.{state}
 use Rattle.wgr_sql.specs.Causes.{HasCause}
 use Rattle.wgr_sql.proofs.CauseLemmas.{handed, never_fails}
-use Rattle.wgr_tables.proofs.WordLemmas.{never_many}
+use Rattle.wgr_tables.proofs.FewRows.{never_many}
 use Rattle.wgr_tables.proofs.load.network_row.Goals as goal
 
 pub returns-clause-some : goal.returns-clause-some

@@ -1,8 +1,8 @@
 use Rattle.std.proofs.Common.{pos, [], ◌∷◌}
 use Rattle.sqlite.specs.declared.types.Value.TheVariants.{Int}
 use Rattle.wgr_sql.proofs.ResultLemmas.{if_ok}
-use Rattle.wgr_tables.specs.Decode.{network_in}
-use Rattle.wgr_tables.specs.Stored.{AreStored, stored_network}
+use Rattle.wgr_columns.specs.Decode.{network_in}
+use Rattle.wgr_columns.specs.Stored.{AreStored, stored_network}
 use Rattle.wgr_tables.specs.Loads.{ShowNetwork}
 use Rattle.wgr_tables.proofs.ListedLemmas.{network_listed}
 use Rattle.wgr_tables.proofs.Meanings.{network_text, network_asks}

@@ -1,8 +1,8 @@
 use Rattle.std.proofs.Common.{pos, [], ◌∷◌}
 use Rattle.sqlite.specs.declared.types.Value.TheVariants.{Int}
 use Rattle.wgr_sql.proofs.ResultLemmas.{if_ok}
-use Rattle.wgr_tables.specs.Decode.{peer_in}
-use Rattle.wgr_tables.specs.Stored.{AreRising, AreStored, stored_peer}
+use Rattle.wgr_columns.specs.Decode.{peer_in}
+use Rattle.wgr_columns.specs.Stored.{AreRising, AreStored, stored_peer}
 use Rattle.wgr_tables.specs.Loads.{ShowPeers}
 use Rattle.wgr_tables.proofs.ListedLemmas.{peers_listed}
 use Rattle.wgr_tables.proofs.Meanings.{peers_text, peers_asks}

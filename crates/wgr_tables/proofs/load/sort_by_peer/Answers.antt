@@ -1,7 +1,7 @@
 use Rattle.std.proofs.Common.{◌≡◌, rules}
 use Rattle.std.proofs.lemmas.Fn.{always_returns_same}
 use Rattle.wgr_model.specs.Rows.{AllowedRow}
-use Rattle.wgr_tables.specs.Decode.{allowed_in, number_at}
+use Rattle.wgr_columns.specs.Decode.{allowed_in, number_at}
 use Rattle.wgr_tables.proofs.SortedRows.{sorted_rise}
 use Rattle.wgr_tables.proofs.load.sort_by_peer.Goals as goal
 

@@ -1,8 +1,8 @@
 use Rattle.std.proofs.Common.{pos, [], ◌∷◌}
 use Rattle.sqlite.specs.declared.types.Value.TheVariants.{Int}
 use Rattle.wgr_sql.proofs.ResultLemmas.{if_ok}
-use Rattle.wgr_tables.specs.Decode.{allowed_in}
-use Rattle.wgr_tables.specs.Stored.{AreStored, stored_allowed}
+use Rattle.wgr_columns.specs.Decode.{allowed_in}
+use Rattle.wgr_columns.specs.Stored.{AreStored, stored_allowed}
 use Rattle.wgr_tables.specs.Loads.{ShowAddresses}
 use Rattle.wgr_tables.proofs.ListedLemmas.{addresses_listed}
 use Rattle.wgr_tables.proofs.Meanings.{addresses_text, addresses_asks}

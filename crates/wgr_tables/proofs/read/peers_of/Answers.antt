@@ -5,9 +5,9 @@ use Rattle.wgr_peers.specs.declared.peer.Peer.{Peer}
 use Rattle.wgr_model.specs.Rows.{address_row, peer_row}
 use Rattle.wgr_sql.specs.declared.fault.Fault.TheVariants.{Store}
 use Rattle.wgr_sql.proofs.Answers.{map-both}
-use Rattle.wgr_tables.specs.Decode.{allowed_in, peer_in}
-use Rattle.wgr_tables.specs.Stored.{IsKeptPeer, stored_allowed, stored_peer}
-use Rattle.wgr_tables.proofs.FieldLemmas.{both_at, one_longer}
+use Rattle.wgr_columns.specs.Decode.{allowed_in, peer_in}
+use Rattle.wgr_columns.specs.Stored.{IsKeptPeer, stored_allowed, stored_peer}
+use Rattle.wgr_tables.proofs.PlaceLemmas.{both_at, one_longer}
 use Rattle.wgr_tables.proofs.read.peers_of.Goals as goal
 
 pub returns-in_err-peer-clause-only : goal.returns-in_err-peer-clause-only

@@ -1,6 +1,6 @@
 use Rattle.std.proofs.Common.{◌≡◌, map, take}
 use Rattle.wgr_model.specs.Rows.{peer_row, address_row}
-use Rattle.wgr_tables.specs.Decode.{allowed_in, peer_in}
+use Rattle.wgr_columns.specs.Decode.{allowed_in, peer_in}
 use Rattle.wgr_tables.proofs.read.peers_of.Given as goal
 
 abbrev pub invariant-loop-at : goal.invariant-loop-at

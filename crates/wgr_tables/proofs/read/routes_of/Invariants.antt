@@ -1,6 +1,6 @@
 use Rattle.std.proofs.Common.{◌≡◌, map, take}
 use Rattle.wgr_model.specs.Rows.{route_row}
-use Rattle.wgr_tables.specs.Decode.{allowed_in}
+use Rattle.wgr_columns.specs.Decode.{allowed_in}
 use Rattle.wgr_tables.proofs.read.routes_of.Given as goal
 
 abbrev pub invariant-loop-row : goal.invariant-loop-row

@@ -3,8 +3,9 @@ use Rattle.wgr_text.specs.Prefix.{IsAddr}
 use Rattle.wgr_model.specs.Rows.{last_of, family_number, peer_id}
 use Rattle.sqlite.specs.Held.{state}
 use Rattle.wgr_sql.proofs.ResultLemmas.{if_ok}
-use Rattle.wgr_tables.specs.Decode.{route_kind, bytes_of}
-use Rattle.wgr_tables.proofs.AllowedLemmas.{allowed_came, fits_128}
+use Rattle.wgr_columns.specs.Decode.{route_kind, bytes_of}
+use Rattle.wgr_tables.proofs.AllowedLemmas.{allowed_came}
+use Rattle.wgr_columns.proofs.FieldLemmas.{fits_128}
 use Rattle.wgr_tables.proofs.Meanings.{insert_route_text, insert_route_means}
 use Rattle.sqlite.specs.declared.types.Value.TheVariants.{Int, Blob}
 use Rattle.wgr_tables.proofs.StopLemmas.{written_fails, insert_route_writes}

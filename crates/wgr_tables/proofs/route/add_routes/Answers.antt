@@ -9,7 +9,7 @@ use Rattle.wgr_tables.specs.Standing.{StepsFrom}
 use Rattle.wgr_text.specs.Prefix.{PrefixValue}
 use Rattle.wgr_sql.proofs.SurvivesLemmas.{survives_next}
 use Rattle.wgr_sql.proofs.StepLemmas.{loop_more}
-use Rattle.wgr_tables.specs.Decode.{IsRegister, tables_of}
+use Rattle.wgr_columns.specs.Decode.{IsRegister, tables_of}
 use Rattle.wgr_sql.specs.Causes.{HasCauseOr}
 use Rattle.wgr_sql.proofs.CauseLemmas.{handed}
 use Rattle.wgr_tables.specs.Stops.{RouteStaysOut, OneOfEach}

@@ -2,11 +2,12 @@ use Rattle.std.proofs.Common.{subst, [], ◌∷◌, pos}
 use Rattle.sqlite.specs.Held.{state}
 use Rattle.wgr_text.specs.Prefix.{IsAddr}
 use Rattle.wgr_sql.proofs.ResultLemmas.{if_ok}
-use Rattle.wgr_tables.proofs.AllowedLemmas.{route_gone, fits_128}
+use Rattle.wgr_tables.proofs.AllowedLemmas.{route_gone}
+use Rattle.wgr_columns.proofs.FieldLemmas.{fits_128}
 use Rattle.sqlite.specs.declared.types.Value.TheVariants.{Int, Blob}
 use Rattle.wgr_tables.proofs.Meanings.{drop_route_text}
 use Rattle.wgr_tables.proofs.StopLemmas.{written_fails, drop_route_writes}
-use Rattle.wgr_tables.specs.Decode.{bytes_of}
+use Rattle.wgr_columns.specs.Decode.{bytes_of}
 use Rattle.wgr_model.specs.Rows.{family_number}
 use Rattle.wgr_tables.proofs.route.drop_route.Goals as goal
 

@@ -5,7 +5,7 @@ use Rattle.sqlite.specs.Listing.{understood}
 use Rattle.sqlite.specs.Order.{Row}
 use Rattle.sqlite.specs.State.{Shown}
 use Rattle.sqlite.proofs.Callers.{IsPlain}
-use Rattle.wgr_tables.specs.Decode.{IsRegister, tables_of}
+use Rattle.wgr_columns.specs.Decode.{IsRegister, tables_of}
 use Rattle.wgr_tables.specs.TableSteps.{HasNoRoute}
 use Rattle.wgr_tables.proofs.ListedLemmas.{no_route_listed}
 use Rattle.wgr_tables.proofs.Meanings.{first_route_asks, first_route_text}

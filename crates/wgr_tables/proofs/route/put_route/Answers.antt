@@ -4,7 +4,7 @@ use Rattle.sqlite.specs.Held.{state}
 use Rattle.wgr_tables.specs.TableSteps.{RouteGoes, RouteComes}
 use Rattle.wgr_sql.specs.declared.fault.Fault.{Fault}
 use Rattle.wgr_sql.proofs.StepLemmas.{steps_then, from_step}
-use Rattle.wgr_tables.specs.Decode.{IsRegister, tables_of}
+use Rattle.wgr_columns.specs.Decode.{IsRegister, tables_of}
 use Rattle.wgr_sql.specs.Causes.{HasCauseOr}
 use Rattle.wgr_sql.proofs.CauseLemmas.{handed}
 use Rattle.wgr_tables.specs.Stops.{RouteStays, RouteStaysOut, OneOfTwo}

@@ -5,7 +5,7 @@ use Rattle.wgr_model.specs.Rows.{Tables}
 use Rattle.wgr_sql.specs.declared.fault.Fault.{Fault}
 use Rattle.wgr_sql.specs.Steps.{Each}
 use Rattle.wgr_sql.proofs.StepLemmas.{chain_then}
-use Rattle.wgr_tables.specs.Decode.{IsRegister, tables_of}
+use Rattle.wgr_columns.specs.Decode.{IsRegister, tables_of}
 use Rattle.wgr_tables.specs.TableSteps.{HasNoRoute, RouteComes, RoutePuts}
 use Rattle.wgr_tables.proofs.Made.{Made}
 use Rattle.wgr_tables.proofs.NewRoutes.{routes_are_put}

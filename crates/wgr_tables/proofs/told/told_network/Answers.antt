@@ -6,9 +6,9 @@ use Rattle.wgr_model.specs.Rows.{NetworkRow, address_row, peer_row, route_row}
 use Rattle.wgr_model.proofs.GatherLemmas.{eqb_self}
 use Rattle.wgr_sql.specs.declared.fault.Fault.TheVariants.{Store}
 use Rattle.wgr_sql.proofs.SurvivesLemmas.{survives_next}
-use Rattle.wgr_tables.specs.Decode.{tables_of, network_in, number_at}
+use Rattle.wgr_columns.specs.Decode.{tables_of, network_in, number_at}
 use Rattle.wgr_tables.specs.Loads.{IsMade, network_with}
-use Rattle.wgr_tables.specs.Stored.{AreSettings, stored_network}
+use Rattle.wgr_columns.specs.Stored.{AreSettings, stored_network}
 use Rattle.wgr_tables.specs.Told.{IsTold}
 use Rattle.wgr_tables.proofs.ArrangeLemmas.{same_routes}
 use Rattle.wgr_tables.proofs.ToldLemmas.{told_settings}

@@ -3,8 +3,8 @@ use Rattle.wgr_sql.proofs.ResultLemmas.{if_ok, if_both}
 use Rattle.wgr_core.specs.Network.{NetworkValue}
 use Rattle.wgr_model.specs.Rows.{AllowedRow, PeerRow, address_row, peer_row}
 use Rattle.wgr_sql.specs.declared.fault.Fault.TheVariants.{Store}
-use Rattle.wgr_tables.specs.Decode.{tables_of, peer_in, allowed_in}
-use Rattle.wgr_tables.specs.Stored.{stored_allowed, stored_peer}
+use Rattle.wgr_columns.specs.Decode.{tables_of, peer_in, allowed_in}
+use Rattle.wgr_columns.specs.Stored.{stored_allowed, stored_peer}
 use Rattle.wgr_tables.specs.Told.{IsTold}
 use Rattle.wgr_tables.proofs.ArrangeLemmas.{arranged_peers, kept_peers, peers_once}
 use Rattle.wgr_tables.proofs.ToldLemmas.{err_as, none_as, told_as}

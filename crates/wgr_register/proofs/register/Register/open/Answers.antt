@@ -1,6 +1,7 @@
 use Rattle.std.proofs.Common.{[]}
 use Rattle.sqlite.specs.Held.{state}
-use Rattle.wgr_tables.specs.Decode.{tables_of}
+use Rattle.wgr_columns.specs.Decode.{tables_of}
+use Rattle.wgr_register.proofs.CachedLemmas.{none_current}
 use Rattle.wgr_register.proofs.LoadedLemmas.{none_formed}
 use Rattle.wgr_register.proofs.StandLemmas.{at_good}
 use Rattle.wgr_register.proofs.register.Register.open.Goals as goal
@@ -12,6 +13,7 @@ invariant_of-result g c = (
     somewhere = λ clean. let found = c.in-Ok.ensures.right clean in (_, [], at_good g.S.Store c.check_register.new.conn _ found.0 found.1);
   },
   λ clean live. none_formed (tables_of (state g.S.Store c.check_register.new.conn).now),
+  λ clean live. none_current (tables_of (state g.S.Store c.check_register.new.conn).now),
 )
 
 pub returns-in-Ok-clause-good : goal.returns-in-Ok-clause-good

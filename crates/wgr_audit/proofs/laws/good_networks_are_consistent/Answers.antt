@@ -1,5 +1,0 @@
-use Rattle.wgr_audit.proofs.NetworkLaws.{good_networks_are}
-use Rattle.wgr_audit.proofs.laws.good_networks_are_consistent.Goals as goal
-
-pub returns : goal.returns
-returns c = good_networks_are

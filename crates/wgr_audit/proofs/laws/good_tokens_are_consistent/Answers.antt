@@ -1,5 +1,0 @@
-use Rattle.wgr_audit.proofs.TokenLaws.{good_tokens_are}
-use Rattle.wgr_audit.proofs.laws.good_tokens_are_consistent.Goals as goal
-
-pub returns : goal.returns
-returns c = good_tokens_are

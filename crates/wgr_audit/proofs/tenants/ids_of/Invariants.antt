@@ -1,7 +1,0 @@
-use Rattle.std.proofs.Common.{◌≡◌, ◌<◌, ℕ, [], map, take, slice_index_or}
-use Rattle.wgr_tables.specs.Decode.{number_at}
-use Rattle.wgr_audit.specs.TenantRows.{IsTenantRow}
-use Rattle.wgr_audit.proofs.tenants.ids_of.Given as goal
-
-abbrev pub invariant-loop-row : goal.invariant-loop-row
-invariant-loop-row l = (l.ids.items ≡ map (λ r. number_at r 0) (take l.row-index l.rows)) × ((k : ℕ) → k < l.row-index → IsTenantRow (slice_index_or l.rows k []))

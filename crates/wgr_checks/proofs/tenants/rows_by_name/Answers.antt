@@ -1,0 +1,16 @@
+use Rattle.std.proofs.Common.{true}
+use Rattle.sqlite.specs.Held.{state}
+use Rattle.wgr_sql.proofs.ResultLemmas.{if_ok}
+use Rattle.wgr_checks.proofs.Queries.{is_plain, names_ask, names_listed, names_text, name_places, names_answered}
+use Rattle.wgr_checks.proofs.CauseLemmas.{is_answered}
+use Rattle.wgr_checks.proofs.tenants.rows_by_name.Goals as goal
+
+pub returns-clause-listed : goal.returns-clause-listed
+returns-clause-listed g c clean laid =
+    if_ok c.query.result _ _ (λ rows answer. (answer.was_open, names_listed (state g.S.Store (record c.args.conn.now { in_transaction = true })) (state g.S.Store answer.after) (laid answer.was_open) rows.items answer.shown)) (c.query.ensures.shown clean)
+
+pub returns-clause-kept : goal.returns-clause-kept
+returns-clause-kept g c laid = c.query.ensures.kept (λ live clean. is_plain 1 2 name_places _ names_text names_ask c.args.conn.now.schema (laid clean live))
+
+pub returns-clause-cause : goal.returns-clause-cause
+returns-clause-cause g c laid = c.query.ensures.cause (λ live clean. is_answered names_text names_answered c.args.conn.now.schema (laid clean live))

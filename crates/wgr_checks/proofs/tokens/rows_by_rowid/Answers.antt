@@ -1,0 +1,17 @@
+use Rattle.std.proofs.Common.{true}
+use Rattle.sqlite.specs.Held.{state}
+use Rattle.wgr_sql.proofs.ResultLemmas.{if_ok}
+use Rattle.wgr_checks.proofs.Queries.{is_plain}
+use Rattle.wgr_checks.proofs.TokenQueries.{rowids_ask, rowids_listed, rowids_text, rowid_places, rowids_answered}
+use Rattle.wgr_checks.proofs.CauseLemmas.{is_answered}
+use Rattle.wgr_checks.proofs.tokens.rows_by_rowid.Goals as goal
+
+pub returns-clause-listed : goal.returns-clause-listed
+returns-clause-listed g c clean laid =
+    if_ok c.query.result _ _ (λ rows answer. (answer.was_open, rowids_listed (state g.S.Store (record c.args.conn.now { in_transaction = true })) (state g.S.Store answer.after) (laid answer.was_open) rows.items answer.shown)) (c.query.ensures.shown clean)
+
+pub returns-clause-kept : goal.returns-clause-kept
+returns-clause-kept g c laid = c.query.ensures.kept (λ live clean. is_plain 3 0 rowid_places _ rowids_text rowids_ask c.args.conn.now.schema (laid clean live))
+
+pub returns-clause-cause : goal.returns-clause-cause
+returns-clause-cause g c laid = c.query.ensures.cause (λ live clean. is_answered rowids_text rowids_answered c.args.conn.now.schema (laid clean live))

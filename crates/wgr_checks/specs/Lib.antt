@@ -1,0 +1,10 @@
+pub mod Sorted
+pub mod TenantRows
+pub mod TokenRows
+pub mod NetworkRows
+pub mod OwnRows
+pub mod PeerRows
+pub mod AllowedRows
+pub mod TableRows
+pub mod Walked
+pub mod Laws

@@ -1,0 +1,198 @@
+-- The rows of the model, read from the rows of the database. A table's columns stand from place 1
+-- on, and its rowid, which is an INTEGER PRIMARY KEY where it has one, at place 0.
+use Rattle.std.specs.Prelude.{◌≡◌, ◌⊎◌, ℕ, pos, ◌+◌, cond, nat_eq, List, [], ◌∷◌, map, codes, bytes_eq, Option, Some, None, unsigned_abs}
+use Rattle.std.specs.Int.{w128, from_be_bytes, to_be_bytes}
+use Rattle.sqlite_value.specs.Order.{Row, column, bytes}
+use Rattle.sqlite_rules.specs.Edit.{id_in}
+use Rattle.sqlite_rules.specs.Lists.{Has}
+use Rattle.sqlite.specs.declared.types.Value.TheVariants.{Null, Int, Text, Blob}
+use Rattle.sqlite.specs.Tree.{Trees}
+use Rattle.sqlite.specs.Effect.{Database, IsDatabase}
+use Rattle.sqlite_sql.specs.Ops.{is_null}
+use Rattle.wgr_text.specs.declared.addr.Family.{Family}
+use Rattle.wgr_text.specs.declared.addr.Family.TheVariants.{V4, V6}
+use Rattle.wgr_text.specs.declared.key.Key.{Key}
+use Rattle.wgr_text.specs.Prefix.{AddrValue, PrefixValue}
+use Rattle.wgr_peers.specs.declared.peer.Status.{Status}
+use Rattle.wgr_model.specs.Register.{Tenant, Token}
+use Rattle.wgr_model.specs.Rows.{NetworkRow, PeerRow, AllowedRow, MetaRow, Tables, family_number}
+use Rattle.wgr_sql.specs.Keyed.{IsKeyed}
+use Rattle.wgr_columns.specs.Layout.{Others, schema_with, AreApart, allowed_tree, meta_tree, network_tree, peer_tree, tenant_tree, token_tree}
+
+abbrev pub number_at : Row → ℕ → ℕ
+number_at row at = unsigned_abs (id_in (column row at))
+
+-- the bytes of a blob or of a text
+abbrev pub bytes_at : Row → ℕ → List ℕ
+bytes_at row at = bytes (column row at)
+
+abbrev pub family_of : ℕ → Family
+family_of n = cond (nat_eq n 4) V4 V6
+
+-- the 16 bytes of a number, the highest first
+unfoldable pub bytes_of : ℕ → List ℕ
+bytes_of = to_be_bytes w128
+
+-- the number of 16 bytes, the highest first
+unfoldable pub number_of : List ℕ → ℕ
+number_of = from_be_bytes w128
+
+abbrev pub address_at : Row → ℕ → ℕ → AddrValue
+address_at row family at = record { family = family_of (number_at row family); number = number_of (bytes_at row at) }
+
+-- a prefix whose family, address and length stand from this place on
+abbrev pub prefix_at : Row → ℕ → PrefixValue
+prefix_at row at = record { address = address_at row at (at + 1); length = number_at row (at + 2) }
+
+abbrev pub key_at : Row → ℕ → Key
+key_at row at = record { 0 = bytes_at row at }
+
+abbrev pub meta_in : Row → MetaRow
+meta_in row = record { version = number_at row 0 }
+
+abbrev pub tenant_in : Row → Tenant
+tenant_in row = record { id = number_at row 0; name = bytes_at row 2 }
+
+abbrev pub token_in : Row → Token
+token_in row = record { digest = bytes_at row 1; tenant = number_at row 2 }
+
+abbrev pub network_in : Row → NetworkRow
+network_in row = record {
+  id = number_at row 0;
+  tenant = number_at row 2;
+  name = bytes_at row 3;
+  pool = record { address = address_at row 4 5; length = number_at row 6 };
+  host = bytes_at row 7;
+  port = number_at row 8;
+  server = key_at row 9;
+  capacity = number_at row 10;
+  next = number_at row 11;
+}
+
+-- absent together: where the first is absent, there is no status
+abbrev pub status_at : Row → Option Status
+status_at row = cond (is_null (column row 7)) None (Some (record { handshake = number_at row 7; received = number_at row 8; sent = number_at row 9 }))
+
+abbrev pub peer_in : Row → PeerRow
+peer_in row = record { id = number_at row 0; network = number_at row 2; key = key_at row 3; label = bytes_at row 4; until = number_at row 5; keepalive = number_at row 6; status = status_at row }
+
+abbrev pub route_kind : List ℕ
+route_kind = codes "route"
+
+abbrev pub address_kind : List ℕ
+address_kind = codes "address"
+
+abbrev pub allowed_in : Row → AllowedRow
+allowed_in row = record {
+  network = number_at row 1;
+  prefix = record { address = address_at row 2 3; length = number_at row 4 };
+  last = address_at row 2 5;
+  peer = number_at row 6;
+  is_route = bytes_eq (bytes_at row 7) route_kind;
+}
+
+abbrev pub tables_in : Trees → Tables
+tables_in trees = record {
+  meta = map meta_in (trees meta_tree);
+  tenants = map tenant_in (trees tenant_tree);
+  tokens = map token_in (trees token_tree);
+  networks = map network_in (trees network_tree);
+  peers = map peer_in (trees peer_tree);
+  allowed = map allowed_in (trees allowed_tree);
+}
+
+-- the rows of the register that a database holds
+abbrev pub tables_of : Database → Tables
+tables_of db = tables_in db.trees
+
+-- ---- rows that are written as such
+
+-- an integer from 0 on
+abbrev pub IsNumberAt : Row → ℕ → Type 0
+IsNumberAt row at = column row at ≡ Int (pos (number_at row at))
+
+-- the values at these places are integers from 0 on
+abbrev pub AreNatural : List ℕ → List Row → Type 0
+AreNatural places rows = (r : Row) → Has rows r → (p : ℕ) → Has places p → IsNumberAt r p
+
+-- the bytes at these places are the 16 of a number
+abbrev pub AreSpelled : List ℕ → List Row → Type 0
+AreSpelled places rows = (r : Row) → Has rows r → (p : ℕ) → Has places p → column r p ≡ Blob (bytes_of (number_of (bytes_at r p)))
+
+-- the numbers at these places are those of families
+abbrev pub HaveFamilies : List ℕ → List Row → Type 0
+HaveFamilies places rows = (r : Row) → Has rows r → (p : ℕ) → Has places p → number_at r p ≡ family_number (family_of (number_at r p))
+
+-- rowids tell the rows apart, and what stands at these places are numbers, addresses and families
+pub record AreWritten (numbers addresses families : List ℕ) (rows : List Row) : Type 0 where
+  pub keyed : IsKeyed rows
+  pub numbers_are : AreNatural numbers rows
+  pub addresses_are : AreSpelled addresses rows
+  pub families_are : HaveFamilies families rows
+
+abbrev pub network_numbers : List ℕ
+network_numbers = 0 ∷ 2 ∷ 4 ∷ 6 ∷ 8 ∷ 10 ∷ 11 ∷ []
+
+abbrev pub peer_numbers : List ℕ
+peer_numbers = 0 ∷ 2 ∷ 5 ∷ 6 ∷ []
+
+abbrev pub allowed_numbers : List ℕ
+allowed_numbers = 1 ∷ 2 ∷ 4 ∷ 6 ∷ []
+
+abbrev pub allowed_addresses : List ℕ
+allowed_addresses = 3 ∷ 5 ∷ []
+
+abbrev pub AreTenants : List Row → Type 0
+AreTenants = AreWritten (0 ∷ []) [] []
+
+abbrev pub AreTokens : List Row → Type 0
+AreTokens = AreWritten (2 ∷ []) [] []
+
+abbrev pub AreNetworks : List Row → Type 0
+AreNetworks = AreWritten network_numbers (5 ∷ []) (4 ∷ [])
+
+abbrev pub ArePeers : List Row → Type 0
+ArePeers = AreWritten peer_numbers [] []
+
+abbrev pub AreAllowed : List Row → Type 0
+AreAllowed = AreWritten allowed_numbers allowed_addresses (2 ∷ [])
+
+-- three counts of a status, all there or all absent
+abbrev pub IsStatusThere : Row → Type 0
+IsStatusThere row = IsNumberAt row 7 × IsNumberAt row 8 × IsNumberAt row 9
+
+abbrev pub IsStatusAbsent : Row → Type 0
+IsStatusAbsent row = (column row 7 ≡ Null) × (column row 8 ≡ Null) × (column row 9 ≡ Null)
+
+abbrev pub IsStatusRow : Row → Type 0
+IsStatusRow row = IsStatusThere row ⊎ IsStatusAbsent row
+
+abbrev pub HaveStatuses : List Row → Type 0
+HaveStatuses rows = (r : Row) → Has rows r → IsStatusRow r
+
+abbrev pub IsKindAt : Row → ℕ → Type 0
+IsKindAt row at = (column row at ≡ Text address_kind) ⊎ (column row at ≡ Text route_kind)
+
+-- each is an address or a route
+abbrev pub HaveKinds : List Row → Type 0
+HaveKinds rows = (r : Row) → Has rows r → IsKindAt r 7
+
+-- the rows of the six tables
+pub record AreTrees (trees : Trees) : Type 0 where
+  pub meta : AreWritten (0 ∷ []) [] [] (trees meta_tree)
+  pub tenants : AreTenants (trees tenant_tree)
+  pub tokens : AreTokens (trees token_tree)
+  pub networks : AreNetworks (trees network_tree)
+  pub peers : ArePeers (trees peer_tree)
+  pub allowed : AreAllowed (trees allowed_tree)
+  pub statuses : HaveStatuses (trees peer_tree)
+  pub kinds : HaveKinds (trees allowed_tree)
+
+-- the database has the register's tables, perhaps with others after them that stand apart, and
+-- their rows are written as such
+pub record IsRegister (db : Database) : Type 0 where
+  pub others : Others
+  pub schema_is : db.schema ≡ schema_with others
+  pub apart : AreApart others
+  pub sound : IsDatabase db
+  pub written : AreTrees db.trees

@@ -1,0 +1,120 @@
+-- The tables of the register and their indexes, as the database's schema has them.
+use Rattle.std.specs.Prelude.{◌≡◌, ℕ, Bool, true, false, not, ◌&&◌, nat_le, List, [], ◌∷◌, ◌++◌, map, Option, Some, None, codes}
+use Rattle.std.specs.List.{list_any, list_all}
+use Rattle.sqlite.specs.Collation.TheVariants.{Binary}
+use Rattle.sqlite.specs.declared.types.Value.TheVariants.{Null}
+use Rattle.sqlite_value.specs.Keys.{plain}
+use Rattle.sqlite_schema.specs.Names.{same_name}
+use Rattle.sqlite_schema.specs.declared.schema.Column.{Column}
+use Rattle.sqlite_schema.specs.declared.schema.Kind.{Kind}
+use Rattle.sqlite_schema.specs.declared.schema.Index.{Index}
+use Rattle.sqlite_schema.specs.declared.schema.Reference.{Reference}
+use Rattle.sqlite_schema.specs.declared.schema.View.{View}
+use Rattle.sqlite.specs.Table.{Table}
+use Rattle.sqlite.specs.Schema.{Schema}
+use Rattle.sqlite.specs.Kind.TheVariants.{Integer, Text, Blob}
+
+-- a column of a STRICT table
+abbrev pub column_of : List ℕ → Kind → Bool → Column
+column_of name kind needed = record { name = name; kind = kind; is_strict = true; not_null = needed; default = Null; collation = Binary }
+
+-- a table with no default, no check, no reference and no counter
+abbrev pub table_of : List ℕ → ℕ → Option ℕ → List ℕ → List (List ℕ) → List Column → Table
+table_of name tree key primary uniques columns = record {
+  name = name;
+  tree = tree;
+  columns = columns;
+  key = key;
+  primary = primary;
+  uniques = uniques;
+  orders = map (λ _. plain) uniques;
+  checks = [];
+  references = [];
+  computed = [];
+  stamps = record { places = []; terms = []; formats = [] };
+  is_counted = false;
+}
+
+abbrev pub meta_at : ℕ → Table
+meta_at tree = table_of (codes "meta") tree (Some 0) (0 ∷ []) [] (column_of (codes "version") Integer false ∷ [])
+
+abbrev pub tenant_at : ℕ → Table
+tenant_at tree = table_of (codes "tenant") tree (Some 0) (0 ∷ []) ((2 ∷ []) ∷ []) (column_of (codes "id") Integer false ∷ column_of (codes "name") Text true ∷ [])
+
+abbrev pub token_at : ℕ → Table
+token_at tree = table_of (codes "token") tree None (1 ∷ []) ((1 ∷ []) ∷ []) (column_of (codes "digest") Blob true ∷ column_of (codes "tenant") Integer true ∷ [])
+
+abbrev pub network_at : ℕ → Table
+network_at tree = table_of (codes "network") tree (Some 0) (0 ∷ []) ((2 ∷ 3 ∷ []) ∷ (7 ∷ 8 ∷ []) ∷ [])
+    (column_of (codes "id") Integer false ∷ column_of (codes "tenant") Integer true ∷ column_of (codes "name") Text true ∷ column_of (codes "family") Integer true ∷ column_of (codes "lo") Blob true
+    ∷ column_of (codes "length") Integer true ∷ column_of (codes "host") Text true ∷ column_of (codes "port") Integer true ∷ column_of (codes "server") Blob true
+    ∷ column_of (codes "capacity") Integer true ∷ column_of (codes "next") Integer true ∷ [])
+
+abbrev pub peer_at : ℕ → Table
+peer_at tree = table_of (codes "peer") tree (Some 0) (0 ∷ []) ((2 ∷ 3 ∷ []) ∷ [])
+    (column_of (codes "id") Integer false ∷ column_of (codes "network") Integer true ∷ column_of (codes "key") Blob true ∷ column_of (codes "label") Text true ∷ column_of (codes "until") Integer true
+    ∷ column_of (codes "keepalive") Integer true ∷ column_of (codes "handshake") Integer false ∷ column_of (codes "received") Integer false ∷ column_of (codes "sent") Integer false ∷ [])
+
+abbrev pub allowed_at : ℕ → Table
+allowed_at tree = table_of (codes "allowed") tree None (1 ∷ 2 ∷ 3 ∷ 4 ∷ []) ((1 ∷ 2 ∷ 3 ∷ 4 ∷ []) ∷ [])
+    (column_of (codes "network") Integer true ∷ column_of (codes "family") Integer true ∷ column_of (codes "lo") Blob true ∷ column_of (codes "length") Integer true ∷ column_of (codes "hi") Blob true
+    ∷ column_of (codes "peer") Integer true ∷ column_of (codes "kind") Text true ∷ [])
+
+-- the trees in which the rows of the tables are kept; those between are the indexes'
+abbrev pub meta_tree : ℕ
+meta_tree = 0
+
+abbrev pub tenant_tree : ℕ
+tenant_tree = 1
+
+abbrev pub token_tree : ℕ
+token_tree = 3
+
+abbrev pub network_tree : ℕ
+network_tree = 5
+
+abbrev pub peer_tree : ℕ
+peer_tree = 8
+
+abbrev pub allowed_tree : ℕ
+allowed_tree = 10
+
+-- the first tree that is none of the register's
+abbrev pub first_free_tree : ℕ
+first_free_tree = 13
+
+abbrev pub register_tables : List Table
+register_tables = meta_at meta_tree ∷ tenant_at tenant_tree ∷ token_at token_tree ∷ network_at network_tree ∷ peer_at peer_tree ∷ allowed_at allowed_tree ∷ []
+
+abbrev pub index_of : List ℕ → ℕ → ℕ → List ℕ → Bool → Index
+index_of name tree table columns is_unique = record { name = name; tree = tree; table = table; columns = columns; order = plain; is_unique = is_unique }
+
+-- One for each key, and one by which what leads to a peer is found: by network and peer.
+abbrev pub register_indexes : List Index
+register_indexes = index_of (codes "sqlite_autoindex_tenant_1") 2 1 (2 ∷ []) true ∷ index_of (codes "sqlite_autoindex_token_1") 4 3 (1 ∷ []) true ∷ index_of (codes "sqlite_autoindex_network_1") 6 5 (2 ∷ 3 ∷ []) true
+    ∷ index_of (codes "sqlite_autoindex_network_2") 7 5 (7 ∷ 8 ∷ []) true ∷ index_of (codes "sqlite_autoindex_peer_1") 9 8 (2 ∷ 3 ∷ []) true
+    ∷ index_of (codes "sqlite_autoindex_allowed_1") 11 10 (1 ∷ 2 ∷ 3 ∷ 4 ∷ []) true ∷ index_of (codes "allowed_peer") 12 10 (1 ∷ 6 ∷ []) false ∷ []
+
+-- what stands in the database after the register's tables and indexes
+pub record Others : Type 0 where
+  pub tables : List Table
+  pub indexes : List Index
+  pub views : List View
+
+abbrev pub schema_with : Others → Schema
+schema_with others = record { tables = register_tables ++ others.tables; indexes = register_indexes ++ others.indexes; views = others.views }
+
+abbrev pub refers : List Table → Reference → Bool
+refers tables ref = list_any (λ t. same_name t.name ref.parent) tables
+
+-- whether a table's rows stand past the register's, and none refers to one of the tables
+abbrev pub is_apart : List Table → Table → Bool
+is_apart tables table = nat_le first_free_tree table.tree && not (list_any (refers tables) table.references)
+
+abbrev pub is_past : Index → Bool
+is_past index = nat_le first_free_tree index.tree
+
+-- Each further table stands apart. Further indexes and views are free.
+pub record AreApart (others : Others) : Type 0 where
+  pub tables : list_all (is_apart register_tables) others.tables ≡ true
+  pub indexes : list_all is_past others.indexes ≡ true

@@ -1,0 +1,11 @@
+-- What is asked: of a key, and of all entries.
+pub mod LookupTexts
+pub mod LookupLemmas
+pub mod WordLemmas
+pub mod AllLemmas
+-- What comes and goes.
+pub mod Meanings
+pub mod KeptLemmas
+pub mod StopLemmas
+pub mod ComeLemmas
+pub mod GoLemmas

@@ -1,0 +1,4 @@
+pub mod Lookups
+pub mod OrderSteps
+pub mod Kept
+pub mod Stops

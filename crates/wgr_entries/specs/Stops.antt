@@ -1,0 +1,47 @@
+-- Where a write of an order isn't done: the database refuses one of its statements.
+use Rattle.std.specs.Prelude.{ℕ, List, [], ◌∷◌, codes}
+use Rattle.sqlite_value.specs.Order.{Row}
+use Rattle.sqlite.specs.declared.types.Value.TheVariants.{Text, Blob}
+use Rattle.wgr_model.specs.Register.{Bytes, Tenant, Token}
+use Rattle.wgr_model.specs.Rows.{NetworkRow, Tables, family_number}
+use Rattle.wgr_columns.specs.Decode.{bytes_of}
+use Rattle.wgr_tables.specs.Stops.{IsRefused, OneOfTwo, number}
+use Rattle.wgr_tables.specs.Writes.{NetworkGained, NetworkLost, Replaced, TenantGained, TokenGained, TokenLost, Written}
+use Rattle.wgr_entries.specs.OrderSteps.{AllowedGoes, PeersGo}
+
+abbrev pub TenantStaysOut : Tenant → Tables → Type 0
+TenantStaysOut x = IsRefused (codes "INSERT INTO tenant (id, name) VALUES (?1, ?2)") (number x.id ∷ Text x.name ∷ [])
+
+abbrev pub TokenStaysOut : Token → Tables → Type 0
+TokenStaysOut x = IsRefused (codes "INSERT INTO token (digest, tenant) VALUES (?1, ?2)") (Blob x.digest ∷ number x.tenant ∷ [])
+
+abbrev pub TokenStays : Bytes → Tables → Type 0
+TokenStays digest = IsRefused (codes "DELETE FROM token WHERE digest = ?1") (Blob digest ∷ [])
+
+-- the values of a new network's row, but for its next number, which is 1
+abbrev pub network_params : NetworkRow → Row
+network_params w = number w.id ∷ number w.tenant ∷ Text w.name ∷ number (family_number w.pool.address.family) ∷ Blob (bytes_of w.pool.address.number) ∷ number w.pool.length ∷ Text w.host ∷ number w.port ∷ Blob w.server.0 ∷ number w.capacity ∷ []
+
+abbrev pub NetworkStaysOut : NetworkRow → Tables → Type 0
+NetworkStaysOut w = IsRefused (codes "INSERT INTO network (id, tenant, name, family, lo, length, host, port, server, capacity, next) VALUES (?1, ?2, ?3, ?4, ?5, ?6, ?7, ?8, ?9, ?10, 1)") (network_params w)
+
+abbrev pub AllowedStays : ℕ → Tables → Type 0
+AllowedStays network = IsRefused (codes "DELETE FROM allowed WHERE network = ?1") (number network ∷ [])
+
+abbrev pub PeersStay : ℕ → Tables → Type 0
+PeersStay network = IsRefused (codes "DELETE FROM peer WHERE network = ?1") (number network ∷ [])
+
+abbrev pub NetworkRowStays : ℕ → Tables → Type 0
+NetworkRowStays network = IsRefused (codes "DELETE FROM network WHERE id = ?1") (number network ∷ [])
+
+abbrev pub NetworkStays : ℕ → Tables → Type 0
+NetworkStays network = OneOfTwo (AllowedStays network) (AllowedGoes network) (OneOfTwo (PeersStay network) (PeersGo network) (NetworkRowStays network))
+
+-- a write of an order isn't done on these rows
+abbrev pub WriteStops : Written → Tables → Type 0
+WriteStops (Replaced network value) t = ⊥
+WriteStops (TenantGained x) t = TenantStaysOut x t
+WriteStops (TokenGained x) t = TokenStaysOut x t
+WriteStops (TokenLost digest) t = TokenStays digest t
+WriteStops (NetworkGained w) t = NetworkStaysOut w t
+WriteStops (NetworkLost network) t = NetworkStays network t

@@ -1,0 +1,192 @@
+//! What an order asks of every entry: all rows of a table, in whatever order.
+ghost use Rattle.std.specs.Prelude.{◌≡◌, ◌++◌, ◌∷◌, [], List, length, map, false, IfErr, IfOk, OnOk, IsPermutation};
+ghost use Rattle.sqlite.specs.Effect.{Database};
+ghost use Rattle.sqlite.specs.State.{HasCleanDisk, Survives};
+ghost use Rattle.sqlite.specs.Held.{state};
+ghost use Rattle.wgr_model.specs.Consistent.{IsTenant};
+ghost use Rattle.wgr_model.specs.Laws.{Has};
+ghost use Rattle.wgr_model.specs.Register.{Tenant};
+ghost use Rattle.wgr_model.specs.Rows.{NetworkRow};
+ghost use Rattle.wgr_entries.specs.Kept.{AreOf};
+ghost use Rattle.wgr_sql.specs.Causes.{HasCause};
+ghost use Rattle.wgr_sql.specs.declared.fault.Fault.TheVariants.{NoMemory, Store};
+ghost use Rattle.wgr_columns.specs.Decode.{network_in, number_at, tables_of, tenant_in, token_in};
+ghost use Rattle.wgr_entries.specs.Lookups.{settled};
+ghost use Rattle.wgr_tables.specs.Standing.{Stands};
+ghost use Rattle.wgr_columns.specs.Stored.{AreStored, IsKeptNetwork, stored_network, stored_tenant};
+ghost use Rattle.wgr_tables.specs.Writes.{Written};
+
+use crate::settled::{read_settled, read_tenant};
+use sqlite::{Alter, Connection, Row};
+use std::alloc::Global;
+use wgr_columns::{tenant, word_at};
+use wgr_orders::{Holding, Tenant};
+use wgr_sql::{Fault, query};
+
+// The rows of all tokens.
+fn token_rows<S: Alter>(conn: &mut Connection<S>) -> Result<Vec<Row>, Fault>
+    requires idle { conn.old.in_transaction ≡ false }
+    ensures idle { conn.new.in_transaction ≡ false }
+    ensures stands { (db : Database) (pending : List Written) → Stands S.Store conn.old db pending → Stands S.Store conn.new db pending }
+    ensures clean { HasCleanDisk (state S.Store conn.new) → HasCleanDisk (state S.Store conn.old) }
+    ensures listed { (db : Database) (pending : List Written) → Stands S.Store conn.old db pending → HasCleanDisk (state S.Store conn.new)
+        → IfOk result (λ rows. IsPermutation (tables_of db).tokens (map token_in rows.items)) }
+    ensures survives { Survives (state S.Store conn.old) (state S.Store conn.new) (λ _. ⊥) }
+    ensures cause { (db : Database) (pending : List Written) → Stands S.Store conn.old db pending → IfErr result (HasCause (state S.Store conn.old) (state S.Store conn.new)) }
+{
+    query(conn, "SELECT NULL, digest, tenant FROM token", &[])
+}
+
+// The rows of all tenants.
+fn tenant_rows<S: Alter>(conn: &mut Connection<S>) -> Result<Vec<Row>, Fault>
+    requires idle { conn.old.in_transaction ≡ false }
+    ensures idle { conn.new.in_transaction ≡ false }
+    ensures stands { (db : Database) (pending : List Written) → Stands S.Store conn.old db pending → Stands S.Store conn.new db pending }
+    ensures clean { HasCleanDisk (state S.Store conn.new) → HasCleanDisk (state S.Store conn.old) }
+    ensures listed { (db : Database) (pending : List Written) → Stands S.Store conn.old db pending → HasCleanDisk (state S.Store conn.new)
+        → IfOk result (λ rows. IsPermutation (tables_of db).tenants (map tenant_in rows.items)) }
+    ensures survives { Survives (state S.Store conn.old) (state S.Store conn.new) (λ _. ⊥) }
+    ensures cause { (db : Database) (pending : List Written) → Stands S.Store conn.old db pending → IfErr result (HasCause (state S.Store conn.old) (state S.Store conn.new)) }
+    ensures stored { (db : Database) (pending : List Written) → Stands S.Store conn.old db pending → HasCleanDisk (state S.Store conn.new) → IfOk result (λ rows. AreStored stored_tenant tenant_in rows.items) }
+{
+    query(conn, "SELECT id, NULL, name FROM tenant", &[])
+}
+
+// The ids of these rows.
+fn ids_in(alloc: Global, rows: &[Row]) -> Result<Vec<u32>, Fault>
+    ensures read { IfOk result (λ ids. ids.items ≡ map (λ r. number_at r 0) rows.now) }
+    ensures only { IfErr result (λ why. why ≡ Store → AreOf IsTenant stored_tenant rows.now → ⊥) }
+{
+    let mut ids = Vec::new(alloc);
+    for row in rows {
+        let Some(id) = word_at(row, tenant::ID) else {
+            return Err(Fault::Store);
+        };
+        if ids.push(id).is_err() {
+            return Err(Fault::NoMemory);
+        }
+    }
+    Ok(ids)
+}
+
+/// How many tokens there are. Their rows are read, since the lemmas on queries know no aggregates:
+/// `count(*)` would prove nothing.
+pub fn count_tokens<S: Alter>(conn: &mut Connection<S>) -> Result<usize, Fault>
+    requires idle { conn.old.in_transaction ≡ false }
+    ensures idle { conn.new.in_transaction ≡ false }
+    ensures stands { (db : Database) (pending : List Written) → Stands S.Store conn.old db pending → Stands S.Store conn.new db pending }
+    ensures clean { HasCleanDisk (state S.Store conn.new) → HasCleanDisk (state S.Store conn.old) }
+    ensures counted { (db : Database) (pending : List Written) → Stands S.Store conn.old db pending → HasCleanDisk (state S.Store conn.new)
+        → IfOk result (λ count. count ≡ length (tables_of db).tokens) }
+    ensures survives { Survives (state S.Store conn.old) (state S.Store conn.new) (λ _. ⊥) }
+    ensures cause { (db : Database) (pending : List Written) → Stands S.Store conn.old db pending → IfErr result (HasCause (state S.Store conn.old) (state S.Store conn.new)) }
+{
+    let rows = token_rows(conn)?;
+    Ok(rows.as_slice().len())
+}
+
+/// The ids of all tenants.
+pub fn tenant_ids<S: Alter>(alloc: Global, conn: &mut Connection<S>) -> Result<Vec<u32>, Fault>
+    requires idle { conn.old.in_transaction ≡ false }
+    ensures idle { conn.new.in_transaction ≡ false }
+    ensures stands { (db : Database) (pending : List Written) → Stands S.Store conn.old db pending → Stands S.Store conn.new db pending }
+    ensures clean { HasCleanDisk (state S.Store conn.new) → HasCleanDisk (state S.Store conn.old) }
+    ensures listed { (db : Database) (pending : List Written) → Stands S.Store conn.old db pending → HasCleanDisk (state S.Store conn.new)
+        → IfOk result (λ ids. IsPermutation (map (λ t. t.id) (tables_of db).tenants) ids.items) }
+    ensures survives { Survives (state S.Store conn.old) (state S.Store conn.new) (λ _. ⊥) }
+    ensures cause { (db : Database) (pending : List Written) → Stands S.Store conn.old db pending → ((x : Tenant) → Has (tables_of db).tenants x → IsTenant x) → IfErr result (HasCause (state S.Store conn.old) (state S.Store conn.new)) }
+{
+    let rows = tenant_rows(conn)?;
+    ids_in(alloc, rows.as_slice())
+}
+
+// The rows of all networks.
+fn network_rows<S: Alter>(conn: &mut Connection<S>) -> Result<Vec<Row>, Fault>
+    requires idle { conn.old.in_transaction ≡ false }
+    ensures idle { conn.new.in_transaction ≡ false }
+    ensures stands { (db : Database) (pending : List Written) → Stands S.Store conn.old db pending → Stands S.Store conn.new db pending }
+    ensures clean { HasCleanDisk (state S.Store conn.new) → HasCleanDisk (state S.Store conn.old) }
+    ensures listed { (db : Database) (pending : List Written) → Stands S.Store conn.old db pending → HasCleanDisk (state S.Store conn.new)
+        → IfOk result (λ rows. IsPermutation (tables_of db).networks (map network_in rows.items)) }
+    ensures survives { Survives (state S.Store conn.old) (state S.Store conn.new) (λ _. ⊥) }
+    ensures cause { (db : Database) (pending : List Written) → Stands S.Store conn.old db pending → IfErr result (HasCause (state S.Store conn.old) (state S.Store conn.new)) }
+    ensures stored { (db : Database) (pending : List Written) → Stands S.Store conn.old db pending → HasCleanDisk (state S.Store conn.new) → IfOk result (λ rows. AreStored stored_network network_in rows.items) }
+{
+    query(
+        conn,
+        "SELECT id, NULL, tenant, name, family, lo, length, host, port, server, capacity, next FROM network",
+        &[],
+    )
+}
+
+// The tenants of these rows.
+fn tenants_in(alloc: Global, rows: &[Row]) -> Result<Vec<Tenant>, Fault>
+    ensures read { IfOk result (λ tenants. tenants.items ≡ map tenant_in rows.now) }
+    ensures only { IfErr result (λ why. why ≡ Store → AreOf IsTenant stored_tenant rows.now → ⊥) }
+{
+    let mut tenants = Vec::new(alloc);
+    for row in rows {
+        let tenant = read_tenant(alloc, row)?;
+        if tenants.push(tenant).is_err() {
+            return Err(Fault::NoMemory);
+        }
+    }
+    Ok(tenants)
+}
+
+// Puts a network at the end.
+fn keep(networks: &mut Vec<Holding>, network: Holding) -> Result<(), Fault>
+    ensures kept { OnOk result (networks.new.items ≡ networks.old.items ++ network ∷ []) }
+    ensures memory { IfErr result (λ why. why ≡ NoMemory) }
+{
+    match networks.push(network) {
+        Ok(()) => Ok(()),
+        Err(_) => Err(Fault::NoMemory),
+    }
+}
+
+// The networks of these rows, as they were added.
+fn settled_in(alloc: Global, rows: &[Row]) -> Result<Vec<Holding>, Fault>
+    ensures read { IfOk result (λ networks. networks.items ≡ map (λ r. settled (network_in r)) rows.now) }
+    ensures only { IfErr result (λ why. why ≡ Store → AreOf IsKeptNetwork stored_network rows.now → ⊥) }
+{
+    let mut networks = Vec::new(alloc);
+    for row in rows {
+        let network = read_settled(alloc, row)?;
+        keep(&mut networks, network)?;
+    }
+    Ok(networks)
+}
+
+/// All tenants.
+pub fn tenants<S: Alter>(alloc: Global, conn: &mut Connection<S>) -> Result<Vec<Tenant>, Fault>
+    requires idle { conn.old.in_transaction ≡ false }
+    ensures idle { conn.new.in_transaction ≡ false }
+    ensures stands { (db : Database) (pending : List Written) → Stands S.Store conn.old db pending → Stands S.Store conn.new db pending }
+    ensures clean { HasCleanDisk (state S.Store conn.new) → HasCleanDisk (state S.Store conn.old) }
+    ensures listed { (db : Database) (pending : List Written) → Stands S.Store conn.old db pending → HasCleanDisk (state S.Store conn.new)
+        → IfOk result (λ tenants. IsPermutation (tables_of db).tenants tenants.items) }
+    ensures survives { Survives (state S.Store conn.old) (state S.Store conn.new) (λ _. ⊥) }
+    ensures cause { (db : Database) (pending : List Written) → Stands S.Store conn.old db pending → ((x : Tenant) → Has (tables_of db).tenants x → IsTenant x) → IfErr result (HasCause (state S.Store conn.old) (state S.Store conn.new)) }
+{
+    let rows = tenant_rows(conn)?;
+    tenants_in(alloc, rows.as_slice())
+}
+
+/// All networks, as they were added: without peers, and with the first number next.
+pub fn settled_networks<S: Alter>(
+    alloc: Global,
+    conn: &mut Connection<S>,
+) -> Result<Vec<Holding>, Fault>
+    requires idle { conn.old.in_transaction ≡ false }
+    ensures idle { conn.new.in_transaction ≡ false }
+    ensures stands { (db : Database) (pending : List Written) → Stands S.Store conn.old db pending → Stands S.Store conn.new db pending }
+    ensures clean { HasCleanDisk (state S.Store conn.new) → HasCleanDisk (state S.Store conn.old) }
+    ensures listed { (db : Database) (pending : List Written) → Stands S.Store conn.old db pending → HasCleanDisk (state S.Store conn.new)
+        → IfOk result (λ networks. (rows : List NetworkRow) × IsPermutation (tables_of db).networks rows × (networks.items ≡ map settled rows)) }
+    ensures survives { Survives (state S.Store conn.old) (state S.Store conn.new) (λ _. ⊥) }
+    ensures cause { (db : Database) (pending : List Written) → Stands S.Store conn.old db pending → ((w : NetworkRow) → Has (tables_of db).networks w → IsKeptNetwork w) → IfErr result (HasCause (state S.Store conn.old) (state S.Store conn.new)) }
+{
+    let rows = network_rows(conn)?;
+    settled_in(alloc, rows.as_slice())
+}

@@ -1,0 +1,21 @@
+//! The entries of the register in its tables: tenants, their tokens and their networks. They are
+//! found by a key (`lookup`), listed (`all`), read of their rows (`settled`), and come and go, each
+//! in one commit (`tenant`, `token`, `network`).
+//!
+//! Whether an operator's order is refused is not decided here, only what it asks of every entry is
+//! read. A key that a row has already is a fault of the store.
+#![tactic(auto)]
+
+mod all;
+mod lookup;
+mod network;
+mod settled;
+mod tenant;
+mod token;
+
+pub use all::{count_tokens, settled_networks, tenant_ids, tenants};
+pub use lookup::{network_id, networks_of_tenant, tenant_id, tenant_of_token};
+pub use network::{add_network, end_network};
+pub use settled::read_settled;
+pub use tenant::add_tenant;
+pub use token::{add_token, end_token};

@@ -1,4 +1,0 @@
-pub mod Bodies
-pub mod Sending
-pub mod Shown
-pub mod Whole

@@ -1,4 +1,0 @@
-use Rattle.wgr_office.proofs.response.write_response.Goals as goal
-
-pub returns-in-NoSuchNetwork : goal.returns-in-NoSuchNetwork
-returns-in-NoSuchNetwork c = rw c.in-NoSuchNetwork.is c.write_plain.ensures

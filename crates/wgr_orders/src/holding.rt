@@ -1,0 +1,35 @@
+//! Tenants and networks, as an order is judged by them.
+use std::marker::Model;
+use wgr_core::{Name, Network};
+
+/// A tenant, with its id.
+#[derive(Drop)]
+pub struct Tenant {
+    pub id: u32,
+    pub name: Name,
+}
+
+impl Model for Tenant {
+    ghost use Rattle.wgr_model.specs.Register.{Tenant};
+
+    ghost Value = { Tenant };
+
+    ghost view = { λ t. record { id = t.id; name = t.name } };
+}
+
+/// A network, with its own id, its tenant's id and its name.
+#[derive(Drop)]
+pub struct Holding {
+    pub id: u32,
+    pub tenant: u32,
+    pub name: Name,
+    pub network: Network,
+}
+
+impl Model for Holding {
+    ghost use Rattle.wgr_model.specs.Register.{Holding};
+
+    ghost Value = { Holding };
+
+    ghost view = { λ h. record { id = h.id; tenant = h.tenant; name = h.name; network = h.network } };
+}

@@ -1,0 +1,4 @@
+pub mod CopyLemmas
+pub mod ActLemmas
+pub mod StepLemmas
+pub mod ServeLemmas

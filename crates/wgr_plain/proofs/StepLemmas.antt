@@ -1,0 +1,34 @@
+-- The steps of the plain register's calls.
+use Rattle.std.proofs.Common.{◌≡◌, ℕ, Some, None, Result, Ok, Err, refl, sym, ap, subst, ◌∙◌}
+use Rattle.wgr_core.specs.declared.command.Command.{Command}
+use Rattle.wgr_core.specs.declared.refusal.Refusal.{Refusal}
+use Rattle.wgr_core.specs.declared.reply.Reply.{Reply}
+use Rattle.wgr_core.specs.Network.{NetworkValue}
+use Rattle.wgr_model.specs.Register.{Bytes, Register, id_of}
+use Rattle.wgr_model.specs.Steps.{AddNetwork, Answer, Ask, IsStep, Settings, act, network_at, put_network, tenant_of_token}
+use Rattle.wgr_model.proofs.CallLemmas.{declined, replied}
+use Rattle.wgr_model.proofs.OrderSteps.{not_added}
+use Rattle.wgr_orders.specs.declared.refusal.OrderFault.{OrderFault}
+use Rattle.wgr_orders.specs.declared.refusal.OrderFault.TheVariants as faulted
+use Rattle.wgr_orders.specs.Orders.{IsChecked, refusal_of}
+use Rattle.wgr_plain.specs.Calls.{IsActed, IsOrdered}
+
+module _ (r : Register) (digest name : Bytes) (now : ℕ) (command : Command) (id : ℕ) (known : tenant_of_token r.tokens digest ≡ Some id) (n : NetworkValue) (found : network_at r.networks id name ≡ Some n) (answer : Answer) where
+  -- a command that is refused
+  pub refusal_step : IsActed (act n now command) answer None → IsStep r (Ask digest name now command) answer r
+  refusal_step e = by_case (act n now command) refl e where
+    by_case : (given : Result (Reply × NetworkValue) Refusal) → act n now command ≡ given → IsActed given answer None → IsStep r (Ask digest name now command) answer r
+    by_case (Err why) is e = subst (λ (a : Answer). IsStep r (Ask digest name now command) a r) (sym e) (declined r digest name now command id known n why found is)
+    by_case (Ok done) is e = absurd e
+
+  -- and one that is done
+  pub reply_step : (after : NetworkValue) (s : Register) → IsActed (act n now command) answer (Some after) → s ≡ put_network r id name after → IsStep r (Ask digest name now command) answer s
+  reply_step after s e put = by_case (act n now command) refl e where
+    by_case : (given : Result (Reply × NetworkValue) Refusal) → act n now command ≡ given → IsActed given answer (Some after) → IsStep r (Ask digest name now command) answer s
+    by_case (Err why) is e = absurd e
+    by_case (Ok done) is e = subst (λ (a : Answer). IsStep r (Ask digest name now command) a s) (sym e.0) (replied r digest name now command id known n done s found is (put ∙ ap (put_network r id name) e.1))
+
+-- a network that isn't added
+pub fault_ordered : (r : Register) (tenant name : Bytes) (s : Settings) (id : ℕ) → id_of r.tenants tenant ≡ Some id → (fault : OrderFault) → IsChecked r id name s (Err fault) → IsOrdered r (AddNetwork tenant name s) (Err fault) r
+fault_ordered r tenant name s id known (faulted.Refused why) is = not_added r tenant name s id known (refusal_of why) is
+fault_ordered r tenant name s id known faulted.NoMemory is = refl

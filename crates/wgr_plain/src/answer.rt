@@ -1,0 +1,22 @@
+//! What an event is answered.
+use wgr_core::{Items, Name, Network, Refusal, Reply};
+use wgr_orders::OrderRefusal;
+
+/// What an event is answered.
+#[derive(Drop)]
+pub enum Answer {
+    /// What a command replies, with a copy of the network after it, from which files are written.
+    Replied(Reply, Network),
+    /// The network refuses the command.
+    Declined(Refusal),
+    /// Copies of a tenant's networks, in the order of their names.
+    Listed(Items<(Name, Network)>),
+    /// No tenant has the token.
+    UnknownToken,
+    /// The tenant has no network of the name.
+    NoSuchNetwork,
+    /// The order is done.
+    Done,
+    /// The order is refused.
+    Refused(OrderRefusal),
+}

@@ -1,0 +1,193 @@
+//! Orders of the operator.
+ghost use Rattle.std.specs.Prelude.{◌≡◌, ◌++◌, ◌∷◌, [], not, false, IfOk, OnErr, OnOk};
+ghost use Rattle.std.specs.List.{filter};
+ghost use Rattle.wgr_orders.specs.Orders.{order_event};
+ghost use Rattle.wgr_plain.specs.Calls.{IsNewHolding, IsOrdered, answer_of};
+ghost use Rattle.wgr_model.specs.Consistent.{same_slot, slot};
+ghost use Rattle.wgr_model.specs.Register.{is_same};
+ghost use Rattle.wgr_model.specs.Steps.{AddNetwork, AddTenant, EndNetwork, EndToken, Grant, IsStep, is_full, new_network};
+
+use crate::answer::Answer;
+use crate::look::{id_of, tenant_ids, tenant_of_token};
+use crate::register::{Register, Token};
+use std::alloc::{AllocError, Global};
+use wgr_core::{Name, Network, Pool};
+use wgr_orders::{
+    Holding, Order, OrderFault, OrderRefusal, Settings, Tenant, checked_pool, is_full, is_same,
+    new_id, place_of, tell_digest, tell_name, tell_settings, unused_id,
+};
+
+impl Register {
+    /// Does the order, or refuses it; for want of memory the register is as before.
+    pub fn operate(&mut self, alloc: Global, order: &Order) -> Result<Answer, AllocError>
+        ensures step { IfOk result (λ answer. IsStep self.old (order_event order.now) (answer_of answer) self.new) }
+        ensures undone { OnErr result (self.new ≡ self.old) }
+    {
+        match self.carry_out(alloc, order) {
+            Ok(()) => Ok(Answer::Done),
+            Err(OrderFault::Refused(why)) => Ok(Answer::Refused(why)),
+            Err(OrderFault::NoMemory) => Err(AllocError),
+        }
+    }
+
+    fn carry_out(&mut self, alloc: Global, order: &Order) -> Result<(), OrderFault>
+        ensures { IsOrdered self.old (order_event order.now) result self.new }
+    {
+        match order {
+            Order::AddTenant { name } => self.add_tenant(alloc, name),
+            Order::Grant { tenant, digest } => self.grant(tenant, digest),
+            Order::EndToken { digest } => self.end_token(digest),
+            Order::AddNetwork {
+                tenant,
+                name,
+                settings,
+            } => self.add_network(alloc, tenant, name, settings),
+            Order::EndNetwork { tenant, name } => self.end_network(tenant, name),
+        }
+    }
+
+    fn add_tenant(&mut self, alloc: Global, name: &Name) -> Result<(), OrderFault>
+        ensures { IsOrdered self.old (AddTenant name.now) result self.new }
+    {
+        if id_of(&self.tenants, name.as_bytes()).is_some() {
+            return Err(OrderFault::Refused(OrderRefusal::NameHeld));
+        }
+        if is_full(&self.tenants) {
+            return Err(OrderFault::Refused(OrderRefusal::RegisterFull));
+        }
+        let ids = tenant_ids(alloc, &self.tenants)?;
+        let tenant = Tenant {
+            id: unused_id(&ids),
+            name: name.copy()?,
+        };
+        tell_name(name);
+        push(&mut self.tenants, tenant)?;
+        Ok(())
+    }
+
+    fn grant(&mut self, tenant: &Name, digest: &[u8; 32]) -> Result<(), OrderFault>
+        ensures { IsOrdered self.old (Grant tenant.now digest.now) result self.new }
+    {
+        let Some(id) = id_of(&self.tenants, tenant.as_bytes()) else {
+            return Err(OrderFault::Refused(OrderRefusal::NoSuchTenant));
+        };
+        if tenant_of_token(&self.tokens, digest).is_some() {
+            return Err(OrderFault::Refused(OrderRefusal::DigestHeld));
+        }
+        if is_full(&self.tokens) {
+            return Err(OrderFault::Refused(OrderRefusal::RegisterFull));
+        }
+        let token = Token {
+            digest: *digest,
+            tenant: id,
+        };
+        tell_digest(digest);
+        push(&mut self.tokens, token)?;
+        Ok(())
+    }
+
+    fn end_token(&mut self, digest: &[u8; 32]) -> Result<(), OrderFault>
+        ensures { IsOrdered self.old (EndToken digest.now) result self.new }
+    {
+        if tenant_of_token(&self.tokens, digest).is_none() {
+            return Err(OrderFault::Refused(OrderRefusal::NoSuchToken));
+        }
+        drop_token(&mut self.tokens, digest);
+        Ok(())
+    }
+
+    fn add_network(
+        &mut self,
+        alloc: Global,
+        tenant: &Name,
+        name: &Name,
+        settings: &Settings,
+    ) -> Result<(), OrderFault>
+        ensures { IsOrdered self.old (AddNetwork tenant.now name.now settings.now) result self.new }
+    {
+        let Some(id) = id_of(&self.tenants, tenant.as_bytes()) else {
+            return Err(OrderFault::Refused(OrderRefusal::NoSuchTenant));
+        };
+        let pool = checked_pool(alloc, &self.tenants, &self.networks, id, name, settings)?;
+        let holding = new_holding(alloc, &self.networks, id, name, settings, pool)?;
+        tell_name(name);
+        tell_settings(settings);
+        push(&mut self.networks, holding)?;
+        Ok(())
+    }
+
+    fn end_network(&mut self, tenant: &Name, name: &Name) -> Result<(), OrderFault>
+        ensures { IsOrdered self.old (EndNetwork tenant.now name.now) result self.new }
+    {
+        let Some(id) = id_of(&self.tenants, tenant.as_bytes()) else {
+            return Err(OrderFault::Refused(OrderRefusal::NoSuchTenant));
+        };
+        if place_of(&self.networks, id, name.as_bytes()).is_none() {
+            return Err(OrderFault::Refused(OrderRefusal::NoNetwork));
+        }
+        drop_network(&mut self.networks, id, name);
+        Ok(())
+    }
+}
+
+// A network with these settings, under an id that none of the others has.
+fn new_holding(
+    alloc: Global,
+    networks: &[Holding],
+    tenant: u32,
+    name: &Name,
+    settings: &Settings,
+    pool: Pool,
+) -> Result<Holding, AllocError>
+    requires room { is_full networks.now ≡ false }
+    requires pool { pool ≡ settings.now.pool }
+    ensures { IfOk result (λ h. IsNewHolding networks.now tenant name.now settings.now h) }
+{
+    let network = network_of(alloc, settings, pool)?;
+    Ok(Holding {
+        id: new_id(alloc, networks)?,
+        tenant,
+        name: name.copy()?,
+        network,
+    })
+}
+
+// The network of these settings, in its pool.
+fn network_of(alloc: Global, settings: &Settings, pool: Pool) -> Result<Network, AllocError>
+    requires { pool ≡ settings.now.pool }
+    ensures { IfOk result (λ network. network ≡ new_network settings.now) }
+{
+    let host = settings.host.copy()?;
+    Ok(Network::new(
+        alloc,
+        pool,
+        host,
+        settings.port,
+        settings.server,
+        settings.capacity,
+    ))
+}
+
+// Puts an entry at the end; for want of memory the entries are as before.
+fn push<T: Drop>(entries: &mut Vec<T>, entry: T) -> Result<(), AllocError>
+    ensures ok { OnOk result (entries.new.items ≡ entries.old.items ++ entry ∷ []) }
+    ensures err { OnErr result (entries.new.items ≡ entries.old.items) }
+{
+    entries.push(entry)?;
+    Ok(())
+}
+
+// Takes the token of this digest away.
+fn drop_token(tokens: &mut Vec<Token>, digest: &[u8; 32])
+    ensures { tokens.new.items ≡ filter (λ t. not (is_same digest.now t.digest)) tokens.old.items }
+{
+    tokens.retain(|token| !is_same(digest, &token.digest));
+}
+
+// Takes the network of this name of the tenant of this id away.
+fn drop_network(networks: &mut Vec<Holding>, id: u32, name: &Name)
+    ensures { networks.new.items ≡ filter (λ h. not (same_slot (id, name.now) (slot h))) networks.old.items }
+{
+    networks.retain(|holding| !(id == holding.tenant
+        && is_same(name.as_bytes(), holding.name.as_bytes())));
+}

@@ -1,0 +1,143 @@
+-- Networks that stay in memory across an order.
+use Rattle.std.proofs.Common.{◌≡◌, ℕ, Bool, true, false, not, List, [], ◌∷◌, Option, Some, None, Result, Ok, Err, IsTrue, IsErrAnd, IsPermutation, map, filter, cond, nat_eq, refl, sym, ap, subst, ◌∙◌, inl, inr, true≢false, eqb-true}
+use Rattle.std.specs.Cmp.{nat_eq_equiv}
+use Rattle.std.specs.List.{IsDistinct}
+use Rattle.std.specs.Map.{keys_of, lookup, remove_entry}
+use Rattle.std.proofs.lemmas.Map.{lookup-remove_entry}
+use Rattle.sqlite.specs.Effect.{Database}
+use Rattle.sqlite.specs.Held.{Held, state}
+use Rattle.sqlite.specs.State.{HasCleanDisk}
+use Rattle.sqlite.specs.Store.{Ghosts}
+use Rattle.wgr_core.specs.Network.{NetworkValue}
+use Rattle.wgr_model.specs.Consistent.{same_slot, slot}
+use Rattle.wgr_model.specs.Laws.{Has}
+use Rattle.wgr_model.specs.Register.{Bytes, Holding, Register, id_of}
+use Rattle.wgr_model.specs.RowLaws.{AreConsistent, IsRowStep}
+use Rattle.wgr_model.specs.Rows.{NetworkRow, Tables, holding_of, register_of}
+use Rattle.wgr_model.specs.Steps.{AddNetwork, AddTenant, Answer, EndNetwork, EndToken, Event, Grant, IsProper, NoNetwork, NoSuchToken, OrderRefusal, first_refusal, given, grant_checks, granted, has_digest, has_slot, network_added, network_checks, network_ended, new_network, outcome, refuse, tenant_checks, with_new_network, with_tenant, with_token, without_network, without_token}
+use Rattle.wgr_model.proofs.CollectLemmas.{from_map, has_map}
+use Rattle.wgr_model.proofs.GatherLemmas.{eqb_self, in_filter}
+use Rattle.wgr_model.proofs.HolderLemmas.{one_or_apart}
+use Rattle.wgr_model.proofs.RowRunLemmas.{row_step}
+use Rattle.wgr_model.proofs.SameLemmas.{has_permutation, slot_sym}
+use Rattle.wgr_columns.specs.Decode.{tables_of}
+use Rattle.wgr_entries.specs.Lookups.{IsSlotOf}
+use Rattle.wgr_register.specs.Ends.{EndsAt, OrderEnds, is_change}
+use Rattle.wgr_register.specs.Loaded.{AreFormed, AreOthersFormed, IsFormed, Loaded, Shows, UnlessUndone}
+use Rattle.wgr_register.specs.Standing.{StandsAt}
+use Rattle.wgr_register.specs.declared.fault.Done.{Done}
+use Rattle.wgr_register.specs.declared.fault.OrderFault.{OrderFault}
+use Rattle.wgr_register.specs.declared.fault.OrderFault.TheVariants as order_fault
+use Rattle.wgr_sql.specs.declared.fault.Fault.{Fault}
+use Rattle.wgr_register.specs.Cached.{AreCurrent, Cached}
+use Rattle.wgr_register.proofs.CacheLemmas.{found_rest}
+use Rattle.wgr_register.proofs.CachedLemmas.{current_after}
+use Rattle.wgr_register.proofs.LoadedLemmas.{formed_in, shown_so}
+use Rattle.wgr_register.proofs.StandLemmas.{either_way}
+
+-- ---- an order that isn't done, or is
+
+pub unless_undone : (r : Result Done OrderFault) (P : Type 0) → P → UnlessUndone r P
+unless_undone (Ok done) P holds = holds
+unless_undone (Err (order_fault.Refused why)) P holds = holds
+unless_undone (Err (order_fault.Fault why)) P holds = tt
+
+pub undone : (r : Result Done OrderFault) (why : Fault) (P : Type 0) → IsErrAnd r (λ e. e ≡ order_fault.Fault why) → UnlessUndone r P
+undone (Ok done) why P is = absurd is
+undone (Err (order_fault.Refused other)) why P is = cc
+undone (Err (order_fault.Fault other)) why P is = tt
+
+pub undone_then : (r : Result Done OrderFault) (P Q : Type 0) → (P → UnlessUndone r Q) → UnlessUndone r P → UnlessUndone r Q
+undone_then (Ok done) P Q next holds = next holds
+undone_then (Err (order_fault.Refused why)) P Q next holds = next holds
+undone_then (Err (order_fault.Fault why)) P Q next holds = tt
+
+-- ---- one is dropped
+
+pub rest_formed : (id : ℕ) (loaded : Loaded) (t : Tables) → IsDistinct nat_eq (keys_of loaded) → AreOthersFormed id loaded t → AreFormed (remove_entry (nat_eq id) loaded) t
+rest_formed id loaded t distinct others other n found = let was = found_rest id other loaded distinct n found in others other n was.0 was.1
+
+-- ---- which networks an order leaves
+
+-- an order that ends no network
+abbrev pub EndsNone : Event → Type 0
+EndsNone (AddTenant name) = Unit {0}
+EndsNone (Grant tenant digest) = Unit {0}
+EndsNone (EndToken digest) = Unit {0}
+EndsNone (AddNetwork tenant name settings) = Unit {0}
+EndsNone event = ⊥
+
+either : (o : Option OrderRefusal) (r s : Register) (h : Holding) → Has r.networks h → Has s.networks h → Has (given o r s).1.networks h
+either (Some why) r s h before after = before
+either None r s h before after = after
+
+left_by : (r : Register) (event : Event) (new : ℕ) → EndsNone event → (h : Holding) → Has r.networks h → Has (outcome r event new).1.networks h
+left_by r (AddTenant name) new none h there = either (first_refusal (tenant_checks r name)) r (with_tenant r name new) h there there
+left_by r (Grant tenant digest) new none h there = on (id_of r.tenants tenant) where
+  on : (o : Option ℕ) → Has (granted r digest o).1.networks h
+  on None = there
+  on (Some id) = either (first_refusal (grant_checks r digest)) r (with_token r digest id) h there there
+left_by r (EndToken digest) new none h there = either (first_refusal (refuse (not (has_digest r.tokens digest)) NoSuchToken ∷ [])) r (without_token r digest) h there there
+left_by r (AddNetwork tenant name s) new none h there = on (id_of r.tenants tenant) where
+  on : (o : Option ℕ) → Has (network_added r name s new o).1.networks h
+  on None = there
+  on (Some id) = either (first_refusal (network_checks r id name s)) r (with_new_network r new id name (new_network s)) h there (inr there)
+left_by r event new none h there = absurd none
+
+others_left_by : (r : Register) (tenant name : Bytes) (new id : ℕ) → id_of r.tenants tenant ≡ Some id → (h : Holding) → Has r.networks h → same_slot (id, name) (slot h) ≡ false → Has (outcome r (EndNetwork tenant name) new).1.networks h
+others_left_by r tenant name new id known h there apart =
+    subst (λ o. Has (network_ended r name o).1.networks h) (sym known)
+    (either (first_refusal (refuse (not (has_slot r.networks id name)) NoNetwork ∷ [])) r (without_network r id name) h there (in_filter (λ k. not (same_slot (id, name) (slot k))) r.networks h there (ap not apart)))
+
+-- ---- they are formed by the rows after it
+
+module _ (t u : Tables) (is : AreConsistent t) (event : Event) (proper : IsProper event) (answer : Answer) (step : IsRowStep t event answer u) where
+  -- a network that the order leaves
+  formed_still : (v : NetworkRow) → ((new : ℕ) → Has (outcome (register_of t) event new).1.networks (holding_of t v)) → (n : NetworkValue) → n ≡ (holding_of t v).network → IsFormed u v.id n
+  formed_still v left n value =
+      let after = (row_step t u event answer is proper step).1 in
+      subst (IsFormed u v.id) (sym value) (formed_in u (outcome (register_of t) event after.new).1.networks after.rows.networks (holding_of t v) (left after.new))
+
+  pub one_stays : EndsNone event → (other : ℕ) (n : NetworkValue) → IsFormed t other n → IsFormed u other n
+  one_stays none other n it = subst (λ i. IsFormed u i n) it.2 (formed_still it.0 (λ new. left_by (register_of t) event new none (holding_of t it.0) (has_map (holding_of t) t.networks it.0 it.1)) n it.3)
+
+module _ (t u : Tables) (is : AreConsistent t) (tenant name : Bytes) (answer : Answer) (step : IsRowStep t (EndNetwork tenant name) answer u) (id : ℕ) (known : id_of t.tenants tenant ≡ Some id)
+    (w : NetworkRow) (there : Has t.networks w) (its : IsSlotOf w id name) where
+  -- and each but the one that ends
+  pub other_stays : (other : ℕ) (n : NetworkValue) → nat_eq w.id other ≡ false → IsFormed t other n → IsFormed u other n
+  other_stays other n off it =
+      let held : List Holding = map (holding_of t) t.networks in
+      let apart : same_slot (slot (holding_of t w)) (slot (holding_of t it.0)) ≡ false = elim (one_or_apart slot same_slot slot_sym held (holding_of t w) (holding_of t it.0) is.consistent.slots (has_map (holding_of t) t.networks w there) (has_map (holding_of t) t.networks it.0 it.1)) [
+        | inl same ↦ let ids : w.id ≡ other = ap (λ h. h.id) same ∙ it.2 in absurd (true≢false (sym (eqb_self w.id) ∙ ap (nat_eq w.id) ids ∙ off))
+        | inr is_apart ↦ is_apart
+      ] in
+      let named : same_slot (id, name) (slot (holding_of t it.0)) ≡ false = subst (λ s. same_slot s (slot (holding_of t it.0)) ≡ false) (its_slot) apart in
+      subst (λ i. IsFormed u i n) it.2 (formed_still t u is (EndNetwork tenant name) tt answer step it.0 (λ new. others_left_by (register_of t) tenant name new id known (holding_of t it.0) (has_map (holding_of t) t.networks it.0 it.1) named) n it.3)
+    where
+      its_slot : slot (holding_of t w) ≡ (id, name)
+      its_slot = λ k. (its.0 k, its.1 k)
+
+-- ---- what the connection shows
+
+module _ {S : Type 0} (g : Ghosts S) (conn : Held S) (db : Database) (late : List Event) where
+  pub at_next : (next : Database) (b : Bool) → EndsAt g conn b db late next → HasCleanDisk (state g conn) → IsTrue (state g conn).is_open → (state g conn).now ≡ next
+  at_next next b at clean live = elim (either_way g conn db next late b at) [
+    | inl there ↦ there.stands.shows clean live
+    | inr same ↦ same.1.stands.shows clean live ∙ sym same.0
+  ]
+
+  module _ (P : Tables → Type 0) where
+    -- what holds of the rows after the order, and of those before it
+    pub shown_after : (event : Event) (r : Result Done OrderFault) → OrderEnds g conn db late event r → ((answer : Answer) (u : Tables) → IsRowStep (tables_of db) event answer u → P u) → P (tables_of db) → UnlessUndone r (Shows g conn P)
+    shown_after event (Ok done) ends after before = λ clean live.
+        let end = ends clean in
+        subst (λ d. P (tables_of d)) (sym (at_next end.2 (is_change end.0 event) end.4 clean live)) (after end.0 (tables_of end.2) end.3)
+    shown_after event (Err (order_fault.Refused why)) ends after before = shown_so g conn db ends.0.pending P ends.0.stands before
+    shown_after event (Err (order_fault.Fault why)) ends after before = tt
+
+  module _ (consistent : AreConsistent (tables_of db)) (event : Event) (proper : IsProper event) (none : EndsNone event) (r : Result Done OrderFault) (ends : OrderEnds g conn db late event r) where
+    pub stay_shown : (loaded : Loaded) → AreFormed loaded (tables_of db) → UnlessUndone r (Shows g conn (AreFormed loaded))
+    stay_shown loaded formed = shown_after (AreFormed loaded) event r ends (λ answer u step other n found. one_stays (tables_of db) u consistent event proper answer step none other n (formed other n found)) formed
+
+    pub files_shown : (files : Cached) → AreCurrent files (tables_of db) → UnlessUndone r (Shows g conn (AreCurrent files))
+    files_shown files current = shown_after (AreCurrent files) event r ends (λ answer u step. current_after files (tables_of db) u (one_stays (tables_of db) u consistent event proper answer step none) current) current

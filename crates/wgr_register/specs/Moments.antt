@@ -1,0 +1,7 @@
+-- Spans of moments.
+use Rattle.std.specs.Prelude.{ℕ, ◌<◌, ◌≤◌, IfSome}
+use Rattle.wgr_register.specs.declared.kept_file.Moments.{Moments}
+
+-- from the first on, and before the other, if there is one
+abbrev pub IsWithin : Moments → ℕ → Type 0
+IsWithin span m = (span.from ≤ m) × IfSome span.until (λ end. m < end)

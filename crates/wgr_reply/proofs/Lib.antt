@@ -1,0 +1,4 @@
+pub mod Ascii
+pub mod BodyExamples
+pub mod Items
+pub mod ReplyExamples

@@ -1,0 +1,63 @@
+-- Replies, byte for byte, by computation.
+use Rattle.std.proofs.Common.{◌≡◌, ℕ, List, [], refl, codes}
+use Rattle.std.specs.Fmt.{digits}
+use Rattle.serde_json.proofs.OnLiterals.{serde_json_on_literals}
+use Rattle.wgr_core.specs.declared.refusal.LineRefusal.TheVariants as line
+use Rattle.wgr_core.specs.declared.refusal.Refusal.{Refusal}
+use Rattle.wgr_core.specs.declared.refusal.Refusal.TheVariants as refusal
+use Rattle.wgr_http.specs.Reply.{first_lines, last_lines}
+use Rattle.wgr_http.specs.declared.message.MessageFault.TheVariants.{LengthRequired}
+use Rattle.wgr_core.specs.RefusalNames.{refusal_name}
+use Rattle.wgr_reply.specs.Refused.{refusal_facts, refusal_status}
+use Rattle.wgr_reply.specs.Response.{fault_shown, problem, shown_bytes}
+use Rattle.wgr_request.specs.declared.fault.RequestFault.TheVariants.{Message, WrongMethod, UnknownToken, BadField, BadDump}
+use Rattle.wgr_request.specs.declared.fault.RequestField.TheVariants.{Body}
+use Rattle.wgr_request.specs.declared.paths.Methods.TheVariants.{GetOrPost, Delete}
+
+wrong_method : shown_bytes (fault_shown (WrongMethod GetOrPost))
+    ≡ codes "HTTP/1.1 405 Method Not Allowed\r\nContent-Type: application/json\r\nContent-Length: 24\r\nAllow: GET, POST\r\nConnection: close\r\n\r\n{\"error\":\"wrong_method\"}"
+unfolding serde_json_on_literals first_lines last_lines digits
+wrong_method = refl
+
+only_delete : shown_bytes (fault_shown (WrongMethod Delete))
+    ≡ codes "HTTP/1.1 405 Method Not Allowed\r\nContent-Type: application/json\r\nContent-Length: 24\r\nAllow: DELETE\r\nConnection: close\r\n\r\n{\"error\":\"wrong_method\"}"
+unfolding serde_json_on_literals first_lines last_lines digits
+only_delete = refl
+
+unknown_token : shown_bytes (fault_shown UnknownToken)
+    ≡ codes "HTTP/1.1 401 Unauthorized\r\nContent-Type: application/json\r\nContent-Length: 25\r\nWWW-Authenticate: Bearer\r\nConnection: close\r\n\r\n{\"error\":\"unknown_token\"}"
+unfolding serde_json_on_literals first_lines last_lines digits
+unknown_token = refl
+
+bad_field : shown_bytes (fault_shown (BadField Body))
+    ≡ codes "HTTP/1.1 400 Bad Request\r\nContent-Type: application/json\r\nContent-Length: 36\r\nConnection: close\r\n\r\n{\"error\":\"bad_field\",\"field\":\"body\"}"
+unfolding serde_json_on_literals first_lines last_lines digits
+bad_field = refl
+
+bad_dump : shown_bytes (fault_shown (BadDump 4 6))
+    ≡ codes "HTTP/1.1 400 Bad Request\r\nContent-Type: application/json\r\nContent-Length: 39\r\nConnection: close\r\n\r\n{\"error\":\"bad_dump\",\"field\":6,\"line\":4}"
+unfolding serde_json_on_literals first_lines last_lines digits
+bad_dump = refl
+
+length_required : shown_bytes (fault_shown (Message LengthRequired))
+    ≡ codes "HTTP/1.1 411 Length Required\r\nContent-Type: application/json\r\nContent-Length: 27\r\nConnection: close\r\n\r\n{\"error\":\"length_required\"}"
+unfolding serde_json_on_literals first_lines last_lines digits
+length_required = refl
+
+abbrev refused : Refusal → List ℕ
+refused why = shown_bytes (problem (refusal_status why) [] (refusal_name why) (refusal_facts why))
+
+key_held : refused (refusal.KeyHeld 1)
+    ≡ codes "HTTP/1.1 409 Conflict\r\nContent-Type: application/json\r\nContent-Length: 31\r\nConnection: close\r\n\r\n{\"error\":\"key_held\",\"number\":1}"
+unfolding serde_json_on_literals first_lines last_lines digits
+key_held = refl
+
+line_refused : refused (refusal.InLine 3 line.AddressHeld)
+    ≡ codes "HTTP/1.1 409 Conflict\r\nContent-Type: application/json\r\nContent-Length: 33\r\nConnection: close\r\n\r\n{\"error\":\"address_held\",\"line\":3}"
+unfolding serde_json_on_literals first_lines last_lines digits
+line_refused = refl
+
+nobodys_address : refused refusal.NobodysAddress
+    ≡ codes "HTTP/1.1 404 Not Found\r\nContent-Type: application/json\r\nContent-Length: 27\r\nConnection: close\r\n\r\n{\"error\":\"nobodys_address\"}"
+unfolding serde_json_on_literals first_lines last_lines digits
+nobodys_address = refl

@@ -1,0 +1,4 @@
+use Rattle.wgr_reply.proofs.response.write_response.Goals as goal
+
+pub returns-in-NoSuchNetwork : goal.returns-in-NoSuchNetwork
+returns-in-NoSuchNetwork c = rw c.in-NoSuchNetwork.is c.write_plain.ensures

@@ -1,0 +1,57 @@
+//! What the reply to a refusal has in addition to its name: a status and a fact.
+ghost use Rattle.std.specs.Prelude.{◌≡◌};
+ghost use Rattle.wgr_reply.specs.Bodies.{fact_members};
+ghost use Rattle.wgr_reply.specs.Refused.{refusal_facts, refusal_status};
+
+use crate::bodies::Fact;
+use wgr_core::Refusal;
+use wgr_http::StatusCode;
+
+// The status of the reply.
+pub(crate) fn status_of(why: Refusal) -> StatusCode
+    ensures { result ≡ refusal_status why }
+{
+    match why {
+        Refusal::NoSuchPeer | Refusal::NoSuchRoute | Refusal::NobodysAddress =>
+            StatusCode::NotFound,
+        Refusal::BadField { .. } => StatusCode::BadRequest,
+        Refusal::KeyHeld { .. }
+        | Refusal::AddressHeld
+        | Refusal::OutsidePool
+        | Refusal::PoolFull
+        | Refusal::CapacityReached
+        | Refusal::NumbersSpent
+        | Refusal::IsAddress
+        | Refusal::RoutesFull
+        | Refusal::LeaseOver
+        | Refusal::ServerKey
+        | Refusal::WrongServer
+        | Refusal::InLine { .. } => StatusCode::Conflict,
+    }
+}
+
+// The fact that the refusal carries.
+pub(crate) fn fact_of(why: Refusal) -> Fact<'static>
+    ensures { fact_members result ≡ refusal_facts why }
+{
+    match why {
+        Refusal::KeyHeld { number } => Fact::Number(number),
+        Refusal::BadField {
+            field: wgr_core::Field::Key,
+        } => Fact::Field("key"),
+        Refusal::InLine { line, .. } => Fact::Line(line),
+        Refusal::NoSuchPeer
+        | Refusal::AddressHeld
+        | Refusal::OutsidePool
+        | Refusal::PoolFull
+        | Refusal::CapacityReached
+        | Refusal::NumbersSpent
+        | Refusal::IsAddress
+        | Refusal::NoSuchRoute
+        | Refusal::RoutesFull
+        | Refusal::NobodysAddress
+        | Refusal::LeaseOver
+        | Refusal::ServerKey
+        | Refusal::WrongServer => Fact::None,
+    }
+}

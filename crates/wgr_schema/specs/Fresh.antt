@@ -1,0 +1,80 @@
+-- What the making of a register leaves.
+use Rattle.std.specs.Prelude.{◌≡◌, ℕ, Bool, ◌||◌, false, is_some, IsTrue, IfErr, Result, List, [], ◌∷◌, codes}
+use Rattle.std.specs.List.{AllByRecursion, list_any}
+use Rattle.sqlite_schema.specs.Names.{table_named, view_named}
+use Rattle.sqlite_schema.specs.declared.schema.Index.{Index}
+use Rattle.sqlite.specs.Tree.{Trees}
+use Rattle.sqlite.specs.Schema.{Schema}
+use Rattle.sqlite.specs.Effect.{Database}
+use Rattle.sqlite.specs.State.{State}
+use Rattle.sqlite_catalog.specs.Change.{created, indexed}
+use Rattle.wgr_model.specs.RowLaws.{no_rows}
+use Rattle.wgr_sql.specs.Causes.{HasCause}
+use Rattle.wgr_sql.specs.Steps.{StepsOn}
+use Rattle.wgr_sql.specs.declared.fault.Fault.{Fault}
+use Rattle.wgr_columns.specs.Layout.{Others, schema_with, index_of, meta_at, tenant_at, token_at, network_at, peer_at, allowed_at}
+use Rattle.wgr_columns.specs.Decode.{IsRegister, tables_of}
+
+abbrev pub no_others : Others
+no_others = record { tables = []; indexes = []; views = [] }
+
+-- the register's tables have no row but that of the version, and nothing else is in the database
+pub record IsFresh (db : Database) : Type 0 where
+  pub schema_is : db.schema ≡ schema_with no_others
+  pub register : IsRegister db
+  pub rows : tables_of db ≡ no_rows
+
+-- what a stop may leave while a register is made, beside what was there before: the whole
+abbrev pub LeavesFresh : Trees → Type 0
+LeavesFresh trees = (db : Database) × IsFresh db × (trees ≡ db.trees)
+
+-- a table or a view has the name
+abbrev pub is_taken : Schema → List ℕ → Bool
+is_taken schema name = is_some (table_named schema name) || is_some (view_named schema name)
+
+-- one of the register's tables is there
+abbrev pub is_any_taken : Schema → Bool
+is_any_taken schema = list_any (is_taken schema) (codes "meta" ∷ codes "tenant" ∷ codes "token" ∷ codes "network" ∷ codes "peer" ∷ codes "allowed" ∷ [])
+
+-- ---- while the tables are made
+
+-- the schema, and no row in any of its tables
+pub record HasBlank (schema : Schema) (db : Database) : Type 0 where
+  pub schema_is : db.schema ≡ schema
+  pub blank : AllByRecursion (λ t. db.trees t.tree ≡ []) schema.tables
+
+-- a step leads from the one to the other, or fails and commits nothing
+abbrev pub Lays : {X E : Type 0} → (Database → Type 0) → (Database → Type 0) → State → State → Result X E → Type 0
+Lays from to old new r = StepsOn from (λ _ db. to db) old new r
+
+-- where a step from such a database fails by the store, that has a cause
+abbrev pub FailsFrom : {X : Type 0} → (Database → Type 0) → State → State → Result X Fault → Type 0
+FailsFrom from old new r = IsTrue old.in_transaction → (IsTrue old.is_open → from old.now) → IfErr r (HasCause old new)
+
+abbrev pub no_schema : Schema
+no_schema = record { tables = []; indexes = []; views = [] }
+
+-- a new table or index gets its tree when it is made
+abbrev pub meta_schema : Schema
+meta_schema = created no_schema (meta_at 0)
+
+abbrev pub tenant_schema : Schema
+tenant_schema = created meta_schema (tenant_at 0)
+
+abbrev pub entries_schema : Schema
+entries_schema = created tenant_schema (token_at 0)
+
+abbrev pub network_schema : Schema
+network_schema = created entries_schema (network_at 0)
+
+abbrev pub peer_schema : Schema
+peer_schema = created network_schema (peer_at 0)
+
+abbrev pub tables_schema : Schema
+tables_schema = created peer_schema (allowed_at 0)
+
+abbrev pub peer_index : Index
+peer_index = index_of (codes "allowed_peer") 0 10 (1 ∷ 6 ∷ []) false
+
+abbrev pub whole_schema : Schema
+whole_schema = indexed tables_schema (allowed_at 10) peer_index

@@ -1,0 +1,16 @@
+-- What follows of the definitions.
+use Rattle.std.specs.Prelude.{◌≡◌, ◌↔◌}
+use Rattle.sqlite.specs.Effect.{Database}
+use Rattle.wgr_model.specs.Rows.{first_version}
+use Rattle.wgr_model.specs.RowLaws.{AreConsistent}
+use Rattle.wgr_columns.specs.Decode.{IsRegister, tables_of}
+use Rattle.wgr_schema.specs.Fresh.{IsFresh}
+use Rattle.wgr_schema.specs.FirstVersion.{IsFirstVersion}
+
+-- a register that was just made passes each test of an opening
+abbrev pub FreshIsConsistent : Type 0
+FreshIsConsistent = (db : Database) → IsFresh db → IsFirstVersion db × AreConsistent (tables_of db)
+
+-- the version that is asked for is the one that the rows of `wgr_model` have
+abbrev pub VersionIsRead : Type 0
+VersionIsRead = (db : Database) → IsRegister db → IsFirstVersion db ↔ ((tables_of db).meta ≡ first_version)

@@ -1,6 +1,0 @@
-pub mod Forms
-pub mod LaidOut
-pub mod Fresh
-pub mod FirstVersion
-pub mod Laws
-pub mod Faults

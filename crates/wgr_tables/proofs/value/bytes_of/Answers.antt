@@ -1,6 +1,0 @@
-use Rattle.wgr_tables.specs.Decode.{bytes_of}
-use Rattle.wgr_tables.proofs.value.bytes_of.Goals as goal
-
-pub returns : goal.returns
-unfolding bytes_of
-returns c = c.to_be_bytes.ensures

@@ -1,0 +1,12 @@
+use Rattle.std.proofs.Common.{refl}
+use Rattle.wgr_command_line.specs.Words.{NetworkAdd, network_asked}
+use Rattle.wgr_words.specs.Order.{IsDraftFault}
+use Rattle.wgr_words.proofs.OrderLemmas.{passed}
+use Rattle.wgr_words.proofs.order.draft_of.Goals as goal
+
+pub returns-in_err-new_network-in-NetworkAdd-clause-err : goal.returns-in_err-new_network-in-NetworkAdd-clause-err
+returns-in_err-new_network-in-NetworkAdd-clause-err c =
+    rw c.in-NetworkAdd.is (passed _ _ (IsDraftFault (NetworkAdd (network_asked c.in-NetworkAdd.words))) c.from_residual-in_err-new_network-in-NetworkAdd.ensures.1 c.in_err-new_network-in-NetworkAdd.ensures.err)
+
+pub returns-in_ok-new_network-in-NetworkAdd-clause-ok : goal.returns-in_ok-new_network-in-NetworkAdd-clause-ok
+returns-in_ok-new_network-in-NetworkAdd-clause-ok c = rw c.in-NetworkAdd.is (refl, c.in_ok-new_network-in-NetworkAdd.ensures.ok)

@@ -1,0 +1,78 @@
+-- The fields of the words: what their texts spell.
+use Rattle.std.specs.Prelude.{ℕ, ◌≡◌, ◌-◌, true, List, [], ◌∷◌, cond, nat_eq, length, drop, take, ◌++◌, codes, Some, Result, Ok, Err}
+use Rattle.std.specs.Cmp.Lexicographic.{pointwise}
+use Rattle.std.specs.Net.Grammar.{IsIpv4Text, IsIpv6Text}
+use Rattle.std.specs.declared.net.ip_addr.IpAddr.{IpAddr}
+use Rattle.std.specs.declared.net.ip_addr.IpAddr.TheVariants.{V4, V6}
+use Rattle.wgr_text.specs.Prefix.{AddrValue}
+use Rattle.wgr_text.specs.PrefixText.{Spells}
+use Rattle.wgr_peers.specs.Host.{IsHostText}
+use Rattle.wgr_peers.specs.Limits.{IsCapacity, IsCount, IsPort}
+use Rattle.wgr_peers.specs.Name.{is_name}
+use Rattle.wgr_dump.specs.Fields.{SpellsKey, SpellsNumber}
+use Rattle.wgr_request.specs.Digest.{digest_of}
+use Rattle.wgr_text.specs.declared.key.Key.{Key}
+use Rattle.wgr_words.specs.declared.field.WordField.{WordField}
+use Rattle.wgr_words.specs.declared.field.WordField.TheVariants as of
+use Rattle.wgr_words.specs.declared.field.WordFault.{WordFault}
+use Rattle.wgr_words.specs.declared.field.WordFault.TheVariants as fault
+
+-- the name of a tenant or of a network
+abbrev pub SpellsName : List ℕ → List ℕ → Type 0
+SpellsName text name = (name ≡ text) × (is_name text ≡ true)
+
+-- an address and a length
+abbrev pub SpellsPlace : List ℕ → AddrValue × ℕ → Type 0
+SpellsPlace text place = Spells text place.0 place.1
+
+-- 1 to 19 decimal digits, and their number, which is at most 2 ^ 63 - 1
+abbrev pub SpellsWhole : List ℕ → ℕ → Type 0
+SpellsWhole text n = SpellsNumber 19 text n × IsCount n
+
+abbrev pub SpellsPort : List ℕ → ℕ → Type 0
+SpellsPort text n = SpellsWhole text n × IsPort n
+
+abbrev pub SpellsCapacity : List ℕ → ℕ → Type 0
+SpellsCapacity text n = SpellsWhole text n × IsCapacity n
+
+-- an IPv4 address, or an IPv6 address in brackets (RFC 3986, section 3.2.2)
+abbrev pub SpellsListener : List ℕ → IpAddr → Type 0
+SpellsListener text (V4 address) = IsIpv4Text text address
+SpellsListener text (V6 address) = (inner : List ℕ) × (text ≡ codes "[" ++ inner ++ codes "]") × IsIpv6Text inner address
+
+-- such an address, a colon and a port
+pub record SpellsEndpoint (text : List ℕ) (endpoint : IpAddr × ℕ) : Type 0 where
+  pub host : List ℕ
+  pub digits : List ℕ
+  pub parted : text ≡ host ++ codes ":" ++ digits
+  pub address : SpellsListener host endpoint.0
+  pub port : SpellsPort digits endpoint.1
+
+-- the text less its last byte where that is a newline
+abbrev pub line_of : List ℕ → List ℕ
+line_of text = cond (pointwise nat_eq (drop (length text - 1) text) (codes "\n")) (take (length text - 1) text) text
+
+-- the digest of a token that is one line, whose newline may be missing
+abbrev pub SpellsToken : List ℕ → List ℕ → Type 0
+SpellsToken text digest = digest_of (line_of text) ≡ Some digest
+
+-- the text is of the field's form
+abbrev pub IsOf : WordField → List ℕ → Type 0
+IsOf of.Tenant text = (name : List ℕ) × SpellsName text name
+IsOf of.Name text = (name : List ℕ) × SpellsName text name
+IsOf of.Pool text = (place : AddrValue × ℕ) × SpellsPlace text place
+IsOf of.Host text = (host : List ℕ) × IsHostText text host
+IsOf of.Port text = (n : ℕ) × SpellsPort text n
+IsOf of.Key text = (key : Key) × SpellsKey text key
+IsOf of.Capacity text = (n : ℕ) × SpellsCapacity text n
+IsOf of.HostPort text = (endpoint : IpAddr × ℕ) × SpellsEndpoint text endpoint
+IsOf of.Count text = (n : ℕ) × SpellsWhole text n
+IsOf of.Now text = (n : ℕ) × SpellsWhole text n
+IsOf of.Token text = (digest : List ℕ) × SpellsToken text digest
+
+-- the value that a field's text spells, or the field where it spells none; want of memory says nothing
+abbrev pub IsRead : {A : Type 0} → (A → Type 0) → WordField → Result A WordFault → Type 0
+IsRead Spelled field (Ok value) = Spelled value
+IsRead {A} Spelled field (Err (fault.Field other)) = (other ≡ field) × ((value : A) → ¬ (Spelled value))
+IsRead Spelled field (Err fault.NoMemory) = Unit {0}
+IsRead Spelled field (Err fault.Device) = ⊥

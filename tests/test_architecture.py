@@ -1,0 +1,73 @@
+"""docs/ARCHITECTURE.md says what is in the tree, and the picture of the crates is that of crates.txt."""
+
+import re
+import subprocess
+import unittest
+from pathlib import Path
+
+TOP = Path(__file__).resolve().parent.parent
+CRATES = TOP / "crates"
+PAGE = (TOP / "docs/ARCHITECTURE.md").read_text()
+PAGES = [*TOP.glob("*.md"), *TOP.glob("docs/*.md"), TOP / "tests/README.md", *CRATES.glob("*/README.md")]
+# For each crate those that it names.
+USES = {name: uses.split() for name, uses in re.findall(r"(?m)^(\w+):(.*)$", (TOP / "crates.txt").read_text())}
+
+
+def rows(heading):
+    """The rows of the table below a heading, each as its cells."""
+    section = PAGE.partition(f"\n## {heading}\n")[2].partition("\n## ")[0]
+    table = [line for line in section.splitlines() if line.startswith("|")]
+    return [[cell.strip() for cell in line.strip("|").split(" | ")] for line in table[2:]]
+
+
+def unfound(part):
+    """The names of a part of a cell that are in none of the files that the part names."""
+    words = re.findall(r"`([^`]+)`", part)
+    texts = [(CRATES / word).read_text() for word in words if "/" in word]
+    names = [word for word in words if texts and "/" not in word]
+    return [name for name in names if not any(re.search(rf"\b{name}\b", text) for text in texts)]
+
+
+def printed(tool):
+    return subprocess.run([TOP / "tools" / tool], capture_output=True, text=True, check=True).stdout
+
+
+class Architecture(unittest.TestCase):
+    maxDiff = None
+
+    def test_the_picture(self):
+        self.assertEqual((TOP / "docs/crates.svg").read_text(), printed("picture"))
+
+    def test_each_crate_has_a_row(self):
+        self.assertEqual([re.sub(r"\W", "", row[0].partition("]")[0]) for row in rows("The crates")], list(USES))
+        self.assertEqual(sorted(USES), sorted(path.parent.name for path in CRATES.glob("*/src")))
+
+    def test_crates_name_what_they_cite(self):
+        """Each line of crates.txt has the crates that the files of its crate cite, and no others."""
+        known = {name for uses in USES.values() for name in uses}
+        for crate, uses in USES.items():
+            files = [it for part in ("src", "specs", "proofs") for it in (CRATES / crate / part).rglob("*.*t")]
+            words = {word for it in files for word in re.findall(r"\w+", re.sub(r"(?m)(--|//).*$", "", it.read_text()))}
+            with self.subTest(crate):
+                self.assertEqual(sorted(set(uses) - words), [])
+                cited = {word for it in files for word in re.findall(r"\bRattle\.(\w+)", it.read_text())} & known
+                self.assertEqual(sorted(cited - {crate, *uses}), [])
+
+    def test_files_are_there(self):
+        lost = []
+        for page in PAGES:
+            for path in sorted(set(re.findall(r"\bwgr_\w+/(?:src|specs|proofs|edits|must-fail)/[\w/]+\.\w+", page.read_text()))):
+                if not (CRATES / path).exists():
+                    lost.append((str(page.relative_to(TOP)), path))
+        self.assertEqual(lost, [])
+
+    def test_rules_are_where_they_are_said_to_be(self):
+        table = rows("Where a rule is defined")
+        self.assertGreater(len(table), 20)
+        lost = [(row[0], name) for row in table for cell in row[1:] for part in cell.split(";") for name in unfound(part)]
+        self.assertEqual(lost, [])
+
+    def test_each_file_has_a_subject(self):
+        files = [line for line in printed("files").splitlines() if line.startswith(" ")]
+        self.assertEqual(len(files), len(list(CRATES.glob("*/src/**/*.rt"))))
+        self.assertEqual([line for line in files if len(line.split()) < 2], [])

@@ -1,0 +1,322 @@
+"""docs/OPERATIONS.md: where its head leads, and all its blocks of commands, on hosts that begin as Debian leaves them."""
+
+import hashlib
+import json
+import re
+import shutil
+import tempfile
+import time
+import unittest
+from pathlib import Path
+
+import program
+from commands import TOP, blocks_of, commands_of, is_printed
+from fronts import make_certificate
+from hosts import Host, needs_host
+from serving import key
+from test_package import RELEASE, TOOLS, release
+
+# The story that runs each block, by the block's heading and its place below it.
+FOLLOWED = {
+    ("Installing", 0): "package",
+    ("Installing", 1): "by hand",
+    ("Upgrading", 0): "package",
+    ("Upgrading", 1): "by hand",
+    ("Upgrading", 2): "by hand",
+    ("TLS and slow clients", 0): "package",
+    ("TLS and slow clients", 1): "by hand",
+    ("TLS and slow clients", 2): "by hand",
+    ("Several registers on one host", 0): "by hand",
+    ("A customer gets a token", 0): "package",
+    ("A customer gets a network", 0): "package",
+    ("Another token without a gap", 0): "package",
+    ("A lost or leaked token", 0): "package",
+    ("Keeping tokens out of process lists", 0): "package",
+    ("Requests from files", 0): "package",
+    ("Backup, restore, another machine", 0): "package",
+    ("To restore", 0): "package",
+    ("To restore", 1): "package",
+    ("Who had which address when", 0): "package",
+    ("Who had which address when", 1): "package",
+    ("Figures, and a probe", 0): "package",
+    ("Figures, and a probe", 1): "package",
+    ("Changing a network", 0): "package",
+    ("Changing a network", 1): "package",
+    ("A second host that takes over", 0): "package",
+    ("A second host that takes over", 1): "package",
+    ("Reading the file", 0): "by hand",
+    ("A server that follows its network", 0): "by hand",
+    ("Taking over an existing WireGuard server", 0): "package",
+}
+# What a reader who is new to the program looks for first, and where on the page, or from it, that is.
+QUESTIONS = [
+    ("how a customer gets a token", "#a-customer-gets-a-token"),
+    ("how a lost token is ended", "#a-lost-or-leaked-token"),
+    ("how an existing server is taken over", "#taking-over-an-existing-wireguard-server"),
+    ("what happens when two customers ask at once", "#when-two-customers-ask-at-once"),
+    ("how yesterday's backup is restored", "#to-restore"),
+    ("what status 2 means", "#statuses-and-what-to-do"),
+    ("which addresses a /29 gives", "#what-a-29-gives"),
+    ("how TLS is put before the service", "#tls-and-slow-clients"),
+    ("what is proved", "../README.md#what-is-proved"),
+    ("what is only tested", "../README.md#what-is-only-tested"),
+    ("what is neither", "../README.md#what-is-neither"),
+]
+# In place of the SSH to the second host: its folder of copies is that of the first one here.
+SSH = """#!/bin/bash
+[[ $1 == standby ]] || exit 255
+exec unshare -m bash -c 'mount --bind /run/hosts/standby/backups /var/backups && exec "$@"' "$@"
+"""
+
+
+class Page(unittest.TestCase):
+    def test_questions(self):
+        """The head of the page leads to each answer in one step, and so does README.md, which has some of its own."""
+        head, readme = (TOP / "docs/OPERATIONS.md").read_text().partition("\n## ")[0], (TOP / "README.md").read_text()
+        for question, link in QUESTIONS:
+            with self.subTest(question):
+                self.assertIn(f"[{question}]({link})", head)
+                self.assertTrue(link.startswith("../README.md#") or f"](docs/OPERATIONS.md{link})" in readme)
+
+    def test_each_block_is_followed(self):
+        self.assertEqual({(heading, place) for heading, blocks in PAGE.items() for place in range(len(blocks))}, FOLLOWED.keys())
+
+
+def blocks_of_story(story):
+    return {block for block, by in FOLLOWED.items() if by == story}
+
+
+@unittest.skipUnless(RELEASE.is_file(), "there is no release")
+@needs_host("apt", "curl", "dpkg-deb", "jq", "openssl", "rsync", "sqlite3", "sudo", "wg", "wireguard-go", "xz")
+class ByPackage(Story):
+    def test_the_story(self):
+        self.install()
+        self.put_nginx_before_it()
+        self.give_a_token()
+        self.take_over_a_server()
+        self.let_it_follow()
+        self.probe()
+        self.keep_a_history()
+        self.answer_files()
+        self.restore()
+        self.change_a_network()
+        self.end_tokens()
+        self.lose_the_host()
+        self.upgrade()
+        self.remove()
+        self.assertEqual(self.followed, blocks_of_story("package"))
+
+    def install(self):
+        self.follow("Installing", 0, "/root/wgr")
+        self.assertEqual(self.host.show("wgr.service", "ActiveState", "UnitFileState"), ("active", "enabled"))
+        self.use_program("/usr/bin/wgr")
+
+    def put_nginx_before_it(self):
+        self.trust()
+        for name in ["wgr.crt", "wgr.key"]:
+            shutil.copy(self.folder / name, self.host.inside("/etc/nginx"))
+        self.do("systemctl start nginx")
+        self.follow("TLS and slow clients", 0, "/root/wgr")
+
+    def give_a_token(self):
+        self.follow("A customer gets a token")
+        self.follow("Keeping tokens out of process lists")
+
+    def take_over_a_server(self):
+        """The dump of a running interface with three peers."""
+        private = self.do("umask 077", "wg genkey > wg0.key", "cat wg0.key").strip()
+        parts = [f"[Interface]\nPrivateKey = {private}\nListenPort = 51820\nAddress = 10.8.0.1/24\n"]
+        parts += [f"[Peer]\nPublicKey = {key(number)}\nAllowedIPs = 10.8.0.{number + 1}/32\n" for number in [1, 2, 3]]
+        self.do("mkdir -p -m 700 /etc/wireguard")
+        self.host.inside("/etc/wireguard/wg0.conf").write_text("\n".join(parts))
+        self.do("systemctl enable --now wg-quick@wg0")
+        self.do("wg show wg0 public-key > office.public")
+        self.follow("A customer gets a network")
+        self.follow("Taking over an existing WireGuard server")
+        # The dump has the peers in no order.
+        self.assertEqual({peer["address"]: peer["key"] for peer in self.peers()}, {f"10.8.0.{number + 1}/32": key(number) for number in [1, 2, 3]})
+
+    def let_it_follow(self):
+        """The interface of the server is another now, with the same key and peers; rounds keep a preshared key."""
+        self.do("systemctl disable --now wg-quick@wg0", "install -d -m 700 /etc/wgr/office", "umask 077", "cp wg0.key /etc/wgr/office/key", "cp acme.token /etc/wgr/office/token")
+        self.do(f"echo {URL}/networks/office > /etc/wgr/office/url", "systemctl enable --now wgr-sync@office.timer", "systemctl start wgr-sync@office")
+        show = "ip netns exec office wg show office"
+        self.assertEqual(set(self.do(f"{show} peers").split()), {key(1), key(2), key(3)})
+        self.do("wg genpsk > preshared", f"ip netns exec office wg set office peer {key(2)} preshared-key preshared", "systemctl start wgr-sync@office")
+        self.assertIn(f"{key(2)}\t{self.do('cat preshared')}", self.do(f"{show} preshared-keys"))
+        self.do("systemctl disable --now wgr-sync@office.timer", "systemctl stop wgr-net@office")
+
+    def peers(self):
+        status, told = self.ask("/networks/office/peers")
+        self.assertEqual(status, 200)
+        return told["peers"]
+
+    def add(self, number, **members):
+        status, told = self.ask("/networks/office/peers", {"key": key(number), **members})
+        self.assertEqual((status, told["number"]), (200, number))
+
+    def probe(self):
+        self.follow("Figures, and a probe", 0)
+        # `systemctl edit` puts what is written in its editor there.
+        self.do("mkdir -p /etc/systemd/system/wgr-probe.service.d /var/lib/prometheus/node-exporter")
+        self.host.inside("/etc/systemd/system/wgr-probe.service.d/override.conf").write_text(PAGE["Figures, and a probe"][1])
+        self.followed.add(("Figures, and a probe", 1))
+        figures = self.do("systemctl daemon-reload", "systemctl start wgr-probe", "cat /var/lib/prometheus/node-exporter/wgr-probe.prom")
+        self.assertIn("\nwgr_probe_success 1\n", figures)
+
+    def keep_a_history(self):
+        for number in [4, 5, 6]:
+            self.add(number)
+        self.follow("Backup, restore, another machine")
+        self.add(7, label="laptop", keepalive=25)
+        self.assertEqual(self.ask("/networks/office/peers/7/routes", {"prefix": "192.168.4.0/24"})[0], 200)
+        self.follow("Backup, restore, another machine")
+        self.follow("Who had which address when", 0)
+        self.follow("Who had which address when", 1)
+
+    def answer_files(self):
+        self.do('cp "$(ls /var/backups/wgr/*.db | tail -n 1)" register.db')
+        self.follow("Requests from files")
+
+    def restore(self):
+        for number in [1, 2]:
+            with self.subTest("a restore, and once more", number=number):
+                self.add(8)
+                self.follow("To restore", 0)
+                self.assertEqual([peer["number"] for peer in self.peers()], [1, 2, 3, 4, 5, 6, 7])
+        with self.subTest("the registers are aside"):
+            self.do("cp -r /var/lib/wgr/aside.* .")
+            asked = "for file in aside.*/register.db; do sqlite3 $file 'select max(id & 1048575) from peer'; done"
+            self.assertEqual(self.do(asked), "8\n8\n")
+        self.follow("To restore", 1)
+
+    def change_a_network(self):
+        self.follow("Changing a network", 0)
+        [network] = self.ask("/networks")[1]["networks"]
+        self.assertEqual((network["endpoint"], network["capacity"]), ("vpn2.example.net:51820", 500))
+        self.follow("Changing a network", 1)
+
+    def end_tokens(self):
+        """The second token is the one whose SHA-256 the page has."""
+        self.do("mv acme.token acme.token.old", "mv acme.header old.header")
+        self.do("printf abc > acme.token", "printf 'Authorization: Bearer abc\\n' > acme.header")
+        self.order("token-grant /var/lib/wgr/register.db acme < acme.token")
+        self.follow("Another token without a gap")
+        self.assertEqual([self.ask("/networks", header=header)[0] for header in ["old.header", "acme.header"]], [401, 200])
+        self.assertEqual(self.do("tr -d '\\n' < acme.token | sha256sum").split()[0], hashlib.sha256(b"abc").hexdigest())
+        self.follow("A lost or leaked token")
+        self.assertEqual(self.ask("/networks"), (401, {"error": "unknown_token"}))
+        self.order("token-grant /var/lib/wgr/register.db acme < acme.token.old")
+        self.do("mv old.header acme.header")
+
+    def lose_the_host(self):
+        standby = self.start("standby")
+        package = next(self.host.inside("/tmp").glob("wgr_*.deb"))
+        shutil.copy(package, standby.inside("/tmp"))
+        self.do(f"apt install /tmp/{package.name}", host=standby)
+        self.use_program("/usr/bin/wgr", host=standby)
+        self.host.inside("/usr/local/bin/ssh").write_text(SSH)
+        self.do("chmod 755 /usr/local/bin/ssh")
+        self.follow("A second host that takes over", 0)
+        before = self.peers()
+        self.do("systemctl disable --now wgr")
+        self.follow("A second host that takes over", 1, host=standby)
+        token = f"Authorization: Bearer {self.do('cat acme.token.old').strip()}"
+        told = self.do(f"curl -s --unix-socket /run/wgr-http.sock -H '{token}' http://wgr/networks/office/peers", host=standby)
+        self.assertEqual(json.loads(told)["peers"], before)
+        self.do("systemctl enable --now wgr")
+
+    def upgrade(self):
+        """To a package that differs in its version alone."""
+        version = release()["version"]
+        place = f"/tmp/wgr_{version}_amd64.deb"
+        self.do(
+            f"dpkg-deb -R {place} /tmp/package",
+            f"sed -i 's/^Version: .*/Version: {version}+later/' /tmp/package/DEBIAN/control",
+            f"dpkg-deb -Znone --root-owner-group -b /tmp/package {place}",
+        )
+        before = self.main_process()
+        self.follow("Upgrading", 0)
+        self.assertEqual(self.do("dpkg-query -W -f '${Version}' wgr"), f"{version}+later")
+        self.assertEqual(self.host.show("wgr.service", "ActiveState"), ("active",))
+        self.assertNotEqual(self.main_process(), before)
+        self.assertEqual(self.ask("/networks")[0], 200)
+
+    def remove(self):
+        """What it stops and what it keeps."""
+        self.do("systemctl enable --now wgr-backup.timer wgr-probe.timer", "apt-get -y remove wgr")
+        self.assertEqual(self.do("systemctl list-units --plain --no-legend --state=active 'wgr*'"), "")
+        self.do("apt-get -y purge wgr", "getent passwd wgr", "test -e /var/lib/wgr/register.db", "test -e /etc/wgr/office/key")
+        self.assertEqual(self.do("find /etc/systemd/system -name 'wgr*' -path '*.wants/*'"), "")
+
+
+@unittest.skipUnless(RELEASE.is_file(), "there is no release")
+@needs_host("apt", "curl", "dpkg-deb", "haproxy", "jq", "openssl", "sqlite3", "sudo", "wg", "wireguard-go", "xz")
+class ByHand(Story):
+    def test_the_story(self):
+        self.install()
+        self.put_haproxy_before_it()
+        self.give_a_token()
+        self.follow_a_network()
+        self.serve_another_register()
+        self.upgrade()
+        self.change_to_the_package()
+        self.assertEqual(self.followed, blocks_of_story("by hand"))
+
+    def install(self):
+        self.follow("Installing", 1, "/root/wgr")
+        self.assertEqual(self.host.show("wgr.service", "ActiveState", "UnitFileState"), ("active", "enabled"))
+        self.use_program("/usr/local/bin/wgr")
+        self.do(*(f"{tool} --help" for tool in TOOLS))
+
+    def put_haproxy_before_it(self):
+        self.trust()
+        for name, there in [("wgr.crt", "fullchain.pem"), ("wgr.key", "privkey.pem")]:
+            shutil.copy(self.folder / name, self.host.inside("/root/wgr") / there)
+        self.follow("TLS and slow clients", 1, "/root/wgr")
+
+    def give_a_token(self):
+        self.do("printf abc > acme.token", "printf 'Authorization: Bearer abc\\n' > acme.header")
+        self.do("printf def > acme-sync.token")
+        self.order("tenant-add /var/lib/wgr/register.db acme", "token-grant /var/lib/wgr/register.db acme < acme.token", "token-grant /var/lib/wgr/register.db acme < acme-sync.token")
+        self.assertEqual(self.ask("/networks"), (200, {"networks": []}))
+        self.do("wgr-backup copies", "cp copies/*.db copy.db")
+        self.follow("TLS and slow clients", 2)
+
+    def follow_a_network(self):
+        self.follow("A server that follows its network")
+        public = self.do("wg pubkey < /etc/wgr/acme-office/key").strip()
+        self.order(
+            f"network-add /var/lib/wgr/register.db acme office --pool 10.8.0.0/24 --host vpn.example.net --port 51820 --key {public} --capacity 250"
+        )
+        self.assertEqual(self.ask("/networks/office/peers", {"key": key(1), "label": "laptop"})[0], 200)
+        self.do("systemctl start wgr-sync@acme-office")
+        self.assertEqual(self.do("ip netns exec acme-office wg show acme-office peers").split(), [key(1)])
+        self.do("systemctl stop wgr-net@acme-office")
+        self.assertEqual(self.host.show("wgr-sync@acme-office.timer", "ActiveState", "UnitFileState"), ("inactive", "enabled"))
+        self.do("wgr-backup copies", 'cp "$(ls copies/*.db | tail -n 1)" register.db')
+        self.follow("Reading the file")
+
+    def serve_another_register(self):
+        self.follow("Several registers on one host")
+        self.assertEqual(self.host.show("wgr@eu1.service", "ActiveState", "UnitFileState"), ("active", "enabled"))
+        told = self.do("curl -s --unix-socket /run/wgr-http-eu1.sock -H @acme.header http://wgr/networks")
+        self.assertEqual(told, '{"error":"unknown_token"}')
+        told = self.do("wgr-backup --unit wgr@eu1 --register /var/lib/wgr/eu1/register.db copies-of-eu1")
+        self.assertRegex(told, "^copies-of-eu1/.*: paused for [0-9]+ ms")
+
+    def upgrade(self):
+        before = self.main_process()
+        self.follow("Upgrading", 1, "/root/wgr")
+        self.assertEqual(self.host.show("wgr.service", "ActiveState"), ("active",))
+        self.assertNotEqual(self.main_process(), before)
+        self.assertEqual(self.ask("/networks")[0], 200)
+
+    def change_to_the_package(self):
+        self.do("tools/package /tmp", folder="/root/wgr")
+        self.follow("Upgrading", 2)
+        self.assertEqual(self.host.show("wgr.service", "ActiveState", "FragmentPath"), ("active", "/lib/systemd/system/wgr.service"))
+        self.assertEqual(self.do("readlink /proc/$(systemctl show -P MainPID wgr)/exe"), "/usr/bin/wgr\n")
+        self.assertEqual(self.ask("/networks/office/peers")[0], 200)
+        with self.subTest("nothing else is left of the one by hand"):
+            self.assertEqual(self.do("find /usr/local /etc/systemd/system -name '*wgr*' -not -path '*.wants/*'"), "")
