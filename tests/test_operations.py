@@ -2,18 +2,13 @@
 
 import hashlib
 import json
-import re
 import shutil
-import tempfile
-import time
 import unittest
-from pathlib import Path
 
-import program
-from commands import TOP, blocks_of, commands_of, is_printed
-from fronts import make_certificate
-from hosts import Host, needs_host
+from commands import TOP
+from hosts import needs_host
 from serving import key
+from stories import PAGE, URL, Story
 from test_package import RELEASE, TOOLS, release
 
 # The story that runs each block, by the block's heading and its place below it.

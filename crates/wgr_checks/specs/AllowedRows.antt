@@ -20,13 +20,13 @@ pub record IsAllowedRow (row : Row) : Type 0 where
 abbrev pub IsAllowedRowOf : List ℕ → Row → Type 0
 IsAllowedRowOf networks row = IsAllowedRow row × (list_any (λ id. nat_eq (number_at row 1) id) networks ≡ true)
 
--- the rows are those of allowed prefixes in these networks, no two of which have a rowid
+-- the rows are those of allowed prefixes in these networks, no two of which share a rowid
 pub record AreWrittenAllowed (networks : List ℕ) (rows : List Row) : Type 0 where
   pub own_rowids : HaveOwnRowids rows
   pub each : AllByRecursion IsAllowedRow rows
   pub among : AreAmong (map (λ r. number_at r 1) rows) networks
 
--- ---- what the query shows
+-- ---- what the query returns
 
 abbrev pub allowed_values : Row → Row
 allowed_values row = column row 0 ∷ column row 1 ∷ column row 2 ∷ column row 3 ∷ column row 4 ∷ column row 5 ∷ column row 6 ∷ column row 7 ∷ []

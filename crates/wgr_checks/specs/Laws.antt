@@ -1,4 +1,4 @@
--- What the tests of rows have to do with a register's consistency.
+-- How the tests of rows relate to a register's consistency.
 use Rattle.std.specs.Prelude.{◌≡◌, ◌<◌, ◌≤◌, ◌↔◌, ℕ, List, length, map, true, nat_eq}
 use Rattle.std.specs.List.{AllByRecursion, IsDistinct}
 use Rattle.sqlite_value.specs.Order.{Row}
@@ -20,14 +20,14 @@ use Rattle.wgr_checks.specs.Sorted.{AreAmong}
 use Rattle.wgr_checks.specs.PeerRows.{AreWrittenPeers}
 use Rattle.wgr_checks.specs.AllowedRows.{AreWrittenAllowed}
 
--- what `IsRegister` asks of the rows of tenants, and `IsConsistent` of the tenants that they are
+-- what `IsRegister` requires of the rows of tenants, and `IsConsistent` of the tenants in them
 pub record AreConsistentTenants (rows : List Row) : Type 0 where
   pub written : AreTenants rows
   pub each : AllByRecursion IsTenant (map tenant_in rows)
   pub ids : IsDistinct nat_eq (map (λ t. t.id) (map tenant_in rows))
   pub names : IsDistinct is_same (map (λ t. t.name) (map tenant_in rows))
 
--- the same of the rows of tokens, and of the tokens that they are
+-- the same for the rows of tokens, and the tokens in them
 pub record AreConsistentTokens (tenants rows : List Row) : Type 0 where
   pub written : AreTokens rows
   pub each : AllByRecursion (λ t. IsDigest t.digest) (map token_in rows)
@@ -35,7 +35,7 @@ pub record AreConsistentTokens (tenants rows : List Row) : Type 0 where
   pub owners : AllByRecursion (λ t. has_tenant (map tenant_in tenants) t.tenant ≡ true) (map token_in rows)
   pub few : length (map token_in rows) ≤ max_entries
 
--- what stands in a network's row is of its form
+-- each value in a network's row is of its form
 pub record IsSettled (w : NetworkRow) : Type 0 where
   pub id : IsId w.id
   pub name : IsName w.name
@@ -46,7 +46,7 @@ pub record IsSettled (w : NetworkRow) : Type 0 where
   pub capacity : IsCapacity w.capacity
   pub next : w.next < 4294967296
 
--- the same of the rows of networks, and of the networks that they are, but for their peers
+-- the same for the rows of networks, and the networks in them, except for their peers
 pub record AreConsistentNetworks (tenants rows : List Row) : Type 0 where
   pub written : AreNetworks rows
   pub each : AllByRecursion IsSettled (map network_in rows)
@@ -68,10 +68,10 @@ abbrev pub GoodNetworksAreConsistent : Type 0
 GoodNetworksAreConsistent = (db : Database) → IsLaidOut db.schema → IsDatabase db → AreGoodTenants (db.trees tenant_tree) → (ids : List ℕ) → AreIdsOf (db.trees tenant_tree) ids
     → AreGoodNetworks ids (db.trees network_tree) ↔ AreConsistentNetworks (db.trees tenant_tree) (db.trees network_tree)
 
--- what `IsRegister` asks of the rows of peers, and that each peer is one of a network that is there
+-- what `IsRegister` requires of the rows of peers, and that each peer is one of a network that exists
 abbrev pub WrittenPeersArePeers : Type 0
 WrittenPeersArePeers = (networks : List ℕ) → (rows : List Row) → AreWrittenPeers networks rows → ArePeers rows × HaveStatuses rows × AreAmong (map (λ p. p.network) (map peer_in rows)) networks
 
--- the same of the rows of allowed prefixes
+-- the same for the rows of allowed prefixes
 abbrev pub WrittenAllowedAreAllowed : Type 0
 WrittenAllowedAreAllowed = (networks : List ℕ) → (rows : List Row) → AreWrittenAllowed networks rows → AreAllowed rows × HaveKinds rows × AreAmong (map (λ a. a.network) (map allowed_in rows)) networks

@@ -10,7 +10,7 @@ use Rattle.wgr_checks.specs.Sorted.{AreAmong}
 use Rattle.wgr_columns.specs.Fields.{IsIdAt, IsNameAt, IsPoolAt, IsHostAt, IsPortAt, IsKeyAt, IsCapacityAt, IsWordAt}
 use Rattle.wgr_checks.specs.TokenRows.{HaveOwners}
 
--- each value stands where a network's row has it, and is of its form
+-- each value is at its place in a network's row, and is of its form
 pub record IsNetworkRow (row : Row) : Type 0 where
   pub id : IsIdAt row 0
   pub tenant : IsIdAt row 2
@@ -30,8 +30,8 @@ slot_at row = (number_at row 2, bytes_at row 3)
 abbrev pub endpoint_at : Row → Bytes × ℕ
 endpoint_at row = (bytes_at row 7, number_at row 8)
 
--- the rows are those of networks of the tenants that have these ids; no two networks have an id, an
--- address of their pools or an endpoint in common, and no tenant has two networks of one name
+-- the rows are those of networks of the tenants that have these ids; no two networks share an id, an
+-- address of their pools or an endpoint, and no tenant has two networks of the same name
 pub record AreGoodNetworks (tenants : List ℕ) (rows : List Row) : Type 0 where
   pub few : length rows ≤ max_entries
   pub each : AllByRecursion IsNetworkRow rows
@@ -67,14 +67,14 @@ pub record HaveOwnPools (rows : List Row) : Type 0 where
 abbrev pub AreNetworksApart : List Row → Type 0
 AreNetworksApart rows = HaveOwnSlots rows × HaveOwnEndpoints rows × HaveOwnPools rows
 
--- what `AreGoodNetworks` asks, but for ids
+-- what `AreGoodNetworks` requires, except for ids
 pub record AreFit (tenants : List ℕ) (rows : List Row) : Type 0 where
   pub few : length rows ≤ max_entries
   pub settings : AllByRecursion HasSettings rows
   pub apart : AreNetworksApart rows
   pub owned : HaveOwners tenants rows
 
--- ---- what the query shows
+-- ---- what the query returns
 
 -- the values of a network, each at its place
 abbrev pub network_values : Row → Row

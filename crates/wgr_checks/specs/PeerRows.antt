@@ -17,13 +17,13 @@ pub record IsPeerRow (row : Row) : Type 0 where
 abbrev pub IsPeerRowOf : List ℕ → Row → Type 0
 IsPeerRowOf networks row = IsPeerRow row × (list_any (λ id. nat_eq (number_at row 2) id) networks ≡ true)
 
--- the rows are those of peers of these networks, no two of which have an id
+-- the rows are those of peers of these networks, no two of which share an id
 pub record AreWrittenPeers (networks : List ℕ) (rows : List Row) : Type 0 where
   pub each : AllByRecursion IsPeerRow rows
   pub ids : IsDistinct nat_eq (map (λ r. number_at r 0) rows)
   pub among : AreAmong (map (λ r. number_at r 2) rows) networks
 
--- ---- what the query shows
+-- ---- what the query returns
 
 abbrev pub peer_values : Row → Row
 peer_values row = column row 0 ∷ Null ∷ column row 2 ∷ Null ∷ Null ∷ column row 5 ∷ column row 6 ∷ column row 7 ∷ column row 8 ∷ column row 9 ∷ []

@@ -12,12 +12,12 @@ use Rattle.wgr_columns.specs.Fields.{IsIdAt, IsNameAt}
 abbrev pub IsTenantRow : Row → Type 0
 IsTenantRow row = IsIdAt row 0 × IsNameAt row 2
 
--- the rows are those of tenants, no two of which have an id
+-- the rows are those of tenants, no two of which share an id
 pub record HaveOwnIds (rows : List Row) : Type 0 where
   pub each : AllByRecursion IsTenantRow rows
   pub ids : IsDistinct nat_eq (map (λ r. number_at r 0) rows)
 
--- they have names, no two of which are one
+-- they have names, no two of which are equal
 pub record HaveOwnNames (rows : List Row) : Type 0 where
   pub each : AllByRecursion (λ r. IsNameAt r 2) rows
   pub names : IsDistinct is_same (map (λ r. bytes_at r 2) rows)
@@ -25,21 +25,21 @@ pub record HaveOwnNames (rows : List Row) : Type 0 where
 abbrev pub AreGoodTenants : List Row → Type 0
 AreGoodTenants rows = HaveOwnIds rows × HaveOwnNames rows
 
--- the ids in the rows, rising
+-- the ids in the rows, ascending
 pub record AreIdsOf (rows : List Row) (ids : List ℕ) : Type 0 where
   pub same : IsPermutation (map (λ r. number_at r 0) rows) ids
   pub sorted : IsSorted nat_cmp ids
 
--- ---- what queries show
+-- ---- what queries return
 
--- the values that tell a tenant, each at its place; its name alone
+-- the values of a tenant, each at its place; its name alone
 abbrev pub tenant_values : Row → Row
 tenant_values row = column row 0 ∷ Null ∷ column row 2 ∷ []
 
 abbrev pub name_values : Row → Row
 name_values row = Null ∷ Null ∷ column row 2 ∷ []
 
--- values of all rows of a table, in the order of those at this place
+-- values of all rows of a table, sorted by those at this place
 pub record Lists (values : Row → Row) (at : ℕ) (table rows : List Row) : Type 0 where
   pub chosen : List Row
   pub same : IsPermutation table chosen

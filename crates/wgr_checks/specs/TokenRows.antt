@@ -11,12 +11,12 @@ use Rattle.wgr_checks.specs.Sorted.{AreAmong}
 use Rattle.wgr_columns.specs.Fields.{IsDigestAt, IsIdAt, IsIntegerAt}
 use Rattle.wgr_model.specs.Consistent.{max_entries}
 
--- the rowids are integers, no two of which are one
+-- the rowids are integers, no two of which are equal
 pub record HaveOwnRowids (rows : List Row) : Type 0 where
   pub each : AllByRecursion (λ r. IsIntegerAt r 0) rows
   pub rowids : IsDistinct int_eq (map (λ r. id_in (column r 0)) rows)
 
--- the rows have digests, no two of which are one, and are no more than a register may have
+-- the rows have digests, no two of which are equal, and are no more than a register may have
 pub record HaveOwnDigests (rows : List Row) : Type 0 where
   pub few : length rows ≤ max_entries
   pub each : AllByRecursion (λ r. IsDigestAt r 1) rows
@@ -35,7 +35,7 @@ pub record AreGoodTokens (ids : List ℕ) (rows : List Row) : Type 0 where
   pub own_keys : HaveOwnKeys rows
   pub owned : HaveOwners ids rows
 
--- ---- what queries show
+-- ---- what queries return
 
 abbrev pub rowid_values : Row → Row
 rowid_values row = column row 0 ∷ Null ∷ Null ∷ []

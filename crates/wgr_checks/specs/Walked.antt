@@ -11,22 +11,22 @@ use Rattle.wgr_checks.specs.OwnRows.{AreOwnRows}
 abbrev pub EndsAt : List Row → ℤ → Type 0
 EndsAt rows rowid = (front : List Row) × (row : Row) × (rows ≡ front ++ row ∷ []) × (id_in (column row 0) ≡ rowid)
 
--- the rows are as they should be, and a rowid that comes after the last is none of theirs
+-- the rows are as they should be, and none has a rowid that comes after the last
 pub record IsWalked (IsRow : Row → Type 0) (rows : List Row) (last : Option ℤ) : Type 0 where
   pub own : AreOwnRows IsRow rows
   pub ends : IfSome last (EndsAt rows)
   pub unused : (z : ℤ) → IfSome last (λ y. int_cmp y z ≡ Less) → AllByRecursion (λ r. int_eq (id_in (column r 0)) z ≡ false) rows
 
--- while the connection is open, it was, and what it shows and what was committed are as they were
+-- if the connection is open, it was open before, and what it shows and what was committed are unchanged
 abbrev pub IsStill : State → State → Type 0
 IsStill old new = IsTrue new.is_open → IsTrue old.is_open × (new.now ≡ old.now) × (new.committed ≡ old.committed)
 
--- how many signed numbers of 64 bits there are from this one on
+-- how many signed 64-bit numbers there are from this one on
 abbrev pub from_on : ℤ → ℕ
 from_on (pos n) = 2 ^ 63 - n
 from_on (negsuc n) = 2 ^ 63 + suc n
 
--- It falls with each row, since rowids rise.
+-- It decreases with each row, since rowids ascend.
 abbrev pub still_to_come : Option ℤ → ℕ
 still_to_come None = 2 ^ 64 + 1
 still_to_come (Some last) = from_on last

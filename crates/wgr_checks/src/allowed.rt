@@ -37,9 +37,9 @@ pub(crate) fn is_allowed_row_of(row: &Row, networks: &[u32]) -> bool
     is_allowed_row(row) && is_among_at(row, allowed::NETWORK, networks)
 }
 
-/// Whether the rows of allowed prefixes are written as the register writes them: their numbers are
-/// numbers, each has a family, a kind and two addresses of 16 bytes, no two rows have one rowid, and
-/// each is in one of these networks, whose ids rise. Nothing is changed.
+/// Whether the rows of allowed prefixes are written as the register writes them: their numeric columns
+/// hold numbers, each has a family, a kind and two addresses of 16 bytes, no two rows share a rowid, and
+/// each is in one of these networks, whose ids ascend. Nothing is changed.
 pub fn allowed_are_written<S: Alter>(
     conn: &mut Connection<S>,
     networks: &[u32],

@@ -1,4 +1,4 @@
-//! Keys that no two rows have in common: each comes before the next.
+//! Keys that no two rows share: each comes before the next.
 ghost use Rattle.std.specs.Prelude.{◌≡◌, ◌↔◌, IsTrue, nat_eq};
 ghost use Rattle.std.specs.List.{IsDistinct};
 ghost use Rattle.std.specs.List.Sorted.{IsSorted};
@@ -12,7 +12,7 @@ ghost use Rattle.wgr_checks.specs.Sorted.{endpoint_cmp, slot_cmp};
 use std::cmp::Ordering;
 use wgr_peers::{Host, Name, Port};
 
-/// Whether no id stands twice.
+/// Whether no id occurs twice.
 pub fn ids_differ(ids: &[u32]) -> bool
     ensures is { IsTrue result → IsDistinct nat_eq ids.now }
     ensures only { IsSorted nat_cmp ids.now → IsDistinct nat_eq ids.now → IsTrue result }
@@ -41,7 +41,7 @@ fn is_name_below(one: &Name, next: &Name) -> bool
     is_below(one.as_bytes(), next.as_bytes())
 }
 
-/// Whether no name stands twice.
+/// Whether no name occurs twice.
 pub fn names_differ(names: &[Name]) -> bool
     ensures is { IsTrue result → IsDistinct is_same names.now }
     ensures only { IsSorted (slice_cmp nat_cmp) names.now → IsDistinct is_same names.now → IsTrue result }
@@ -54,7 +54,7 @@ pub fn names_differ(names: &[Name]) -> bool
     true
 }
 
-/// Whether no digest of a token stands twice.
+/// Whether no digest of a token occurs twice.
 pub fn digests_differ(digests: &[[u8; 32]]) -> bool
     ensures is { IsTrue result → IsDistinct is_same digests.now }
     ensures only { IsSorted (slice_cmp nat_cmp) digests.now → IsDistinct is_same digests.now → IsTrue result }
@@ -78,7 +78,7 @@ fn is_slot_below(one: &(u32, Name), next: &(u32, Name)) -> bool
     }
 }
 
-/// Whether no tenant has two networks of one name.
+/// Whether no tenant has two networks of the same name.
 pub fn slots_differ(slots: &[(u32, Name)]) -> bool
     ensures is { IsTrue result → IsDistinct same_slot slots.now }
     ensures only { IsSorted slot_cmp slots.now → IsDistinct same_slot slots.now → IsTrue result }
@@ -102,7 +102,7 @@ fn is_endpoint_below(one: &(Host, Port), next: &(Host, Port)) -> bool
     }
 }
 
-/// Whether no endpoint stands twice.
+/// Whether no endpoint occurs twice.
 pub fn endpoints_differ(endpoints: &[(Host, Port)]) -> bool
     ensures is { IsTrue result → IsDistinct same_endpoint endpoints.now }
     ensures only { IsSorted endpoint_cmp endpoints.now → IsDistinct same_endpoint endpoints.now → IsTrue result }

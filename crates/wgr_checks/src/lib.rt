@@ -1,5 +1,5 @@
-//! All rows of a register's tables, read and tested: each is of its form, no two have a key, no two
-//! pools have an address in common, and each owner is there.
+//! All rows of a register's tables, read and tested: each is of its form, no two share a key, no two
+//! pools share an address, and each owner exists.
 #![tactic(auto)]
 
 mod allowed;

@@ -30,7 +30,7 @@ use wgr_peers::{Host, Name, Port};
 use wgr_pool::Pool;
 use wgr_sql::{Fault, query};
 
-// The ids that stand at this place of the rows.
+// The ids at this place of the rows.
 fn ids_at(alloc: Global, rows: &[Row], at: usize) -> Result<Option<Vec<u32>>, Fault>
     ensures some { IfOk result (λ found. IfSome found (λ all. AllByRecursion (λ r. IsIdAt r at) rows.now × (all.items ≡ map (λ r. number_at r at) rows.now))) }
     ensures none { IfOk result (λ found. IfNone found (AllByRecursion (λ r. IsIdAt r at) rows.now → ⊥)) }
@@ -153,7 +153,7 @@ fn have_settings(rows: &[Row]) -> bool
     true
 }
 
-// Whether the slots in these rows are such, and none stands twice.
+// Whether the slots in these rows are valid, and none occurs twice.
 fn are_own_slots(alloc: Global, rows: &[Row]) -> Result<bool, Fault>
     ensures told { IfOk result (λ is. IsTrue is ↔ HaveOwnSlots rows.now) }
     ensures memory { IfErr result (λ why. why ≡ NoMemory) }
@@ -165,7 +165,7 @@ fn are_own_slots(alloc: Global, rows: &[Row]) -> Result<bool, Fault>
     Ok(slots_differ(all.as_slice()))
 }
 
-// Whether the endpoints in these rows are such, and none stands twice.
+// Whether the endpoints in these rows are valid, and none occurs twice.
 fn are_own_endpoints(alloc: Global, rows: &[Row]) -> Result<bool, Fault>
     ensures told { IfOk result (λ is. IsTrue is ↔ HaveOwnEndpoints rows.now) }
     ensures memory { IfErr result (λ why. why ≡ NoMemory) }
@@ -177,7 +177,7 @@ fn are_own_endpoints(alloc: Global, rows: &[Row]) -> Result<bool, Fault>
     Ok(endpoints_differ(all.as_slice()))
 }
 
-// Whether the pools in these rows are such, and no two have an address in common.
+// Whether the pools in these rows are valid, and no two share an address.
 fn are_own_pools(alloc: Global, rows: &[Row]) -> Result<bool, Fault>
     ensures told { IfOk result (λ is. IsTrue is ↔ HaveOwnPools rows.now) }
     ensures memory { IfErr result (λ why. why ≡ NoMemory) }
@@ -189,7 +189,7 @@ fn are_own_pools(alloc: Global, rows: &[Row]) -> Result<bool, Fault>
     Ok(pools_are_apart(all.as_slice()))
 }
 
-// Whether each owner in these rows is one of those with these ids, which rise.
+// Whether each owner in these rows is one of those with these ids, which ascend.
 fn are_owned(alloc: Global, rows: &[Row], tenants: &[u32]) -> Result<bool, Fault>
     ensures is { IfOk result (λ is. IsTrue is → HaveOwners tenants.now rows.now) }
     ensures only { IfOk result (λ is. IsSorted nat_cmp tenants.now → HaveOwners tenants.now rows.now → IsTrue is) }
@@ -202,7 +202,7 @@ fn are_owned(alloc: Global, rows: &[Row], tenants: &[u32]) -> Result<bool, Fault
     Ok(are_among(all.as_slice(), tenants))
 }
 
-// Whether no two of these rows have a slot, an endpoint or an address of their pools in common.
+// Whether no two of these rows share a slot, an endpoint or an address of their pools.
 fn are_apart(alloc: Global, rows: &[Row]) -> Result<bool, Fault>
     ensures told { IfOk result (λ is. IsTrue is ↔ AreNetworksApart rows.now) }
     ensures memory { IfErr result (λ why. why ≡ NoMemory) }
@@ -216,7 +216,7 @@ fn are_apart(alloc: Global, rows: &[Row]) -> Result<bool, Fault>
     are_own_pools(alloc, rows)
 }
 
-// Whether these rows are good, but for their ids.
+// Whether these rows are good, except for their ids.
 fn are_fit(alloc: Global, rows: &[Row], tenants: &[u32]) -> Result<bool, Fault>
     ensures is { IfOk result (λ is. IsTrue is → AreFit tenants.now rows.now) }
     ensures only { IfOk result (λ is. IsSorted nat_cmp tenants.now → AreFit tenants.now rows.now → IsTrue is) }
@@ -231,7 +231,7 @@ fn are_fit(alloc: Global, rows: &[Row], tenants: &[u32]) -> Result<bool, Fault>
     are_owned(alloc, rows, tenants)
 }
 
-// The ids in these rows, which come in the order of their ids, or `None` where they aren't good.
+// The ids in these rows, which are in the order of their ids, or `None` if they aren't good.
 fn good_ids(alloc: Global, rows: &[Row], tenants: &[u32]) -> Result<Option<Vec<u32>>, Fault>
     ensures some { IfOk result (λ found. IfSome found (λ ids. AreGoodNetworks tenants.now rows.now × (ids.items ≡ map (λ r. number_at r 0) rows.now))) }
     ensures none { IfOk result (λ found. IfNone found (IsSorted nat_cmp tenants.now → IsSorted nat_cmp (map (λ r. number_at r 0) rows.now) → AreGoodNetworks tenants.now rows.now → ⊥)) }
@@ -265,9 +265,9 @@ fn rows_by_id<S: Alter>(conn: &mut Connection<S>) -> Result<Vec<Row>, Fault>
     )
 }
 
-/// The ids of the networks, rising, or `None` where their rows aren't good: one is no network's or
-/// its tenant's id isn't one of these, which rise; two have an id, an endpoint, or an address of
-/// their pools in common, or are of one tenant and one name; or there are more than a register may
+/// The ids of the networks, ascending, or `None` if their rows aren't good: one is not a network's or
+/// its tenant's id isn't one of these, which ascend; two share an id, an endpoint, or an address of
+/// their pools, or have the same tenant and name; or there are more than a register may
 /// have. Nothing is changed.
 pub fn read_networks<S: Alter>(
     alloc: Global,

@@ -1,5 +1,5 @@
-//! Owners that are there: of all rows, by a walk over their ids and over the ids that owners have,
-//! and of one row, by a search.
+//! Whether owners exist: for all rows, by a walk over the ids that they name and the ids that owners
+//! have, and for one row, by a search.
 ghost use Rattle.std.specs.Prelude.{◌≡◌, ◌<◌, ◌↔◌, true, nat_eq, IsTrue, length, slice_index_or};
 ghost use Rattle.std.specs.List.{list_any};
 ghost use Rattle.std.specs.List.Sorted.{IsSorted};
@@ -10,7 +10,7 @@ ghost use Rattle.wgr_checks.specs.Sorted.{AreAmong};
 use sqlite::Row;
 use wgr_columns::word_at;
 
-// Whether an id below the owner's stands at the place.
+// Whether an id below the owner's is at the place.
 fn has_less(ids: &[u32], at: usize, owner: u32) -> bool
     ensures { IsTrue result ↔ ((at < length ids.now) × (slice_index_or ids.now at 0 < owner)) }
 {
@@ -37,14 +37,14 @@ pub fn are_among(owners: &[u32], ids: &[u32]) -> bool
     true
 }
 
-// Whether the number is one of these, which rise.
+// Whether the number is one of these, which ascend.
 fn is_among(number: u32, numbers: &[u32]) -> bool
     ensures { IsSorted nat_cmp numbers.now → IsTrue result ↔ (list_any (λ id. nat_eq number id) numbers.now ≡ true) }
 {
     numbers.binary_search(&number).is_ok()
 }
 
-/// Whether one of these numbers, which rise, stands at this place.
+/// Whether one of these numbers, which ascend, is at this place.
 pub(crate) fn is_among_at(row: &Row, at: usize, numbers: &[u32]) -> bool
     ensures { IsSorted nat_cmp numbers.now → IsTrue result ↔ (IsNumberAt row.now at × (list_any (λ id. nat_eq (number_at row.now at) id) numbers.now ≡ true)) }
 {

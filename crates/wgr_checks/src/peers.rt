@@ -18,7 +18,7 @@ use sqlite::{Alter, Connection, Row};
 use wgr_columns::{is_null_at, number_at, peer};
 use wgr_sql::Fault;
 
-// Whether all counts of a status stand in the row.
+// Whether all counts of a status are in the row.
 fn is_status_there(row: &Row) -> bool
     ensures { IsTrue result ↔ IsStatusThere row.now }
 {
@@ -27,7 +27,7 @@ fn is_status_there(row: &Row) -> bool
         && number_at(row, peer::SENT).is_some()
 }
 
-// Whether none does.
+// Whether they are all NULL.
 fn is_status_absent(row: &Row) -> bool
     ensures { IsTrue result ↔ IsStatusAbsent row.now }
 {
@@ -54,9 +54,9 @@ pub(crate) fn is_peer_row_of(row: &Row, networks: &[u32]) -> bool
     is_peer_row(row) && is_among_at(row, peer::NETWORK, networks)
 }
 
-/// Whether the rows of peers are written as the register writes them: their numbers are numbers, a
-/// status is there or absent as a whole, no two rows have one id, and each is of one of these
-/// networks, whose ids rise. Nothing is changed.
+/// Whether the rows of peers are written as the register writes them: their numeric columns hold
+/// numbers, a status is wholly present or absent, no two rows share an id, and each is of one of these
+/// networks, whose ids ascend. Nothing is changed.
 pub fn peers_are_written<S: Alter>(
     conn: &mut Connection<S>,
     networks: &[u32],

@@ -1,4 +1,4 @@
-//! Pools that have no address in common: each ends before the next begins.
+//! Pools that share no address: each ends before the next begins.
 ghost use Rattle.std.specs.Prelude.{◌≡◌, ◌<◌, ◌↔◌, IsTrue};
 ghost use Rattle.std.specs.List.{IsDistinct};
 ghost use Rattle.std.specs.List.Sorted.{IsSorted};
@@ -25,7 +25,7 @@ fn ends_before(one: &Pool, next: &Pool) -> bool
     }
 }
 
-/// Whether no two pools have an address in common.
+/// Whether no two pools share an address.
 pub fn pools_are_apart(pools: &[Pool]) -> bool
     ensures is { IsTrue result → IsDistinct overlaps pools.now }
     ensures only { IsSorted pool_cmp pools.now → IsDistinct overlaps pools.now → IsTrue result }

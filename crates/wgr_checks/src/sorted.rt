@@ -1,4 +1,4 @@
-//! The orders of what tells one network from another.
+//! The orders of what distinguishes networks.
 ghost use Rattle.std.specs.Prelude.{◌≡◌};
 ghost use Rattle.std.specs.List.Sorted.{IsPermutation, IsSorted};
 ghost use Rattle.std.specs.Ordering.{nat_cmp};

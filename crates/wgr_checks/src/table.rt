@@ -1,4 +1,4 @@
-//! The tables of members: what is read of each, and which rows it may have.
+//! The tables of members: what is read from each, and which rows it may have.
 ghost use Rattle.std.specs.Prelude.{◌≡◌, ◌↔◌, IsTrue};
 ghost use Rattle.std.specs.List.Sorted.{IsSorted};
 ghost use Rattle.std.specs.Ordering.{nat_cmp};
@@ -18,8 +18,8 @@ pub(crate) enum Table {
 }
 
 impl Table {
-    /// The text of the query that shows what is tested of the rows, in the order of their rowids. This is the
-    /// order in which they are kept, so that none has to be held to put them in order.
+    /// The text of the query that returns what is tested of the rows, in the order of their rowids. This is the
+    /// order in which they are stored, so that no row has to be held in memory for sorting.
     pub(crate) fn text(self) -> &'static str
         ensures { result.now ≡ text_of self }
     {

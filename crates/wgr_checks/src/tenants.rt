@@ -101,7 +101,7 @@ fn rows_by_name<S: Alter>(conn: &mut Connection<S>) -> Result<Vec<Row>, Fault>
     )
 }
 
-// The ids of the tenants, rising, or `None` where a row is no tenant's or two rows have one id.
+// The ids of the tenants, ascending, or `None` if a row is not a tenant's or two rows share an id.
 fn read_ids<S: Alter>(alloc: Global, conn: &mut Connection<S>) -> Result<Option<Vec<u32>>, Fault>
     requires idle { conn.old.in_transaction ≡ false }
     ensures idle { conn.new.in_transaction ≡ false }
@@ -121,7 +121,7 @@ fn read_ids<S: Alter>(alloc: Global, conn: &mut Connection<S>) -> Result<Option<
     Ok(Some(ids))
 }
 
-// Whether all names in these rows are names, and none stands twice.
+// Whether all names in these rows are valid, and none occurs twice.
 fn are_own_names(alloc: Global, rows: &[Row]) -> Result<bool, Fault>
     ensures is { IfOk result (λ is. IsTrue is → HaveOwnNames rows.now) }
     ensures only { IfOk result (λ is. IsSorted (slice_cmp nat_cmp) (map (λ r. bytes_at r 2) rows.now) → HaveOwnNames rows.now → IsTrue is) }
@@ -146,8 +146,8 @@ fn have_own_names<S: Alter>(alloc: Global, conn: &mut Connection<S>) -> Result<b
     are_own_names(alloc, rows.as_slice())
 }
 
-/// The ids of the tenants, rising, or `None` where their rows aren't good: one is no tenant's, or
-/// two have one id or one name. Nothing is changed.
+/// The ids of the tenants, ascending, or `None` if their rows aren't good: one is not a tenant's, or
+/// two share an id or a name. Nothing is changed.
 pub fn read_tenants<S: Alter>(
     alloc: Global,
     conn: &mut Connection<S>,

@@ -27,7 +27,7 @@ use wgr_columns::{ROWID, digest_at, id_at, integer_at, token};
 use wgr_model::MAX_ENTRIES;
 use wgr_sql::{Fault, query};
 
-// The rowids that stand in these rows.
+// The rowids in these rows.
 fn rowids_of(alloc: Global, rows: &[Row]) -> Result<Option<Vec<i64>>, Fault>
     ensures some { IfOk result (λ found. IfSome found (λ all. AllByRecursion (λ r. IsIntegerAt r 0) rows.now × (all.items ≡ map (λ r. id_in (column r 0)) rows.now))) }
     ensures none { IfOk result (λ found. IfNone found (AllByRecursion (λ r. IsIntegerAt r 0) rows.now → ⊥)) }
@@ -88,7 +88,7 @@ fn is_below(one: i64, next: i64) -> bool
     one < next
 }
 
-// Whether no rowid stands twice.
+// Whether no rowid occurs twice.
 fn rowids_differ(rowids: &[i64]) -> bool
     ensures is { IsTrue result → IsDistinct int_eq rowids.now }
     ensures only { IsSorted int_cmp rowids.now → IsDistinct int_eq rowids.now → IsTrue result }
@@ -101,7 +101,7 @@ fn rowids_differ(rowids: &[i64]) -> bool
     true
 }
 
-// The rowids of the tokens, rising.
+// The rowids of the tokens, ascending.
 fn rows_by_rowid<S: Alter>(conn: &mut Connection<S>) -> Result<Vec<Row>, Fault>
     requires idle { conn.old.in_transaction ≡ false }
     ensures idle { conn.new.in_transaction ≡ false }
@@ -149,7 +149,7 @@ fn rows_by_owner<S: Alter>(conn: &mut Connection<S>) -> Result<Vec<Row>, Fault>
     )
 }
 
-/// Whether all rowids in these rows are integers, and none stands twice.
+/// Whether all rowids in these rows are integers, and none occurs twice.
 pub fn are_own_rowids(alloc: Global, rows: &[Row]) -> Result<bool, Fault>
     ensures is { IfOk result (λ is. IsTrue is → HaveOwnRowids rows.now) }
     ensures only { IfOk result (λ is. IsSorted int_cmp (map (λ r. id_in (column r 0)) rows.now) → HaveOwnRowids rows.now → IsTrue is) }
@@ -161,7 +161,7 @@ pub fn are_own_rowids(alloc: Global, rows: &[Row]) -> Result<bool, Fault>
     }
 }
 
-// Whether all digests in these rows are digests, none stands twice, and there are not too many.
+// Whether all digests in these rows are valid, none occurs twice, and there are not too many.
 fn are_own_digests(alloc: Global, rows: &[Row]) -> Result<bool, Fault>
     ensures is { IfOk result (λ is. IsTrue is → HaveOwnDigests rows.now) }
     ensures only { IfOk result (λ is. IsSorted (slice_cmp nat_cmp) (map (λ r. bytes_at r 1) rows.now) → HaveOwnDigests rows.now → IsTrue is) }
@@ -246,8 +246,8 @@ fn have_own_keys<S: Alter>(alloc: Global, conn: &mut Connection<S>) -> Result<bo
     have_own_digests(alloc, conn)
 }
 
-/// Whether the rows of tokens are good: no two have one rowid or one digest, each is a tenant's that
-/// has one of these ids, which rise, and there are no more than a register may have. Nothing is
+/// Whether the rows of tokens are good: no two share a rowid or a digest, each is of a tenant that
+/// has one of these ids, which ascend, and there are no more than a register may have. Nothing is
 /// changed.
 pub fn tokens_are_good<S: Alter>(
     alloc: Global,

@@ -1,4 +1,4 @@
-//! A walk over all rows of a table, which are tested one after the other as a query shows them.
+//! A walk over all rows of a table, which are tested one after the other as a query returns them.
 ghost use Rattle.std.specs.Prelude.{◌≡◌, ◌↔◌, [], false, IsTrue, IfErr, IfOk, IfSome, IfNone};
 ghost use Rattle.std.specs.List.Sorted.{IsSorted};
 ghost use Rattle.std.specs.Ordering.{int_cmp, nat_cmp};
@@ -49,8 +49,8 @@ fn passing_rowid(row: &Row, before: Option<i64>, table: Table, networks: &[u32])
     }
 }
 
-// Whether all rows that the table's query is about to show pass. Of the rows that passed only the
-// last one's rowid is held. The walk ends, since rowids rise.
+// Whether all rows that the table's query is about to return pass. Of the rows that passed only the
+// last one's rowid is held. The walk ends, since rowids ascend.
 fn all_pass<S: Alter>(rows: &mut Rows<'_, S>, table: Table, networks: &[u32]) -> Result<bool, Fault>
     ensures same_reference { rows.new.conn.ghost_name ≡ rows.old.conn.ghost_name }
     ensures idle { rows.old.conn.now.in_transaction ≡ false → rows.new.conn.now.in_transaction ≡ false }
@@ -77,9 +77,9 @@ fn all_pass<S: Alter>(rows: &mut Rows<'_, S>, table: Table, networks: &[u32]) ->
     }
 }
 
-/// Whether all rows of the table belong to these networks, whose ids rise, and no rowid stands twice.
-/// Nothing is changed. The rows are read one at a time, outside of a transaction: what a transaction
-/// is left as by rows that are dropped no contract says.
+/// Whether all rows of the table belong to these networks, whose ids ascend, and no rowid occurs twice.
+/// Nothing is changed. The rows are read one at a time, outside of a transaction: no contract says in
+/// which state a dropped `Rows` leaves a transaction.
 pub(crate) fn are_own<S: Alter>(
     conn: &mut Connection<S>,
     table: Table,

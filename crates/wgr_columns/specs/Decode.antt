@@ -1,5 +1,5 @@
--- The rows of the model, read from the rows of the database. A table's columns stand from place 1
--- on, and its rowid, which is an INTEGER PRIMARY KEY where it has one, at place 0.
+-- The rows of the model, read from the rows of the database. A table's rowid, which is its INTEGER
+-- PRIMARY KEY if it has one, is at place 0, and its columns are at the places from 1 on.
 use Rattle.std.specs.Prelude.{◌≡◌, ◌⊎◌, ℕ, pos, ◌+◌, cond, nat_eq, List, [], ◌∷◌, map, codes, bytes_eq, Option, Some, None, unsigned_abs}
 use Rattle.std.specs.Int.{w128, from_be_bytes, to_be_bytes}
 use Rattle.sqlite_value.specs.Order.{Row, column, bytes}
@@ -29,18 +29,18 @@ bytes_at row at = bytes (column row at)
 abbrev pub family_of : ℕ → Family
 family_of n = cond (nat_eq n 4) V4 V6
 
--- the 16 bytes of a number, the highest first
+-- the 16 bytes of a number, in big-endian order
 unfoldable pub bytes_of : ℕ → List ℕ
 bytes_of = to_be_bytes w128
 
--- the number of 16 bytes, the highest first
+-- the number of 16 bytes, in big-endian order
 unfoldable pub number_of : List ℕ → ℕ
 number_of = from_be_bytes w128
 
 abbrev pub address_at : Row → ℕ → ℕ → AddrValue
 address_at row family at = record { family = family_of (number_at row family); number = number_of (bytes_at row at) }
 
--- a prefix whose family, address and length stand from this place on
+-- a prefix whose family, address and length are at this place and the next two
 abbrev pub prefix_at : Row → ℕ → PrefixValue
 prefix_at row at = record { address = address_at row at (at + 1); length = number_at row (at + 2) }
 
@@ -105,17 +105,17 @@ tables_in trees = record {
 abbrev pub tables_of : Database → Tables
 tables_of db = tables_in db.trees
 
--- ---- rows that are written as such
+-- ---- rows that are written as the register writes them
 
--- an integer from 0 on
+-- an integer that is not negative
 abbrev pub IsNumberAt : Row → ℕ → Type 0
 IsNumberAt row at = column row at ≡ Int (pos (number_at row at))
 
--- the values at these places are integers from 0 on
+-- the values at these places are integers that are not negative
 abbrev pub AreNatural : List ℕ → List Row → Type 0
 AreNatural places rows = (r : Row) → Has rows r → (p : ℕ) → Has places p → IsNumberAt r p
 
--- the bytes at these places are the 16 of a number
+-- the values at these places are the 16 bytes of a number
 abbrev pub AreSpelled : List ℕ → List Row → Type 0
 AreSpelled places rows = (r : Row) → Has rows r → (p : ℕ) → Has places p → column r p ≡ Blob (bytes_of (number_of (bytes_at r p)))
 
@@ -123,7 +123,7 @@ AreSpelled places rows = (r : Row) → Has rows r → (p : ℕ) → Has places p
 abbrev pub HaveFamilies : List ℕ → List Row → Type 0
 HaveFamilies places rows = (r : Row) → Has rows r → (p : ℕ) → Has places p → number_at r p ≡ family_number (family_of (number_at r p))
 
--- rowids tell the rows apart, and what stands at these places are numbers, addresses and families
+-- different rows have different rowids, and these places hold numbers, addresses and families
 pub record AreWritten (numbers addresses families : List ℕ) (rows : List Row) : Type 0 where
   pub keyed : IsKeyed rows
   pub numbers_are : AreNatural numbers rows
@@ -157,7 +157,7 @@ ArePeers = AreWritten peer_numbers [] []
 abbrev pub AreAllowed : List Row → Type 0
 AreAllowed = AreWritten allowed_numbers allowed_addresses (2 ∷ [])
 
--- three counts of a status, all there or all absent
+-- the three counts of a status, all present or all NULL
 abbrev pub IsStatusThere : Row → Type 0
 IsStatusThere row = IsNumberAt row 7 × IsNumberAt row 8 × IsNumberAt row 9
 
@@ -188,8 +188,8 @@ pub record AreTrees (trees : Trees) : Type 0 where
   pub statuses : HaveStatuses (trees peer_tree)
   pub kinds : HaveKinds (trees allowed_tree)
 
--- the database has the register's tables, perhaps with others after them that stand apart, and
--- their rows are written as such
+-- the database has the register's tables, perhaps with others after them that are separate, and
+-- their rows are written as the register writes them
 pub record IsRegister (db : Database) : Type 0 where
   pub others : Others
   pub schema_is : db.schema ≡ schema_with others

@@ -12,9 +12,9 @@ use Rattle.wgr_model.specs.Consistent.{IsDigest, IsId, IsName}
 use Rattle.wgr_model.specs.Rows.{family_number, peer_id}
 use Rattle.wgr_columns.specs.Decode.{IsNumberAt, number_at, bytes_at, bytes_of, number_of, family_of, address_at, prefix_at}
 
--- ---- numbers; `IsNumberAt`, one from 0 on, is that of `Decode`
+-- ---- numbers; `IsNumberAt`, one that is not negative, is in `Decode`
 
--- an integer, perhaps below 0
+-- an integer, perhaps negative
 abbrev pub IsIntegerAt : Row → ℕ → Type 0
 IsIntegerAt row at = column row at ≡ Int (id_in (column row at))
 
@@ -53,7 +53,7 @@ IsNameAt row at = (column row at ≡ Text (bytes_at row at)) × IsName (bytes_at
 abbrev pub IsLabelAt : Row → ℕ → Type 0
 IsLabelAt row at = (column row at ≡ Text (bytes_at row at)) × IsLabel (bytes_at row at)
 
--- the host's text is the one that is kept of it
+-- the host's text is the one that the register stores for it
 abbrev pub IsHostAt : Row → ℕ → Type 0
 IsHostAt row at = (column row at ≡ Text (bytes_at row at)) × IsHostText (bytes_at row at) (bytes_at row at)
 
@@ -62,7 +62,7 @@ IsHostAt row at = (column row at ≡ Text (bytes_at row at)) × IsHostText (byte
 abbrev pub IsDigestAt : Row → ℕ → Type 0
 IsDigestAt row at = (column row at ≡ Blob (bytes_at row at)) × IsDigest (bytes_at row at)
 
--- a key of WireGuard: 32 bytes
+-- a WireGuard key: 32 bytes
 abbrev pub IsKeyAt : Row → ℕ → Type 0
 IsKeyAt row at = (column row at ≡ Blob (bytes_at row at)) × (length (bytes_at row at) ≡ 32)
 
@@ -75,19 +75,19 @@ IsSpelledAt row at = column row at ≡ Blob (bytes_of (number_of (bytes_at row a
 abbrev pub IsFamilyAt : Row → ℕ → Type 0
 IsFamilyAt row at = IsNumberAt row at × (number_at row at ≡ family_number (family_of (number_at row at)))
 
--- an address whose family stands at the one place, and its number at the other
+-- an address whose family is at the one place, and its number at the other
 pub record IsAddressAt (row : Row) (family at : ℕ) : Type 0 where
   pub family_is : IsFamilyAt row family
   pub spelled : IsSpelledAt row at
   pub fits : IsAddr (address_at row family at)
 
--- a prefix whose family, first address and length stand from this place on
+-- a prefix whose family, first address and length are at this place and the next two
 pub record IsPrefixAt (row : Row) (at : ℕ) : Type 0 where
   pub address : IsAddressAt row at (at + 1)
   pub length : IsNumberAt row (at + 2)
   pub prefix : IsPrefix (prefix_at row at)
 
--- a pool whose family, first address and length stand from this place on
+-- a pool whose family, first address and length are at this place and the next two
 pub record IsPoolAt (row : Row) (at : ℕ) : Type 0 where
   pub family : IsFamilyAt row at
   pub address : IsSpelledAt row (at + 1)

@@ -60,7 +60,7 @@ allowed_at tree = table_of (codes "allowed") tree None (1 ∷ 2 ∷ 3 ∷ 4 ∷ 
     (column_of (codes "network") Integer true ∷ column_of (codes "family") Integer true ∷ column_of (codes "lo") Blob true ∷ column_of (codes "length") Integer true ∷ column_of (codes "hi") Blob true
     ∷ column_of (codes "peer") Integer true ∷ column_of (codes "kind") Text true ∷ [])
 
--- the trees in which the rows of the tables are kept; those between are the indexes'
+-- the trees that hold the rows of the tables; those between hold the indexes
 abbrev pub meta_tree : ℕ
 meta_tree = 0
 
@@ -79,7 +79,7 @@ peer_tree = 8
 abbrev pub allowed_tree : ℕ
 allowed_tree = 10
 
--- the first tree that is none of the register's
+-- the first tree that is not the register's
 abbrev pub first_free_tree : ℕ
 first_free_tree = 13
 
@@ -89,13 +89,13 @@ register_tables = meta_at meta_tree ∷ tenant_at tenant_tree ∷ token_at token
 abbrev pub index_of : List ℕ → ℕ → ℕ → List ℕ → Bool → Index
 index_of name tree table columns is_unique = record { name = name; tree = tree; table = table; columns = columns; order = plain; is_unique = is_unique }
 
--- One for each key, and one by which what leads to a peer is found: by network and peer.
+-- One for each key, and one that finds the allowed prefixes of a peer: by network and peer.
 abbrev pub register_indexes : List Index
 register_indexes = index_of (codes "sqlite_autoindex_tenant_1") 2 1 (2 ∷ []) true ∷ index_of (codes "sqlite_autoindex_token_1") 4 3 (1 ∷ []) true ∷ index_of (codes "sqlite_autoindex_network_1") 6 5 (2 ∷ 3 ∷ []) true
     ∷ index_of (codes "sqlite_autoindex_network_2") 7 5 (7 ∷ 8 ∷ []) true ∷ index_of (codes "sqlite_autoindex_peer_1") 9 8 (2 ∷ 3 ∷ []) true
     ∷ index_of (codes "sqlite_autoindex_allowed_1") 11 10 (1 ∷ 2 ∷ 3 ∷ 4 ∷ []) true ∷ index_of (codes "allowed_peer") 12 10 (1 ∷ 6 ∷ []) false ∷ []
 
--- what stands in the database after the register's tables and indexes
+-- what is in the database after the register's tables and indexes
 pub record Others : Type 0 where
   pub tables : List Table
   pub indexes : List Index
@@ -107,14 +107,14 @@ schema_with others = record { tables = register_tables ++ others.tables; indexes
 abbrev pub refers : List Table → Reference → Bool
 refers tables ref = list_any (λ t. same_name t.name ref.parent) tables
 
--- whether a table's rows stand past the register's, and none refers to one of the tables
+-- whether a table's rows are in a tree after the register's, and it refers to none of the tables
 abbrev pub is_apart : List Table → Table → Bool
 is_apart tables table = nat_le first_free_tree table.tree && not (list_any (refers tables) table.references)
 
 abbrev pub is_past : Index → Bool
 is_past index = nat_le first_free_tree index.tree
 
--- Each further table stands apart. Further indexes and views are free.
+-- Each further table is separate, and each further index is in a tree after the register's. Views are free.
 pub record AreApart (others : Others) : Type 0 where
   pub tables : list_all (is_apart register_tables) others.tables ≡ true
   pub indexes : list_all is_past others.indexes ≡ true

@@ -1,4 +1,4 @@
--- Values as a statement takes them.
+-- Values as parameters of a statement.
 use Rattle.std.specs.Prelude.{ℕ, pos, Option, Some, None}
 use Rattle.sqlite.specs.declared.types.ValueRef.{ValueRef}
 use Rattle.sqlite.specs.declared.types.ValueRef.TheVariants.{Null, Int}

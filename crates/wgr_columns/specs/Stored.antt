@@ -1,4 +1,4 @@
--- Rows as the register writes them, but for rowids that are nobody's.
+-- Rows as the register writes them, except rowids that are no column's.
 use Rattle.std.specs.Prelude.{◌≡◌, ◌+◌, ◌<◌, ℕ, pos, Bool, true, false, List, [], ◌∷◌, map, Option, Some, None}
 use Rattle.std.specs.List.Sorted.{IsSorted}
 use Rattle.std.specs.Ordering.{nat_cmp}
@@ -37,28 +37,28 @@ stored_network w = Int (pos w.id) ∷ Null ∷ Int (pos w.tenant) ∷ Text w.nam
 abbrev pub stored_tenant : Tenant → Row
 stored_tenant x = Int (pos x.id) ∷ Null ∷ Text x.name ∷ []
 
--- the family and the bytes of the address stand at these places
+-- the family and the bytes of the address are at these places
 abbrev pub HasAddress : Row → ℕ → ℕ → AddrValue → Type 0
 HasAddress row family at a = (column row family ≡ Int (pos (family_number a.family))) × (column row at ≡ Blob (bytes_of a.number))
 
--- the family, the first address and the length of the prefix stand from this place on
+-- the family, the first address and the length of the prefix are at this place and the next two
 abbrev pub HasPrefix : Row → ℕ → PrefixValue → Type 0
 HasPrefix row at p = HasAddress row at (at + 1) p.address × (column row (at + 2) ≡ Int (pos p.length))
 
--- a status, or none, stands at the places 7 to 9
+-- a status, or none, is at the places 7 to 9
 abbrev pub HasStatus : Row → Option Status → Type 0
 HasStatus row None = column row 7 ≡ Null
 HasStatus row (Some s) = (column row 7 ≡ Int (pos s.handshake)) × (column row 8 ≡ Int (pos s.received)) × (column row 9 ≡ Int (pos s.sent))
 
--- rows are stored as what is read of them
+-- the rows are those that store what is read from them
 abbrev pub AreStored : {T : Type 0} → (T → Row) → (Row → T) → List Row → Type 0
 AreStored stored read rows = rows ≡ map stored (map read rows)
 
--- what is read of them rises by its keys
+-- what is read from them is in ascending order of its keys
 abbrev pub AreRising : {T : Type 0} → (T → ℕ) → (Row → T) → List Row → Type 0
 AreRising key read rows = IsSorted nat_cmp (map key (map read rows))
 
--- ---- what is kept in rows
+-- ---- what is stored in rows
 
 pub record IsKeptPeer (p : Peer) : Type 0 where
   pub number : p.number < 4294967296

@@ -1,4 +1,4 @@
--- The statements that make the tables and the index.
+-- The statements that create the tables and the index.
 use Rattle.std.specs.Prelude.{ℕ, List, codes}
 
 abbrev pub meta_text : List ℕ

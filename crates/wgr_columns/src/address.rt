@@ -1,4 +1,4 @@
-//! Addresses, prefixes and pools, read from the places of a row, if they stand there.
+//! Addresses, prefixes and pools, read from the places of a row, if they are there.
 ghost use Rattle.std.specs.Prelude.{◌≡◌, IfSome, IfNone};
 ghost use Rattle.sqlite.specs.declared.types.Value.TheVariants.{Blob};
 ghost use Rattle.wgr_text.specs.Prefix.{IsAddr, IsPrefix};
@@ -6,7 +6,7 @@ ghost use Rattle.wgr_pool.specs.Pool.{IsPool};
 ghost use Rattle.wgr_columns.specs.Decode.{address_at, bytes_at, bytes_of, family_of, number_at, number_of, prefix_at};
 ghost use Rattle.wgr_columns.specs.Fields.{IsAddressAt, IsFamilyAt, IsPoolAt, IsPrefixAt, IsSpelledAt};
 
-use crate::blob::tell_bytes;
+use crate::blob::are_bytes;
 use crate::columns::{allowed, network};
 use crate::number::number_at;
 use sqlite::Row;
@@ -26,19 +26,19 @@ pub fn family_at(row: &Row, at: usize) -> Option<Family>
     }
 }
 
-// The number of 16 bytes, the highest first.
+// The number of 16 bytes, in big-endian order.
 fn joined(bytes: [u8; 16]) -> u128
     ensures { result ≡ number_of bytes }
 {
     u128::from_be_bytes(bytes)
 }
 
-// The number that has these bytes, the highest first.
+// The number that has these bytes, in big-endian order.
 fn number_of(bytes: &[u8]) -> Option<u128>
     ensures some { IfSome result (λ number. (Blob bytes.now ≡ Blob (bytes_of (number_of bytes.now))) × (number ≡ number_of bytes.now)) }
     ensures none { IfNone result (Blob bytes.now ≡ Blob (bytes_of (number_of bytes.now)) → ⊥) }
 {
-    tell_bytes(bytes);
+    are_bytes(bytes);
     if bytes.len() != 16 {
         return None;
     }
@@ -47,7 +47,7 @@ fn number_of(bytes: &[u8]) -> Option<u128>
     Some(joined(all))
 }
 
-/// The number of an address, whose 16 bytes stand at this place.
+/// The number of an address, whose 16 bytes are at this place.
 pub fn address_number_at(row: &Row, at: usize) -> Option<u128>
     ensures some { IfSome result (λ number. IsSpelledAt row.now at × (number ≡ number_of (bytes_at row.now at))) }
     ensures none { IfNone result (IsSpelledAt row.now at → ⊥) }
@@ -58,7 +58,7 @@ pub fn address_number_at(row: &Row, at: usize) -> Option<u128>
     number_of(bytes)
 }
 
-/// The address whose family stands at the one place, and its number at the other.
+/// The address whose family is at the one place, and its number at the other.
 pub fn address_at(row: &Row, family: usize, at: usize) -> Option<Addr>
     ensures some { IfSome result (λ address. IsAddressAt row.now family at × (address ≡ address_at row.now family at)) }
     ensures none { IfNone result (IsAddressAt row.now family at → ⊥) }
@@ -67,7 +67,7 @@ pub fn address_at(row: &Row, family: usize, at: usize) -> Option<Addr>
     Addr::new(family, address_number_at(row, at)?)
 }
 
-// The prefix of this first address and length.
+// The prefix with this first address and length.
 fn prefix_of(address: Addr, length: u64) -> Option<Prefix>
     ensures some { IfSome result (λ prefix. IsPrefix (record { address = address; length = length }) × (prefix ≡ record { address = address; length = length })) }
     ensures none { IfNone result (IsPrefix (record { address = address; length = length }) → ⊥) }
@@ -91,7 +91,7 @@ pub fn prefix_in(row: &Row) -> Option<Prefix>
     prefix_of(address, number_at(row, allowed::LENGTH)?)
 }
 
-// The pool of this family, first address and length.
+// The pool with this family, first address and length.
 fn pool_of(family: Family, number: u128, length: u64) -> Option<Pool>
     ensures some { IfSome result (λ pool. IsPool (record { address = record { family = family; number = number }; length = length }) × (pool ≡ record { address = record { family = family; number = number }; length = length })) }
     ensures none { IfNone result (IsPool (record { address = record { family = family; number = number }; length = length }) → ⊥) }

@@ -1,4 +1,4 @@
-//! Digests and keys, read from the places of a row, if they stand there.
+//! Digests and keys, read from the places of a row, if they are there.
 ghost use Rattle.std.specs.Prelude.{◌≡◌, ◌<◌, IfSome, IfNone};
 ghost use Rattle.std.specs.List.{AllByRecursion};
 ghost use Rattle.wgr_model.specs.Consistent.{IsDigest};
@@ -10,16 +10,16 @@ use sqlite::types::ValueRef;
 use wgr_text::Key;
 
 // A byte is below 256.
-pub(crate) fn tell_bytes(bytes: &[u8])
+pub(crate) fn are_bytes(bytes: &[u8])
     ensures { AllByRecursion (λ b. b < 256) bytes.now }
 {}
 
-// The digest that has these bytes.
+// The digest with these bytes.
 fn digest_of(bytes: &[u8]) -> Option<[u8; 32]>
     ensures some { IfSome result (λ digest. IsDigest bytes.now × (digest ≡ bytes.now)) }
     ensures none { IfNone result (IsDigest bytes.now → ⊥) }
 {
-    tell_bytes(bytes);
+    are_bytes(bytes);
     if bytes.len() != 32 {
         return None;
     }

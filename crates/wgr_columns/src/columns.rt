@@ -1,17 +1,17 @@
-//! The places of the columns in a row of each table: the rowid stands first, and the columns after
-//! it in their order. Where the first column is the rowid by another name, as each `id` is, its own
-//! place holds nothing, and queries show NULL there: so these tables have no place 1.
+//! The places of the columns in a row of each table: the rowid is first, and the columns follow it
+//! in their order. Where the first column is an alias of the rowid, as each `id` is, its own place
+//! holds nothing, and queries return NULL there: so these tables have no place 1.
 
 /// The rowid, in each table.
 pub const ROWID: usize = 0;
 
-/// Of `meta`.
+/// Columns of `meta`.
 pub mod meta {
     /// The layout's version, which is the rowid.
     pub const VERSION: usize = 0;
 }
 
-/// Of `tenant`.
+/// Columns of `tenant`.
 pub mod tenant {
     /// The tenant's id, which is the rowid.
     pub const ID: usize = 0;
@@ -19,7 +19,7 @@ pub mod tenant {
     pub const NAME: usize = 2;
 }
 
-/// Of `token`.
+/// Columns of `token`.
 pub mod token {
     /// The token's digest.
     pub const DIGEST: usize = 1;
@@ -27,7 +27,7 @@ pub mod token {
     pub const TENANT: usize = 2;
 }
 
-/// Of `network`.
+/// Columns of `network`.
 pub mod network {
     /// The network's id, which is the rowid.
     pub const ID: usize = 0;
@@ -53,7 +53,7 @@ pub mod network {
     pub const NEXT: usize = 11;
 }
 
-/// Of `peer`.
+/// Columns of `peer`.
 pub mod peer {
     /// The peer's id, which is the rowid.
     pub const ID: usize = 0;
@@ -67,15 +67,15 @@ pub mod peer {
     pub const UNTIL: usize = 5;
     /// The peer's keepalive.
     pub const KEEPALIVE: usize = 6;
-    /// When a running interface last showed a handshake.
+    /// When a running interface last reported a handshake.
     pub const HANDSHAKE: usize = 7;
-    /// How many bytes it showed as received.
+    /// How many bytes it reported as received.
     pub const RECEIVED: usize = 8;
-    /// How many bytes it showed as sent.
+    /// How many bytes it reported as sent.
     pub const SENT: usize = 9;
 }
 
-/// Of `allowed`.
+/// Columns of `allowed`.
 pub mod allowed {
     /// The id of the network that the prefix is allowed in.
     pub const NETWORK: usize = 1;

@@ -1,7 +1,7 @@
 //! The columns of the register's tables: what each holds, read from a row and written to one.
 //!
-//! A reader answers a value exactly where one of its form stands at the place, and `None` elsewhere;
-//! one that needs memory answers a fault where there is none. The places have names, by table.
+//! A reader returns a value exactly where the place holds one of its form, and `None` elsewhere; one
+//! that needs memory returns a fault where there is none. The places have names, by table.
 #![tactic(auto)]
 
 mod address;

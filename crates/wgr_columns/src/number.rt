@@ -1,4 +1,4 @@
-//! Numbers, read from the places of a row, if they stand there.
+//! Numbers, read from the places of a row, if they are there.
 ghost use Rattle.std.specs.Prelude.{◌≡◌, ◌↔◌, pos, IfSome, IfNone, IsTrue};
 ghost use Rattle.sqlite_value.specs.Order.{column};
 ghost use Rattle.sqlite_rules.specs.Edit.{id_in};
@@ -13,7 +13,7 @@ use sqlite::types::ValueRef;
 use wgr_model::MAX_ENTRIES;
 use wgr_peers::{Capacity, Count, LeaseEnd, Port};
 
-/// Whether nothing stands at this place.
+/// Whether this place is NULL.
 pub fn is_null_at(row: &Row, at: usize) -> bool
     ensures { IsTrue result ↔ (column row.now at ≡ Null) }
 {
@@ -34,7 +34,7 @@ pub fn integer_at(row: &Row, at: usize) -> Option<i64>
     Some(number)
 }
 
-/// The number at this place, from 0 on.
+/// The number at this place, if it is not negative.
 pub fn number_at(row: &Row, at: usize) -> Option<u64>
     ensures some { IfSome result (λ number. IsNumberAt row.now at × (number ≡ number_at row.now at)) }
     ensures none { IfNone result (IsNumberAt row.now at → ⊥) }
@@ -46,7 +46,7 @@ pub fn number_at(row: &Row, at: usize) -> Option<u64>
     }
 }
 
-/// The number at this place without its sign; 0 where none stands there.
+/// The number at this place without its sign; 0 if there is none.
 pub fn magnitude_at(row: &Row, at: usize) -> u64
     ensures { result ≡ number_at row.now at }
 {
@@ -56,7 +56,7 @@ pub fn magnitude_at(row: &Row, at: usize) -> u64
     }
 }
 
-/// Whether this number stands at this place.
+/// Whether this number is at this place.
 pub fn has_number(row: &Row, at: usize, number: u64) -> bool
     ensures { IsTrue result ↔ (column row.now at ≡ Int (pos number)) }
 {

@@ -1,4 +1,4 @@
-//! Texts, read from the places of a row, if they stand there.
+//! Texts, read from the places of a row, if they are there.
 ghost use Rattle.std.specs.Prelude.{◌≡◌, IfErr, IfOk, IfSome, IfNone, bytes_eq};
 ghost use Rattle.wgr_peers.specs.Host.{IsHostText};
 ghost use Rattle.wgr_sql.specs.declared.fault.Fault.TheVariants.{NoMemory};
@@ -41,7 +41,7 @@ pub fn label_at(alloc: Global, row: &Row, at: usize) -> Result<Option<Label>, Fa
     }
 }
 
-// The host that is kept as this text.
+// The host that is stored as this text.
 fn host_of(alloc: Global, text: &[u8]) -> Result<Option<Host>, Fault>
     ensures some { IfOk result (λ found. IfSome found (λ host. IsHostText text.now text.now × (host ≡ text.now))) }
     ensures none { IfOk result (λ found. IfNone found (IsHostText text.now text.now → ⊥)) }
@@ -59,7 +59,7 @@ fn host_of(alloc: Global, text: &[u8]) -> Result<Option<Host>, Fault>
     Ok(Some(host))
 }
 
-/// The host at this place, which stands as it is kept.
+/// The host at this place, if its text is the one that the register stores for it.
 pub fn host_at(alloc: Global, row: &Row, at: usize) -> Result<Option<Host>, Fault>
     ensures some { IfOk result (λ found. IfSome found (λ host. IsHostAt row.now at × (host ≡ bytes_at row.now at))) }
     ensures none { IfOk result (λ found. IfNone found (IsHostAt row.now at → ⊥)) }
@@ -71,7 +71,7 @@ pub fn host_at(alloc: Global, row: &Row, at: usize) -> Result<Option<Host>, Faul
     host_of(alloc, text)
 }
 
-/// The kind of an allowed prefix at this place: whether it is a route, and no peer's address.
+/// The kind of an allowed prefix at this place: whether it is a route, not a peer's address.
 pub fn is_route_at(row: &Row, at: usize) -> Option<bool>
     ensures some { IfSome result (λ is. IsKindAt row.now at × (is ≡ bytes_eq (bytes_at row.now at) route_kind)) }
     ensures none { IfNone result (IsKindAt row.now at → ⊥) }

@@ -1,4 +1,4 @@
-//! Values as a statement takes them.
+//! Values as parameters of a statement.
 ghost use Rattle.std.specs.Prelude.{◌≡◌, pos};
 ghost use Rattle.sqlite.specs.declared.types.ValueRef.TheVariants.{Int};
 ghost use Rattle.wgr_model.specs.Rows.{peer_id, family_number};
@@ -19,7 +19,7 @@ pub fn number_value(number: u32) -> ValueRef<'static>
     ValueRef::Int(i64::from(number))
 }
 
-/// The id before those of a network's peers: that of each is its number more.
+/// The id before those of a network's peers: the id of each peer is this one plus its number.
 pub(crate) fn first_id(network: u32) -> u64
     ensures { result ≡ peer_id network 0 }
 {
@@ -43,7 +43,7 @@ pub fn family_value(family: Family) -> ValueRef<'static>
     }
 }
 
-/// The 16 bytes of an address's number, highest first.
+/// The 16 bytes of an address's number, in big-endian order.
 pub fn bytes_of(number: u128) -> [u8; 16]
     ensures { result ≡ bytes_of number }
 {

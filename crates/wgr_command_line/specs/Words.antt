@@ -14,19 +14,19 @@ use Rattle.wgr_command_line.specs.declared.invocation.Invocation.TheVariants as 
 
 -- ---- the commands
 
--- a value that has to be there, by its place
+-- a required positional value
 abbrev pub value_rule : Text → Rule
 value_rule id = record (new_rule id) { value_names = 1; required = true }
 
--- or behind its name, as `--port N`
+-- or the required value of an option, as `--port N`
 abbrev pub option_rule : Text → Rule
 option_rule id = record (value_rule id) { long = Some id }
 
--- or, behind its name, may be missing
+-- or the value of an option that may be missing
 abbrev pub choice_rule : Text → Rule
 choice_rule id = record (new_rule id) { value_names = 1; long = Some id }
 
--- one value or more, by their places
+-- one or more positional values
 abbrev pub values_rule : Text → Rule
 values_rule id = record (value_rule id) { range = Some (record { start_inclusive = 1; end_inclusive = usize_max }) }
 
@@ -60,7 +60,7 @@ token_grant_app = with_value (codes "tenant") (db_app (codes "token-grant"))
 abbrev pub token_end_app : App
 token_end_app = db_app (codes "token-end")
 
--- a command on a network of a tenant's: `DB TENANT NAME`
+-- a command on a tenant's network: `DB TENANT NAME`
 abbrev pub network_app : Text → App
 network_app name = with_value (codes "name") (with_value (codes "tenant") (db_app name))
 
@@ -82,7 +82,7 @@ batch_app = with_rule (with_option (codes "now") (db_app (codes "batch"))) (valu
 abbrev pub serve_app : App
 serve_app = with_rule (with_option (codes "count") (with_value (codes "place") (db_app (codes "serve")))) (choice_rule (codes "now"))
 
--- `wgr` has a version and does nothing by itself; its own name is none of the words
+-- `wgr` has a version and requires a command; its own name is not one of the words
 abbrev pub wgr_alone : App
 wgr_alone = record {
   top = record (new_shape (codes "wgr")) { has_version = true; no_binary_name = true; subcommand_required = true };
@@ -99,7 +99,7 @@ wgr_app =
 
 -- ---- what is asked for
 
--- what `network-add` asks of a new network
+-- the settings that `network-add` gives a new network
 pub record NetworkAsked : Type 0 where
   pub tenant : Text
   pub name : Text
@@ -126,7 +126,7 @@ pub data Asked : Type 0 where
   Batch : (db now : Text) (files : List Text) → Asked
   Serve : (db place count : Text) (now : Option Text) → Asked
 
--- what is made of the value under this name, which may not be missing
+-- what is made of the value with this name, which must be present
 abbrev pub with_first : Text → List Row → (Text → Option Asked) → Option Asked
 with_first id rows made = option_and_then made (first_of id rows)
 
@@ -213,11 +213,11 @@ abbrev pub if_missing : Option Asked → Kinds
 if_missing None = MissingSubcommand ∷ []
 if_missing (Some asked) = []
 
--- The kinds of error that the words may have, among them the asking for help and for the version. There is none where the words ask for something.
+-- The kinds of error of the words, including requests for help and the version; none if the words ask for something.
 abbrev pub wrong_with : List Text → Kinds
 wrong_with words = or_else (fault_of wgr_app words) (if_missing (named_by words))
 
--- ---- what is asked for, as the program has it
+-- ---- what is asked for, in the program's types
 
 abbrev pub network_asked : NetworkWords → NetworkAsked
 network_asked w = record { tenant = w.tenant.now; name = w.name.now; pool = w.pool.now; host = w.host.now; port = w.port.now; key = w.key.now; capacity = w.capacity.now }
@@ -238,6 +238,6 @@ asked_of (invocation.Serve db place count now) = Serve db.now place.now count.no
 
 -- ---- a law
 
--- the word after `plan` is the pool, unless it begins as a flag does, with a hyphen (45)
+-- the word after `plan` is the pool, unless it begins like a flag, with a hyphen (45)
 abbrev pub PoolIsAsked : Type 0
 PoolIsAsked = (pool : Text) → slice_get pool 0 ≢ Some 45 → asked_by (codes "plan" ∷ pool ∷ []) ≡ Some (Plan pool)

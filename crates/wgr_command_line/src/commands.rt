@@ -1,4 +1,4 @@
-//! The commands and their words, as `clap` reads them.
+//! The commands and their arguments, as `clap` parses them.
 ghost use Rattle.std.specs.Prelude.{◌≡◌, true, IfErr, IfOk};
 ghost use Rattle.clap.specs.Words.{app_of, kind_of, with_subcommand};
 ghost use Rattle.wgr_command_line.specs.Words.{batch_app, db_app, init_app, network_add_app, network_app, network_end_app, plan_app, serve_app, tenant_add_app, token_end_app, token_grant_app, wgr_alone, wgr_app};
@@ -78,7 +78,7 @@ fn db_command<'a>(
     Ok(command.arg(value(alloc, "db", "DB", "The register's file"))?)
 }
 
-// A command on a network of a tenant's.
+// A command on a tenant's network.
 fn network_command<'a>(
     alloc: Global,
     name: &'a str,

@@ -1,4 +1,4 @@
-//! What `wgr COMMAND --help` says behind the words.
+//! The text that `wgr COMMAND --help` prints after the arguments and options.
 
 pub(crate) const PLAN: &str = "\
 Standard input has one public key a line, as `wg pubkey` prints it. Each key is given the

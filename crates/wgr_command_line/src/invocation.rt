@@ -1,7 +1,7 @@
-//! What the words of the command line ask for.
+//! What the command-line arguments ask for.
 //!
-//! A first check of a command takes long, so this crate has nothing else, and is proved beside those of
-//! networks. A further word is a function in `commands.rt`, which is called in [`wgr_command`], with its
+//! The first check of a command takes long, so this crate has nothing else, and is proved in parallel with
+//! those of networks. A new command needs a function in `commands.rt`, called in [`wgr_command`], with its
 //! help in `help.rt`; a variant of [`Invocation`] or of [`OrderWords`]; a function in `values.rt`; and an
 //! arm in [`invocation_of`].
 ghost use Rattle.std.specs.Prelude.{◌≡◌, true, Some, IfErr, IfOk, is_some, map, option_and_then, option_map};
@@ -37,7 +37,7 @@ pub enum Invocation<'a> {
         now: &'a str,
         files: Vec<&'a str>,
     },
-    /// The answers to so many connections, at a moment or by the clock.
+    /// The answers to a number of connections, at a moment or by the clock.
     Serve {
         db: &'a str,
         place: &'a str,
@@ -46,7 +46,7 @@ pub enum Invocation<'a> {
     },
 }
 
-/// An order on a register. A token is none of the words.
+/// An order on a register. A token is never one of the words.
 #[derive(Clone, Copy)]
 pub enum OrderWords<'a> {
     TenantAdd { name: &'a str },
@@ -56,7 +56,7 @@ pub enum OrderWords<'a> {
     NetworkEnd { tenant: &'a str, name: &'a str },
 }
 
-/// What is asked of a new network.
+/// The settings of a new network.
 #[derive(Clone, Copy)]
 pub struct NetworkWords<'a> {
     pub tenant: &'a str,
@@ -91,9 +91,9 @@ fn invocation_of<'a>(
     }
 }
 
-/// What the words ask for. An error is also the text of `--help` and of `--version`.
+/// What the words ask for. The text of `--help` or of `--version` is also returned as an error.
 ///
-/// Words that ask for something are refused only for want of memory.
+/// Words that ask for something are refused only for lack of memory.
 pub fn read_words<'a, S: AsStr>(alloc: Global, words: &'a [S]) -> Result<Invocation<'a>, Error>
     ensures ok { IfOk result (λ invocation. asked_by (map S.text words.now) ≡ Some (asked_of invocation)) }
     ensures err { IfErr result (λ error. is_some (asked_by (map S.text words.now)) ≡ true → kind_of error ≡ ErrorKind.OutOfMemory) }

@@ -1,4 +1,4 @@
-//! The values of a command's words, by their names.
+//! The values of a command's arguments, by their names.
 ghost use Rattle.std.specs.Prelude.{◌≡◌, false, IfOk, map, option_map};
 ghost use Rattle.clap.specs.Words.{all_of, first_of, found_of, rows_of, rule_of};
 ghost use Rattle.wgr_command_line.specs.Words.{asked_of, batch_in, choice_rule, init_in, network_add_in, network_end_in, option_rule, plan_in, serve_in, tenant_add_in, token_end_in, token_grant_in, value_rule, values_rule};
@@ -7,7 +7,7 @@ use crate::invocation::{Invocation, NetworkWords, OrderWords};
 use clap::{Arg, ArgMatches};
 use std::alloc::{AllocError, Global};
 
-/// A value that has to be there, by its place.
+/// A required positional value.
 pub(crate) fn value<'a>(alloc: Global, id: &'a str, shown: &'a str, help: &'a str) -> Arg<'a>
     ensures rule { rule_of result ≡ value_rule id.now }
     ensures local { result.global ≡ false }
@@ -18,7 +18,7 @@ pub(crate) fn value<'a>(alloc: Global, id: &'a str, shown: &'a str, help: &'a st
         .help(help)
 }
 
-/// A value that has to be there, behind its name.
+/// A required value of an option.
 pub(crate) fn option<'a>(alloc: Global, id: &'a str, shown: &'a str, help: &'a str) -> Arg<'a>
     ensures rule { rule_of result ≡ option_rule id.now }
     ensures local { result.global ≡ false }
@@ -26,7 +26,7 @@ pub(crate) fn option<'a>(alloc: Global, id: &'a str, shown: &'a str, help: &'a s
     value(alloc, id, shown, help).long(id)
 }
 
-/// A value that may be there, behind its name.
+/// An optional value of an option.
 pub(crate) fn choice<'a>(alloc: Global, id: &'a str, shown: &'a str, help: &'a str) -> Arg<'a>
     ensures rule { rule_of result ≡ choice_rule id.now }
     ensures local { result.global ≡ false }
@@ -34,7 +34,7 @@ pub(crate) fn choice<'a>(alloc: Global, id: &'a str, shown: &'a str, help: &'a s
     Arg::new(alloc, id).value_name(shown).help(help).long(id)
 }
 
-/// Values by their places, of which one has to be there.
+/// Positional values, of which at least one is required.
 pub(crate) fn values<'a>(alloc: Global, id: &'a str, shown: &'a str, help: &'a str) -> Arg<'a>
     ensures rule { rule_of result ≡ values_rule id.now }
     ensures local { result.global ≡ false }

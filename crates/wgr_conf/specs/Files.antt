@@ -24,7 +24,7 @@ further prefixes = flat_map (λ p. codes ", " ++ canonical_text p) prefixes
 
 -- ---- the lines
 
--- the interface's own address, which wg-quick(8) alone reads
+-- the interface's own address, which only wg-quick(8) reads
 unfoldable pub address_line : Form → PrefixValue → List ℕ
 address_line Wg address = []
 address_line Quick address = line (codes "Address = " ++ canonical_text address)
@@ -53,7 +53,7 @@ port_line port = line (codes "ListenPort = " ++ decimal port)
 abbrev pub peer_section : Peer → List PrefixValue → List ℕ
 peer_section p routes = section_head p.key ++ allowed_line (full p.address) routes ++ keepalive_line p.keepalive
 
--- the same of a peer with the routes to it, while its lease runs
+-- the same for a peer with the routes to it, while its lease runs
 abbrev pub live_section : ℕ → PeerView → List ℕ
 live_section now v = cond (is_live now v.peer) (peer_section v.peer v.routes) []
 
@@ -81,7 +81,7 @@ is_beside n number r = not (nat_eq r.1 number) && not (covers n.pool r.0)
 abbrev pub routes_beside : NetworkValue → ℕ → List PrefixValue
 routes_beside n number = map (λ r. r.0) (filter (is_beside n number) n.routes)
 
--- a host with a colon (58) is an IPv6 address, and stands in brackets
+-- a host with a colon (58) is an IPv6 address, and is in brackets
 abbrev pub host_text : List ℕ → List ℕ
 host_text host = cond (list_any (λ b. b == 58) host) (codes "[" ++ host ++ codes "]") host
 
@@ -98,6 +98,6 @@ peer_text n form p =
     ++ endpoint_line n.host n.port
     ++ keepalive_line p.keepalive
 
--- the file of the live peer of the number
+-- the file of the live peer with the number
 abbrev pub peer_config : NetworkValue → ℕ → ℕ → Form → Option (List ℕ)
 peer_config n now number form = let live = live_at n now in option_map (peer_text live form) (peer_of live.peers number)

@@ -1,4 +1,4 @@
--- What follows of the definitions of files.
+-- What follows from the definitions of files.
 use Rattle.std.specs.Prelude.{ℕ, ◌≡◌, ◌^◌, ◌<◌, length, All, Option, option_and_then, option_map}
 use Rattle.base64.specs.GeneralPurpose.{IsBytes}
 use Rattle.wgr_text.specs.declared.key.Key.{Key}

@@ -1,4 +1,4 @@
--- What a file of wg(8) says of cryptokey routing: to which public key each prefix leads.
+-- What a file of wg(8) says about cryptokey routing: to which public key each prefix leads.
 use Rattle.std.specs.Prelude.{ℕ, ◌≡◌, cond, ◌==◌, List, [], ◌∷◌, ◌++◌, length, map, codes, Option, Some, None, option_map}
 use Rattle.std.specs.Str.{bytes_eq}
 use Rattle.base64.specs.GeneralPurpose.{IsBytes}
@@ -53,7 +53,7 @@ abbrev pub rows_from : Text → List Text → List (Text × Text)
 rows_from key [] = []
 rows_from key (line ∷ lines) = map (λ value. (value, key)) (values_of line) ++ rows_from (key_after key line) lines
 
--- the same of a whole file
+-- the same for a whole file
 abbrev pub rows_of : Text → List (Text × Text)
 rows_of file = rows_from [] (split 10 file)
 

@@ -15,10 +15,10 @@ use wgr_core::{Form, Host, Network, Peer, Port};
 use wgr_pool::covers;
 use wgr_text::Prefix;
 
-/// The file of the live peer of this number at this moment: its interface, and the server as its
-/// one peer, through which it reaches the pool and the routes of the others. Nobody who is live has
-/// the number where it is `None`. The form [`Form::Wg`] is what `wg setconf` reads (wg(8)),
-/// [`Form::Quick`] what `wg-quick up` reads (wg-quick(8)), which has the peer's address besides.
+/// The file of the live peer with this number at this moment: its interface, and the server as its
+/// one peer, through which it reaches the pool and the routes of the others. It is `None` if no live
+/// peer has the number. The form [`Form::Wg`] is what `wg setconf` reads (wg(8)),
+/// [`Form::Quick`] what `wg-quick up` reads (wg-quick(8)), which also has the peer's address.
 pub fn peer_file(
     alloc: Global,
     network: &Network,
@@ -56,12 +56,12 @@ fn text_of(
     Ok(out)
 }
 
-// The live peer of this number.
+// The live peer with this number.
 fn live_peer(network: &Network, now: u64, number: u32) -> Option<&Peer>
     ensures { option_copied result ≡ peer_of (live_at network.now now).peers number }
 {
-    // The peers stand in the order of their numbers.
-    network.tell_rules();
+    // The peers are in the order of their numbers.
+    network.rules_hold();
     match network.peer(number) {
         Some(peer) if peer.is_live(now) => Some(peer),
         _ => None,

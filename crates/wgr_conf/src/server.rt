@@ -11,8 +11,8 @@ use wgr_text::Prefix;
 
 /// The server's file at this moment: its interface, which listens at the endpoint's port, and a
 /// section for each live peer, by number. The form [`Form::Wg`] is what `wg setconf` reads (wg(8)),
-/// [`Form::Quick`] what `wg-quick up` reads (wg-quick(8)), which has the server's address with the
-/// pool's length besides.
+/// [`Form::Quick`] what `wg-quick up` reads (wg-quick(8)), which also has the server's address with the
+/// pool's length.
 ///
 /// It takes time in proportion to the file's bytes and the network's peers.
 #[tactic(auto, using(crate::proofs::Live::sections_live))]
@@ -24,8 +24,8 @@ pub fn server_file(
 ) -> Result<Vec<u8>, AllocError>
     ensures { IfOk result (λ file. file.items ≡ server_config network.now now form) }
 {
-    // The peers stand in the order of their numbers.
-    network.tell_rules();
+    // The peers are in the order of their numbers.
+    network.rules_hold();
     let mut out = Vec::new(alloc);
     write_interface(network, form, &mut out)?;
     let views = network.views(alloc)?;

@@ -14,7 +14,7 @@ use Rattle.wgr_core.specs.declared.refusal.LineRefusal.TheVariants as why
 use Rattle.wgr_core.specs.declared.seen_peer.SeenPeer.{SeenPeer}
 use Rattle.wgr_core.specs.Network.{NetworkValue, is_address, lowest_free}
 
--- what follows of a value, where there is one
+-- what follows from a value, if there is one
 abbrev pub and_then : {T U E : Type 0} → Result T E → (T → Result U E) → Result U E
 and_then (Err e) next = Err e
 and_then (Ok x) next = next x
@@ -62,24 +62,24 @@ peer_of_line n line a = record { number = n.next; key = line.key; label = []; ad
 abbrev pub with_line : NetworkValue → SeenPeer → AddrValue → NetworkValue
 with_line n line a = record n { next = n.next + 1; peers = n.peers ++ peer_of_line n line a ∷ [] }
 
--- why a prefix can't be a route; one that is a route already takes no more room
+-- why a prefix can't be a route; one that is already a route takes no more room
 abbrev pub give_refusal : NetworkValue → PrefixValue → Option LineRefusal
 give_refusal n p =
     cond (is_address n p) (Some why.IsAddress)
     (cond (not (is_some (route_of n.routes p)) && not (nat_lt (length n.routes) max_routes)) (Some why.RoutesFull) None)
 
--- the prefixes lead to the peer of the number, one after the other
+-- the prefixes lead to the peer with the number, one after the other
 abbrev pub give_all : NetworkValue → ℕ → List PrefixValue → Result NetworkValue LineRefusal
 give_all n number [] = Ok n
 give_all n number (p ∷ more) = and_then (unless_refused (give_refusal n p) (record n { routes = assign_route n.routes p number })) (λ next. give_all next number more)
 
--- the prefixes but the peer's own address
+-- the prefixes except the peer's own address
 abbrev pub other_prefixes : AddrValue → List PrefixValue → List PrefixValue
 other_prefixes a prefixes = filter (λ p. not (same_prefix p (full a))) prefixes
 
 -- ---- the lines, one after the other
 
--- the network so far, the numbers of its new peers, and how many lines found their key held
+-- the network so far, the numbers of its new peers, and how many lines had a key that was already held
 pub record Adoption : Type 0 where
   pub network : NetworkValue
   pub added : List ℕ
@@ -109,7 +109,7 @@ adopt_line_of s line None = add_line s line
 abbrev pub adopt_line : Adoption → SeenPeer → Result Adoption LineRefusal
 adopt_line s line = adopt_line_of s line (keyed_peer s.network.peers line.key)
 
--- a refusal tells the line's number
+-- a refusal reports the line's number
 abbrev pub in_line : ℕ → Result Adoption LineRefusal → Result Adoption (ℕ × LineRefusal)
 in_line number (Ok s) = Ok s
 in_line number (Err e) = Err (number, e)
@@ -125,7 +125,7 @@ abbrev pub numbered_from : ℕ → List SeenPeer → List (ℕ × SeenPeer)
 numbered_from number [] = []
 numbered_from number (line ∷ more) = (number, line) ∷ numbered_from (number + 1) more
 
--- first the lines that name an address, so that none of these is given to another line; then the others
+-- first the lines that name an address, so that none of these addresses is given to another line; then the others
 abbrev pub adoption_order : PrefixValue → List SeenPeer → List (ℕ × SeenPeer)
 adoption_order pool lines = filter (λ l. names_address pool l.1) (numbered_from 2 lines) ++ filter (λ l. not (names_address pool l.1)) (numbered_from 2 lines)
 

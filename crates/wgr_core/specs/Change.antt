@@ -46,13 +46,13 @@ pub record OnlyPuts (c : Change) : Type 0 where
   pub routes_put : c.routes_put ≡ []
   pub routes_gone : c.routes_gone ≡ []
 
--- none comes, or one that has the number and the key of a peer that stays
+-- none is put, or one that has the number and the key of a peer that stays
 abbrev pub NoneIsNew : NetworkValue → List ℕ → List Peer → Type 0
 NoneIsNew n removed [] = Unit {0}
 NoneIsNew n removed (p ∷ []) = (key_holder n.peers p.key ≡ Some p.number) × (is_among removed p.number ≡ false)
 NoneIsNew n removed (p ∷ q ∷ more) = ⊥
 
--- the change only removes, moves and renews: no peer is new, and no route comes
+-- the change only removes, moves and renews: no peer is new, and no route is put
 pub record NothingGrows (c : Change) (n : NetworkValue) : Type 0 where
   pub peers : NoneIsNew n c.removed c.peers
   pub routes : c.routes_put ≡ []
@@ -62,7 +62,7 @@ abbrev pub applied_if : Option Change → NetworkValue → NetworkValue
 applied_if None n = n
 applied_if (Some c) n = applied c n
 
--- the answer of a call on `n` is the definition's outcome, or want of memory
+-- the answer of a call on `n` is the definition's outcome, or memory ran out
 abbrev pub Meets : NetworkValue → Result (Reply × Option Change) ActFault → Outcome → Type 0
 Meets n (Err NoMemory) outcome = Unit {0}
 Meets n (Err (Refused why)) (Err is) = why ≡ is
@@ -70,7 +70,7 @@ Meets n (Err (Refused why)) (Ok done) = ⊥
 Meets n (Ok given) (Err is) = ⊥
 Meets n (Ok given) (Ok done) = (given.0 ≡ done.0) × (applied_if given.1 n ≡ done.1)
 
--- the numbers with that of one more peer that goes, if one does
+-- the numbers with that of one more peer that is removed, if one is
 abbrev pub with_leaving : List ℕ → Option ℕ → List ℕ
 with_leaving removed None = removed
 with_leaving removed (Some number) = removed ++ number ∷ []
@@ -87,7 +87,7 @@ GivesChange true leaves n removed (Some c) after = ⊥
 GivesChange false leaves n removed None after = ⊥
 GivesChange false leaves n removed (Some c) after = (c.removed ≡ with_leaving removed leaves) × (changed c (without_leaving n leaves) ≡ after)
 
--- the same of a call on a network whose peers are all live, from which `removed` have gone
+-- the same for a call on a network whose peers are all live, from which `removed` were removed
 abbrev pub MeetsLive : Bool → Option ℕ → NetworkValue → List ℕ → Result (Reply × Option Change) ActFault → Outcome → Type 0
 MeetsLive reading leaves n removed (Err NoMemory) outcome = Unit {0}
 MeetsLive reading leaves n removed (Err (Refused why)) (Err is) = why ≡ is

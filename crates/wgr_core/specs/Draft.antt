@@ -44,13 +44,13 @@ altered start [] = []
 altered [] (p ∷ peers) = p ∷ peers
 altered (q ∷ start) (p ∷ peers) = cond (same_status q.status p.status) (altered start peers) (p ∷ altered start peers)
 
--- each peer of `start` stands at its place, where it may have another status
+-- each peer of `start` is at its place, where it may have another status
 abbrev pub AreNoted : List Peer → List Peer → Type 0
 AreNoted [] peers = Unit {0}
 AreNoted (q ∷ start) [] = ⊥
 AreNoted (q ∷ start) (p ∷ peers) = (p ≡ record q { status = p.status }) × AreNoted start peers
 
--- a network that has come of another: its peers got statuses, others came after them, and these
+-- a network made from another: its peers got statuses, others were added after them, and these
 -- routes were put
 pub record IsGrown (start n : NetworkValue) (routes_put : Routes) : Type 0 where
   pub rules : IsNetwork n
@@ -66,7 +66,7 @@ pub record AdoptingValue : Type 0 where
 abbrev pub begun : NetworkValue → AdoptingValue
 begun n = record { start = n; so_far = record { network = n; added = []; known = 0 } }
 
--- what a step leaves, or why it was not done
+-- what a step leaves, or why it failed
 abbrev pub left_by : {T E : Type 0} → Result (Unit {0}) E → T → Result T E
 left_by (Ok done) after = Ok after
 left_by (Err why) after = Err why
@@ -75,7 +75,7 @@ left_by (Err why) after = Err why
 abbrev pub line_address : NetworkValue → SeenPeer → Result AddrValue LineRefusal
 line_address n line = and_then (unless_refused (line_refusal n line.key) n) (λ n. line_place n (named_address n.pool line.allowed))
 
--- whether a line is one of those that are asked for: those that name an address, or the others
+-- whether a line is one of the requested ones: those that name an address, or the others
 abbrev pub is_asked_for : Bool → Bool → Bool
 is_asked_for true names = names
 is_asked_for false names = not names
@@ -84,7 +84,7 @@ is_asked_for false names = not names
 abbrev pub lines_of : PrefixValue → Bool → ℕ → List SeenPeer → List (ℕ × SeenPeer)
 lines_of pool naming number lines = filter (λ l. is_asked_for naming (names_address pool l.1)) (numbered_from number lines)
 
--- the answer is the definition's address or refusal, or want of memory
+-- the answer is the definition's address or refusal, or memory ran out
 abbrev pub MeetsAddress : Result AddrValue LineFault → Result AddrValue LineRefusal → Type 0
 MeetsAddress (Err line_fault.NoMemory) place = Unit {0}
 MeetsAddress (Err (line_fault.Refused why)) (Err is) = why ≡ is
@@ -92,7 +92,7 @@ MeetsAddress (Err (line_fault.Refused why)) (Ok a) = ⊥
 MeetsAddress (Ok given) (Err is) = ⊥
 MeetsAddress (Ok given) (Ok a) = given ≡ a
 
--- the answer of a step is the definition's network or refusal, or want of memory
+-- the answer of a step is the definition's network or refusal, or memory ran out
 abbrev pub MeetsGiven : DraftValue → Result DraftValue LineFault → Result NetworkValue LineRefusal → Type 0
 MeetsGiven d (Err line_fault.NoMemory) outcome = Unit {0}
 MeetsGiven d (Err (line_fault.Refused why)) (Err is) = why ≡ is
@@ -100,7 +100,7 @@ MeetsGiven d (Err (line_fault.Refused why)) (Ok n) = ⊥
 MeetsGiven d (Ok after) (Err is) = ⊥
 MeetsGiven d (Ok after) (Ok n) = after ≡ record d { network = n }
 
--- the same of a line
+-- the same for a line
 abbrev pub MeetsLine : AdoptingValue → Result AdoptingValue LineFault → Result Adoption LineRefusal → Type 0
 MeetsLine a (Err line_fault.NoMemory) outcome = Unit {0}
 MeetsLine a (Err (line_fault.Refused why)) (Err is) = why ≡ is
@@ -108,7 +108,7 @@ MeetsLine a (Err (line_fault.Refused why)) (Ok s) = ⊥
 MeetsLine a (Ok after) (Err is) = ⊥
 MeetsLine a (Ok after) (Ok s) = after ≡ record a { so_far = s }
 
--- the same of several lines
+-- the same for several lines
 abbrev pub MeetsLines : AdoptingValue → Result AdoptingValue ActFault → Result Adoption (ℕ × LineRefusal) → Type 0
 MeetsLines a (Err fault.NoMemory) outcome = Unit {0}
 MeetsLines a (Err (fault.Refused why)) (Err is) = why ≡ InLine is.0 is.1
@@ -116,7 +116,7 @@ MeetsLines a (Err (fault.Refused why)) (Ok s) = ⊥
 MeetsLines a (Ok after) (Err is) = ⊥
 MeetsLines a (Ok after) (Ok s) = after ≡ record a { so_far = s }
 
--- why a command was not done of which the line of this number was not adopted
+-- why a command failed, of which the line with this number was not adopted
 abbrev pub fault_in_line : ℕ → LineFault → ActFault
 fault_in_line number (line_fault.Refused why) = fault.Refused (InLine number why)
 fault_in_line number line_fault.NoMemory = fault.NoMemory

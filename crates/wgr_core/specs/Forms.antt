@@ -1,4 +1,4 @@
--- The forms of what is told of a peer. Each type of the code keeps its own; here they are said of the
+-- The forms of a peer's fields. Each type of the code guarantees its own; here they are stated for the
 -- definitions' values.
 use Rattle.std.specs.Prelude.{ℕ, ◌≡◌, ◌≤◌, length, IfSome, All}
 use Rattle.wgr_text.specs.declared.key.Key.{Key}
@@ -23,7 +23,7 @@ pub record IsStatus (s : Status) : Type 0 where
   pub received : IsCount s.received
   pub sent : IsCount s.sent
 
--- the fields of a peer that no rule of its network speaks of are of their forms
+-- the fields of a peer that no rule of its network mentions are of their forms
 pub record IsFormed (p : Peer) : Type 0 where
   pub key : IsKey p.key
   pub label : IsLabel p.label
@@ -35,13 +35,13 @@ pub record IsFormed (p : Peer) : Type 0 where
 abbrev pub HasForms : NetworkValue → Type 0
 HasForms n = IsKey n.server × All IsFormed n.peers
 
--- what a line of a dump tells is of its form
+-- what a line of a dump reports is of its form
 pub record IsFormedLine (line : SeenPeer) : Type 0 where
   pub key : IsKey line.key
   pub status : IsStatus line.status
   pub keepalive : IsKeepalive line.keepalive
 
--- and so is what a command tells
+-- and so are the fields of a command
 abbrev pub IsFormedCommand : Command → Type 0
 IsFormedCommand (command.Add key label wanted until keepalive) = IsKey key × IsLabel label × IsLeaseEnd until × IsKeepalive keepalive
 IsFormedCommand (command.Move number wanted) = Unit {0}

@@ -36,7 +36,7 @@ live_at n now =
 abbrev pub is_among : List ℕ → ℕ → Bool
 is_among numbers n = list_any (nat_eq n) numbers
 
--- the network without the peers of these numbers, and without the routes to them
+-- the network without the peers with these numbers, and without the routes to them
 abbrev pub without_peers : NetworkValue → List ℕ → NetworkValue
 without_peers n removed = record n {
   peers = filter (λ p. not (is_among removed p.number)) n.peers;

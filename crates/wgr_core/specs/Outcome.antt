@@ -87,12 +87,12 @@ add n now key label wanted until keepalive =
 
 -- ---- a peer that moves, leaves, or has another lease
 
--- what follows for the peer, where it stands
+-- what follows for the peer, if there is one
 abbrev pub if_stands : Option Peer → (Peer → Outcome) → Outcome
 if_stands None next = Err NoSuchPeer
 if_stands (Some p) next = next p
 
--- the peer in place of the one of its number
+-- the peer in place of the one with its number
 abbrev pub replaced : NetworkValue → Peer → Outcome
 replaced n p = Ok (reply.Peer (view_of n.routes p), record n { peers = put_peer n.peers p })
 
@@ -123,7 +123,7 @@ renew n now number until =
 abbrev pub rerouted : NetworkValue → Peer → Routes → Outcome
 rerouted n p routes = Ok (reply.Peer (view_of routes p), record n { routes = routes })
 
--- why the prefix can't be a route; one that is a route already takes no more room
+-- why the prefix can't be a route; one that is already a route takes no more room
 abbrev pub route_refusal : NetworkValue → PrefixValue → Option Refusal
 route_refusal n prefix =
     cond (is_address n prefix) (Some IsAddress)
@@ -148,7 +148,7 @@ or_nobodys n (Some number) = Ok (reply.Owner number, n)
 
 -- ---- the peers of a running interface
 
--- the interface that was shown is another
+-- the running interface is another one
 abbrev pub server_refusal : NetworkValue → Option Key → Option Refusal
 server_refusal n None = None
 server_refusal n (Some key) = cond (same_key key n.server) None (Some WrongServer)
@@ -211,7 +211,7 @@ kept_if reading n (Ok done) = Ok (done.0, cond reading n done.1)
 abbrev pub outcome_of : NetworkValue → ℕ → Command → Outcome
 outcome_of n now asked = kept_if (is_reading asked) n (live_outcome (live_at n now) now asked)
 
--- a prefix that is asked for is one: its number fits the family, and its host bits are zero
+-- a requested prefix is valid: its number fits the family, and its host bits are zero
 abbrev pub IsPrefixAsked : PrefixValue → Type 0
 IsPrefixAsked p = IsAddr p.address × IsPrefix p
 

@@ -14,7 +14,7 @@ own_prefixes peers = map (λ p. (full p.address, p.number)) peers
 abbrev pub allowed : NetworkValue → Routes
 allowed n = own_prefixes n.peers ++ n.routes
 
--- the longer of two prefixes; of two of one length the first
+-- the longer of two prefixes; of two with equal length the first
 abbrev pub longer : Option (PrefixValue × ℕ) → Option (PrefixValue × ℕ) → Option (PrefixValue × ℕ)
 longer None b = b
 longer (Some a) None = Some a

@@ -21,7 +21,7 @@ pub record IsNetworkOf (parts : Parts) (n : NetworkValue) : Type 0 where
 abbrev pub KeepTheRules : Parts → Type 0
 KeepTheRules parts = (n : NetworkValue) × IsNetworkOf parts n × IsNetwork n
 
--- the network of the parts where these are in order already
+-- the network of the parts if these are already in order
 abbrev pub network_of : Parts → NetworkValue
 network_of parts = record {
   pool = parts.pool;

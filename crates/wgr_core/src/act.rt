@@ -18,7 +18,7 @@ impl Network {
     /// it is: [`Change::apply`] or [`Network::apply`] makes the change. A reading gives none; any other
     /// accepted command gives one, which also removes the expired peers.
     ///
-    /// No peer or route is copied but those of the answer, and those that Adopt tries its lines on.
+    /// No peer or route is copied except those of the answer, and those on which Adopt tries its lines.
     pub fn act(
         &self,
         alloc: Global,
@@ -29,14 +29,14 @@ impl Network {
         ensures change { IfOk result (λ given. is_some given.1 ≡ not (is_reading command.now)) }
         ensures fits { IfOk result (λ given. IfSome given.1 (λ c. Fits c self.now)) }
     {
-        command.tell_forms();
+        command.forms_hold();
         let (live, removed) = Live::at(self, alloc, now)?;
         live.act(alloc, now, command, removed)
     }
 }
 
 impl Live<'_> {
-    // The same of the live network, from which `removed` have gone: a table, with an arm for each
+    // The same for the live network, from which `removed` were removed: a table, with an arm for each
     // command.
     fn act(
         &self,

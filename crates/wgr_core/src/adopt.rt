@@ -22,7 +22,7 @@ use wgr_pool::Pool;
 use wgr_text::{Key, Prefix};
 
 impl Network {
-    // The peers that the lines show join, or get the status of their line.
+    // The peers that the lines show are added, or get the status of their line.
     pub(crate) fn adopted(
         &self,
         alloc: Global,
@@ -40,7 +40,7 @@ impl Network {
     }
 
     // The network with all these lines. It is tried on a copy of the live network; what a refused line
-    // leaves there doesn't matter, since only a draft with all lines is given.
+    // leaves there doesn't matter, since only a draft with all lines is returned.
     fn adopt(&self, alloc: Global, lines: &[SeenPeer]) -> Result<Adopting<'_>, ActFault>
         ensures { MeetsLines (begun self.now) result (adoption_of self.now lines.now) }
     {
@@ -62,8 +62,8 @@ impl Network {
     }
 }
 
-/// The lines that are adopted so far: the network with them, the numbers of its new peers, and how
-/// many lines found their key held.
+/// The lines adopted so far: the network with them, the numbers of its new peers, and how
+/// many lines had a key that was already held.
 #[derive(Drop)]
 struct Adopting<'a> {
     draft: Draft<'a>,
@@ -140,7 +140,7 @@ impl<'a> Adopting<'a> {
         requires { place < length self.old.so_far.network.peers }
         ensures { (d : Peer) → MeetsLine self.old (left_by result self.new) (Ok (note_status self.old.so_far line.now (slice_index_or self.old.so_far.network.peers place d))) }
     {
-        // More lines than 32 bits count are more than can be noted.
+        // The number of known lines has to fit 32 bits.
         let Some(known) = self.known.checked_add(1) else {
             return Err(LineFault::NoMemory);
         };
@@ -171,8 +171,8 @@ impl<'a> Adopting<'a> {
         Ok(())
     }
 
-    // What the adoption answers, and the change by which the network, from which `removed` had gone,
-    // comes to it.
+    // What the adoption answers, and the change that leads to it from the network, from which `removed`
+    // were removed.
     fn answer(
         self,
         alloc: Global,
@@ -191,7 +191,7 @@ impl<'a> Adopting<'a> {
     }
 }
 
-// Why a command was not done of which the line of this number was not adopted.
+// Why a command failed, of which the line with this number was not adopted.
 fn in_line(line: usize, why: LineFault) -> ActFault
     ensures { result ≡ fault_in_line line why }
 {

@@ -17,13 +17,13 @@ use wgr_text::Prefix;
 /// What an accepted command changes of a network, in the order in which it is made.
 #[derive(Drop)]
 pub struct Change {
-    /// Peers that go, by number, and the routes to them with them.
+    /// Peers that are removed, by number, and the routes to them too.
     pub removed: Items<u32>,
-    /// Peers that come, or take the place of the one of their number.
+    /// Peers that are added, or replace the one with their number.
     pub peers: Items<Peer>,
-    /// Routes that come, or lead to another peer from now on.
+    /// Routes that are added, or lead to another peer from now on.
     pub routes_put: Items<(Prefix, u32)>,
-    /// Routes that go.
+    /// Routes that are removed.
     pub routes_gone: Items<Prefix>,
     /// The next number.
     pub next: u32,
@@ -41,7 +41,7 @@ impl Change {
         network.with(self.next, PeerTable::collect(alloc, peers)?, routes)
     }
 
-    // The network's peers without those that go, and with those that come.
+    // The network's peers without the removed ones, and with the added ones.
     fn changed_peers(
         &self,
         alloc: Global,
@@ -52,14 +52,14 @@ impl Change {
         ensures { IfOk result (λ peers. peers.items ≡ (applied self.now network.now).peers) }
     {
         let mut peers = peers_outside(alloc, network.peers(), removed)?;
-        network.tell_rules();
+        network.rules_hold();
         for peer in self.peers.as_slice() {
             put_peer(&mut peers, peer.copy()?)?;
         }
         Ok(peers)
     }
 
-    // The network's routes without those that go, and with those that come.
+    // The network's routes without the removed ones, and with the added ones.
     fn changed_routes(
         &self,
         alloc: Global,
@@ -88,7 +88,7 @@ impl Change {
         Ok(slots.into_routes())
     }
 
-    // The network's routes without those that go.
+    // The network's routes without the removed ones.
     fn routes_left(
         &self,
         alloc: Global,
@@ -101,14 +101,14 @@ impl Change {
         ensures masked { IfOk result (λ routes. All HasAddr routes.items) }
     {
         let mut routes = routes_outside(alloc, network.routes(), removed)?;
-        network.tell_rules();
+        network.rules_hold();
         for prefix in self.routes_gone.as_slice() {
             drop_route(&mut routes, prefix);
         }
         Ok(routes)
     }
 
-    // The one peer that goes, where nothing else changes.
+    // The one peer that is removed, if nothing else changes.
     fn sole_removal(&self) -> Option<u32>
         ensures { IfSome result (λ number. self.now ≡ record { removed = number ∷ []; peers = []; routes_put = []; routes_gone = []; next = self.now.next }) }
     {
@@ -121,7 +121,7 @@ impl Change {
         }
     }
 
-    // The one route that comes, where nothing else changes.
+    // The one route that is put, if nothing else changes.
     fn sole_route(&self) -> Option<(Prefix, u32)>
         ensures { IfSome result (λ route. self.now ≡ record { removed = []; peers = []; routes_put = route ∷ []; routes_gone = []; next = self.now.next }) }
     {
@@ -134,7 +134,7 @@ impl Change {
         }
     }
 
-    // The one route that goes, where nothing else changes.
+    // The one route that is removed, if nothing else changes.
     fn sole_unroute(&self) -> Option<Prefix>
         ensures { IfSome result (λ prefix. self.now ≡ record { removed = []; peers = []; routes_put = []; routes_gone = prefix ∷ []; next = self.now.next }) }
     {
@@ -166,11 +166,11 @@ impl Change {
 }
 
 impl Network {
-    /// Makes the change; for want of memory the network is as before.
+    /// Makes the change; if memory runs out, the network is unchanged.
     ///
-    /// A change that only removes, moves and renews takes no memory. No peer is copied where one
-    /// comes at most. One peer that comes, is renewed, moves or goes alone, or one route that comes
-    /// or goes alone, walks over no peers.
+    /// A change that only removes, moves and renews allocates no memory. No peer is copied if at most
+    /// one is put. A change of only one peer, added, renewed, moved or removed, or of only one route,
+    /// added or removed, makes no pass over the peers.
     pub fn apply(&mut self, alloc: Global, change: Change) -> Result<(), AllocError>
         requires { Fits change self.old }
         ensures ok { OnOk result (self.new ≡ applied change self.old) }
@@ -201,7 +201,7 @@ impl Network {
         Ok(())
     }
 
-    // Makes a change by which one peer comes at most, and copies no peer.
+    // Makes a change that puts at most one peer, and copies no peer.
     fn apply_in_place(&mut self, alloc: Global, change: Change) -> Result<(), AllocError>
         requires fits { Fits change self.old }
         requires one { length change.peers ≤ 1 }
@@ -220,7 +220,7 @@ impl Network {
         self.change(gone, coming, routes, change.next)
     }
 
-    // Makes a change that only removes, moves and renews, and takes no memory.
+    // Makes a change that only removes, moves and renews, and allocates no memory.
     fn shrink(&mut self, change: Change)
         requires fits { Fits change self.old }
         requires shrinks { NothingGrows change self.old }
@@ -318,14 +318,14 @@ fn has_number(numbers: &[u32], number: u32) -> bool
     numbers.iter().any(|one| number == *one)
 }
 
-// Takes away the routes to the peers of these numbers.
+// Removes the routes to the peers with these numbers.
 pub(crate) fn drop_routes_of(routes: &mut Vec<(Prefix, u32)>, gone: &NumberSet)
     ensures { routes.new.items ≡ filter (λ r. not (is_among gone.now r.1)) routes.old.items }
 {
     routes.retain(|route| !gone.contains(route.1));
 }
 
-// Takes away the routes of these prefixes.
+// Removes the routes of these prefixes.
 pub(crate) fn drop_each(routes: &mut Vec<(Prefix, u32)>, prefixes: &[Prefix])
     requires { AreOrdered routes.old.items }
     ensures { routes.new.items ≡ without_routes routes.old.items prefixes.now }

@@ -1,10 +1,10 @@
-//! What may be asked of a network.
+//! The commands on a network.
 use crate::form::Form;
 use crate::seen_peer::SeenPeer;
 use wgr_peers::{Items, Label, LeaseEnd};
 use wgr_text::{Addr, Key, Prefix};
 
-/// What is asked of a network.
+/// A command on a network.
 #[derive(Drop)]
 pub enum Command {
     /// A new peer, at the named address or the lowest free one.
@@ -20,7 +20,7 @@ pub enum Command {
         number: u32,
         address: Option<Addr>,
     },
-    /// The peer and the routes to it go.
+    /// The peer and the routes to it are removed.
     Revoke {
         number: u32,
     },
@@ -29,7 +29,7 @@ pub enum Command {
         number: u32,
         prefix: Prefix,
     },
-    /// The route of this very prefix goes.
+    /// The route of exactly this prefix is removed.
     Unroute {
         prefix: Prefix,
     },

@@ -11,7 +11,7 @@ ghost use Rattle.wgr_peers.specs.Limits.{max_number};
 
 use crate::change::Change;
 use crate::fault::LineFault;
-use crate::forms::tell_prefix;
+use crate::forms::prefix_has_form;
 use crate::network::Network;
 use std::alloc::{AllocError, Global};
 use std::marker::Model;
@@ -19,15 +19,15 @@ use wgr_peers::order::is_same;
 use wgr_peers::{Items, Peer, PeerDraft, RouteSlots, Status};
 use wgr_text::{Addr, Prefix};
 
-/// A copy of what a network has of peers and routes, and the change by which it has come about. For
-/// want of memory a step leaves it as it was.
+/// A copy of a network's peers and routes, and the change that leads to it from the network. If
+/// memory runs out, a step leaves it unchanged.
 #[derive(Drop)]
 pub(crate) struct Draft<'a> {
     pub(crate) start: &'a Network,
-    // Those of the start at their places, and after them those that came.
+    // Those of the start at their places, and after them the added ones.
     pub(crate) peers: PeerDraft,
     pub(crate) routes: RouteSlots,
-    // The routes that came, one after the other.
+    // The routes that were put, in that order.
     routes_put: Vec<(Prefix, u32)>,
     next: u32,
 }
@@ -62,7 +62,7 @@ impl<'a> Draft<'a> {
     }
 
     // Does nothing. Its contract says that the network as it is now keeps the rules of a network.
-    fn tell_rules(&self)
+    fn rules_hold(&self)
         ensures { IsNetwork self.now.network }
     {
         let _next = self.next;
@@ -83,7 +83,7 @@ impl<'a> Draft<'a> {
         self.next
     }
 
-    // Puts in a peer of the next number.
+    // Adds a peer with the next number.
     pub(crate) fn join(&mut self, peer: Peer) -> Result<(), AllocError>
         requires next { peer.number ≡ self.old.network.next }
         requires left { self.old.network.next ≤ max_number }
@@ -103,14 +103,14 @@ impl<'a> Draft<'a> {
         ensures ok { OnOk result ((d : Peer) → self.new ≡ record self.old { network = record self.old.network { peers = put_peer self.old.network.peers (record (slice_index_or self.old.network.peers place d) { status = Some status }) } }) }
         ensures err { OnErr result (self.new ≡ self.old) }
     {
-        self.tell_rules();
+        self.rules_hold();
         let mut peer = self.peers.as_slice()[place].copy()?;
         peer.status = Some(status);
         self.peers.replace(place, peer);
         Ok(())
     }
 
-    // Leads a prefix to the peer of this number.
+    // Leads a prefix to the peer with this number.
     fn assign_route(&mut self, prefix: Prefix, number: u32) -> Result<(), AllocError>
         requires { IsNetwork (record self.old.network { routes = assign_route self.old.network.routes prefix number }) }
         ensures ok { OnOk result (self.new ≡ record self.old { network = record self.old.network { routes = assign_route self.old.network.routes prefix number } }) }
@@ -122,21 +122,21 @@ impl<'a> Draft<'a> {
         Ok(())
     }
 
-    // Leads a prefix to the peer of this number, where it can be a route.
+    // Leads a prefix to the peer with this number, where it can be a route.
     fn give(&mut self, prefix: Prefix, number: u32) -> Result<(), LineFault>
         requires { is_some (peer_of self.old.network.peers number) ≡ true }
         ensures { MeetsGiven self.old (left_by result self.new) (unless_refused (give_refusal self.old.network prefix) (record self.old.network { routes = assign_route self.old.network.routes prefix number })) }
     {
-        self.tell_rules();
+        self.rules_hold();
         if let Some(why) = self.give_refusal(&prefix) {
             return Err(LineFault::Refused(why));
         }
-        tell_prefix(&prefix);
+        prefix_has_form(&prefix);
         self.assign_route(prefix, number)?;
         Ok(())
     }
 
-    // Leads the prefixes but the address of the peer of this number to that peer.
+    // Leads the prefixes, except the address of the peer with this number, to that peer.
     pub(crate) fn give_all(
         &mut self,
         number: u32,
@@ -156,8 +156,8 @@ impl<'a> Draft<'a> {
         Ok(())
     }
 
-    // The change that leads from the network as it was, from which `removed` had gone, to what it is
-    // now. It puts the peers that aren't as they were, by number, and no others.
+    // The change that leads from the network as it was, from which `removed` were removed, to what
+    // it is now. It puts the peers that aren't as they were, by number, and no others.
     pub(crate) fn into_change(
         self,
         alloc: Global,
@@ -207,7 +207,7 @@ fn is_same_status(one: &Option<Status>, other: &Option<Status>) -> bool
     one == other
 }
 
-// Of routes that were put one after the other, those that make the difference. A prefix may have
+// Of routes that were put one after the other, those that have an effect. A prefix may have
 // been led to one peer after another; where there was no route before, each is put once.
 fn each_once(
     start: &[(Prefix, u32)],

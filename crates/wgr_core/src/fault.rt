@@ -2,12 +2,12 @@
 use crate::refusal::{LineRefusal, Refusal};
 use std::alloc::AllocError;
 
-/// Why a command was not done.
+/// Why a command failed.
 #[derive(Clone, Copy, Debug, Drop, PartialEq, Eq)]
 pub enum ActFault {
     /// The network refuses it.
     Refused(Refusal),
-    /// Memory was refused.
+    /// Memory ran out.
     NoMemory,
 }
 
@@ -27,7 +27,7 @@ impl From<AllocError> for ActFault {
 pub(crate) enum LineFault {
     /// The network refuses it.
     Refused(LineRefusal),
-    /// Memory was refused.
+    /// Memory ran out.
     NoMemory,
 }
 

@@ -1,5 +1,5 @@
-//! What the types of a command and of a network keep, told to a proof. Each function only asks a value for its parts:
-//! the contracts of these say of what form they are.
+//! What the types of a command and of a network guarantee, stated for a proof. Each function only reads a value's
+//! parts, whose contracts say of what form they are.
 ghost use Rattle.std.specs.Prelude.{All, IfSome};
 ghost use Rattle.wgr_core.specs.Forms.{HasForms, IsFormed, IsFormedCommand, IsFormedLine, IsKeepalive, IsKey, IsStatus};
 ghost use Rattle.wgr_core.specs.Outcome.{AreLinesAsked, IsAsked, IsPrefixAsked};
@@ -12,9 +12,9 @@ use wgr_peers::{Peer, Status};
 use wgr_text::{Key, Prefix};
 
 impl Command {
-    /// Does nothing. Its contract says what the types of the command's fields keep: each prefix is
+    /// Does nothing. Its contract says what the types of the command's fields guarantee: each prefix is
     /// masked and fits its family, and each other field is of its form.
-    pub fn tell_forms(&self)
+    pub fn forms_hold(&self)
         ensures asked { IsAsked self.now }
         ensures forms { IsFormedCommand self.now }
     {
@@ -26,18 +26,18 @@ impl Command {
                 keepalive,
                 ..
             } => {
-                tell_key(key);
-                tell_keepalive(*keepalive);
+                key_has_form(key);
+                keepalive_has_form(*keepalive);
                 let _label = label.as_str();
                 let _end = until.seconds();
             }
-            Command::Route { prefix, .. } => tell_prefix(prefix),
+            Command::Route { prefix, .. } => prefix_has_form(prefix),
             Command::Renew { until, .. } => {
                 let _end = until.seconds();
             }
             Command::Adopt { lines, .. } => {
-                tell_lines(lines.as_slice());
-                tell_prefixes_of(lines.as_slice());
+                lines_have_forms(lines.as_slice());
+                allowed_have_forms(lines.as_slice());
             }
             _ => {}
         }
@@ -45,55 +45,55 @@ impl Command {
 }
 
 impl Network {
-    /// Does nothing. Its contract says what the types of the fields keep.
-    pub fn tell_forms(&self)
+    /// Does nothing. Its contract says what the types of the fields guarantee.
+    pub fn forms_hold(&self)
         ensures forms { HasForms self.now }
         ensures host { IsHost self.now.host }
     {
         let _host = self.host().as_str();
         let server = self.server_key();
-        tell_key(&server);
-        tell_peers(self.peers());
+        key_has_form(&server);
+        peers_have_forms(self.peers());
     }
 }
 
 // Each field of a peer is of its form.
-fn tell_peer(peer: &Peer)
+fn peer_has_form(peer: &Peer)
     ensures { IsFormed peer.now }
 {
-    tell_key(&peer.key);
+    key_has_form(&peer.key);
     let _label = peer.label.as_str();
     let _until = peer.until.seconds();
-    tell_keepalive(peer.keepalive);
-    tell_seen(&peer.status);
+    keepalive_has_form(peer.keepalive);
+    seen_has_form(&peer.status);
 }
 
-// The same of all peers.
-fn tell_peers(peers: &[Peer])
+// The same for all peers.
+fn peers_have_forms(peers: &[Peer])
     ensures { All IsFormed peers.now }
 {
     for peer in peers {
-        tell_peer(peer);
+        peer_has_form(peer);
     }
 }
 
-fn tell_seen(status: &Option<Status>)
+fn seen_has_form(status: &Option<Status>)
     ensures { IfSome status.now IsStatus }
 {
     if let Some(status) = status {
-        tell_status(status);
+        status_has_form(status);
     }
 }
 
 // A key has 32 bytes.
-fn tell_key(key: &Key)
+fn key_has_form(key: &Key)
     ensures { IsKey key.now }
 {
     let _bytes = key.0;
 }
 
 // The counts of a status are within their limit.
-fn tell_status(status: &Status)
+fn status_has_form(status: &Status)
     ensures { IsStatus status.now }
 {
     let _handshake = status.handshake.value();
@@ -101,46 +101,46 @@ fn tell_status(status: &Status)
     let _sent = status.sent.value();
 }
 
-// What the lines tell is of its form.
-fn tell_lines(lines: &[SeenPeer])
+// What the lines report is of its form.
+fn lines_have_forms(lines: &[SeenPeer])
     ensures { All IsFormedLine lines.now }
 {
     for line in lines {
-        tell_line(line);
+        line_has_form(line);
     }
 }
 
-fn tell_line(line: &SeenPeer)
+fn line_has_form(line: &SeenPeer)
     ensures { IsFormedLine line.now }
 {
-    tell_key(&line.key);
-    tell_status(&line.status);
-    tell_keepalive(line.keepalive);
+    key_has_form(&line.key);
+    status_has_form(&line.status);
+    keepalive_has_form(line.keepalive);
 }
 
 // The seconds fit 16 bits.
-fn tell_keepalive(seconds: u16)
+fn keepalive_has_form(seconds: u16)
     ensures { IsKeepalive seconds }
 {}
 
 // Each prefix of the lines is masked and fits its family.
-fn tell_prefixes_of(lines: &[SeenPeer])
+fn allowed_have_forms(lines: &[SeenPeer])
     ensures { AreLinesAsked lines.now }
 {
     for line in lines {
-        tell_prefixes(line.allowed.as_slice());
+        prefixes_have_forms(line.allowed.as_slice());
     }
 }
 
-fn tell_prefixes(allowed: &[Prefix])
+fn prefixes_have_forms(allowed: &[Prefix])
     ensures { All IsPrefixAsked allowed.now }
 {
     for prefix in allowed {
-        tell_prefix(prefix);
+        prefix_has_form(prefix);
     }
 }
 
-pub(crate) fn tell_prefix(prefix: &Prefix)
+pub(crate) fn prefix_has_form(prefix: &Prefix)
     ensures { IsPrefixAsked prefix.now }
 {
     let _address = prefix.address();

@@ -1,4 +1,4 @@
-//! What a line of a dump asks of a network.
+//! What a line of a dump requests from a network.
 ghost use Rattle.std.specs.Prelude.{◌≡◌, ◌<◌, length, slice_index_or, option_map, IfSome};
 ghost use Rattle.wgr_core.specs.Adoption.{give_refusal, keyed_peer, line_place, line_refusal, named_address, names_address};
 ghost use Rattle.wgr_core.specs.Draft.{MeetsAddress, is_asked_for, line_address};

@@ -20,8 +20,8 @@ use wgr_peers::{Capacity, ExpiredPeers, Items, MAX_ROUTES, Peer};
 use wgr_pool::Pool;
 use wgr_text::{Addr, Key, Prefix};
 
-/// A network as its live peers and the routes to them are alone. It refers to the whole network, and
-/// its look-ups pass by what is expired.
+/// A network reduced to its live peers and the routes to them. It refers to the whole network, and
+/// its lookups skip what is expired.
 #[derive(Drop)]
 pub(crate) struct Live<'a> {
     pub(crate) network: &'a Network,
@@ -64,10 +64,10 @@ impl<'a> Live<'a> {
 
 impl Live<'_> {
     // Does nothing. Its contract says that what is live keeps the rules of a network.
-    pub(crate) fn tell_rules(&self)
+    pub(crate) fn rules_hold(&self)
         ensures { IsNetwork self.now }
     {
-        self.network.tell_rules();
+        self.network.rules_hold();
     }
 
     pub(crate) fn pool(&self) -> Pool
@@ -104,7 +104,7 @@ impl Live<'_> {
         self.network.table().len() - self.addresses.as_slice().len()
     }
 
-    // The live peer of this number.
+    // The live peer with this number.
     pub(crate) fn peer(&self, number: u32) -> Option<&Peer>
         ensures { option_copied result ≡ peer_of self.now.peers number }
     {
@@ -170,7 +170,7 @@ impl Live<'_> {
         count
     }
 
-    // The routes that lead to the live peer of this number.
+    // The routes that lead to the live peer with this number.
     pub(crate) fn own_routes(
         &self,
         alloc: Global,
@@ -185,7 +185,7 @@ impl Live<'_> {
         network.own_routes(alloc, number)
     }
 
-    // The prefixes that lead to the live peer of this number.
+    // The prefixes that lead to the live peer with this number.
     pub(crate) fn routes_to(&self, alloc: Global, number: u32) -> Result<Items<Prefix>, AllocError>
         ensures { IfOk result (λ routes. routes ≡ routes_to self.now.routes number) }
     {
@@ -214,7 +214,7 @@ fn is_same(one: &Addr, other: &Addr) -> bool
     one == other
 }
 
-// One item alone.
+// A list of one item.
 pub(crate) fn one_item<T: Drop>(alloc: Global, item: T) -> Result<Items<T>, AllocError>
     ensures { IfOk result (λ items. items ≡ item ∷ []) }
 {

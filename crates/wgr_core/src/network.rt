@@ -111,7 +111,7 @@ impl Network {
     }
 
     /// Does nothing. Its contract says that the network keeps the rules of a network.
-    pub fn tell_rules(&self)
+    pub fn rules_hold(&self)
         ensures { IsNetwork self.now }
     {
         let _pool = self.pool;
@@ -161,14 +161,14 @@ impl Network {
         self.next
     }
 
-    /// The peers by number, those whose lease is over among them.
+    /// The peers by number, including those whose lease is over.
     pub fn peers(&self) -> &[Peer]
         ensures { result.now ≡ self.now.peers }
     {
         self.peers.as_slice()
     }
 
-    /// The peer of this number, whether or not its lease is over.
+    /// The peer with this number, whether or not its lease is over.
     pub fn peer(&self, number: u32) -> Option<&Peer>
         ensures { option_copied result ≡ peer_of self.now.peers number }
     {
@@ -221,8 +221,8 @@ impl Network {
         })
     }
 
-    // Puts in a peer, in the place of the one of its number if there is one, and goes on at `next`;
-    // for want of memory the network is as before.
+    // Puts in a peer, in place of the one with its number if there is one, and sets the next number;
+    // if memory runs out, the network is unchanged.
     pub(crate) fn put(&mut self, peer: Peer, next: u32) -> Result<(), AllocError>
         requires { IsNetwork (record self.old { peers = put_peer self.old.peers peer; next = next }) }
         ensures ok { OnOk result (self.new ≡ record self.old { peers = put_peer self.old.peers peer; next = next }) }
@@ -234,7 +234,7 @@ impl Network {
         Ok(())
     }
 
-    // Takes away the peer of this number and the routes to it, and goes on at `next`.
+    // Removes the peer with this number and the routes to it, and sets the next number.
     pub(crate) fn leave(&mut self, number: u32, next: u32)
         requires { IsNetwork (record (without_peers self.old (number ∷ [])) { next = next }) }
         ensures { self.new ≡ record (without_peers self.old (number ∷ [])) { next = next } }
@@ -244,8 +244,8 @@ impl Network {
         self.next = next;
     }
 
-    // Takes away the peers of these numbers, puts in the one that comes, has these routes in place of
-    // its own, and goes on at `next`; for want of memory the network is as before.
+    // Removes the peers with these numbers, puts in the one that comes, has these routes in place of
+    // its own, and sets the next number; if memory runs out, the network is unchanged.
     pub(crate) fn change(
         &mut self,
         gone: NumberSet,
@@ -263,8 +263,8 @@ impl Network {
         Ok(())
     }
 
-    // Takes away the peers of these numbers and the routes to them, and these routes; puts in the peer
-    // that comes, in the place of one that stays; and goes on at `next`. It takes no memory.
+    // Removes the peers with these numbers and the routes to them, and these routes; puts in the peer
+    // that comes, in place of one that stays; and sets the next number. It allocates no memory.
     pub(crate) fn renew(
         &mut self,
         gone: NumberSet,
@@ -284,8 +284,8 @@ impl Network {
         self.next = next;
     }
 
-    // Leads a prefix to the peer of this number, and goes on at `next`; for want of memory the
-    // network is as before.
+    // Leads a prefix to the peer with this number, and sets the next number; if memory runs out, the
+    // network is unchanged.
     pub(crate) fn assign_route(
         &mut self,
         prefix: Prefix,
@@ -301,7 +301,7 @@ impl Network {
         Ok(())
     }
 
-    // Takes away the route of a prefix, and goes on at `next`.
+    // Removes the route of a prefix, and sets the next number.
     pub(crate) fn drop_route(&mut self, prefix: &Prefix, next: u32)
         requires { IsNetwork (record self.old { routes = without_route self.old.routes prefix.now; next = next }) }
         ensures { self.new ≡ record self.old { routes = without_route self.old.routes prefix.now; next = next } }

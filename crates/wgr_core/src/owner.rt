@@ -45,7 +45,7 @@ fn own_holder(peers: &[Peer], address: &Addr) -> Option<u32>
     None
 }
 
-// The longer of what is found and one more route; of two of one length the first.
+// The longer of what is found and one more route; of two with equal length the first.
 fn longer(found: Option<(Prefix, u32)>, route: (Prefix, u32)) -> Option<(Prefix, u32)>
     ensures { result ≡ longer found (Some route) }
 {

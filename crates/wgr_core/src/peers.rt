@@ -53,7 +53,7 @@ impl Live<'_> {
         let Some(peer) = mover else {
             return self.owns(address);
         };
-        self.tell_rules();
+        self.rules_hold();
         !peer.is_at(address) && self.owns(address)
     }
 
@@ -80,7 +80,7 @@ impl Live<'_> {
         for address in self.addresses.as_slice() {
             lowest = self.or_freed(lowest, address);
         }
-        self.network.tell_rules();
+        self.network.rules_hold();
         lowest
     }
 
@@ -98,7 +98,7 @@ impl Live<'_> {
         Some(*address)
     }
 
-    // The lowest address that nobody holds, or that `mover` alone does. Its own address may also lie in a
+    // The lowest address that nobody holds, or that only `mover` holds. Its own address may also lie in a
     // route that lies in the pool, and then isn't free for it.
     fn lowest_for(&self, mover: Option<&Peer>) -> Option<Addr>
         requires { IfSome mover (λ p. peer_of self.now.peers p.now.number ≡ Some p.now) }
@@ -142,7 +142,7 @@ impl Live<'_> {
         Ok((Reply::Peer(PeerView { peer, routes }), Some(change)))
     }
 
-    // The peer's view, and the change by which it takes the place of the one of its number.
+    // The peer's view, and the change by which it replaces the one with its number.
     fn replaced(
         &self,
         alloc: Global,
@@ -192,7 +192,7 @@ impl Live<'_> {
         self.replaced(alloc, moved, removed)
     }
 
-    // The peer and the routes to it go.
+    // The peer and the routes to it are removed.
     pub(crate) fn revoked(
         &self,
         alloc: Global,
@@ -232,7 +232,7 @@ impl Live<'_> {
     }
 }
 
-// The lowest address that no peer has, live or expired, and no route but those to the peers of these
+// The lowest address that no peer has, live or expired, and no route except those to the peers with these
 // numbers.
 fn lowest_beside(network: &Network, expired: &HashSet<u32>) -> Option<Addr>
     ensures { result ≡ lowest_where network.now.pool (λ a. is_own network.now.peers a || is_routed network.now.pool (standing (contains nat_eq expired.now) network.now.routes) a) }

@@ -4,7 +4,7 @@ ghost use Rattle.wgr_core.specs.RefusalNames.{line_refusal_name, refusal_name};
 
 use std::fmt;
 
-/// A field of a request or a word of the command line that isn't of its form.
+/// A field of an input line of `wgr plan` that isn't of its form.
 #[derive(Clone, Copy, Debug, Drop, PartialEq, Eq)]
 pub enum Field {
     /// A public key.
@@ -19,12 +19,12 @@ impl fmt::Display for Field {
     }
 }
 
-/// Why a command is refused, with the fact that it turns on.
+/// Why a command is refused, with the fact that decides it.
 #[derive(Clone, Copy, Debug, Drop, PartialEq, Eq)]
 pub enum Refusal {
     /// No live peer has the number.
     NoSuchPeer,
-    /// The peer of this number has the key.
+    /// The peer with this number has the key.
     KeyHeld { number: u32 },
     /// The named address is a peer's, or a route at full length.
     AddressHeld,
@@ -32,7 +32,7 @@ pub enum Refusal {
     OutsidePool,
     /// No address is free.
     PoolFull,
-    /// As many peers stand as the capacity allows.
+    /// There are as many peers as the capacity allows.
     CapacityReached,
     /// The next number would be above 1,000,000.
     NumbersSpent,
@@ -40,9 +40,9 @@ pub enum Refusal {
     IsAddress,
     /// The prefix is no route.
     NoSuchRoute,
-    /// A field isn't of its form.
+    /// A field of an input line of `wgr plan` isn't of its form.
     BadField { field: Field },
-    /// As many routes stand as a network may have.
+    /// There are as many routes as a network may have.
     RoutesFull,
     /// No allowed prefix has the address.
     NobodysAddress,
@@ -50,7 +50,7 @@ pub enum Refusal {
     LeaseOver,
     /// The key is the server's own.
     ServerKey,
-    /// The interface that was shown has another public key than the server.
+    /// The running interface has another public key than the server.
     WrongServer,
     /// A line of a dump can't be adopted: the one of this number, the interface's line being 1.
     InLine { line: usize, why: LineRefusal },
@@ -61,7 +61,7 @@ pub enum Refusal {
 pub enum LineRefusal {
     /// The key is the server's own.
     ServerKey,
-    /// As many peers stand as the capacity allows.
+    /// There are as many peers as the capacity allows.
     CapacityReached,
     /// The next number would be above 1,000,000.
     NumbersSpent,
@@ -71,7 +71,7 @@ pub enum LineRefusal {
     PoolFull,
     /// A prefix is a peer's or the server's address at full length.
     IsAddress,
-    /// As many routes stand as a network may have.
+    /// There are as many routes as a network may have.
     RoutesFull,
 }
 

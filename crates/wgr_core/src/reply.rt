@@ -15,16 +15,16 @@ pub struct PeerView {
 pub enum Reply {
     /// The peer after the change.
     Peer(PeerView),
-    /// The number of the peer that went.
+    /// The number of the removed peer.
     Revoked(u32),
     /// The live peers by number.
     List(Items<PeerView>),
     /// The number of the peer that has the address.
     Owner(u32),
-    /// The numbers of the peers that came, upwards, and how many lines found their key held.
+    /// The numbers of the added peers, ascending, and how many lines had a key that was already held.
     Adopted { added: Items<u32>, known: u32 },
     /// The server's file may be made, in this form.
     Server(Form),
-    /// The file of the peer of this number may be made, in this form.
+    /// The file of the peer with this number may be made, in this form.
     File { number: u32, form: Form },
 }

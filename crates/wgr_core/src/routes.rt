@@ -54,13 +54,13 @@ impl Live<'_> {
         if let Some(why) = self.route_refusal(&prefix) {
             return Err(ActFault::Refused(why));
         }
-        self.tell_rules();
+        self.rules_hold();
         let mut own = self.own_routes(alloc, number)?;
         put_route(&mut own, prefix, number)?;
         Ok(view_with(alloc, peer, &own)?)
     }
 
-    // The route of this very prefix goes.
+    // The route of exactly this prefix is removed.
     pub(crate) fn unrouted(
         &self,
         alloc: Global,
@@ -93,7 +93,7 @@ impl Live<'_> {
         let Some(peer) = self.peer(number) else {
             return Err(ActFault::Refused(Refusal::NoSuchPeer));
         };
-        self.tell_rules();
+        self.rules_hold();
         let mut own = self.own_routes(alloc, number)?;
         drop_route(&mut own, prefix);
         Ok(view_with(alloc, peer, &own)?)
@@ -121,14 +121,14 @@ impl Live<'_> {
 }
 
 impl Network {
-    /// The prefixes that lead to the peer of this number.
+    /// The prefixes that lead to the peer with this number.
     pub fn routes_to(&self, alloc: Global, number: u32) -> Result<Items<Prefix>, AllocError>
         ensures { IfOk result (λ routes. routes ≡ routes_to self.now.routes number) }
     {
         prefixes_of(alloc, &self.own_routes(alloc, number)?)
     }
 
-    // The routes that lead to the peer of this number.
+    // The routes that lead to the peer with this number.
     pub(crate) fn own_routes(
         &self,
         alloc: Global,
@@ -156,7 +156,7 @@ impl Network {
     }
 }
 
-// Whether the prefix is the server's address or a peer's; `is_owned` tells whether a peer has the
+// Whether the prefix is the server's address or a peer's; `is_owned` says whether a peer has the
 // prefix's address.
 pub(crate) fn is_address(pool: &Pool, prefix: &Prefix, is_owned: bool) -> bool
     ensures { (n : NetworkValue) → n.pool ≡ pool.now → is_own n.peers prefix.now.address ≡ is_owned → result ≡ is_address n prefix.now }

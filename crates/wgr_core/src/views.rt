@@ -15,7 +15,7 @@ use wgr_peers::{Items, Peer};
 use wgr_text::Prefix;
 
 impl Live<'_> {
-    // Each live peer with the routes to it: one walk over the peers and one over the routes.
+    // Each live peer with the routes to it: one pass over the peers and one over the routes.
     pub(crate) fn views(&self, alloc: Global) -> Result<Items<PeerView>, AllocError>
         ensures { IfOk result (λ views. views ≡ map (view_of self.now.routes) self.now.peers) }
     {
@@ -44,7 +44,7 @@ impl Live<'_> {
 }
 
 impl Network {
-    /// Each peer with the routes to it, those whose lease is over among them: one walk over the
+    /// Each peer with the routes to it, including those whose lease is over: one pass over the
     /// peers and one over the routes.
     pub fn views(&self, alloc: Global) -> Result<Items<PeerView>, AllocError>
         ensures { IfOk result (λ views. views ≡ map (view_of self.now.routes) self.now.peers) }

@@ -1,4 +1,4 @@
--- The text of `wg show <interface> dump` (wg(8)), and what is read of it: no private or preshared
+-- The text of `wg show <interface> dump` (wg(8)), and what is read from it: no private or preshared
 -- key, fwmark or endpoint is.
 use Rattle.std.specs.Prelude.{ℕ, ◌≡◌, List, [], ◌∷◌, Option}
 use Rattle.wgr_text.specs.declared.key.Key.{Key}
@@ -6,7 +6,7 @@ use Rattle.wgr_text.specs.Lines.{lines_or_one}
 use Rattle.wgr_text.specs.Prefix.{PrefixValue}
 use Rattle.wgr_dump.specs.Fields.{Each, IsOf, a_key_or_none, a_word, fields_of, SpellsKey, SpellsOptionalKey, SpellsPort, SpellsAllowed, CountValue, SpellsCount, SpellsKeepalive}
 
--- what is read of the interface's line
+-- what is read from the interface's line
 pub record InterfaceValue : Type 0 where
   pub public_key : Option Key
   pub port : ℕ
@@ -22,7 +22,7 @@ pub record IsInterfaceLine (line : List ℕ) (i : InterfaceValue) : Type 0 where
   pub port : SpellsPort port_field i.port
   pub mark : IsOf a_word mark_field
 
--- what is read of a peer's line: the handshake in seconds since 1970 or 0, what was received and
+-- what is read from a peer's line: the handshake in seconds since 1970 or 0, what was received and
 -- sent in bytes, and the seconds between keepalives or 0
 pub record LineValue : Type 0 where
   pub key : Key

@@ -1,4 +1,4 @@
--- Where a text stops to be a dump.
+-- Where a text stops being a dump.
 use Rattle.std.specs.Prelude.{ℕ, zero, suc, ◌≡◌, ◌+◌, List, [], ◌∷◌}
 use Rattle.wgr_dump.specs.Fields.{Form, IsOf, fields_of, interface_forms, peer_forms}
 use Rattle.wgr_text.specs.Lines.{lines_or_one}
@@ -24,7 +24,7 @@ IsBadPeer [] line n = ⊥
 IsBadPeer (first ∷ others) zero n = IsBadField peer_forms (fields_of first) n
 IsBadPeer (first ∷ others) (suc line) n = AreOf peer_forms (fields_of first) × IsBadPeer others line n
 
--- the same of the interface's line and those of the peers
+-- the same for the interface's line and those of the peers
 abbrev pub IsBadLine : List (List ℕ) → ℕ → ℕ → Type 0
 IsBadLine [] line n = ⊥
 IsBadLine (first ∷ others) zero n = IsBadField interface_forms (fields_of first) n

@@ -15,14 +15,14 @@ parts_at c text = slice_split (λ b. b == c) text
 abbrev pub fields_of : List ℕ → List (List ℕ)
 fields_of line = parts_at 9 line
 
--- the things stand one by one beside those of another list
+-- the items are related one by one to those of another list
 abbrev pub Each : {A B : Type 0} → (A → B → Type 0) → List A → List B → Type 0
 Each R [] [] = Unit {0}
 Each R [] (y ∷ ys) = ⊥
 Each R (x ∷ xs) [] = ⊥
 Each R (x ∷ xs) (y ∷ ys) = R x y × Each R xs ys
 
--- what stands in place of a key or of addresses where there is none
+-- what is written in place of a key or of addresses if there are none
 abbrev pub none_text : List ℕ
 none_text = codes "(none)"
 
@@ -51,7 +51,7 @@ SpellsKeepalive field n = ((field ≡ codes "off") × (n ≡ 0)) ⊎ SpellsPort 
 abbrev pub kept_count : ℕ → ℕ
 kept_count n = cond (nat_lt 9223372036854775807 n) 9223372036854775807 n
 
--- a count of bytes or seconds: its digits as they stand in the field, and the number as it is kept
+-- a count of bytes or seconds: its digits as they are in the field, and the number as it is kept
 pub record CountValue : Type 0 where
   pub digits : List ℕ
   pub value : ℕ

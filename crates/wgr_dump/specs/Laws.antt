@@ -6,23 +6,23 @@ use Rattle.wgr_text.specs.Lines.{lines_or_one}
 use Rattle.wgr_dump.specs.Fault.{IsFirstBad}
 use Rattle.wgr_dump.specs.Fields.{Each, IsOf, a_key_or_none, fields_of}
 
--- a text is a dump of one interface and one list of lines at most
+-- a text is a dump of at most one interface and one list of lines
 abbrev pub OneDump : Type 0
 OneDump = (text : List ℕ) (i j : InterfaceValue) (lines others : List LineValue) → IsDump text i lines → IsDump text j others → (i ≡ j) × (lines ≡ others)
 
--- it has one first bad field at most
+-- it has at most one first bad field
 abbrev pub OneFault : Type 0
 OneFault = (text : List ℕ) (line field line' field' : ℕ) → IsFirstBad text line field → IsFirstBad text line' field' → (line ≡ line') × (field ≡ field')
 
--- it isn't a dump and has a bad field too
+-- a dump has no bad field
 abbrev pub NotBoth : Type 0
 NotBoth = (text : List ℕ) (i : InterfaceValue) (lines : List LineValue) (line field : ℕ) → IsDump text i lines → IsFirstBad text line field → ⊥
 
--- nor is it neither
+-- and no text is neither a dump nor one with a bad field
 abbrev pub NotNeither : Type 0
 NotNeither = (text : List ℕ) → ((i : InterfaceValue) (lines : List LineValue) → ¬ (IsDump text i lines)) → ((line field : ℕ) → ¬ (IsFirstBad text line field)) → ⊥
 
--- the lines differ in the first field alone, a private key or `(none)` in both
+-- the lines differ only in the first field, a private key or `(none)` in both
 pub record DifferInPrivateKey (line other : List ℕ) : Type 0 where
   pub key : List ℕ
   pub other_key : List ℕ
@@ -32,7 +32,7 @@ pub record DifferInPrivateKey (line other : List ℕ) : Type 0 where
   pub is_key : IsOf a_key_or_none key
   pub is_other_key : IsOf a_key_or_none other_key
 
--- the lines differ in the second field alone, a preshared key or `(none)` in both
+-- the lines differ only in the second field, a preshared key or `(none)` in both
 pub record DifferInPresharedKey (line other : List ℕ) : Type 0 where
   pub peer : List ℕ
   pub key : List ℕ
@@ -43,7 +43,7 @@ pub record DifferInPresharedKey (line other : List ℕ) : Type 0 where
   pub is_key : IsOf a_key_or_none key
   pub is_other_key : IsOf a_key_or_none other_key
 
--- the texts differ in private and preshared keys alone
+-- the texts differ only in private and preshared keys
 pub record DifferInSecrets (text other : List ℕ) : Type 0 where
   pub first : List ℕ
   pub other_first : List ℕ
@@ -54,7 +54,7 @@ pub record DifferInSecrets (text other : List ℕ) : Type 0 where
   pub interface : DifferInPrivateKey first other_first
   pub lines : Each DifferInPresharedKey peers other_peers
 
--- then the same is read of them
+-- then the same is read from them
 abbrev pub SecretsAreUnread : Type 0
 SecretsAreUnread = (text other : List ℕ) → DifferInSecrets text other → (i : InterfaceValue) (lines : List LineValue) → IsDump text i lines ↔ IsDump other i lines
 

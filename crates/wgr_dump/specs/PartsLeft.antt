@@ -1,4 +1,4 @@
--- The parts of a text that are still to come.
+-- The remaining parts of a text.
 use Rattle.std.specs.Prelude.{ℕ, List, [], Option, Some, None}
 use Rattle.std.specs.Borrow.{Bor}
 use Rattle.wgr_dump.specs.declared.remaining_parts.RemainingParts.{RemainingParts}

@@ -1,4 +1,4 @@
--- What becomes of some fields where the first is taken.
+-- What happens to some fields when the first is taken.
 use Rattle.std.specs.Prelude.{ℕ, ◌≡◌, List, [], ◌∷◌}
 use Rattle.wgr_dump.specs.Fields.{Form, IsOf}
 

@@ -1,4 +1,4 @@
--- What some things say, of which it is known only that they say it. It is determined, so a value
+-- What some items say, where it is known only that a proof of it exists. It is unique, so a value
 -- may hold it as a ghost.
 use Rattle.std.specs.Prelude.{◌≡◌, List}
 use Rattle.std.specs.Coded.{Coded, Coded-set, coded_list}
@@ -11,11 +11,11 @@ use Rattle.wgr_dump.specs.Unique.{one_each}
 abbrev pub Told : {A B : Type 0} → (A → B → Type 0) → List A → Type 0
 Told {B = B} R xs = (ys : List B) × ∥ Each R xs ys ∥₁
 
--- what is told
+-- the list that the items say
 unfoldable pub told : {A B : Type 0} (R : A → B → Type 0) (xs : List A) → Told R xs → List B
 told R xs t = t.0
 
--- a thing says one other at most
+-- an item says at most one value
 abbrev pub SaysOne : {A B : Type 0} → (A → B → Type 0) → Type 0
 SaysOne {A} {B} R = (x : A) (y z : B) → R x y → R x z → y ≡ z
 
@@ -26,15 +26,15 @@ module _ {A B : Type 0} (R : A → B → Type 0) (code : Coded B) (one : SaysOne
   pub Told-prop : (xs : List A) → IsProp (Told R xs)
   Told-prop xs a b = Σ_prop_path (λ v. ∥∥₁_prop) (same_list xs a.0 b.0 a.1 b.1)
 
-  -- what is told is all that is said
+  -- the list of `told` is the only one that the items say
   pub told_same : (xs : List A) (t : Told R xs) (ys : List B) → ∥ Each R xs ys ∥₁ → told R xs t ≡ ys
   unfolding told
   told_same xs t ys say = same_list xs t.0 ys t.1 say
 
-  -- what is told is said
+  -- the items say the list of `told`
   pub told_said : (xs : List A) (t : Told R xs) (ys : List B) → Each R xs ys → Each R xs (told R xs t)
   told_said xs t ys say = subst (λ v. Each R xs v) (sym (told_same xs t ys ∣ say ∣₁)) say
 
-  -- and it doesn't matter where it is told
+  -- and it doesn't depend on the proof
   pub told_again : (xs : List A) (t u : Told R xs) → told R xs t ≡ told R xs u
   told_again xs t u = ap (told R xs) (Told-prop xs t u)

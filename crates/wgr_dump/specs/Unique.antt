@@ -1,4 +1,4 @@
--- A text says one thing at most.
+-- A text says at most one thing.
 use Rattle.std.proofs.Common.{◌≡◌, ℕ, List, [], ◌∷◌, length, Some, None, Option, refl, sym, ap, ap₂, subst, ◌∙◌, arith, inl, inr, codes}
 use Rattle.std.proofs.lemmas.Str.Parse.{digit_at}
 use Rattle.wgr_text.specs.declared.key.Key.{Key}

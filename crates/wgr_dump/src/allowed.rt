@@ -11,7 +11,7 @@ use crate::remaining_parts::RemainingParts;
 use std::marker::Model;
 use wgr_text::{Prefix, read_loose};
 
-/// The prefixes of a peer that are still to come, each with its host bits zero.
+/// The remaining prefixes of a peer, each with its host bits zero.
 #[derive(Drop)]
 pub struct Allowed<'a> {
     pub(crate) items: RemainingParts<'a>,

@@ -12,7 +12,7 @@ use crate::peer_line::PeerLine;
 use std::marker::Model;
 use wgr_text::first_line;
 
-/// Where a text stops to be a dump: its first bad line, and in it the least field that is absent,
+/// Where a text stops being a dump: its first bad line, and in it the least field that is absent,
 /// not of its form, or one too many.
 #[derive(Clone, Copy, Debug, PartialEq, Eq)]
 pub struct BadDump {
@@ -41,7 +41,7 @@ impl<'a> Model for Dump<'a> {
 }
 
 impl<'a> Dump<'a> {
-    /// The dump that the whole text is. It reads the text once, and takes no memory.
+    /// The dump that the whole text is. It reads the text once, and allocates no memory.
     pub fn open(text: &'a [u8]) -> Result<Dump<'a>, BadDump>
         ensures ok { IfOk result (λ d. IsDump text.entry.now d.interface d.lines) }
         ensures err { IfErr result (λ bad. IsFirstBad text.entry.now bad.line bad.field) }

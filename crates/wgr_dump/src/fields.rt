@@ -15,7 +15,7 @@ pub(crate) fn read_key(field: &[u8]) -> Option<Key>
     Some(key)
 }
 
-// What a slice of bytes holds is known to be bytes.
+// Does nothing. The items of a slice of bytes are bytes.
 fn are_bytes(bytes: &[u8])
     ensures { (i : ℕ) → slice_index bytes.now i < 256 }
 {}
@@ -31,7 +31,7 @@ pub(crate) fn read_optional_key(field: &[u8]) -> Option<Option<Key>>
     Some(Some(read_key(field)?))
 }
 
-/// Whether the field is read past: 1 to 256 bytes, none of them a blank or a control character.
+/// Whether the field is a word, which is skipped: 1 to 256 bytes, none of them a blank or a control character.
 pub(crate) fn is_word(field: &[u8]) -> bool
     ensures { IsTrue result ↔ IsWord field.now }
 {

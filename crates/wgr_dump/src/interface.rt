@@ -58,7 +58,7 @@ impl<'a> InterfaceLine<'a> {
         })
     }
 
-    /// The same line again.
+    /// A copy of the line.
     pub(crate) fn again(&self) -> InterfaceLine<'a>
         ensures { result ≡ self.now }
     {

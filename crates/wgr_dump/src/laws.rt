@@ -1,4 +1,4 @@
-//! What follows of the definitions that the reader meets. Each function does nothing: its contract
+//! What follows from the definitions that the reader meets. Each function does nothing: its contract
 //! is the law.
 ghost use Rattle.wgr_dump.specs.Laws.{OneDump, OneFault, NotBoth, NotNeither, SecretsAreUnread, SecretsAreNoFault, LinesAreJoined, FieldsAreJoined};
 
@@ -8,7 +8,7 @@ pub fn lines_and_fields_are_joined()
     ensures fields { FieldsAreJoined }
 {}
 
-/// A text is a dump of one interface and one list of lines at most.
+/// A text is a dump of at most one interface and one list of lines.
 pub fn dumps_are_unique()
     ensures { OneDump }
 {}
@@ -20,7 +20,7 @@ pub fn faults_are_unique()
     ensures not_neither { NotNeither }
 {}
 
-/// Of two texts that differ in private and preshared keys alone, the same is read, or the same
+/// From two texts that differ only in private and preshared keys, the same is read, or the same
 /// fault is found.
 pub fn secrets_are_unread()
     ensures values { SecretsAreUnread }

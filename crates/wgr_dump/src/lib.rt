@@ -1,10 +1,10 @@
 //! The text of `wg show <interface> dump` (wg(8)), read line by line.
 //!
-//! [`Dump::open`] judges a whole text in one pass. What it hands out are slices of the text, and
-//! values that are read when a line is reached, so no call takes memory. Private and preshared
+//! [`Dump::open`] checks a whole text in one pass. What it returns are slices of the text, and
+//! values that are read when a line is reached, so no call allocates memory. Private and preshared
 //! keys, firewall marks and endpoints have to be of their form, and are in no result.
 //!
-//! Contracts speak of the values that will be read, and not of bytes: each type keeps a ghost proof that
+//! Contracts mention the values that will be read, and not bytes: each type keeps a ghost proof that
 //! its text spells one value.
 #![tactic(auto)]
 

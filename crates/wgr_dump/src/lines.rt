@@ -9,7 +9,7 @@ use crate::peer_line::PeerLine;
 use std::marker::Model;
 use wgr_text::first_line;
 
-/// The lines of peers that are still to come.
+/// The remaining lines of peers.
 #[derive(Drop)]
 pub struct Lines<'a> {
     pub(crate) rest: &'a [u8],

@@ -16,7 +16,7 @@ use crate::written_count::WrittenCount;
 use std::marker::Model;
 use wgr_text::Key;
 
-/// The line of a peer. Its preshared key and its endpoint are read past.
+/// The line of a peer. Its preshared key and its endpoint are skipped.
 #[derive(Drop)]
 pub struct PeerLine<'a> {
     key_text: &'a [u8],

@@ -3,7 +3,7 @@ ghost use Rattle.std.specs.Prelude.{◌≡◌, ◌==◌, ℕ, [], ◌∷◌, pos
 ghost use Rattle.wgr_dump.specs.Fields.{parts_at};
 ghost use Rattle.wgr_dump.specs.PartsLeft.{left};
 
-/// The parts that are still to come.
+/// The remaining parts.
 #[derive(Clone, Copy, Drop)]
 pub(crate) struct RemainingParts<'a> {
     rest: Option<&'a [u8]>,

@@ -30,7 +30,7 @@ pub(crate) fn take_optional_key<'a>(
     Some((field, read_optional_key(field)?))
 }
 
-/// A field that is read past.
+/// A field that is skipped.
 pub(crate) fn take_word(fields: &mut RemainingParts<'_>) -> Option<()>
     ensures { MatchOption result (IsBadHead a_word (left fields.old)) (λ taken. Takes IsWord (left fields.old) (left fields.new)) }
 {

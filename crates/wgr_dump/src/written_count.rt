@@ -36,7 +36,7 @@ impl<'a> WrittenCount<'a> {
         })
     }
 
-    /// The digits as they stand in the dump.
+    /// The digits as they are in the dump.
     pub fn digits(&self) -> &'a [u8]
         ensures bytes { result.now ≡ self.now.digits }
         ensures spelled { SpellsCount result.now self.now }

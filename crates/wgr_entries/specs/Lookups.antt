@@ -1,4 +1,4 @@
--- What queries by a key show.
+-- What queries by a key return.
 use Rattle.std.specs.Prelude.{◌≡◌, ℕ, ⊤, List, [], ◌∷◌, filter, map, nat_eq, Option, Some, None}
 use Rattle.std.specs.List.Sorted.{IsPermutation}
 use Rattle.sqlite_value.specs.Order.{Row}
@@ -38,7 +38,7 @@ HasWordAt (row ∷ next ∷ more) at = ⊥
 abbrev pub IsSlotOf : NetworkRow → ℕ → Bytes → Type 0
 IsSlotOf w tenant name = (w.tenant ≡ tenant) × (w.name ≡ name)
 
--- what was settled of the network of a row
+-- the settings of the network of a row
 abbrev pub settings_of : NetworkRow → Settings
 settings_of w = record { pool = w.pool; host = w.host; port = w.port; server = w.server; capacity = w.capacity }
 

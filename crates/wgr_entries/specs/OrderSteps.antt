@@ -1,4 +1,4 @@
--- What the statements of an order on a network make of the rows.
+-- What the statements of an order on a network do to the rows.
 use Rattle.std.specs.Prelude.{◌≡◌, ℕ, not, nat_eq}
 use Rattle.std.specs.List.{filter}
 use Rattle.wgr_model.specs.Register.{Bytes}
@@ -10,7 +10,7 @@ use Rattle.wgr_sql.specs.Steps.{Then}
 abbrev pub new_row : ℕ → ℕ → Bytes → Settings → NetworkRow
 new_row id tenant name settings = network_row (record { id = id; tenant = tenant; name = name; network = new_network settings })
 
--- what is allowed in a network goes; its peers go; its own row goes
+-- a network's allowed prefixes are deleted; its peers are deleted; its own row is deleted
 abbrev pub AllowedGoes : ℕ → Tables → Tables → Type 0
 AllowedGoes id t u = u ≡ record t { allowed = filter (λ a. not (nat_eq a.network id)) t.allowed }
 

@@ -1,4 +1,4 @@
--- Where a write of an order isn't done: the database refuses one of its statements.
+-- When a write of an order fails: the database refuses one of its statements.
 use Rattle.std.specs.Prelude.{ℕ, List, [], ◌∷◌, codes}
 use Rattle.sqlite_value.specs.Order.{Row}
 use Rattle.sqlite.specs.declared.types.Value.TheVariants.{Text, Blob}
@@ -18,7 +18,7 @@ TokenStaysOut x = IsRefused (codes "INSERT INTO token (digest, tenant) VALUES (?
 abbrev pub TokenStays : Bytes → Tables → Type 0
 TokenStays digest = IsRefused (codes "DELETE FROM token WHERE digest = ?1") (Blob digest ∷ [])
 
--- the values of a new network's row, but for its next number, which is 1
+-- the values of a new network's row, except its next number, which is 1
 abbrev pub network_params : NetworkRow → Row
 network_params w = number w.id ∷ number w.tenant ∷ Text w.name ∷ number (family_number w.pool.address.family) ∷ Blob (bytes_of w.pool.address.number) ∷ number w.pool.length ∷ Text w.host ∷ number w.port ∷ Blob w.server.0 ∷ number w.capacity ∷ []
 
@@ -37,7 +37,7 @@ NetworkRowStays network = IsRefused (codes "DELETE FROM network WHERE id = ?1") 
 abbrev pub NetworkStays : ℕ → Tables → Type 0
 NetworkStays network = OneOfTwo (AllowedStays network) (AllowedGoes network) (OneOfTwo (PeersStay network) (PeersGo network) (NetworkRowStays network))
 
--- a write of an order isn't done on these rows
+-- a write of an order fails on these rows
 abbrev pub WriteStops : Written → Tables → Type 0
 WriteStops (Replaced network value) t = ⊥
 WriteStops (TenantGained x) t = TenantStaysOut x t

@@ -1,4 +1,4 @@
-//! What an order asks of every entry: all rows of a table, in whatever order.
+//! What an order needs of every entry: all rows of a table, in any order.
 ghost use Rattle.std.specs.Prelude.{◌≡◌, ◌++◌, ◌∷◌, [], List, length, map, false, IfErr, IfOk, OnOk, IsPermutation};
 ghost use Rattle.sqlite.specs.Effect.{Database};
 ghost use Rattle.sqlite.specs.State.{HasCleanDisk, Survives};
@@ -69,8 +69,8 @@ fn ids_in(alloc: Global, rows: &[Row]) -> Result<Vec<u32>, Fault>
     Ok(ids)
 }
 
-/// How many tokens there are. Their rows are read, since the lemmas on queries know no aggregates:
-/// `count(*)` would prove nothing.
+/// How many tokens there are. Their rows are read, since the lemmas on queries don't cover aggregates:
+/// with `count(*)` nothing would be proved.
 pub fn count_tokens<S: Alter>(conn: &mut Connection<S>) -> Result<usize, Fault>
     requires idle { conn.old.in_transaction ≡ false }
     ensures idle { conn.new.in_transaction ≡ false }
@@ -134,7 +134,7 @@ fn tenants_in(alloc: Global, rows: &[Row]) -> Result<Vec<Tenant>, Fault>
     Ok(tenants)
 }
 
-// Puts a network at the end.
+// Appends a network.
 fn keep(networks: &mut Vec<Holding>, network: Holding) -> Result<(), Fault>
     ensures kept { OnOk result (networks.new.items ≡ networks.old.items ++ network ∷ []) }
     ensures memory { IfErr result (λ why. why ≡ NoMemory) }
@@ -173,7 +173,7 @@ pub fn tenants<S: Alter>(alloc: Global, conn: &mut Connection<S>) -> Result<Vec<
     tenants_in(alloc, rows.as_slice())
 }
 
-/// All networks, as they were added: without peers, and with the first number next.
+/// All networks, as they were added: without peers, and with the first number as next.
 pub fn settled_networks<S: Alter>(
     alloc: Global,
     conn: &mut Connection<S>,

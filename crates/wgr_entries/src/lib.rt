@@ -1,9 +1,9 @@
 //! The entries of the register in its tables: tenants, their tokens and their networks. They are
-//! found by a key (`lookup`), listed (`all`), read of their rows (`settled`), and come and go, each
-//! in one commit (`tenant`, `token`, `network`).
+//! found by a key (`lookup`), listed (`all`), read from their rows (`settled`), and added and deleted,
+//! each in one commit (`tenant`, `token`, `network`).
 //!
-//! Whether an operator's order is refused is not decided here, only what it asks of every entry is
-//! read. A key that a row has already is a fault of the store.
+//! Whether an operator's order is refused is not decided here: the crate only reads what the decision
+//! needs of every entry. A key that a row has already is a fault of the store.
 #![tactic(auto)]
 
 mod all;

@@ -1,4 +1,4 @@
-//! Tenants and networks, found by a key.
+//! Lookups of tenants and networks by a key.
 ghost use Rattle.std.specs.Prelude.{◌≡◌, List, IfErr, IfOk, IfSome, IfNone, IsTrue, OnErr, OnOk, false};
 ghost use Rattle.sqlite.specs.Effect.{Database};
 ghost use Rattle.sqlite.specs.State.{HasCleanDisk, Survives};

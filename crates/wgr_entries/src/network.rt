@@ -1,4 +1,4 @@
-//! Networks that come and go.
+//! Networks that are added or deleted.
 ghost use Rattle.std.specs.Prelude.{◌≡◌, ◌↔◌, ◌∷◌, List, false, IfErr, OnErr, OnOk, ⊤};
 ghost use Rattle.sqlite.specs.Effect.{Database};
 ghost use Rattle.sqlite.specs.declared.error.Error.TheVariants.{SqliteFailure};
@@ -54,7 +54,7 @@ fn insert_network<S: Alter>(
     )
 }
 
-// Takes all rows of what is allowed in a network away.
+// Deletes the rows of all allowed prefixes in a network.
 fn drop_allowed<S: Alter>(tx: &mut Transaction<'_, S>, network: u32) -> Result<usize, Fault>
     ensures same_reference { tx.new.conn.ghost_name ≡ tx.old.conn.ghost_name }
     ensures step { HasCleanDisk (state S.Store tx.new.conn.now) → StepsOn (AllowedGoes network) (state S.Store tx.old.conn.now) (state S.Store tx.new.conn.now) result }
@@ -68,7 +68,7 @@ fn drop_allowed<S: Alter>(tx: &mut Transaction<'_, S>, network: u32) -> Result<u
     )
 }
 
-// Takes the rows of all peers of a network away.
+// Deletes the rows of all peers of a network.
 fn drop_peers<S: Alter>(tx: &mut Transaction<'_, S>, network: u32) -> Result<usize, Fault>
     ensures same_reference { tx.new.conn.ghost_name ≡ tx.old.conn.ghost_name }
     ensures step { HasCleanDisk (state S.Store tx.new.conn.now) → StepsOn (PeersGo network) (state S.Store tx.old.conn.now) (state S.Store tx.new.conn.now) result }
@@ -82,7 +82,7 @@ fn drop_peers<S: Alter>(tx: &mut Transaction<'_, S>, network: u32) -> Result<usi
     )
 }
 
-// Takes the row of a network away.
+// Deletes the row of a network.
 fn drop_network_row<S: Alter>(tx: &mut Transaction<'_, S>, network: u32) -> Result<usize, Fault>
     ensures same_reference { tx.new.conn.ghost_name ≡ tx.old.conn.ghost_name }
     ensures step { HasCleanDisk (state S.Store tx.new.conn.now) → StepsOn (NetworkRowGoes network) (state S.Store tx.old.conn.now) (state S.Store tx.new.conn.now) result }
@@ -96,7 +96,7 @@ fn drop_network_row<S: Alter>(tx: &mut Transaction<'_, S>, network: u32) -> Resu
     )
 }
 
-// Takes a network away, with its peers and what is allowed there.
+// Deletes a network, with its peers and allowed prefixes.
 fn drop_network<S: Alter>(tx: &mut Transaction<'_, S>, network: u32) -> Result<usize, Fault>
     ensures same_reference { tx.new.conn.ghost_name ≡ tx.old.conn.ghost_name }
     ensures step { HasCleanDisk (state S.Store tx.new.conn.now) → StepsOn (NetworkGoes network) (state S.Store tx.old.conn.now) (state S.Store tx.new.conn.now) result }
@@ -108,8 +108,8 @@ fn drop_network<S: Alter>(tx: &mut Transaction<'_, S>, network: u32) -> Result<u
     drop_network_row(tx, network)
 }
 
-/// Commits a new network of this id, without peers, of the tenant of this id. An id, a tenant's name
-/// of a network, or a host with its port that a network has is a fault of the store.
+/// Commits a new network of this id, without peers, of the tenant of this id. If a network has the id
+/// or the host and port already, or the tenant has a network of this name, it is a fault of the store.
 pub fn add_network<S: Alter>(
     conn: &mut Connection<S>,
     id: u32,
@@ -136,8 +136,8 @@ pub fn add_network<S: Alter>(
     )
 }
 
-/// Commits the end of the network of this id: its row goes, and with it its peers and what is
-/// allowed there.
+/// Commits the deletion of the network of this id, with its row, its peers and its allowed
+/// prefixes.
 pub fn end_network<S: Alter>(conn: &mut Connection<S>, network: u32) -> Result<(), Fault>
     requires idle { conn.old.in_transaction ≡ false }
     ensures idle { conn.new.in_transaction ≡ false }

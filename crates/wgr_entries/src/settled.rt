@@ -27,7 +27,7 @@ pub fn read_tenant(alloc: Global, row: &Row) -> Result<Tenant, Fault>
     Ok(Tenant { id, name })
 }
 
-/// The network whose row this is, as it was added: without peers, and with the first number next.
+/// The network whose row this is, as it was added: without peers, and with the first number as next.
 pub fn read_settled(alloc: Global, row: &Row) -> Result<Holding, Fault>
     ensures value { IfOk result (λ holding. holding ≡ settled (network_in row.now)) }
     ensures only { IfErr result (λ e. e ≡ Store → (w : NetworkRow) → IsKeptNetwork w → row.now ≡ stored_network w → ⊥) }
@@ -44,7 +44,7 @@ pub fn read_settled(alloc: Global, row: &Row) -> Result<Holding, Fault>
     })
 }
 
-// A network of the settings of this row, without peers.
+// A network with the settings of this row, without peers.
 fn new_in(alloc: Global, row: &Row) -> Result<Network, Fault>
     ensures value { IfOk result (λ network. network ≡ (settled (network_in row.now)).network) }
     ensures only { IfErr result (λ e. e ≡ Store → (w : NetworkRow) → AreSettings w → row.now ≡ stored_network w → ⊥) }

@@ -1,4 +1,4 @@
-//! Tenants that come.
+//! Tenants that are added.
 ghost use Rattle.std.specs.Prelude.{◌≡◌, ◌↔◌, ◌∷◌, List, false, IfErr, OnErr, OnOk, ⊤};
 ghost use Rattle.sqlite.specs.Effect.{Database};
 ghost use Rattle.sqlite.specs.declared.error.Error.TheVariants.{SqliteFailure};
@@ -37,7 +37,7 @@ fn insert_tenant<S: Alter>(
     )
 }
 
-/// Commits a new tenant of this id. An id or a name that a tenant has is a fault of the store.
+/// Commits a new tenant of this id. An id or a name that a tenant has already is a fault of the store.
 pub fn add_tenant<S: Alter>(conn: &mut Connection<S>, id: u32, name: &Name) -> Result<(), Fault>
     requires idle { conn.old.in_transaction ≡ false }
     ensures idle { conn.new.in_transaction ≡ false }

@@ -1,4 +1,4 @@
-//! Tokens that come and go. A digest is the SHA-256 of a token.
+//! Tokens that are added or deleted. A digest is the SHA-256 of a token.
 ghost use Rattle.std.specs.Prelude.{◌≡◌, ◌↔◌, ◌∷◌, List, false, IfErr, OnErr, OnOk, ⊤};
 ghost use Rattle.sqlite.specs.Effect.{Database};
 ghost use Rattle.sqlite.specs.declared.error.Error.TheVariants.{SqliteFailure};
@@ -36,7 +36,7 @@ fn insert_token<S: Alter>(
     )
 }
 
-// Takes the row of a token away.
+// Deletes the row of a token.
 fn drop_token<S: Alter>(tx: &mut Transaction<'_, S>, digest: &[u8; 32]) -> Result<usize, Fault>
     ensures same_reference { tx.new.conn.ghost_name ≡ tx.old.conn.ghost_name }
     ensures step { HasCleanDisk (state S.Store tx.new.conn.now) → StepsOn (TokenGoes digest.now) (state S.Store tx.old.conn.now) (state S.Store tx.new.conn.now) result }
@@ -50,7 +50,7 @@ fn drop_token<S: Alter>(tx: &mut Transaction<'_, S>, digest: &[u8; 32]) -> Resul
     )
 }
 
-/// Commits a new token of the tenant of this id. A digest that a token has is a fault of the store.
+/// Commits a new token of the tenant of this id. A digest that a token has already is a fault of the store.
 pub fn add_token<S: Alter>(
     conn: &mut Connection<S>,
     digest: &[u8; 32],
@@ -75,7 +75,7 @@ pub fn add_token<S: Alter>(
     )
 }
 
-/// Commits the end of the token of this digest. Where no token has it, no row changes.
+/// Commits the deletion of the token of this digest. If no token has it, no row changes.
 pub fn end_token<S: Alter>(conn: &mut Connection<S>, digest: &[u8; 32]) -> Result<(), Fault>
     requires idle { conn.old.in_transaction ≡ false }
     ensures idle { conn.new.in_transaction ≡ false }

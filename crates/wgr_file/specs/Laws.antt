@@ -1,4 +1,4 @@
--- What follows of a register in files.
+-- What follows for a register in files.
 use Rattle.std.specs.Prelude.{◌≡◌, ◌<◌, ℕ, [], ◌∷◌, List, Some, Result, true}
 use Rattle.sqlite.specs.Effect.{Database}
 use Rattle.sqlite.specs.Files.{HoldsDatabase, over_files}
@@ -30,11 +30,11 @@ ClosedIsInFiles {D} g files = (left : Held (FileStore D g)) (db : Database) (lat
 abbrev pub MadeIsInFiles : {D : Type 0} → disk.Ghosts D → Files D → Type 0
 MadeIsInFiles g files = (start : Image) → IsMade g start (Some files) → AreClean g files.log files.db → (db : Database) × StandIn g files db
 
--- the register that is told is the one in the files
-abbrev pub FoundIsTold : Type 0
-FoundIsTold = (start : Image) (db held : Database) → StoodIn start db → IsGood held → HoldsDatabase start held.trees → db ≡ held
+-- the register that a contract names is the one in the files
+abbrev pub FoundIsStored : Type 0
+FoundIsStored = (start : Image) (db held : Database) → StoodIn start db → IsGood held → HoldsDatabase start held.trees → db ≡ held
 
--- the next word finds the register that the last one left, whatever stop was between them
+-- the next command finds the register that the last one left, whatever stop was between them
 abbrev pub NextFindsTheLast : {D : Type 0} → disk.Ghosts D → Files D → Type 0
 NextFindsTheLast g files = (left db : Database) (next : Image) → StandIn g files left → outcomes g files.log files.db next → StoodIn next db → db ≡ left
 
@@ -42,6 +42,6 @@ NextFindsTheLast g files = (left db : Database) (next : Image) → StandIn g fil
 abbrev pub CopyHasAll : {D : Type 0} → disk.Ghosts D → Files D → Type 0
 CopyHasAll g files = (left db : Database) (next : Image) → StandIn g files left → outcomes g files.log files.db next → StoodIn (record next { log = [] }) db → db ≡ left
 
--- of a file that isn't empty `Unknown` says nothing: no record of calls on one is honest from it
+-- `Unknown` says nothing about a file that isn't empty: no record of calls on one is honest from it
 abbrev pub UnknownIsEmpty : Type 0
 UnknownIsEmpty = (key n : ℕ) → 0 < n → IsHonest [] (measured true n ∷ settled key ∷ []) → ⊥

@@ -1,4 +1,4 @@
--- What is in the two files of a register, and what a word leaves in them.
+-- What is in the two files of a register, and what a command leaves in them.
 use Rattle.std.specs.Prelude.{◌≡◌, [], Option, Result, Ok, Err, IfSome, IsTrue}
 use Rattle.sqlite.specs.Closing.{HoldsAlone}
 use Rattle.sqlite.specs.Effect.{Database, IsDatabase}
@@ -77,7 +77,7 @@ WereForeign g start closed = IfSome closed (λ files. AreClean g files.log files
 abbrev pub WereNotGood : {D : Type 0} → disk.Ghosts D → Image → Option (Files D) → Type 0
 WereNotGood g start closed = IfSome closed (λ files. AreClean g files.log files.db → (db : Database) × AreThoseOf start db.trees × IsFirstVersion db × (IsGood db → ⊥))
 
--- ---- words
+-- ---- commands
 
 -- the register is the one that was in the files
 abbrev pub IsOpen : {D : Type 0} {g : disk.Ghosts D} → Image → Held (FileStore D g) → Type 0
@@ -90,13 +90,13 @@ pub record IsMade {D : Type 0} (g : disk.Ghosts D) (start : Image) (closed : Opt
   pub blank : HasCleanDisk (file_state made) → (db : Database) × WasBlank start db
   pub fresh : HasCleanDisk (file_state made) → (db : Database) × IsFresh db × StandsAt over_files made db []
 
--- an order ended so on the register that was in the files
+-- an order ended in this way on the register that was in the files
 pub record HasEnded {D : Type 0} (g : disk.Ghosts D) (start : Image) (closed : Option (Files D)) (order : Order) (ended : Result done.Done OrderFault) : Type 0 where
   pub left : Held (FileStore D g)
   pub closed_to : IsClosedTo g closed left
   pub ends : HasCleanDisk (file_state left) → (db : Database) × StoodIn start db × OrderEnds over_files left db [] (order_event order) ended
 
--- ---- in the words of the rows
+-- ---- in terms of the rows
 
 -- the files hold the rows after the order's step on those that they held, or those from before
 abbrev pub EndsIn : {D : Type 0} → disk.Ghosts D → Image → Files D → Order → Result done.Done OrderFault → Type 0

@@ -15,7 +15,7 @@ use wgr_sql::fault_of;
 /// Both files as they were closed; none where they couldn't be, and then no contract says what they hold.
 pub type Closed<S> = Option<Files<FileFrom<S>>>;
 
-/// The database in the file at this path; none where no file is, and then none is made.
+/// The database in the file at this path; none where there is no file, and then none is made.
 pub(crate) fn find<S: Start>(
     rt: &HostRuntime,
     path: &str,
@@ -35,7 +35,7 @@ pub(crate) fn find<S: Start>(
     }
 }
 
-/// The database in the file at this path, an empty one where no file is.
+/// The database in the file at this path, an empty one where there is no file.
 pub(crate) fn make<S: Start>(
     rt: &HostRuntime,
     path: &str,

@@ -1,25 +1,25 @@
-//! What follows of a register in files. Each function does nothing: its contract is the law.
+//! What follows for a register in files. Each function does nothing: its contract is the law.
 ghost use Rattle.std.specs.Prelude.{IsTrue};
 ghost use Rattle.sqlite.specs.Files.{file_state};
 ghost use Rattle.sqlite.specs.State.{HasCleanDisk};
 ghost use Rattle.sqlite_disk.specs.Events.{IsHonest};
 ghost use Rattle.sqlite_disk.specs.Modelled.{calls_of, start_of};
 ghost use Rattle.sqlite_store.specs.FileStore.{files as store_files};
-ghost use Rattle.wgr_file.specs.Laws.{ClosedIsInFiles, CopyHasAll, FoundIsTold, MadeIsInFiles, NextFindsTheLast, OrdersEndInFiles, UnknownIsEmpty};
+ghost use Rattle.wgr_file.specs.Laws.{ClosedIsInFiles, CopyHasAll, FoundIsStored, MadeIsInFiles, NextFindsTheLast, OrdersEndInFiles, UnknownIsEmpty};
 
 use sqlite::{FileStore, Files, Start};
 use sqlite_disk::{Calls, Disk, Modelled};
 use wgr_register::Register;
 
 /// An order that is done leaves the rows after its step on those that the files held, and one that is
-/// refused or fails leaves those: so the files read, and so they will after any stop.
+/// refused or fails leaves those: this is what the files read as, and what they will after any stop.
 pub fn orders_end_in_files<D: Disk>(files: &Files<D>)
     ensures { OrdersEndInFiles D.Disk files.now }
 {
     let _files = files;
 }
 
-/// The files hold the register at whose rows a connection was as it was closed: so those after a list of
+/// The files hold the register whose rows a connection had when it was closed: so those after a list of
 /// requests, or after connections, are in them.
 pub fn closed_is_in_files<D: Disk>(files: &Files<D>)
     ensures { ClosedIsInFiles D.Disk files.now }
@@ -34,12 +34,12 @@ pub fn made_is_in_files<D: Disk>(files: &Files<D>)
     let _files = files;
 }
 
-/// The register of which a contract speaks is the one that the files held.
+/// The register that a contract names is the one that the files held.
 pub fn found_is_told()
-    ensures { FoundIsTold }
+    ensures { FoundIsStored }
 {}
 
-/// The next word finds the register that the last one left, whatever stop was between them: so words
+/// The next command finds the register that the last one left, whatever stop was between them: so commands
 /// on the same files are one run.
 pub fn next_finds_the_last<D: Disk>(files: &Files<D>)
     ensures { NextFindsTheLast D.Disk files.now }
@@ -47,7 +47,7 @@ pub fn next_finds_the_last<D: Disk>(files: &Files<D>)
     let _files = files;
 }
 
-/// The file of the database has all by itself: a copy without the log is the same register.
+/// The file of the database has everything by itself: a copy without the log is the same register.
 pub fn copies_have_all<D: Disk>(files: &Files<D>)
     ensures { CopyHasAll D.Disk files.now }
 {
@@ -55,15 +55,17 @@ pub fn copies_have_all<D: Disk>(files: &Files<D>)
 }
 
 /// Where the calls on both files were answered as by honest files that held what `S` says, the disk is
-/// clean, so what is said of the rows holds.
-pub fn tell_honest<C: Calls + Drop, S: Start>(register: &Register<FileStore<Modelled<C, S>>>)
+/// clean, so the statements about rows hold.
+pub fn honest_files_are_clean<C: Calls + Drop, S: Start>(
+    register: &Register<FileStore<Modelled<C, S>>>,
+)
     ensures { let log = (store_files register.now.store).0 in let db = (store_files register.now.store).1 in
         IsHonest (start_of S.Start log) (C.Calls.history (calls_of log)) → IsHonest (start_of S.Start db) (C.Calls.history (calls_of db)) → HasCleanDisk (file_state register.now) }
 {
     let _register = register;
 }
 
-/// Of a file that isn't empty `Unknown` says nothing. So the laws speak of any other first contents.
+/// `Unknown` says nothing about a file that isn't empty. So the laws are stated for any other first contents.
 pub fn unknown_is_empty()
     ensures { UnknownIsEmpty }
 {}

@@ -72,7 +72,7 @@ pub fn make_register<S: Start>(
 pub fn close<D: Disk + Drop>(register: Register<FileStore<D>>) -> Option<Files<D>>
     ensures { IsClosedTo D.Disk result register }
 {
-    register.tell_rules();
+    register.rules_hold();
     database::close(register.into_connection())
 }
 

@@ -1,4 +1,4 @@
--- What follows of the definition of a message.
+-- What follows from the definition of a message.
 use Rattle.std.specs.Prelude.{◌≡◌, ℕ, ◌<◌, ◌≤◌, ◌++◌, List, length, Result, Ok}
 use Rattle.httparse.specs.Grammar.{RequestHead}
 use Rattle.wgr_http.specs.Extent.{extent}

@@ -36,7 +36,7 @@ headless bytes = cond (length bytes == 0) Truncated (cond (nat_lt max_head (leng
 abbrev pub sized : List ℕ → ℕ → Result (List ℕ) MessageFault
 sized rest n = cond (nat_lt max_body n) (Err TooLarge) (cond (nat_lt (length rest) n) (Err Truncated) (Ok (take n rest)))
 
--- the body of the length that Content-Length writes
+-- the body of the length that Content-Length gives
 abbrev pub sized_by : List ℕ → Option ℕ → Result (List ℕ) MessageFault
 sized_by rest None = Err BadHead
 sized_by rest (Some n) = sized rest n
@@ -50,7 +50,7 @@ abbrev pub with_body : List ℕ → List ℕ → Option (List ℕ) → Result (L
 with_body method target token (Ok body) = Ok (record { method = method; target = target; token = token; body = body })
 with_body method target token (Err fault) = Err fault
 
--- the body where no Transfer-Encoding is: Content-Length decides it (RFC 9112 section 6.3)
+-- the body where there is no Transfer-Encoding: Content-Length decides it (RFC 9112 section 6.3)
 abbrev pub body_of : List ℕ → Occurrence → List ℕ → Result (List ℕ) MessageFault
 body_of method absent rest = cond (bytes_eq method (codes "POST")) (Err LengthRequired) (Ok [])
 body_of method (once value) rest = sized_by rest (length_value value)
@@ -76,14 +76,14 @@ pub data Answers (bytes : List ℕ) : Result MessageView MessageFault → Type 0
   headed : (h : RequestHead) (rest : List ℕ) → HasHead bytes h rest → Answers bytes (message_of h rest)
   unheaded : HasNoHead bytes → Answers bytes (Err (headless bytes))
 
--- the status of the reply that tells a fault
+-- the status of the reply that reports a fault
 abbrev pub fault_status : MessageFault → StatusCode
 fault_status BadHead = status.BadRequest
 fault_status TooLarge = status.ContentTooLarge
 fault_status LengthRequired = status.LengthRequired
 fault_status Truncated = status.BadRequest
 
--- its name there
+-- its name in that reply
 abbrev pub fault_name : MessageFault → List ℕ
 fault_name BadHead = codes "bad_head"
 fault_name TooLarge = codes "too_large"

@@ -8,7 +8,7 @@ use Rattle.wgr_http.specs.Message.{Answers, MessageView}
 use Rattle.wgr_http.specs.declared.message.MessageFault.{MessageFault}
 use Rattle.wgr_io.specs.Device.{AddsPieces, AllGave, EndAtNothing}
 
--- whatever bytes come after these, the answer stays
+-- whatever bytes come after these, the answer stays the same
 abbrev pub IsDecided : List ℕ → Type 0
 IsDecided bytes = (more : List ℕ) (r : Result MessageView MessageFault) → Answers bytes r → Answers (bytes ++ more) r
 

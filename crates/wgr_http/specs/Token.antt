@@ -7,7 +7,7 @@ use Rattle.std.specs.Str.{str_eq_ignore_ascii_case}
 abbrev pub token_test : List ℕ → Bool
 token_test text = nat_lt 0 (length text) && nat_le (length text) 128 && list_all (λ b. nat_le 33 b && nat_le b 126) text
 
--- the bytes from the first that is no space
+-- the bytes from the first that isn't a space
 abbrev pub skip_spaces : List ℕ → List ℕ
 skip_spaces [] = []
 skip_spaces (b ∷ bs) = cond (b == 32) (skip_spaces bs) (b ∷ bs)
@@ -15,7 +15,7 @@ skip_spaces (b ∷ bs) = cond (b == 32) (skip_spaces bs) (b ∷ bs)
 abbrev pub token_if : List ℕ → Option (List ℕ)
 token_if text = cond (token_test text) (Some text) None
 
--- the token of credentials: the scheme without regard to case, one or more spaces, and the token
+-- the token of credentials: the case-insensitive scheme, one or more spaces, and the token
 abbrev pub token_in : List ℕ → Option (List ℕ)
 token_in credentials =
     cond (nat_le 8 (length credentials) && str_eq_ignore_ascii_case (take 6 credentials) (codes "bearer") && (slice_index credentials 6 == 32))

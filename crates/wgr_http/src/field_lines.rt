@@ -31,7 +31,7 @@ pub(crate) fn field_of<'a>(buf: &'a [u8], headers: &[HeaderSpan], name: &[u8]) -
     found
 }
 
-/// Whether two names are one: letters are compared without regard to case (RFC 9110 section 5.1).
+/// Whether two names are the same: letters are compared without case (RFC 9110 section 5.1).
 pub(crate) fn same_name(name: &[u8], other: &[u8]) -> bool
     ensures { result ≡ str_eq_ignore_ascii_case name.now other.now }
 {

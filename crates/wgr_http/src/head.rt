@@ -17,7 +17,7 @@ pub(crate) const MAX_HEAD: usize = 8192;
 /// The most header fields of a head.
 const MAX_HEADERS: usize = 32;
 
-/// What of a head decides what the message is.
+/// The parts of a head that decide what the message is.
 #[derive(Clone, Copy)]
 pub(crate) struct Head<'a> {
     /// How many bytes the head has.
@@ -30,7 +30,7 @@ pub(crate) struct Head<'a> {
 }
 
 impl<'a> Head<'a> {
-    /// The head at the front of the bytes. It doesn't say why there is none, though `httparse` tells
+    /// The head at the front of the bytes. It doesn't say why there is none, though `httparse` distinguishes
     /// an incomplete head from a wrong one: so the definition of a message needs only the grammar.
     pub(crate) fn read(bytes: &'a [u8]) -> Option<Head<'a>>
         ensures none { IfNone result (HasNoHead bytes.now) }

@@ -1,4 +1,4 @@
-//! What follows of the definition of a message. Each function does nothing: its contract is the
+//! What follows from the definition of a message. Each function does nothing: its contract is the
 //! law.
 ghost use Rattle.wgr_http.specs.Laws.{HeadsDecide, LongHeadsDecide, MessagesEnd, OneAnswer, ShortBodiesAreOpen, ShortHeadsAreOpen};
 

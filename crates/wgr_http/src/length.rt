@@ -8,7 +8,7 @@ ghost use Rattle.wgr_http.specs.Length.{length_value};
 /// The most bytes of a body: 2 MiB.
 pub(crate) const MAX_BODY: u128 = 2_097_152;
 
-/// The number that 1 to 20 decimal digits write.
+/// The number that 1 to 20 decimal digits represent.
 pub(crate) fn length_of(text: &[u8]) -> Option<u128>
     ensures { result ≡ length_value text.now }
 {
@@ -25,7 +25,7 @@ fn all_digits(text: &[u8]) -> bool
     text.iter().all(|b| b.is_ascii_digit())
 }
 
-// The number that at most 20 digits write. It has 67 bits at most.
+// The number that at most 20 digits represent. It has 67 bits at most.
 fn number_of(text: &[u8]) -> u128
     requires digits { list_all is_ascii_digit text.now ≡ true }
     requires short { length text.now ≤ 20 }

@@ -16,7 +16,7 @@ pub struct Message<'a> {
     pub method: &'a [u8],
     /// The request target (RFC 9112 section 3.2), which is UTF-8.
     pub target: &'a [u8],
-    /// The bearer token, where there is one of the form that [`is_token`](crate::is_token) tells.
+    /// The bearer token, where there is one of the form that [`is_token`](crate::is_token) checks.
     pub token: Option<&'a [u8]>,
     /// At most 2,097,152 bytes.
     pub body: &'a [u8],
@@ -37,7 +37,7 @@ pub enum MessageFault {
 }
 
 impl MessageFault {
-    /// The status of the reply that tells it.
+    /// The status of the reply that reports it.
     pub fn status(self) -> StatusCode
         ensures { result ≡ fault_status self }
     {
@@ -49,7 +49,7 @@ impl MessageFault {
         }
     }
 
-    /// Its name in the reply that tells it: letters and underscores.
+    /// Its name in the reply that reports it: letters and underscores.
     pub fn name(self) -> &'static str
         ensures { result.now ≡ fault_name self }
     {
@@ -120,7 +120,7 @@ fn judge<'a>(
     })
 }
 
-// The body of the length that the value of `Content-Length` writes.
+// The body of the length that the value of `Content-Length` gives.
 fn body_of<'a>(value: &[u8], rest: &'a [u8]) -> Result<&'a [u8], MessageFault>
     ensures { body_view result ≡ sized_by rest.now (length_value value.now) }
 {

@@ -9,13 +9,13 @@ ghost use Rattle.wgr_http.specs.Reading.{AnswersAs, IsDecided, IsNoMore, IsReadI
 use crate::head::{MAX_HEAD, extent_of};
 use wgr_io::{Read, ReadFault};
 
-/// How many bytes are asked of a reader at once.
+/// How many bytes are requested from a reader at once.
 const CHUNK: usize = 16384;
 
 /// Reads bytes into `message`, which is emptied first, until they decide what the message is.
 ///
-/// Afterwards it has a beginning of the reader's bytes, also where a fault is answered. Nobody knows
-/// where a head ends before it is there, so a read may take bytes after the message. A connection has
+/// Afterwards it has a beginning of the reader's bytes, also where a fault is returned. The end of a
+/// head isn't known before it is read, so a read may take bytes after the message. A connection has
 /// one request, so none of a next one is lost. The head is parsed again after each read: at most 8,193
 /// times, for a client that sends single bytes. Bytes that can't become a head are read on too, since
 /// only their number decides between `BadHead` and `TooLarge`.
@@ -38,7 +38,7 @@ pub fn read_message<R: Read>(input: &mut R, message: &mut Vec<u8>) -> Result<(),
     }
 }
 
-// Reads until there is a head, or none can come. It answers how many bytes the head wants.
+// Reads until there is a head, or none can come. Returns how many bytes the head wants.
 fn read_head<R: Read>(
     input: &mut R,
     chunk: &mut [u8],
@@ -104,7 +104,7 @@ fn read_body<R: Read>(
     Ok(())
 }
 
-// Reads at most `most` bytes behind those of the message; none only at the end.
+// Reads at most `most` bytes after those of the message; none only at the end.
 //
 // Room for them is made before the read, so no byte is lost where memory is refused.
 fn read_some<R: Read>(

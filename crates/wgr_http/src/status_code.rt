@@ -44,7 +44,7 @@ impl StatusCode {
         }
     }
 
-    /// The words that stand after the number.
+    /// The words after the number.
     pub fn reason(self) -> &'static str
         ensures { result.now ≡ reason self }
     {

@@ -1,5 +1,5 @@
 //! Messages at their limits, readers in pieces and readers that fail, and replies. The rows follow
-//! from RFC 9112; no row is what this crate has answered.
+//! from RFC 9112; no row is copied from this crate's answers.
 ghost use Rattle.std.specs.Prelude.{◌<◌, map, Some};
 
 use crate::{Kind, Message, MessageFault, StatusCode, is_token, read_message, write_reply};

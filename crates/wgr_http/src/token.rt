@@ -12,8 +12,8 @@ pub fn is_token(text: &[u8]) -> bool
     !text.is_empty() && text.len() <= 128 && is_visible(text)
 }
 
-/// The token of credentials in the scheme `Bearer` (RFC 6750 section 2.1), whose name is read
-/// without regard to case. One or more spaces stand before the token.
+/// The token of credentials in the scheme `Bearer` (RFC 6750 section 2.1), whose name is
+/// case-insensitive. One or more spaces come before the token.
 pub(crate) fn token_of(credentials: &[u8]) -> Option<&[u8]>
     ensures { option_map (λ t. t.now) result ≡ token_in credentials.now }
 {
@@ -31,7 +31,7 @@ fn is_visible(text: &[u8]) -> bool
     text.iter().all(|b| *b >= 0x21 && *b <= 0x7E)
 }
 
-// The bytes from the first that is no space.
+// The bytes from the first that isn't a space.
 fn after_spaces(bytes: &[u8]) -> &[u8]
     ensures { result.now ≡ skip_spaces bytes.now }
 {

@@ -1,4 +1,4 @@
--- What a read and a write say of their count, of their bytes and of a failure.
+-- What a read and a write report: their count, their bytes and a failure.
 use Rattle.std.specs.Prelude.{◌≡◌, Bool, true, ℕ, ◌+◌, ◌<◌, ◌≤◌, ◌++◌, List, [], length, take, slice_index_or, All, Option, Some, None, Result, Ok, Err}
 
 -- a call that fails is marked, and one that does not leaves the mark as it was
@@ -6,26 +6,26 @@ abbrev pub MarksError : {A E : Type 0} → Bool → Bool → Result A E → Type
 MarksError was now (Ok a) = now ≡ was
 MarksError was now (Err e) = now ≡ true
 
--- `Ok(n)` takes no more bytes than there are, and one at least of some
+-- `Ok(n)` takes no more bytes than there are, and at least one if there are any
 abbrev pub TakesSome : {E : Type 0} → Result ℕ E → ℕ → Type 0
 TakesSome (Ok n) room = (n ≤ room) × (0 < room → 0 < n)
 TakesSome (Err e) room = Unit {0}
 
--- what a call of `read` gave
+-- the bytes that a call of `read` returned
 abbrev pub piece_of : {E : Type 0} → Result ℕ E → List ℕ → List ℕ
 piece_of (Ok n) buf = take n buf
 piece_of (Err e) buf = []
 
--- known pieces stay, and these come behind them
+-- known pieces stay, and these are appended to them
 abbrev pub AddsPieces : Option (List (List ℕ)) → Option (List (List ℕ)) → List (List ℕ) → Type 0
 AddsPieces None new added = Unit {0}
 AddsPieces (Some xs) None added = ⊥
 AddsPieces (Some xs) (Some ys) added = ys ≡ xs ++ added
 
--- each call gave some bytes
+-- each call returned some bytes
 abbrev pub AllGave : List (List ℕ) → Type 0
 AllGave pieces = All (λ (piece : List ℕ). 0 < length piece) pieces
 
--- each call but the last gave some bytes: none was made after the end or a failure
+-- each call but the last returned some bytes: no call was made after the end or a failure
 abbrev pub EndAtNothing : List (List ℕ) → Type 0
 EndAtNothing pieces = (k : ℕ) → k + 1 < length pieces → 0 < length (slice_index_or pieces k [])

@@ -1,4 +1,4 @@
-//! The two traits, and std's readers and writers under them.
+//! The two traits, and their implementation for std's readers and writers.
 ghost use Rattle.std.specs.Prelude.{List, [], ◌∷◌, Option, None, Bool, length, false, ℕ, ◌≡◌};
 ghost use Rattle.std.specs.Io.{ReadsAtMost};
 ghost use Rattle.std.specs.Io.KnownBytes.{ReadConsumes, WriteAppends};
@@ -10,16 +10,16 @@ use std::io;
 #[derive(Clone, Copy, Debug, PartialEq, Eq)]
 pub struct DeviceError;
 
-/// A source of bytes that tells whether a read has failed.
+/// A source of bytes that records whether a read has failed.
 pub trait Read {
-    /// The bytes that are still to come, where they are known.
+    /// The remaining bytes, where they are known.
     ghost remaining: { Self → Option (List ℕ) };
-    /// What each call so far gave, the newest last, where it is known: nothing, if it failed.
+    /// What each call so far returned, the newest last, where it is known: nothing, if it failed.
     ghost pieces: { Self → Option (List (List ℕ)) };
     /// Whether a read has failed.
     ghost failed: { Self → Bool };
 
-    /// Reads the next bytes to the front of `buf`. It gives none only at the end, or to no room.
+    /// Reads the next bytes to the front of `buf`. It returns none only at the end, or if `buf` is empty.
     fn read(&mut self, buf: &mut [u8]) -> Result<usize, DeviceError>
         ensures within { ReadsAtMost result buf.new }
         ensures bytes { ReadConsumes (remaining self.old) (remaining self.new) result buf.new }
@@ -27,14 +27,14 @@ pub trait Read {
         ensures marked { MarksError (failed self.old) (failed self.new) result };
 }
 
-/// A sink of bytes that tells whether a write has failed.
+/// A sink of bytes that records whether a write has failed.
 pub trait Write {
     /// The bytes that were written, where they are known.
     ghost contents: { Self → Option (List ℕ) };
     /// Whether a write has failed.
     ghost failed: { Self → Bool };
 
-    /// Writes bytes from the front of `buf`. To take none of some is a failure.
+    /// Writes bytes from the front of `buf`. Taking none of a non-empty `buf` is a failure.
     fn write(&mut self, buf: &[u8]) -> Result<usize, DeviceError>
         ensures within { TakesSome result (length buf.now) }
         ensures bytes { WriteAppends (contents self.old) (contents self.new) result buf.now }
@@ -43,7 +43,7 @@ pub trait Write {
 
 /// A reader or a writer of std, and whether it has failed.
 ///
-/// A call that a signal interrupted is made again, and is no failure.
+/// A call that a signal interrupted is retried, and is not a failure.
 #[derive(Drop)]
 pub struct Device<D> {
     pub inner: D,

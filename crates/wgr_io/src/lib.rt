@@ -1,8 +1,8 @@
-//! Readers and writers that tell a failure.
+//! Readers and writers that record a failure.
 //!
-//! The readers and writers of std say which bytes they took, and nothing of a call that failed.
-//! Those of this crate also say whether a call has failed, so that a contract can promise that an
-//! error of the device is answered only where there was one. A [`Device`] is one of std's.
+//! The readers and writers of std say which bytes they took, and nothing about a call that failed.
+//! Those of this crate also say whether a call has failed, so that a contract can promise that a
+//! device error is returned only if there was one. A [`Device`] wraps one of std's.
 #![tactic(auto)]
 
 mod device;

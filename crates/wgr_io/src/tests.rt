@@ -42,7 +42,7 @@ enum Trouble {
     TakesNone,
 }
 
-/// Takes one byte at a time, each after two interruptions, until its trouble.
+/// Takes one byte at a time, each after two interruptions, until its fault.
 #[derive(Drop)]
 struct Narrow {
     taken: Vec<u8>,
@@ -77,7 +77,7 @@ impl io::Write for Narrow {
 
 const TEXT: &[u8] = b"10.8.0.2/32\n";
 
-/// Errors that are failures; an interruption is none.
+/// Errors that are failures; an interruption is not one.
 const FAILURES: [io::ErrorKind; 2] = [io::ErrorKind::Other, io::ErrorKind::WouldBlock];
 
 #[test]

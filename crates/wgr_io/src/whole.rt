@@ -7,7 +7,7 @@ ghost use Rattle.wgr_io.specs.Device.{AddsPieces, EndAtNothing};
 use super::{Read, Write};
 use std::alloc::Global;
 
-/// How many bytes are asked of a reader at once.
+/// How many bytes are requested from a reader at once.
 const CHUNK: usize = 32768;
 
 /// Why not all was read.
@@ -23,12 +23,12 @@ pub struct WriteFault {
     pub sent: usize,
 }
 
-/// All the bytes that are still to come.
+/// All the remaining bytes.
 pub fn read_to_end<R: Read>(alloc: Global, input: &mut R) -> Result<Vec<u8>, ReadFault>
     // At the end nothing is left, so these are all the bytes of a reader that knows them.
     ensures bytes { IfOk result (λ v. Consumes (R.remaining input.old) (R.remaining input.new) v.items) }
     ensures end { OnOk result (IsAtEnd (R.remaining input.new)) }
-    // No read is made after one that gave nothing.
+    // No read is made after one that returned nothing.
     ensures pieces { (pieces : List (List ℕ)) × AddsPieces (R.pieces input.old) (R.pieces input.new) pieces × EndAtNothing pieces × IfOk result (λ v. v.items ≡ concat pieces) }
     ensures sound { OnOk result (R.failed input.new ≡ R.failed input.old) }
 
@@ -48,11 +48,11 @@ pub fn read_to_end<R: Read>(alloc: Global, input: &mut R) -> Result<Vec<u8>, Rea
             Err(_) => return Err(ReadFault::Device),
         }
     }
-    // Each turn took a byte, and no vector holds so many.
+    // Each iteration took a byte, and no vector holds so many.
     unreachable!()
 }
 
-/// Writes all of `bytes`, or the beginning that a fault tells.
+/// Writes all of `bytes`, or as many of the first ones as the error reports.
 pub fn write_all<W: Write>(out: &mut W, bytes: &[u8]) -> Result<(), WriteFault>
     ensures ok { OnOk result (Appends (W.contents out.old) (W.contents out.new) bytes.now) }
     ensures sound { OnOk result (W.failed out.new ≡ W.failed out.old) }

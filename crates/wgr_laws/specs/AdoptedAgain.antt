@@ -8,7 +8,7 @@ use Rattle.wgr_core.specs.Network.{NetworkValue, IsNetwork}
 use Rattle.wgr_laws.specs.AdoptionLaws.{adopt_at}
 
 -- where lines are adopted, adopting them again is accepted too and leaves the network as it is: it
--- adds nobody, and finds the key of each line held
+-- adds nobody, and the key of each line is already held
 abbrev pub AdoptionRepeats : Type 0
 AdoptionRepeats = (n : NetworkValue) (now : ℕ) (server : Option Key) (lines : List SeenPeer) → IsNetwork n
     → IfOk (adopt_at n now server lines) (λ done. adopt_at done.1 now server lines ≡ Ok (reply.Adopted [] (length lines), done.1))

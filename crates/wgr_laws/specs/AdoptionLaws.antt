@@ -22,7 +22,7 @@ adopt_at n now server lines = outcome_of n now (command.Adopt server lines)
 
 -- ---- peers
 
--- a live peer stays as it was but for its status
+-- a live peer stays as it was except for its status
 abbrev pub StandingPeersStay : Type 0
 StandingPeersStay = (n : NetworkValue) (now number : ℕ) (server : Option Key) (lines : List SeenPeer) (p : Peer) → IsNetwork n → peer_of (live_at n now).peers number ≡ Some p
     → IfOk (adopt_at n now server lines) (λ done. (status : Option Status) × (peer_of done.1.peers number ≡ Some (record p { status = status })))
@@ -51,8 +51,8 @@ UnnamedRoutesStay = (n : NetworkValue) (now : ℕ) (server : Option Key) (lines 
 
 -- ---- numbers
 
--- the numbers that the reply tells are the next ones, in order, and stand; the next number rises by as
--- many, and each other line found its key held
+-- the numbers in the reply are the next ones, in order, and have peers; the next number rises by as
+-- many, and each other line has a key that was already held
 pub record IsCounted (n : NetworkValue) (seen : List SeenPeer) (done : Reply × NetworkValue) : Type 0 where
   pub added : List ℕ
   pub known : ℕ
@@ -67,11 +67,11 @@ AdoptionsAreCounted = (n : NetworkValue) (now : ℕ) (server : Option Key) (line
 
 -- ---- refusals
 
--- the interface that was shown is another
+-- the running interface is another one
 abbrev pub IsOtherServer : NetworkValue → Option Key → Type 0
 IsOtherServer n server = (key : Key) × (server ≡ Some key) × (same_key key n.server ≡ false)
 
--- a refusal is that of another interface, or tells a line by its number in the text, whose first is the interface's
+-- a refusal is that of another interface, or has the number of a line, counted from the interface's as 1
 abbrev pub AdoptRefusals : Type 0
 AdoptRefusals = (n : NetworkValue) (now : ℕ) (server : Option Key) (lines : List SeenPeer)
     → IfErr (adopt_at n now server lines) (λ why. ((why ≡ refusal.WrongServer) × IsOtherServer n server) ⊎ ((number : ℕ) × (what : LineRefusal) × (why ≡ refusal.InLine number what) × (2 ≤ number) × (number ≤ length lines + 1)))

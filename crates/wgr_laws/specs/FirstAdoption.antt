@@ -30,7 +30,7 @@ pub record IsShown (m : NetworkValue) (line : SeenPeer) (q : Peer) : Type 0 wher
   pub address : (a : AddrValue) → named_address m.pool line.allowed ≡ Some a → q.address ≡ a
   pub leads : (p : PrefixValue) → Contains (allowed m) (p, q.number) ↔ (Contains line.allowed p ⊎ ((named_address m.pool line.allowed ≡ None) × (p ≡ full q.address)))
 
--- each line has its peer, and each peer its line; and each allowed prefix leads to a peer, and to one alone
+-- each line has its peer, and each peer its line; and each allowed prefix leads to a peer, and to only one
 pub record AreShown (m : NetworkValue) (lines : List SeenPeer) : Type 0 where
   pub peers : All (λ line. (q : Peer) × IsShown m line q) lines
   pub lines_of : All (λ q. (line : SeenPeer) × Contains lines line × IsShown m line q) m.peers

@@ -1,4 +1,4 @@
--- What follows of the definitions of a network and of what a command does to it.
+-- What follows from the definitions of a network and of what a command does to it.
 use Rattle.std.specs.Prelude.{ℕ, ◌≡◌, ◌≢◌, ◌<◌, ◌≤◌, ◌⊎◌, ◌↔◌, Bool, true, false, nat_eq, List, [], ◌∷◌, length, slice_index_or, Some, None, is_some, Ok, Err, IfOk, All}
 use Rattle.std.specs.List.{Contains, list_any}
 use Rattle.wgr_text.specs.Prefix.{AddrValue, PrefixValue}
@@ -18,7 +18,7 @@ use Rattle.wgr_core.specs.Parts.{IsNetworkOf}
 use Rattle.wgr_core.specs.Owner.{allowed, longest_match, owner_of}
 use Rattle.wgr_core.specs.Outcome.{Outcome, IsAsked, is_reading, outcome_of}
 
--- peers in the order of their numbers are a finite map: where all look-ups agree, they are equal
+-- peers in the order of their numbers are a finite map: where all lookups agree, they are equal
 abbrev pub PeersAreAMap : Type 0
 PeersAreAMap = (xs ys : List Peer) → AreNumbered xs → AreNumbered ys → ((n : ℕ) → peer_of xs n ≡ peer_of ys n) → xs ≡ ys
 
@@ -105,7 +105,7 @@ abbrev pub RoutesYield : Type 0
 RoutesYield = (n : NetworkValue) (now number : ℕ) (p : PrefixValue) (a : AddrValue) (r : PrefixValue × ℕ) → IsNetwork n → IsAsked (command.Route number p)
     → IsLongestMatch (live_at n now) a r → p.length < r.0.length → IfOk (outcome_of n now (command.Route number p)) (λ done. owner_of done.1 a ≡ Some r.1)
 
--- an address outside a route that goes keeps its owner
+-- an address outside a route that is removed keeps its owner
 abbrev pub RoutesGoElsewhere : Type 0
 RoutesGoElsewhere = (n : NetworkValue) (now : ℕ) (p : PrefixValue) (a : AddrValue) → has p a ≡ false
     → IfOk (outcome_of n now (command.Unroute p)) (λ done. owner_of done.1 a ≡ owner_of (live_at n now) a)
@@ -120,7 +120,7 @@ AssignedLeads = (routes : Routes) (p : PrefixValue) (number : ℕ) → route_of 
 abbrev pub AssignedOthers : Type 0
 AssignedOthers = (routes : Routes) (p q : PrefixValue) (number : ℕ) → same_prefix p q ≡ false → route_of (assign_route routes p number) q ≡ route_of routes q
 
--- a prefix that is taken away leads to nobody
+-- a prefix that is removed leads to nobody
 abbrev pub RemovedGone : Type 0
 RemovedGone = (routes : Routes) (p : PrefixValue) → route_of (without_route routes p) p ≡ None
 
@@ -128,11 +128,11 @@ RemovedGone = (routes : Routes) (p : PrefixValue) → route_of (without_route ro
 abbrev pub RemovedOthers : Type 0
 RemovedOthers = (routes : Routes) (p q : PrefixValue) → same_prefix p q ≡ false → route_of (without_route routes p) q ≡ route_of routes q
 
--- a peer that is put stands at its number
+-- a peer that is put is at its number
 abbrev pub PutStands : Type 0
 PutStands = (peers : List Peer) (p : Peer) → peer_of (put_peer peers p) p.number ≡ Some p
 
--- and at every other number stands who stood there
+-- and every other number has the same peer as before
 abbrev pub PutOthers : Type 0
 PutOthers = (peers : List Peer) (p : Peer) (number : ℕ) → nat_eq p.number number ≡ false → peer_of (put_peer peers p) number ≡ peer_of peers number
 
@@ -155,7 +155,7 @@ LiveUntil = (now : ℕ) (p : Peer) → (is_live now p ≡ true) ↔ ((p.until �
 abbrev pub OverStaysOver : Type 0
 OverStaysOver = (n : NetworkValue) (now later : ℕ) → now ≤ later → live_at (live_at n now) later ≡ live_at n later
 
--- so no change tells whether the expired peers were removed before
+-- so no change shows whether the expired peers were removed before
 abbrev pub SweepsAreUnseen : Type 0
 SweepsAreUnseen = (n : NetworkValue) (now later : ℕ) (asked : Command) → now ≤ later → is_reading asked ≡ false → outcome_of (live_at n now) later asked ≡ outcome_of n later asked
 
@@ -167,7 +167,7 @@ ReadingChangesNothing = (n : NetworkValue) (now : ℕ) (asked : Command) → is_
 
 -- ---- what a command leaves
 
--- whether the command changes or removes the peer of the number
+-- whether the command changes or removes the peer with the number
 abbrev pub is_on : Command → ℕ → Bool
 is_on (command.Add key label wanted until keepalive) i = false
 is_on (command.Move number wanted) i = nat_eq number i
@@ -219,7 +219,7 @@ OtherRoutesStay = (n : NetworkValue) (now number : ℕ) (q : PrefixValue) (asked
 
 -- ---- whole runs
 
--- a refused command leaves the network
+-- a refused command leaves the network as it is
 abbrev pub after : NetworkValue → Outcome → NetworkValue
 after n (Err why) = n
 after n (Ok done) = done.1
@@ -232,7 +232,7 @@ after_commands n (c ∷ more) = after_commands (after n (outcome_of n c.0 c.1)) 
 abbrev pub AreAsked : List (ℕ × Command) → Type 0
 AreAsked asked = All (λ c. IsAsked c.1) asked
 
--- two peers that have this in common are one
+-- two peers that have this in common are the same
 abbrev pub HaveOwn : {X : Type 0} → (Peer → X) → List Peer → Type 0
 HaveOwn has peers = (i j : ℕ) (d : Peer) → i < length peers → j < length peers → has (slice_index_or peers i d) ≡ has (slice_index_or peers j d) → i ≡ j
 
@@ -259,12 +259,12 @@ abbrev pub NumbersAreGivenOnce : Type 0
 NumbersAreGivenOnce = (n : NetworkValue) (asked : List (ℕ × Command)) (number : ℕ) → IsNetwork n → AreAsked asked → number < n.next
     → peer_of n.peers number ≡ None → peer_of (after_commands n asked).peers number ≡ None
 
--- a number stands for one key for ever
+-- a number belongs to one key forever
 abbrev pub NumbersKeepTheirKeys : Type 0
 NumbersKeepTheirKeys = (n : NetworkValue) (asked : List (ℕ × Command)) (number : ℕ) (p q : Peer) → IsNetwork n → AreAsked asked
     → peer_of n.peers number ≡ Some p → peer_of (after_commands n asked).peers number ≡ Some q → q.key ≡ p.key
 
--- a peer that was revoked never stands again
+-- a peer that was revoked never exists again
 abbrev pub RevokedIsGone : Type 0
 RevokedIsGone = (n : NetworkValue) (now number : ℕ) (more : List (ℕ × Command)) → IsNetwork n → AreAsked more
     → IfOk (outcome_of n now (command.Revoke number)) (λ done. peer_of (after_commands done.1 more).peers number ≡ None)
@@ -295,7 +295,7 @@ RepliesShowLive = (n : NetworkValue) (now : ℕ) (asked : Command) → IsNetwork
 abbrev pub ChangesLeaveLive : Type 0
 ChangesLeaveLive = (n : NetworkValue) (now : ℕ) (asked : Command) → IsNetwork n → is_reading asked ≡ false → IfOk (outcome_of n now asked) (λ done. All (λ p. is_live now p ≡ true) done.1.peers)
 
--- and nobody has its number ever after
+-- and nobody has its number ever again
 abbrev pub ExpiredNeverReturn : Type 0
 ExpiredNeverReturn = (n : NetworkValue) (now number : ℕ) (asked : Command) (more : List (ℕ × Command)) → IsNetwork n → IsAsked asked → AreAsked more → is_reading asked ≡ false → number < n.next
     → peer_of (live_at n now).peers number ≡ None → IfOk (outcome_of n now asked) (λ done. peer_of (after_commands done.1 more).peers number ≡ None)

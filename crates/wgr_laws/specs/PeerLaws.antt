@@ -41,7 +41,7 @@ abbrev pub RoutesStay : Type 0
 RoutesStay = (n : NetworkValue) (now number until keepalive : ℕ) (key : Key) (label : List ℕ) (wanted : Option AddrValue)
     → LeavesRoutes n now (command.Add key label wanted until keepalive) × LeavesRoutes n now (command.Move number wanted) × LeavesRoutes n now (command.Renew number until)
 
--- a peer that a change answers stands so, and the routes beside it are those that lead to it
+-- a peer in the reply to a change is exactly so in the network, and the routes with it are those that lead to it
 abbrev pub RepliesShowWhatStands : Type 0
 RepliesShowWhatStands = (n : NetworkValue) (now : ℕ) (asked : Command) (v : PeerView) → IsNetwork n
     → IfOk (outcome_of n now asked) (λ done. done.0 ≡ reply.Peer v → (peer_of done.1.peers v.peer.number ≡ Some v.peer) × (v.routes ≡ routes_to done.1.routes v.peer.number))

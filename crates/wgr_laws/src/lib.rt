@@ -1,4 +1,4 @@
-//! What follows of the definitions that the calls on a network meet. Each function does nothing:
+//! What follows from the definitions that the calls on a network meet. Each function does nothing:
 //! its contract is the law.
 #![tactic(auto)]
 
@@ -21,7 +21,7 @@ ghost use Rattle.wgr_laws.specs.AdoptionLaws.{AdoptRefusals, AdoptionsAreCounted
 ghost use Rattle.wgr_laws.specs.AdoptedAgain.{AdoptionRepeats, AdoptionRepeatsLater};
 ghost use Rattle.wgr_laws.specs.FirstAdoption.{AdoptionIsFaithful, AdoptionKeepsOwners, AdoptionKeepsUnowned};
 
-/// The lists of a network are finite maps: where all look-ups agree, they are equal. The order in
+/// The lists of a network are finite maps: where all lookups agree, they are equal. The order in
 /// which the parts of a network come makes no difference.
 pub fn lists_are_maps()
     ensures peers { PeersAreAMap }
@@ -78,7 +78,7 @@ pub fn live_until_the_end()
     ensures unseen { SweepsAreUnseen }
 {}
 
-/// What only reads leaves the network as it is.
+/// A command that only reads leaves the network as it is.
 pub fn readings_change_nothing()
     ensures { ReadingChangesNothing }
 {}
@@ -100,7 +100,7 @@ pub fn only_what_is_asked_changes()
     ensures routes { RoutesStay }
 {}
 
-/// A peer that is answered after a change stands so in the network, with those routes.
+/// A peer in the reply to a change is exactly so in the network, with those routes.
 pub fn replies_show_what_stands()
     ensures { RepliesShowWhatStands }
 {}
@@ -120,7 +120,7 @@ pub fn numbers_are_given_once()
     ensures keys { NumbersKeepTheirKeys }
 {}
 
-/// Whatever commands follow, a peer that was revoked neither stands nor owns an address again.
+/// Whatever commands follow, a peer that was revoked neither exists nor owns an address again.
 pub fn revoked_is_gone()
     ensures stands { RevokedIsGone }
     ensures owns { RevokedOwnsNothing }
@@ -135,7 +135,7 @@ pub fn expired_peers_are_gone()
     ensures numbers { ExpiredNeverReturn }
 {}
 
-/// A route changes the owners of its own addresses alone, and of those only where no longer
+/// A route changes only the owners of its own addresses, and of those only where no longer
 /// allowed prefix has the address.
 pub fn routes_change_their_own()
     ensures elsewhere { RoutesElsewhere }
@@ -144,7 +144,7 @@ pub fn routes_change_their_own()
     ensures go_elsewhere { RoutesGoElsewhere }
 {}
 
-/// An accepted adoption changes nothing of a peer that stood but its status, and that only where a
+/// An accepted adoption changes nothing of an existing peer but its status, and that only where a
 /// line has its key; a prefix that no line has leads where it led.
 pub fn adoptions_keep_what_stands()
     ensures standing { StandingPeersStay }
@@ -158,14 +158,14 @@ pub fn lines_become_peers()
     ensures new { NewPeersAreLines }
 {}
 
-/// The new peers have the next numbers, in order, and the reply tells each; with the lines whose
+/// The new peers have the next numbers, in order, and the reply has each; with the lines whose
 /// key was held they are as many as the lines.
 pub fn adoptions_are_counted()
     ensures { AdoptionsAreCounted }
 {}
 
-/// An adoption is refused where the interface is another, or by a line of the text, whose number
-/// the refusal tells.
+/// An adoption is refused where the interface is another, or for a line of the text, whose number
+/// the refusal reports.
 pub fn adoptions_are_refused()
     ensures refusals { AdoptRefusals }
     ensures other { OtherServersAreRefused }
@@ -178,7 +178,7 @@ pub fn adoptions_repeat()
 {}
 
 /// A network without live peers that adopts the lines of an interface has their peers, and sends each
-/// address where the interface sent it, but for the addresses that it gave to peers whose line
+/// address where the interface sent it, except for the addresses that it gave to peers whose line
 /// names none.
 pub fn first_adoptions_are_faithful()
     ensures peers { AdoptionIsFaithful }

@@ -4,7 +4,7 @@ use Rattle.std.specs.Prelude.{if◌then◌else◌}
 use Rattle.std.specs.FinSet as set_
 use Rattle.wgr_model.specs.Register.{Bytes, View, is_same}
 use Rattle.wgr_model.specs.Steps.{AddNetwork, AddTenant, Answer, Ask, Decided, EndNetwork, EndToken, Event, Grant, Networks, is_done}
-use Rattle.wgr_model.specs.Tenants.{in_front, is_own, own_events, tenant_after, tenant_answer, tenant_run, told}
+use Rattle.wgr_model.specs.Tenants.{in_front, is_own, own_events, tenant_after, tenant_answer, tenant_run, answers_given}
 
 -- what isn't the tenant's has no answer and changes nothing
 if_false : {A : Type 0} (b : Bool) (x y : A) → b ≡ false → (if b then x else y) ≡ y
@@ -31,21 +31,21 @@ abbrev last_view : Bytes → View → List (Event × Bool) → View
 last_view me v [] = v
 last_view me v (e ∷ es) = last_view me (tenant_after me v e.0 e.1) es
 
-abbrev run_told : Bytes → View → List (Event × Answer) → List Answer
-run_told me v es = told (tenant_run me v es).0
+abbrev run_given : Bytes → View → List (Event × Answer) → List Answer
+run_given me v es = answers_given (tenant_run me v es).0
 
 abbrev run_view : Bytes → View → List (Event × Answer) → View
 run_view me v es = (tenant_run me v es).1
 
-told_own : (me : Bytes) (v : View) (es : List (Event × Answer)) → run_told me v es ≡ replies me v (own_events me v es)
+told_own : (me : Bytes) (v : View) (es : List (Event × Answer)) → run_given me v es ≡ replies me v (own_events me v es)
 told_own me v [] = refl
 told_own me v (e ∷ es) = by_test (is_own me v e.0 (is_done e.1)) refl (told_own me v es) (told_own me (tenant_after me v e.0 (is_done e.1)) es) where
   w : View
   w = tenant_after me v e.0 (is_done e.1)
 
-  by_test : (b : Bool) → is_own me v e.0 (is_done e.1) ≡ b → run_told me v es ≡ replies me v (own_events me v es) → run_told me w es ≡ replies me w (own_events me w es) → in_front (tenant_answer v e.0) (run_told me w es) ≡ replies me v (if b then (e.0, is_done e.1) ∷ own_events me w es else own_events me v es)
+  by_test : (b : Bool) → is_own me v e.0 (is_done e.1) ≡ b → run_given me v es ≡ replies me v (own_events me v es) → run_given me w es ≡ replies me w (own_events me w es) → in_front (tenant_answer v e.0) (run_given me w es) ≡ replies me v (if b then (e.0, is_done e.1) ∷ own_events me w es else own_events me v es)
   by_test true h skip take = ap (in_front (tenant_answer v e.0)) take
-  by_test false h skip take = let n = not_own me v e.0 (is_done e.1) h in ap₂ (λ a x. in_front a (run_told me x es)) n.0 n.1 ∙ skip
+  by_test false h skip take = let n = not_own me v e.0 (is_done e.1) h in ap₂ (λ a x. in_front a (run_given me x es)) n.0 n.1 ∙ skip
 
 view_own : (me : Bytes) (v : View) (es : List (Event × Answer)) → run_view me v es ≡ last_view me v (own_events me v es)
 view_own me v [] = refl
@@ -58,7 +58,7 @@ view_own me v (e ∷ es) = by_test (is_own me v e.0 (is_done e.1)) refl (view_ow
   by_test false h skip take = let n = not_own me v e.0 (is_done e.1) h in ap (λ x. run_view me x es) n.1 ∙ skip
 
 -- lists that agree on the tenant's own events, from one view
-pub two_worlds : (me : Bytes) (v : View) (es fs : List (Event × Answer)) → own_events me v es ≡ own_events me v fs → (told (tenant_run me v es).0 ≡ told (tenant_run me v fs).0) × ((tenant_run me v es).1 ≡ (tenant_run me v fs).1)
+pub two_worlds : (me : Bytes) (v : View) (es fs : List (Event × Answer)) → own_events me v es ≡ own_events me v fs → (answers_given (tenant_run me v es).0 ≡ answers_given (tenant_run me v fs).0) × ((tenant_run me v es).1 ≡ (tenant_run me v fs).1)
 two_worlds me v es fs h = (
   told_own me v es ∙ ap (replies me v) h ∙ sym (told_own me v fs),
   view_own me v es ∙ ap (last_view me v) h ∙ sym (view_own me v fs),

@@ -43,7 +43,7 @@ is_pool p = nat_lt p.address.number (2 ^ width p.address.family) && nat_eq (p.ad
 unfoldable pub overlaps : PrefixValue → PrefixValue → Bool
 overlaps p q = covers p q || covers q p
 
--- ---- what no two have in common
+-- ---- what must be unique
 
 -- a network's name within its tenant
 abbrev pub slot : Holding → ℕ × Bytes

@@ -1,4 +1,4 @@
--- What follows of the definitions.
+-- What follows from the definitions.
 use Rattle.std.specs.Prelude.{◌≡◌, ℕ, ◌<◌, ◌⊎◌, ◌↔◌, true, false, nat_eq, List, [], ◌∷◌, length, Some}
 use Rattle.std.specs.List.{list_any}
 use Rattle.std.specs.FinMap as map_
@@ -9,7 +9,7 @@ use Rattle.wgr_core.specs.Network.{NetworkValue}
 use Rattle.wgr_model.specs.Register.{Bytes, Register, View, Holding, IsSame, empty_register, tenant_view}
 use Rattle.wgr_model.specs.Consistent.{IsConsistent, IsId, is_pool, overlaps, max_entries}
 use Rattle.wgr_model.specs.Steps.{AddNetwork, Event, Answer, Done, PoolOverlaps, Settings, IsProper, IsStep, comes_before, is_done, overlapping, pool_refusal}
-use Rattle.wgr_model.specs.Tenants.{Agree, Fits, own_events, tenant_after, tenant_answer, tenant_run, told}
+use Rattle.wgr_model.specs.Tenants.{Agree, Fits, own_events, tenant_after, tenant_answer, tenant_run, answers_given}
 use Rattle.wgr_model.specs.Runs.{Served, AreProper, IsRun, acknowledged}
 
 -- an element of a list
@@ -17,7 +17,7 @@ abbrev pub Has : {A : Type 0} → List A → A → Type 0
 Has [] a = ⊥
 Has (x ∷ xs) a = (x ≡ a) ⊎ Has xs a
 
--- two peers of the register that hold one address are one peer of one network
+-- two peers of the register that hold the same address are the same peer of the same network
 abbrev pub HasOneHolder : Register → Type 0
 HasOneHolder s = (h k : Holding) (p q : Peer) → Has s.networks h → Has s.networks k → Has h.network.peers p → Has k.network.peers q → p.address ≡ q.address → (h ≡ k) × (p ≡ q)
 
@@ -25,8 +25,8 @@ HasOneHolder s = (h k : Holding) (p q : Peer) → Has s.networks h → Has s.net
 abbrev pub EmptyIsConsistent : Type 0
 EmptyIsConsistent = IsConsistent empty_register
 
--- Whatever the event and whoever it is from: the register after it is consistent; no tenant alone
--- has another answer than the one given; and what each sees is what it alone then has.
+-- For any event, whoever it is from: the register after it is consistent; no tenant alone has an
+-- answer other than the one given; and each tenant sees what it then has alone.
 pub record StepLaw (r : Register) (e : Event) (answer : Answer) (s : Register) : Type 0 where
   pub consistent : IsConsistent s
   pub answered : (me : Bytes) → Fits (tenant_answer (tenant_view r me) e) answer
@@ -47,17 +47,17 @@ pub record IsIsolated (r : Register) (es : List Served) (s : Register) : Type 0 
 abbrev pub RunsAreIsolated : Type 0
 RunsAreIsolated = (r s : Register) (es : List Served) → IsConsistent r → AreProper es → IsRun r es s → IsIsolated r es s
 
--- two lists of events that agree, in order, on those that are the tenant's own give it one list of
--- answers and one last view
+-- two lists of events that agree, in order, on those that are the tenant's own give it the same
+-- answers and the same last view
 abbrev pub TwoWorlds : Type 0
 TwoWorlds = (me : Bytes) (v : View) (es fs : List (Event × Answer)) → own_events me v es ≡ own_events me v fs
-    → (told (tenant_run me v es).0 ≡ told (tenant_run me v fs).0) × ((tenant_run me v es).1 ≡ (tenant_run me v fs).1)
+    → (answers_given (tenant_run me v es).0 ≡ answers_given (tenant_run me v fs).0) × ((tenant_run me v es).1 ≡ (tenant_run me v fs).1)
 
--- the order of entries is of no account: a step is one on the same entries in whatever order
+-- the order of entries doesn't matter: a step is one on the same entries in whatever order
 abbrev pub OrderIsNoAccount : Type 0
 OrderIsNoAccount = (r s : Register) (e : Event) (answer : Answer) (u : Register) → IsSame r s → IsConsistent r → IsStep r e answer u → IsStep s e answer u
 
--- ---- nothing is asked that can't be: every event has a step
+-- ---- the definitions can be met: every event has a step
 
 abbrev pub EveryEventHasAStep : Type 0
 EveryEventHasAStep = (r : Register) (e : Event) → (answer : Answer) × (s : Register) × IsStep r e answer s
@@ -87,7 +87,7 @@ FirstIsNamed = (r : Register) (pool : PrefixValue) (tenant network : Bytes) → 
 
 -- ---- new networks
 
--- a network of these settings to which nobody has come yet
+-- a network with these settings, without peers
 pub record HasSettings (n : NetworkValue) (s : Settings) : Type 0 where
   pub pool : n.pool ≡ s.pool
   pub host : n.host ≡ s.host
@@ -98,8 +98,8 @@ pub record HasSettings (n : NetworkValue) (s : Settings) : Type 0 where
   pub no_peers : n.peers ≡ []
   pub no_routes : n.routes ≡ []
 
--- after an accepted order for a network, the tenant has under that name one with the settings that
--- were asked
+-- after an accepted order for a new network, the tenant has one of that name with the requested
+-- settings
 abbrev pub NetworksAreAsAsked : Type 0
 NetworksAreAsAsked = (r s : Register) (tenant name : Bytes) (settings : Settings) → IsConsistent r → IsProper (AddNetwork tenant name settings) → IsStep r (AddNetwork tenant name settings) Done s
     → (n : NetworkValue) × (map_.get (tenant_view s tenant).networks name ≡ Some n) × HasSettings n settings

@@ -69,7 +69,7 @@ digests_of ts id = map (λ t. t.digest) (filter (λ t. nat_eq t.tenant id) ts)
 abbrev pub networks_of : List Holding → ℕ → List (Bytes × NetworkValue)
 networks_of hs id = map (λ h. (h.name, h.network)) (filter (λ h. nat_eq h.tenant id) hs)
 
--- what stands under the id of a tenant
+-- what the tenant of this id sees
 abbrev pub view_at : Register → ℕ → View
 view_at r id = record { digests = set_.from_list (digests_of r.tokens id); networks = map_.from_entries (networks_of r.networks id) }
 
@@ -77,6 +77,6 @@ abbrev pub view_of : Register → Option ℕ → View
 view_of r None = empty_view
 view_of r (Some id) = view_at r id
 
--- what the tenant of this name sees: nothing where there is none
+-- what the tenant of this name sees: nothing where there is no such tenant
 abbrev pub tenant_view : Register → Bytes → View
 tenant_view r name = view_of r (id_of r.tenants name)

@@ -1,4 +1,4 @@
--- What an ask owes to the rows.
+-- What a request must do to the rows.
 use Rattle.std.specs.Prelude.{◌≡◌, ℕ, false, Some, Ok}
 use Rattle.wgr_core.specs.declared.command.Command.{Command}
 use Rattle.wgr_core.specs.declared.reply.Reply.{Reply}
@@ -13,12 +13,12 @@ use Rattle.wgr_model.specs.RowLaws.{AreConsistent, IsRowStep}
 abbrev pub NetworksAreFound : Type 0
 NetworksAreFound = (t : Tables) (w : NetworkRow) → AreConsistent t → Has t.networks w → network_at (register_of t).networks w.tenant w.name ≡ Some (holding_of t w).network
 
--- an event that leaves the register, as a refusal does, is a step where every row stays
+-- an event that doesn't change the register, such as a refusal, is a step where every row stays
 abbrev pub RefusalsLeaveRows : Type 0
 RefusalsLeaveRows = (t : Tables) (e : Event) (new : ℕ) → AreConsistent t → (outcome (register_of t) e new).1 ≡ register_of t → is_done (outcome (register_of t) e new).0 ≡ false
     → IsRowStep t e (outcome (register_of t) e new).0 t
 
--- and so is a command that leaves its network
+-- and so is a command that doesn't change its network
 abbrev pub ReadingsLeaveRows : Type 0
 ReadingsLeaveRows = (t : Tables) (w : NetworkRow) (digest : Bytes) (now : ℕ) (command : Command) (reply : Reply) → AreConsistent t → Has t.networks w → tenant_of_token t.tokens digest ≡ Some w.tenant
     → act (holding_of t w).network now command ≡ Ok (reply, (holding_of t w).network) → IsRowStep t (Ask digest w.name now command) (Replied reply (holding_of t w).network) t

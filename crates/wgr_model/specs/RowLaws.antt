@@ -1,4 +1,4 @@
--- Steps and runs over the rows, and what follows of them.
+-- Steps and runs over the rows, and what follows from them.
 use Rattle.std.specs.Prelude.{◌≡◌, false, List, [], ◌∷◌, Option, Some, None}
 use Rattle.wgr_core.specs.Network.{NetworkValue}
 use Rattle.wgr_laws.specs.Laws.{HasSettingsOf}
@@ -10,7 +10,7 @@ use Rattle.wgr_model.specs.Runs.{Served, AreProper, acknowledged}
 use Rattle.wgr_model.specs.Laws.{Has}
 use Rattle.wgr_model.specs.Rows.{AllowedRow, Tables, AreRowsOf, Replaces, first_version, register_of}
 
--- what is read from the rows is a consistent register, and there is no row that isn't one of it
+-- what is read from the rows is a consistent register, and every row is one of its rows
 pub record AreConsistent (t : Tables) : Type 0 where
   pub consistent : IsConsistent (register_of t)
   pub rows : AreRowsOf (register_of t) t
@@ -38,7 +38,7 @@ abbrev pub IsRowRun : Tables → List Served → Tables → Type 0
 IsRowRun t [] u = t ≡ u
 IsRowRun t (e ∷ es) u = (next : Tables) × IsRowServed t e.0 e.1 next × IsRowRun next es u
 
--- two address rows with one address are one row
+-- two address rows with the same address are the same row
 abbrev pub HasOneRow : Tables → Type 0
 HasOneRow t = (a b : AllowedRow) → Has t.allowed a → Has t.allowed b → a.is_route ≡ false → b.is_route ≡ false → a.prefix.address ≡ b.prefix.address → a ≡ b
 
@@ -61,11 +61,11 @@ RowsStayConsistent = (r : Register) (t : Tables) → AreRowsOf r t → IsConsist
 abbrev pub NoRowsAreConsistent : Type 0
 NoRowsAreConsistent = AreConsistent no_rows
 
--- the rows of a consistent register are read back as that register, in whatever order they stand
+-- the rows of a consistent register are read back as that register, in whatever order they are
 abbrev pub RowsAreRead : Type 0
 RowsAreRead = (r : Register) (t : Tables) → AreRowsOf r t → IsConsistent r → IsSame r (register_of t)
 
--- so rows of one register show each tenant one view
+-- so all rows of the same register show each tenant the same view
 abbrev pub OrderIsUnseen : Type 0
 OrderIsUnseen = (r : Register) (t u : Tables) (me : Bytes) → AreRowsOf r t → AreRowsOf r u → IsConsistent r → rows_view t me ≡ rows_view u me
 
@@ -80,15 +80,15 @@ abbrev pub with_given : Option Answer → Answer → List Answer → List Answer
 with_given None given answers = answers
 with_given (Some a) given answers = given ∷ answers
 
--- the answers that were given where the tenant alone has one
+-- the given answers, at the places where the tenant alone has one
 abbrev pub answers_to : List (Option Answer) → List (Event × Answer) → List Answer
 answers_to [] es = []
 answers_to (a ∷ rest) [] = []
 answers_to (a ∷ rest) (e ∷ es) = with_given a e.1 (answers_to rest es)
 
--- Two registers whose rows show a tenant one view, and on each a list of events, such that the lists
--- agree, in order, on the events that are the tenant's own: it is given the same answers, and the
--- rows at the end show it one view.
+-- Two registers whose rows show a tenant the same view, and on each a list of events, such that the lists
+-- agree, in order, on the events that are the tenant's own: the tenant gets the same answers, and the
+-- rows at the end show it the same view.
 abbrev pub RowsOfTwoWorlds : Type 0
 RowsOfTwoWorlds = (me : Bytes) (t u x y : Tables) (es fs : List Served) → AreConsistent t → AreProper es → IsRowRun t es u → AreConsistent x → AreProper fs → IsRowRun x fs y
     → rows_view t me ≡ rows_view x me → own_events me (rows_view t me) (acknowledged es) ≡ own_events me (rows_view x me) (acknowledged fs)

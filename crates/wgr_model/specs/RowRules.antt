@@ -1,4 +1,4 @@
--- What consistency says of single rows, and what the orders owe to the rows.
+-- What consistency says about single rows, and what the orders must do to the rows.
 use Rattle.std.specs.Prelude.{◌≡◌, ℕ, ◌<◌, ◌≤◌, ◌⊎◌, ◌↔◌, true, false, not, nat_eq, List, ◌∷◌}
 use Rattle.std.specs.List.{filter}
 use Rattle.std.specs.List.Sorted.{IsPermutation}
@@ -16,7 +16,7 @@ use Rattle.wgr_model.specs.RowLaws.{AreConsistent}
 
 -- ---- single rows
 
--- a peer's id has its network's and its number, which that network has given; its key isn't the server's
+-- a peer's id has its network's id and its number, which that network has given; its key isn't the server's
 pub record IsPeerOf (w : NetworkRow) (p : PeerRow) : Type 0 where
   pub network : p.network ≡ w.id
   pub number : ℕ
@@ -43,9 +43,9 @@ pub record IsRouteOf (w : NetworkRow) (p : PeerRow) (a : AllowedRow) : Type 0 wh
   pub not_server : same_prefix a.prefix (full (server_address w.pool)) ≡ false
 
 pub record RowRules (t : Tables) : Type 0 where
-  -- each peer is one of a network that is there, and has an address row
+  -- each peer belongs to a network that exists, and has an address row
   pub peers : (p : PeerRow) → Has t.peers p → (w : NetworkRow) × (a : AllowedRow) × Has t.networks w × Has t.allowed a × IsPeerOf w p × IsAddressOf w p a
-  -- no two peers of a network have a key in common
+  -- no two peers of a network have the same key
   pub keys : (p q : PeerRow) → Has t.peers p → Has t.peers q → p.network ≡ q.network → p.key ≡ q.key → p ≡ q
   -- no peer has two address rows
   pub one_address : (a b : AllowedRow) → Has t.allowed a → Has t.allowed b → a.is_route ≡ false → b.is_route ≡ false → a.network ≡ b.network → a.peer ≡ b.peer → a ≡ b
@@ -57,7 +57,7 @@ pub record RowRules (t : Tables) : Type 0 where
 abbrev pub ConsistentRowsKeepRules : Type 0
 ConsistentRowsKeepRules = (t : Tables) → AreConsistent t → RowRules t
 
--- ---- what an order owes: one row more or less, and every other row as it was
+-- ---- what an order must do: one row more or less, and every other row as it was
 
 abbrev pub TenantsGain : Type 0
 TenantsGain = (r : Register) (t : Tables) (name : Bytes) (new : ℕ) (tenants : List Tenant) → AreRowsOf r t
@@ -86,6 +86,6 @@ pub record Removes (id : ℕ) (t u : Tables) : Type 0 where
   pub allowed : (a : AllowedRow) → Has u.allowed a ↔ (Has t.allowed a × (nat_eq a.network id ≡ false))
   pub keyed : AreKeyed u
 
--- a network that ends takes its peers and its routes with it
+-- a network is removed with its peers and its routes
 abbrev pub NetworksLose : Type 0
 NetworksLose = (r : Register) (t u : Tables) (h : Holding) → AreRowsOf r t → IsConsistent r → Has r.networks h → Removes h.id t u → AreRowsOf (without_network r h.tenant h.name) u

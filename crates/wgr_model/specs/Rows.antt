@@ -30,7 +30,7 @@ pub record NetworkRow : Type 0 where
   pub capacity : ℕ
   pub next : ℕ
 
--- a peer of the network of this id, but for its address
+-- a peer of the network of this id, without its address
 pub record PeerRow : Type 0 where
   pub id : ℕ
   pub network : ℕ
@@ -65,7 +65,7 @@ pub record Tables : Type 0 where
 abbrev pub ids_per_network : ℕ
 ids_per_network = 1048576
 
--- a peer's id has its network's and its number, which is below 2 ^ 20
+-- a peer's id has its network's id and its number, which is below 2 ^ 20
 abbrev pub peer_id : ℕ → ℕ → ℕ
 peer_id network number = network * ids_per_network + number
 
@@ -94,7 +94,7 @@ same_allowed p q = nat_eq p.0 q.0 && nat_eq p.1 q.1 && nat_eq p.2 q.2 && nat_eq 
 abbrev pub allowed_key : AllowedRow → ℕ × ℕ × ℕ × ℕ
 allowed_key a = (a.network, family_number a.prefix.address.family, a.prefix.address.number, a.prefix.length)
 
--- no two peers have an id, no two rows of a network a prefix, and no two address rows a peer
+-- no two peers have the same id, no two rows of a network the same prefix, and no two address rows the same peer
 pub record AreKeyed (t : Tables) : Type 0 where
   pub peer_keys : IsDistinct same_pair (map (λ p. (p.network, number_in p.network p.id)) t.peers)
   pub allowed_keys : IsDistinct same_allowed (map allowed_key t.allowed)
@@ -175,7 +175,7 @@ pub record AreRowsOf (r : Register) (t : Tables) : Type 0 where
   pub allowed : HaveSame (flat_map allowed_rows r.networks) t.allowed
   pub keyed : AreKeyed t
 
--- ---- what a commit of one changed network owes
+-- ---- what a commit of one changed network must do
 
 abbrev pub with_next : ℕ → ℕ → NetworkRow → NetworkRow
 with_next id next w = if nat_eq w.id id then record w { next = next } else w

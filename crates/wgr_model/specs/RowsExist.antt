@@ -1,4 +1,4 @@
--- That rows exist: none of what is said of rows is said of nothing.
+-- That rows exist: the statements about rows aren't vacuous.
 use Rattle.std.specs.Prelude.{map}
 use Rattle.std.specs.List.{flat_map}
 use Rattle.wgr_model.specs.Register.{Register}
@@ -15,7 +15,7 @@ rows_of r = record { meta = first_version; tenants = r.tenants; tokens = r.token
 abbrev pub RowsExist : Type 0
 RowsExist = (r : Register) → IsConsistent r → AreRowsOf r (rows_of r)
 
--- and what a step leaves of the register that rows spell has rows too
+-- and the register after a step on the one that rows represent has rows too
 abbrev pub StepsHaveRows : Type 0
 StepsHaveRows = (t : Tables) (e : Event) (answer : Answer) (s : Register) → AreConsistent t → IsProper e → IsStep (register_of t) e answer s → IsRowStep t e answer (rows_of s)
 

@@ -23,7 +23,7 @@ act n now command = outcome_of n now command
 
 -- ---- events
 
--- what an operator settles of a new network
+-- the settings of a new network, which an operator chooses
 pub record Settings : Type 0 where
   pub pool : PrefixValue
   pub host : Bytes
@@ -44,7 +44,7 @@ pub data Event : Type 0 where
   AddNetwork : (tenant name : Bytes) (settings : Settings) → Event
   EndNetwork : (tenant name : Bytes) → Event
 
--- the fields are of the forms that their types keep
+-- the fields have the forms that their types guarantee
 abbrev pub IsProperCommand : Command → Type 0
 IsProperCommand command = IsAsked command × IsFormedCommand command
 

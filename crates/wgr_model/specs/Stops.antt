@@ -1,4 +1,4 @@
--- What a stop leaves of a register, and runs that go on after it.
+-- What a stop leaves of a register, and runs that continue after it.
 use Rattle.std.specs.Prelude.{◌≡◌, ◌⊎◌, [], ◌∷◌, ◌++◌, List, Some, ⊤}
 use Rattle.wgr_model.specs.Laws.{Has}
 use Rattle.wgr_model.specs.RowLaws.{AreConsistent, AreIsolated, IsRowRun, IsRowStep}
@@ -17,8 +17,8 @@ IsBetween late [] = ⊤
 IsBetween late ((event, Some answer) ∷ []) = Has late event
 IsBetween late _ = ⊥
 
--- Events were run up to these rows, a stop left the rows, and others were run on what it left. It is one run of them
--- all, with nothing or with one late event between them, and each tenant is apart along it.
+-- Events were run up to these rows, a stop left the rows, and others were run on what it left. Together they are
+-- one run, with nothing or with one late event between them, and each tenant is isolated along it.
 abbrev pub RunsGoOn : Type 0
 RunsGoOn = (t u v w : Tables) (es fs : List Served) (late : List Event) → AreConsistent t → AreProper es → IsRowRun t es u → IsLeft u late v → AreProper fs → IsRowRun v fs w
     → (mid : List Served) × IsBetween late mid × AreProper (es ++ (mid ++ fs)) × IsRowRun t (es ++ (mid ++ fs)) w × AreIsolated t (es ++ (mid ++ fs)) w

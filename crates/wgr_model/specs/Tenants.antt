@@ -1,4 +1,4 @@
--- What one tenant alone has of an event, on what it sees: nothing else of the register is looked at.
+-- What one tenant alone gets from an event, given what it sees: nothing else of the register is used.
 use Rattle.std.specs.Prelude.{◌≡◌, ℕ, Bool, false, ◌&&◌, if◌then◌else◌, List, [], ◌∷◌, Option, Some, None, Result, Ok, Err, MatchOption, ⊤}
 use Rattle.std.specs.FinMap as map_
 use Rattle.std.specs.FinSet as set_
@@ -40,8 +40,8 @@ abbrev pub after_asked : View → Bytes → ℕ → Command → Option NetworkVa
 after_asked v name now command None = v
 after_asked v name now command (Some n) = after_acted v name (act n now command)
 
--- A command of the tenant's changes its network of that name. Of the orders, those that are accepted
--- and are about the tenant count; `done` says whether an order was accepted.
+-- A command of the tenant changes its network of that name. Only accepted orders about the tenant
+-- count; `done` says whether an order was accepted.
 abbrev pub tenant_after : Bytes → View → Event → Bool → View
 tenant_after me v (Decided digest reply) done = v
 tenant_after me v (Ask digest name now command) done = if set_.contains v.digests digest then after_asked v name now command (map_.get v.networks name) else v
@@ -99,7 +99,7 @@ abbrev pub in_front : Option Answer → List Answer → List Answer
 in_front None answers = answers
 in_front (Some a) answers = a ∷ answers
 
--- the answers that there are
-abbrev pub told : List (Option Answer) → List Answer
-told [] = []
-told (a ∷ rest) = in_front a (told rest)
+-- the answers, without the places that have none
+abbrev pub answers_given : List (Option Answer) → List Answer
+answers_given [] = []
+answers_given (a ∷ rest) = in_front a (answers_given rest)

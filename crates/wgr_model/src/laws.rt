@@ -1,4 +1,4 @@
-//! What follows of the model. Each function does nothing: its contract is the law.
+//! What follows from the model. Each function does nothing: its contract is the law.
 ghost use Rattle.wgr_model.specs.Laws.{AnIdIsUnused, EmptyIsConsistent, EveryEventHasAStep, FirstIsNamed, NetworksAreAsAsked, OrderIsNoAccount, OverlapsAreTold, PoolsAreTold, RunsAreIsolated, StepsAreIsolated, TwoWorlds};
 ghost use Rattle.wgr_model.specs.RowAsks.{ChangesReplaceRows, NetworksAreFound, ReadingsLeaveRows, RefusalsLeaveRows};
 ghost use Rattle.wgr_model.specs.RowLaws.{CommitsReplace, NoRowsAreConsistent, OrderIsUnseen, RowsAreIsolated, RowsAreRead, RowsOfTwoWorlds, RowsStayConsistent};
@@ -11,32 +11,32 @@ pub fn empty_is_consistent()
     ensures { EmptyIsConsistent }
 {}
 
-/// One event, whoever it is from: consistency stays, and each tenant has the answer and the view
-/// that it alone would have.
+/// One event, whoever it is from: the register stays consistent, and each tenant has the answer and
+/// the view that it would have alone.
 pub fn steps_are_isolated()
     ensures { StepsAreIsolated }
 {}
 
-/// What an event answers and does is the same in whatever order the entries of the register stand.
+/// An event's answer and effect are the same in whatever order the entries of the register are.
 pub fn order_is_no_account()
     ensures { OrderIsNoAccount }
 {}
 
-/// Whatever list of requests and orders is run on a consistent register: the answers to each
+/// For any list of requests and orders that is run on a consistent register: the answers to each
 /// tenant, and what it has at the end, are those that its own requests and the accepted orders
-/// about it give on what it had, those answered Unavailable left out. At the end no two peers of
-/// the whole register hold one address.
+/// about it give on what it had, except those answered Unavailable. At the end no two peers of
+/// the whole register hold the same address.
 pub fn runs_are_isolated()
     ensures { RunsAreIsolated }
 {}
 
-/// A tenant can't tell two worlds apart that agree on its own events.
+/// A tenant can't distinguish two worlds that agree on its own events.
 pub fn worlds_are_alike()
     ensures { TwoWorlds }
 {}
 
-/// The rows of a consistent register are read back as that register, in whatever order they stand;
-/// so their order shows nobody anything.
+/// The rows of a consistent register are read back as that register, in whatever order they are;
+/// so their order reveals nothing to anyone.
 pub fn rows_are_read()
     ensures read { RowsAreRead }
     ensures order { OrderIsUnseen }
@@ -44,44 +44,44 @@ pub fn rows_are_read()
     ensures none { NoRowsAreConsistent }
 {}
 
-/// Every consistent register has rows, and on consistent rows every event has a step; so the laws of
-/// rows are about something.
+/// Every consistent register has rows, and on consistent rows every event has a step; so the laws
+/// about rows aren't vacuous.
 pub fn rows_exist()
     ensures rows { RowsExist }
     ensures after { StepsHaveRows }
     ensures step { EveryEventHasARowStep }
 {}
 
-/// What a commit owes, to leave the rows of the register with one changed network.
+/// What a commit must do to leave the rows of the register with one changed network.
 pub fn commits_replace()
     ensures { CommitsReplace }
 {}
 
-/// Whole runs, said of the rows of the tables. At the end two address rows with one address
-/// are one row.
+/// Whole runs, stated about the rows of the tables. At the end two address rows with the same
+/// address are the same row.
 pub fn rows_are_isolated()
     ensures { RowsAreIsolated }
 {}
 
-/// Two registers, each with others' rows and requests of its own, that agree on what one tenant has
-/// and asks and on the accepted orders about it: the tenant can't tell them apart.
+/// Two registers, each with other tenants' rows and requests of its own, that agree on what one tenant
+/// has and requests and on the accepted orders about it: the tenant can't distinguish them.
 pub fn rows_of_two_worlds()
     ensures { RowsOfTwoWorlds }
 {}
 
 /// Events that were run before a stop and those that are run on what it left are one run, with at
-/// most one late event between them; so each tenant is apart along all of it.
+/// most one late event between them; so each tenant is isolated along all of it.
 pub fn runs_go_on()
     ensures { RunsGoOn }
 {}
 
-/// The register is never without an answer, and never without an id where it has room.
+/// Every event has an answer, and there is an unused id wherever the register has room.
 pub fn every_event_has_a_step()
     ensures step { EveryEventHasAStep }
     ensures id { AnIdIsUnused }
 {}
 
-/// The tests of pools tell what they are to tell, and `pool_overlaps` names the first network in
+/// The tests of pools are correct, and `pool_overlaps` names the first network in
 /// byte order of tenants' names, then of networks'.
 pub fn pools_are_told()
     ensures pool { PoolsAreTold }
@@ -89,19 +89,19 @@ pub fn pools_are_told()
     ensures first { FirstIsNamed }
 {}
 
-/// An accepted order for a network leaves one with the pool, endpoint, server key and capacity that
-/// were asked, and without peers.
+/// An accepted order for a new network adds one with the requested pool, endpoint, server key and
+/// capacity, and without peers.
 pub fn networks_are_as_asked()
     ensures { NetworksAreAsAsked }
 {}
 
-/// What consistency says of single rows: each peer has one address row, whose address its network's
-/// pool may give; each allowed prefix leads to a peer of its own network.
+/// What consistency says about single rows: each peer has one address row, with an address that its
+/// network's pool may give; each allowed prefix leads to a peer of its own network.
 pub fn consistent_rows_keep_rules()
     ensures { ConsistentRowsKeepRules }
 {}
 
-/// What an order owes, to leave the rows of the register with the order done.
+/// What an order must do to leave the rows of the register with the order done.
 pub fn orders_change_rows()
     ensures tenants_gain { TenantsGain }
     ensures tokens_gain { TokensGain }
@@ -110,7 +110,7 @@ pub fn orders_change_rows()
     ensures networks_lose { NetworksLose }
 {}
 
-/// What an ask owes, to be a step on the rows.
+/// What a request must do to be a step on the rows.
 pub fn asks_change_rows()
     ensures found { NetworksAreFound }
     ensures refusals { RefusalsLeaveRows }

@@ -4,5 +4,5 @@
 
 pub mod laws;
 
-/// The most tenants that a register has; so of tokens, and of networks.
+/// The most tenants that a register has; also the most tokens, and the most networks.
 pub const MAX_ENTRIES: usize = 65_536;

@@ -15,8 +15,8 @@ use Rattle.wgr_register.specs.Standing.{StandsAt}
 
 -- ---- calls
 
--- What a call promises that serves one event: wherever the register stood, it stands then where the event
--- led. A disk that is clean then was clean before.
+-- What a call that serves one event promises: whatever the rows of the register were, it is then at the rows
+-- to which the event led. A disk that is clean then was clean before.
 pub record IsCall {S : Type 0} (g : Ghosts S) (old new : Held S) (event : event.Event) (given : given.Answer) : Type 0 where
   pub clean : HasCleanDisk (state g new) → HasCleanDisk (state g old)
   pub served : (db : Database) (late : List Event) → StandsAt g old db late → HasCleanDisk (state g new) → IsServed g new db late event given
@@ -29,7 +29,7 @@ AreCalls g old new events answers = ⊥
 
 -- ---- the places between them
 
--- a connection, the database at whose rows the register stands, and the events that a stop may leave done
+-- a connection, the database at whose rows the register is, and the events that a stop may leave done
 pub record Place (S : Type 0) : Type 0 where
   pub conn : Held S
   pub db : Database
@@ -38,7 +38,7 @@ pub record Place (S : Type 0) : Type 0 where
 abbrev pub place : {S : Type 0} → Held S → Database → List Event → Place S
 place conn db late = record { conn = conn; db = db; late = late }
 
--- by one event from place to place: by a call that served it, and by its step on the rows
+-- from one place to the next by one event: by a call that served it, and by its step on the rows
 pub record Passes {S : Type 0} (g : Ghosts S) (from to : Place S) (event : event.Event) (given : given.Answer) (s : Served) : Type 0 where
   pub call : IsCall g from.conn to.conn event given
   pub serves : Serves event given s.0 s.1
@@ -46,7 +46,7 @@ pub record Passes {S : Type 0} (g : Ghosts S) (from to : Place S) (event : event
   pub stands : StandsAt g to.conn to.db to.late
   pub clean : HasCleanDisk (state g to.conn)
 
--- and by all of them in turn
+-- and by all events in order
 abbrev pub PassesAll : {S : Type 0} → Ghosts S → Place S → Place S → List event.Event → List given.Answer → List Served → Type 0
 PassesAll g from to [] [] [] = to ≡ from
 PassesAll {S} g from to (event ∷ events) (given ∷ answers) (s ∷ served) = (mid : Place S) × Passes g from mid event given s × PassesAll g mid to events answers served
@@ -59,9 +59,9 @@ pub record HasPassed {S : Type 0} (g : Ghosts S) (old new : Held S) (db : Databa
 
 -- ---- a stop
 
--- The place after the first k events of a run, to which these led and from which the others went on. Whatever
--- a stop leaves there is a good register: at the rows after all that was acknowledged so far, or at those
--- after one of the events done that were answered Unavailable since the last acknowledged change.
+-- The place after the first k events of a run, to which these led and from which the others continued. Whatever
+-- a stop leaves there is a valid register: at the rows after all that was acknowledged so far, or at those
+-- that also have one event done that was answered Unavailable since the last acknowledged change.
 pub record IsKept {S : Type 0} (g : Ghosts S) (from to : Place S) (asked : List event.Event) (answers : List given.Answer) (served : List Served) (k : ℕ) : Type 0 where
   pub at : Place S
   pub before : PassesAll g from at (take k asked) (take k answers) (take k served)

@@ -1,4 +1,4 @@
--- Lists of events, and what a run of them has given, in the words of the model.
+-- Lists of events, and the results of running them, in terms of the model.
 use Rattle.std.specs.Prelude.{◌≡◌, ◌⊎◌, Bool, true, false, List, [], ◌∷◌, Option, Some, None, Result, Ok, Err, ⊤}
 use Rattle.sqlite.specs.Effect.{Database}
 use Rattle.sqlite.specs.Store.{Ghosts}
@@ -25,11 +25,11 @@ use Rattle.wgr_columns.specs.Decode.{tables_of}
 
 -- ---- events and answers
 
--- a request that memory could not read asks nothing
+-- a request that could not be read for lack of memory asks nothing
 abbrev pub unread : Event
 unread = Decided None []
 
--- what is given is the model's answer: to a request its bytes, to an order an order's answer
+-- the answer is the model's: to a request its bytes, to an order an order's answer
 abbrev pub IsAnswerTo : event.Event → given.Answer → Answer → Type 0
 IsAnswerTo (events.Ask now bytes) (givens.Bytes reply) answer = reply.items ≡ answer_bytes now answer
 IsAnswerTo (events.Order order) (givens.Order (Ok done)) answer = answer ≡ Done
@@ -50,25 +50,25 @@ AreServed [] [] [] = ⊤
 AreServed (event ∷ events) (given ∷ answers) (s ∷ served) = Serves event given s.0 s.1 × AreServed events answers served
 AreServed events answers served = ⊥
 
--- ---- the rows along them
+-- ---- the rows after each event
 
--- a change that was done leaves nothing late; after anything else all is as it was
+-- after a change that was done nothing is late; after anything else all is unchanged
 abbrev pub Settles : Bool → Database → List Event → Database → List Event → Type 0
 Settles true db late next left = left ≡ []
 Settles false db late next left = (next ≡ db) × (left ≡ late)
 
--- From the rows of one database to those of another by an event. A stop may leave those events done
--- that were answered Unavailable since the last acknowledged one that changed a row: the last two lists.
+-- From the rows of one database to those of another by an event. `late` and `left` are the events that a stop
+-- may leave done: those answered Unavailable since the last acknowledged event that changed a row.
 abbrev pub Goes : Database → List Event → Event → Option Answer → Database → List Event → Type 0
 Goes db late e None next left = (next ≡ db) × ((left ≡ late) ⊎ (left ≡ e ∷ late))
 Goes db late e (Some answer) next left = IsRowStep (tables_of db) e answer (tables_of next) × Settles (is_change answer e) db late next left
 
--- and by all of them in turn
+-- and by all events in order
 abbrev pub GoesAll : Database → List Event → List Served → Database → List Event → Type 0
 GoesAll db late [] next left = (next ≡ db) × (left ≡ late)
 GoesAll db late (s ∷ served) next left = (mid : Database) × (between : List Event) × Goes db late s.0 s.1 mid between × GoesAll mid between served next left
 
--- one event was served at a register that stood at these rows
+-- one event was served by a register that was at these rows
 pub record IsServed {S : Type 0} (g : Ghosts S) (conn : Held S) (db : Database) (late : List Event) (event : event.Event) (given : given.Answer) : Type 0 where
   pub e : Event
   pub answer : Option Answer
@@ -91,12 +91,12 @@ pub record HaveBeenServed {S : Type 0} (g : Ghosts S) (conn : Held S) (db : Data
 
 -- ---- the main theorem
 
--- an answer that a tenant alone has is the one that was given: of a request, byte for byte
+-- the answer on a tenant's own rows alone is the one that was returned: for a request, byte for byte
 abbrev pub Tells : event.Event → given.Answer → Option Answer → Type 0
 Tells event given None = ⊤
 Tells event given (Some answer) = IsAnswerTo event given answer
 
--- and so at each place of the list, those answered Unavailable left out
+-- the same at each place of the list, except those answered Unavailable
 abbrev pub AgreeAsGiven : List event.Event → List given.Answer → List (Option Answer) → Type 0
 AgreeAsGiven [] [] [] = ⊤
 AgreeAsGiven (event ∷ events) (givens.Unavailable ∷ answers) alone = AgreeAsGiven events answers alone
@@ -104,21 +104,21 @@ AgreeAsGiven (event ∷ events) (given ∷ answers) (a ∷ alone) = Tells event 
 AgreeAsGiven events answers alone = ⊥
 
 -- For every tenant, the answers to its requests and its rows at the end are those that its own
--- requests and the accepted orders about it give on its own rows alone, requests answered
--- Unavailable left out; and no two peers, of whatever networks, have the same address.
+-- requests and the accepted orders about it give on its own rows alone, leaving out requests answered
+-- Unavailable; and no two peers, in any networks, have the same address.
 pub record AreApart (rows : Tables) (asked : List event.Event) (answers : List given.Answer) (served : List Served) (after : Tables) : Type 0 where
   pub answered : (tenant : Bytes) → AgreeAsGiven asked answers (tenant_run tenant (rows_view rows tenant) (acknowledged served)).0
   pub views : (tenant : Bytes) → (tenant_run tenant (rows_view rows tenant) (acknowledged served)).1 ≡ rows_view after tenant
   pub holders : HasOneRow after
 
--- A run of the events on a register that stood at these rows: one answer for each event, a chain of
--- steps from rows to rows, each tenant apart, and where the register stands after it.
+-- A run of the events on a register that was at these rows: one answer for each event, a chain of
+-- steps from rows to rows, each tenant isolated, and the rows of the register after it.
 pub record HasRun {S : Type 0} (g : Ghosts S) (conn : Held S) (db : Database) (late : List Event) (asked : List event.Event) (answers : List given.Answer) : Type 0 where
   pub all : HaveBeenServed g conn db late asked answers
   pub run : IsRowRun (tables_of db) all.served (tables_of all.next)
   pub apart : AreApart (tables_of db) asked answers all.served (tables_of all.next)
 
--- what becomes of an order
+-- the answer for the result of an order
 abbrev pub IsSettled : Result done.Done OrderFault → given.Answer → Type 0
 IsSettled (Ok done) given = given ≡ givens.Order (Ok done)
 IsSettled (Err (order_fault.Refused why)) given = given ≡ givens.Order (Err why)

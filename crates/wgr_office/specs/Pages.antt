@@ -1,4 +1,4 @@
--- What an accepted request is shown as, and what a request comes to.
+-- The reply to an accepted request, and the result of a request.
 use Rattle.std.specs.Prelude.{◌≡◌, ◌⊎◌, ℕ, List, [], ◌∷◌, codes, Option, Some, None, Result, Ok, Err}
 use Rattle.std.specs.declared.vec.Vec.{Vec}
 use Rattle.std.specs.declared.alloc.Global.{Global}
@@ -27,7 +27,7 @@ use Rattle.wgr_request.specs.Request.{RequestView, Requests, ask, networks, refu
 use Rattle.wgr_request.specs.declared.fault.RequestFault.{RequestFault}
 use Rattle.wgr_request.specs.declared.fault.RequestFault.TheVariants as fault
 
--- what is given, as a reply; where a reply allows a file, the file is given
+-- the answer, as a reply; if a reply allows a file, the file is returned
 abbrev pub given_shown : GivenValue → Shown
 given_shown (OfReply (reply.Peer peer)) = done (json (peer_data peer))
 given_shown (OfReply (reply.Revoked number)) = done (json (revoked_data number))
@@ -47,7 +47,7 @@ fault_page why = shown_bytes (fault_shown why)
 
 -- ---- the event of a request, and the bytes of its answer
 
--- a request that its bytes decide has the reply that they decide
+-- a request whose bytes alone decide the reply has that reply
 abbrev pub event_of : ℕ → RequestView → Event
 event_of now (refused why digest) = Decided digest (fault_page why)
 event_of now (networks digest) = Networks digest
@@ -71,25 +71,25 @@ answer_bytes now UnknownToken = fault_page fault.UnknownToken
 answer_bytes now NoSuchNetwork = nowhere_page
 answer_bytes now answer = page_if (given_of now answer)
 
--- the message is this request, and what it asks is of the forms that the types of its fields keep
+-- the message is this request, and its fields have the forms that their types require
 pub record IsReadAs (now : ℕ) (message : Bytes) (r : RequestView) : Type 0 where
   pub asks : Requests message r
   pub proper : IsProper (event_of now r)
 
--- The bytes are those of the answer of a step for the request that the message is; or the request is
--- answered Unavailable, the rows are as they were, and a stop may leave it done.
+-- The bytes are those of the answer of a step for the request in the message; or the request is
+-- answered Unavailable, the rows are unchanged, and a stop may leave it done.
 abbrev pub IsAnswered : {S : Type 0} → Ghosts S → Held S → Database → List Event → ℕ → Bytes → given.Answer → Type 0
 IsAnswered g conn db late now message (givens.Bytes bytes) = (r : RequestView) × IsReadAs now message r × EndsWith g conn db late (event_of now r) (λ answer. bytes.items ≡ answer_bytes now answer)
 IsAnswered g conn db late now message (givens.Order done) = ⊥
 IsAnswered g conn db late now message givens.Unavailable = StandsAt g conn db late ⊎ ((r : RequestView) × IsReadAs now message r × StandsAt g conn db (event_of now r ∷ late))
 
--- so for what is asked
+-- the same for a parsed request
 abbrev pub Responds : {S : Type 0} → Ghosts S → Held S → Database → List Event → ℕ → RequestView → given.Answer → Type 0
 Responds g conn db late now r (givens.Bytes bytes) = EndsWith g conn db late (event_of now r) (λ answer. bytes.items ≡ answer_bytes now answer)
 Responds g conn db late now r givens.Unavailable = StandsAt g conn db (event_of now r ∷ late)
 Responds g conn db late now r (givens.Order done) = ⊥
 
--- ---- what becomes of a reply
+-- ---- from results to answers
 
 abbrev pub IsMade : Result (Vec ℕ Global) AllocError → given.Answer → Type 0
 IsMade (Ok bytes) answer = answer ≡ givens.Bytes bytes

@@ -1,4 +1,4 @@
--- What the private and the preshared keys of a dump have no part in.
+-- Replies and views don't depend on the private and preshared keys of a dump.
 use Rattle.std.specs.Prelude.{◌≡◌, ℕ, List, Ok}
 use Rattle.wgr_dump.specs.Laws.{DifferInSecrets}
 use Rattle.wgr_http.specs.Message.{Answers, MessageView}
@@ -11,7 +11,7 @@ use Rattle.wgr_request.specs.Target.{resolved}
 use Rattle.wgr_request.specs.Target as target
 use Rattle.wgr_office.specs.Pages.{IsReadAs, answer_bytes, event_of}
 
--- two messages with a dump for one network, whose private and preshared keys alone differ
+-- two messages with a dump for one network that differ only in private and preshared keys
 pub record DifferInKeys (one other : Bytes) : Type 0 where
   pub message : MessageView
   pub body : Bytes
@@ -21,7 +21,7 @@ pub record DifferInKeys (one other : Bytes) : Type 0 where
   pub dump : resolved message.method message.target ≡ Ok (target.dump name)
   pub differ : DifferInSecrets message.body body
 
--- equal replies, byte for byte, and rows that show each tenant the same
+-- equal replies, byte for byte, and rows that show each tenant the same view
 pub record AreAlike (now : ℕ) (a b : Answer) (u v : Tables) : Type 0 where
   pub replies : answer_bytes now a ≡ answer_bytes now b
   pub views : (me : Bytes) → rows_view u me ≡ rows_view v me

@@ -1,4 +1,4 @@
--- What a connection is given.
+-- How a connection is served.
 use Rattle.std.specs.Prelude.{◌≡◌, ◌<◌, ℕ, Bool, true, List, [], length, take, Option, IfSome}
 use Rattle.std.specs.declared.vec.Vec.{Vec}
 use Rattle.std.specs.declared.alloc.Global.{Global}
@@ -18,23 +18,23 @@ use Rattle.wgr_office.specs.declared.serve.ServeFault.TheVariants as fault
 use Rattle.wgr_register.specs.Standing.{StandsAt}
 use Rattle.wgr_request.specs.Laws.{RequestsAs}
 
--- the bytes that are written for an answer, which an order has none of
+-- the bytes written for an answer; none for an order
 abbrev pub reply_of : given.Answer → Bytes
 reply_of (givens.Bytes bytes) = bytes.items
 reply_of givens.Unavailable = shown_bytes unavailable_shown
 reply_of (givens.Order done) = []
 
--- a message was answered at this moment, wherever the register stood
+-- a message was answered at this moment, whatever the rows of the register were
 abbrev pub IsAnsweredAt : {S : Type 0} → Ghosts S → Held S → Held S → ℕ → Bytes → given.Answer → Type 0
 IsAnsweredAt g old new now message answer = (db : Database) (late : List Event) → StandsAt g old db late → IsAnswered g new db late now message answer
 
--- what a message asks, all bytes of the reader ask, where they are known; want of memory is answered whatever they ask
+-- a message asks what all bytes of the reader ask, where they are known, unless it is answered Unavailable
 abbrev pub AsksAll : Bytes → Option Bytes → given.Answer → Type 0
 AsksAll message input (givens.Bytes bytes) = RequestsAs message input
 AsksAll message input (givens.Order done) = RequestsAs message input
 AsksAll message input givens.Unavailable = Unit {0}
 
--- A message that memory holds was answered; and so were all bytes that the reader has, where they are
+-- A message held in memory was answered; and the answer is also one to all bytes of the reader, where they are
 -- known.
 pub record Takes {S : Type 0} (g : Ghosts S) (old new : Held S) (now : ℕ) (input : Option Bytes) (answer : given.Answer) : Type 0 where
   pub message : Vec ℕ Global
@@ -42,8 +42,8 @@ pub record Takes {S : Type 0} (g : Ghosts S) (old new : Held S) (now : ℕ) (inp
   pub all : IfSome input (λ bytes. IsAnsweredAt g old new now bytes answer)
   pub asks : AsksAll message.items input answer
 
--- The message was taken of a reader, and no more than decides its answer. No read was made once that was there,
--- so a client that keeps its side open is answered. The last but one are what the reader's calls gave.
+-- The message was read from a reader, and is no longer than decides its answer. No read was made after that,
+-- so a client that keeps its side open is answered. `was` and `now` are what the reader's calls returned.
 pub record IsTaken (before after : Option Bytes) (was now : Option (List Bytes)) (message : Bytes) : Type 0 where
   pub taken : Consumes before after message
   pub no_more : IsNoMore message
@@ -53,14 +53,14 @@ pub record IsTaken (before after : Option Bytes) (was now : Option (List Bytes))
 abbrev pub IsReplied : {S : Type 0} → Ghosts S → Held S → Held S → ℕ → Bytes → Option Bytes → Option Bytes → Type 0
 IsReplied g old new now message before after = (answer : given.Answer) × IsAnsweredAt g old new now message answer × Appends before after (reply_of answer)
 
--- a reader and a writer at a moment
+-- the states of a reader and a writer
 pub record Ends : Type 0 where
   pub input : Option Bytes
   pub read_failed : Bool
   pub written : Option Bytes
   pub write_failed : Bool
 
--- A read failed, and nothing was done or written; or a write failed behind the first bytes of the reply
+-- A read failed, and nothing was done or written; or a write failed after the first bytes of the reply
 -- to what was answered.
 abbrev pub IsServeFault : {S : Type 0} → Ghosts S → Held S → Held S → ℕ → Ends → Ends → ServeFault → Type 0
 IsServeFault g old new now before after fault.Read = (after.read_failed ≡ true) × (new ≡ old) × (after.written ≡ before.written) × (after.write_failed ≡ before.write_failed)

@@ -1,4 +1,4 @@
--- What a tenant is given, byte for byte, in two worlds.
+-- The replies to a tenant, byte for byte, in two worlds.
 use Rattle.std.specs.Prelude.{◌≡◌, ℕ, Bool, List, [], ◌∷◌, Option, Some, None}
 use Rattle.wgr_model.specs.Register.{Bytes, View}
 use Rattle.wgr_model.specs.RowLaws.{rows_view}
@@ -17,7 +17,7 @@ bytes_given (givens.Bytes bytes) = bytes.items
 bytes_given givens.Unavailable = []
 bytes_given (givens.Order done) = []
 
--- the replies that were given where the tenant alone has an answer, those answered Unavailable left out
+-- the replies where the run on the tenant's own rows has an answer, but for those answered Unavailable
 abbrev pub replies_to : List given.Answer → List (Option Answer) → List Bytes
 replies_to [] alone = []
 replies_to (givens.Unavailable ∷ answers) alone = replies_to answers alone
@@ -25,9 +25,9 @@ replies_to (given ∷ answers) [] = []
 replies_to (given ∷ answers) (None ∷ alone) = replies_to answers alone
 replies_to (given ∷ answers) (Some answer ∷ alone) = bytes_given given ∷ replies_to answers alone
 
--- ---- what the own events of a tenant give on its own rows alone
+-- ---- what a tenant's own events give on its own rows alone
 
--- the moment that a reply may hang on
+-- the moment on which a reply may depend
 abbrev pub moment_of : Event → ℕ
 moment_of (Ask digest name now command) = now
 moment_of e = 0
@@ -60,7 +60,7 @@ abbrev pub replies_in : Bytes → World → List Bytes
 replies_in tenant w = replies_to w.answers (tenant_run tenant (rows_view w.rows tenant) (acknowledged w.served)).0
 
 -- Two registers whose rows show a tenant one view, and on each a list of events, such that the lists
--- agree, in order, on the events that are the tenant's own: it is given the same replies, byte for
+-- agree, in order, on the events that are the tenant's own: it gets the same replies, byte for
 -- byte, and the rows at the end show it one view.
 abbrev pub WorldsAreAlike : Type 0
 WorldsAreAlike = (tenant : Bytes) (w x : World) → IsWorld w → IsWorld x → rows_view w.rows tenant ≡ rows_view x.rows tenant

@@ -8,19 +8,19 @@ use wgr_register::{AskFault, Done, OrderRefusal};
 use wgr_reply::{Response, unavailable, write_response};
 use wgr_request::RequestFault;
 
-/// What an event is answered.
+/// The answer to an event.
 #[derive(Drop)]
 pub enum Answer {
     /// The bytes of the reply to a request.
     Bytes(Vec<u8>),
-    /// Memory or the store failed; the rows are as before.
+    /// Memory or the store failed; the rows are unchanged.
     Unavailable,
-    /// The order is done or refused. `Office::answer` never gives it, `Office::run` does.
+    /// The order is done or refused. `Office::run` returns this, `Office::answer` never does.
     Order(Result<Done, OrderRefusal>),
 }
 
 impl Answer {
-    /// The bytes that are written to a client: of the reply, or of [`unavailable`]. An order has none.
+    /// The bytes written to a client: those of the reply, or of [`unavailable`]. An order has none.
     pub fn reply(&self) -> &[u8]
         ensures { result.now ≡ reply_of self.now }
     {
@@ -32,7 +32,7 @@ impl Answer {
     }
 }
 
-// The answer of a reply that was made, or not for want of memory.
+// The answer for a reply, or `Unavailable` if there was no memory to make it.
 pub(crate) fn made(reply: Result<Vec<u8>, AllocError>) -> Answer
     ensures { IsMade reply result }
 {
@@ -42,7 +42,7 @@ pub(crate) fn made(reply: Result<Vec<u8>, AllocError>) -> Answer
     }
 }
 
-// The answer of how an ask ended.
+// The answer for the result of a request.
 pub(crate) fn ended(alloc: Global, asked: Result<Vec<u8>, AskFault>) -> Answer
     ensures { IsEnd asked result }
 {

@@ -1,6 +1,6 @@
-//! Requests of tenants over a register, from their bytes to those of the replies.
+//! Answers tenants' requests from a register: from the bytes of a request to the bytes of its reply.
 //!
-//! An [`Office`] reads what a request asks by `wgr_request`, asks the register, and makes the reply by
+//! An [`Office`] parses a request with `wgr_request`, asks the register, and makes the reply with
 //! `wgr_reply`.
 #![tactic(auto)]
 

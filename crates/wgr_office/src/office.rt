@@ -1,4 +1,4 @@
-//! Requests of tenants, from their bytes to those of the replies.
+//! Tenants' requests, from their bytes to the bytes of the replies.
 ghost use Rattle.std.specs.Prelude.{◌≡◌, ℕ, List, length, IfErr, IfOk, OnErr, OnOk};
 ghost use Rattle.std.specs.declared.vec.Vec.{Vec};
 ghost use Rattle.std.specs.declared.alloc.Global.{Global};
@@ -24,7 +24,7 @@ use wgr_register::{Done, Order, OrderFault, Register};
 use wgr_reply::{Response, write_response};
 use wgr_request::{Paths, Request, request_of};
 
-/// Answers the requests of tenants over a register.
+/// Answers tenants' requests from a register.
 pub struct Office<S: Alter> {
     register: Register<S>,
     paths: Paths,
@@ -41,7 +41,7 @@ impl<S: Alter> Model for Office<S> {
 }
 
 impl<S: Alter> Office<S> {
-    /// The office of a register, which comes back for want of memory.
+    /// The office of a register, which is returned if there is no memory.
     pub fn new(alloc: Global, register: Register<S>) -> Result<Office<S>, Register<S>>
         ensures ok { IfOk result (λ office. office ≡ register) }
         ensures err { IfErr result (λ kept. kept ≡ register) }
@@ -52,14 +52,14 @@ impl<S: Alter> Office<S> {
         }
     }
 
-    /// Does nothing. Every register is at rest: while its disk is clean, there are rows at which it stands.
-    pub fn tell_rules(&self)
+    /// Does nothing. No register is in the middle of a change: while its disk is clean, it is at some rows.
+    pub fn rules_hold(&self)
         ensures { IsAtRest S.Store self.now }
     {
-        self.register.tell_rules();
+        self.register.rules_hold();
     }
 
-    /// The register, as it stands.
+    /// The register, unchanged.
     pub fn into_register(self) -> Register<S>
         ensures { result ≡ self }
     {
@@ -81,7 +81,7 @@ impl<S: Alter> Office<S> {
         }
     }
 
-    /// Does an order of the operator, or refuses it.
+    /// Carries out an operator's order, or refuses it.
     pub(crate) fn operate(&mut self, alloc: Global, order: &Order) -> Result<Done, OrderFault>
         ensures clean { HasCleanDisk (state S.Store self.new) → HasCleanDisk (state S.Store self.old) }
         ensures ends { (db : Database) (late : List Event) → StandsAt S.Store self.old db late → OrderEnds S.Store self.new db late (order_event order.now) result }
@@ -89,22 +89,22 @@ impl<S: Alter> Office<S> {
         self.register.operate(alloc, order)
     }
 
-    /// Answers all events in turn, each in its place. Where there is no memory for the answers, none is
+    /// Answers all events in order. If there is no memory for the answers, no event is
     /// done.
     ///
-    /// Each tenant gets the answers, byte for byte, and in the end has the tokens and networks that its own
-    /// requests and the accepted orders about it give on its own rows alone, requests answered
-    /// `Unavailable` left out; and no two peers, of whatever networks, have the same address.
+    /// Each tenant gets the answers, byte for byte, and finally has the tokens and networks that its own
+    /// requests and the accepted orders about it give on its own rows alone, leaving out requests answered
+    /// `Unavailable`; and no two peers, in any networks, have the same address.
     pub fn run(&mut self, alloc: Global, events: &[run::Event]) -> Result<Vec<Answer>, AllocError>
         ensures each { IfOk result (λ answers. length answers.items ≡ length events.now) }
         ensures clean { HasCleanDisk (state S.Store self.new) → HasCleanDisk (state S.Store self.old) }
         ensures run { IfOk result (λ answers. (db : Database) (late : List Event) → StandsAt S.Store self.old db late → HasCleanDisk (state S.Store self.new) → HasRun S.Store self.new db late events.now answers.items) }
         ensures isolated { IfOk result (λ answers. HasCleanDisk (state S.Store self.new) → (db : Database) × (late : List Event) × StandsAt S.Store self.old db late × HasRun S.Store self.new db late events.now answers.items) }
-        // Between the events too: the connection after each, and the rows at which the register stands there.
+        // Also between the events: the connection after each event, and the rows at which the register is then.
         ensures between { IfOk result (λ answers. (db : Database) (late : List Event) → StandsAt S.Store self.old db late → HasCleanDisk (state S.Store self.new) → HasPassed S.Store self.old self.new db late events.now answers.items) }
         ensures undone { OnErr result (self.new ≡ self.old) }
     {
-        self.register.tell_rules();
+        self.register.rules_hold();
         run::run(alloc, self, events)
     }
 }
@@ -128,7 +128,7 @@ fn respond<S: Alter>(
             name,
             command,
         } => {
-            command.tell_forms();
+            command.forms_hold();
             ended(
                 alloc,
                 register.ask(alloc, &digest, name, now, &command, &Pages),

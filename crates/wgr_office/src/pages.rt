@@ -1,4 +1,4 @@
-//! Accepted requests as replies.
+//! Replies to accepted requests.
 ghost use Rattle.std.specs.Prelude.{◌≡◌, IfOk};
 ghost use Rattle.wgr_office.specs.Pages.{page};
 ghost use Rattle.wgr_register.specs.Given.{OfReply};
@@ -8,7 +8,7 @@ use wgr_core::Reply;
 use wgr_register::{Given, Render};
 use wgr_reply::{Response, write_response};
 
-/// Makes the whole reply of what an accepted request gives.
+/// Makes the whole reply to an accepted request.
 pub(crate) struct Pages;
 
 impl Render for Pages {
@@ -23,7 +23,7 @@ impl Render for Pages {
     }
 }
 
-// The reply of what a command answers. Where it allows a file, the file is given, and not it.
+// The reply to a command. If the command's answer allows a file, the reply is that file.
 fn write_page(alloc: Global, reply: &Reply) -> Result<Vec<u8>, AllocError>
     ensures { IfOk result (λ bytes. bytes.items ≡ page (OfReply reply.now)) }
 {

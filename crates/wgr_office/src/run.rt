@@ -1,4 +1,4 @@
-//! Lists of events.
+//! Runs lists of events.
 ghost use Rattle.std.specs.Prelude.{◌≡◌, List, length, IfOk, OnErr};
 ghost use Rattle.sqlite.specs.Effect.{Database};
 ghost use Rattle.sqlite.specs.State.{HasCleanDisk};
@@ -15,16 +15,16 @@ use std::alloc::{AllocError, Global};
 use wgr_model::laws::rows_are_isolated;
 use wgr_register::{Done, Order, OrderFault};
 
-/// What comes to a register.
+/// An event for a register.
 #[derive(Drop)]
 pub enum Event {
-    /// A tenant's request: a message, and the moment at which it came (seconds since 1970-01-01).
+    /// A tenant's request: a message, and the moment at which it arrived (seconds since 1970-01-01).
     Ask { now: u64, bytes: Vec<u8> },
     /// An order of the operator.
     Order(Order),
 }
 
-// Answers all events in turn; where there is no memory for the answers none is done.
+// Answers all events in order; if there is no memory for the answers, no event is done.
 pub(crate) fn run<S: Alter>(
     alloc: Global,
     office: &mut Office<S>,
@@ -53,13 +53,13 @@ fn serve<S: Alter>(alloc: Global, office: &mut Office<S>, event: &Event) -> Answ
     match event {
         Event::Ask { now, bytes } => office.answer(alloc, *now, bytes.as_slice()),
         Event::Order(order) => {
-            order.tell_forms();
+            order.forms_hold();
             settled(office.operate(alloc, order))
         }
     }
 }
 
-// The answer of how an order ended.
+// The answer for the result of an order.
 fn settled(ended: Result<Done, OrderFault>) -> Answer
     ensures { IsSettled ended result }
 {

@@ -1,4 +1,4 @@
-//! One connection: a message is read and answered, and the reply written.
+//! Serves one connection: reads a message, answers it, and writes the reply.
 ghost use Rattle.std.specs.Prelude.{◌≡◌, ℕ, true, IfErr, IfOk, OnErr, OnOk};
 ghost use Rattle.std.specs.Io.KnownBytes.{Appends};
 ghost use Rattle.sqlite.specs.State.{HasCleanDisk};
@@ -16,21 +16,21 @@ use wgr_http::read_message;
 use wgr_io::{DeviceError, Read, ReadFault, Write, WriteFault, write_all};
 use wgr_request::laws::beginnings_ask;
 
-/// Why a connection was not served to its end.
+/// Why a connection was not fully served.
 #[derive(Clone, Copy, Debug, PartialEq, Eq)]
 pub enum ServeFault {
     /// Reading failed: nothing was done, and nothing written.
     Read,
-    /// Writing failed: the request was answered, and so many bytes of the reply went out.
+    /// Writing failed: the request was answered, and this many bytes of the reply were written.
     Write { sent: usize },
 }
 
 impl<S: Alter> Office<S> {
     /// Reads a message, answers it at this moment (seconds since 1970-01-01), and writes the reply.
     ///
-    /// Want of memory to read it is answered by the bytes of [`unavailable`](wgr_reply::unavailable).
-    /// Nobody knows which request such a message is. In a list of events it stands as one that asks
-    /// nothing, and is left out of what is compared.
+    /// If there is no memory to read it, the reply is [`unavailable`](wgr_reply::unavailable).
+    /// Which request such a message holds is unknown. In a list of events it counts as one that asks
+    /// nothing, and it is left out of comparisons.
     pub fn serve_one<R: Read, W: Write>(
         &mut self,
         alloc: Global,
@@ -40,7 +40,7 @@ impl<S: Alter> Office<S> {
     ) -> Result<(), ServeFault>
         ensures clean { HasCleanDisk (state S.Store self.new) → HasCleanDisk (state S.Store self.old) }
         ensures ok { OnOk result ((answer : given.Answer) × Takes S.Store self.old self.new now (R.remaining input.old) answer × Appends (W.contents out.old) (W.contents out.new) (reply_of answer)) }
-        // No read is made once the message is decided: a client may keep its side open.
+        // No read is made once the answer is decided: a client may keep its side open.
         ensures taken { (message : Vec ℕ Global)
             × IsTaken (R.remaining input.old) (R.remaining input.new) (R.pieces input.old) (R.pieces input.new) message.items
             × OnOk result (IsReplied S.Store self.old self.new now message.items (W.contents out.old) (W.contents out.new)) }
@@ -61,7 +61,7 @@ impl<S: Alter> Office<S> {
     }
 }
 
-// The answer to what a reader gives; Unavailable where there is no memory to read it.
+// The answer to what a reader returns; Unavailable if there is no memory to read it.
 fn answered<S: Alter, R: Read>(
     alloc: Global,
     office: &mut Office<S>,

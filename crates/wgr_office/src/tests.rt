@@ -8,7 +8,7 @@ mod many;
 mod messages;
 mod streams;
 
-/// The text of the key for which this letter stands in tables.
+/// The text of the key that this letter denotes in tables.
 fn key_text(letter: u8) -> Option<&'static [u8]> {
     match letter {
         b'^' => Some(b"AAAAAAAAAAAAAAAAAAAAAAAAAAAAAAAAAAAAAAAAAAA="),
@@ -20,7 +20,7 @@ fn key_text(letter: u8) -> Option<&'static [u8]> {
     }
 }
 
-/// The text of a table: in it `^`, `@`, `&`, `~` and `$` stand for the keys of 32 bytes 0x00, 0x01, 0x02,
+/// The text of a table, in which `^`, `@`, `&`, `~` and `$` denote the keys of 32 bytes 0x00, 0x01, 0x02,
 /// 0x03 and 0x09.
 fn text_of(rt: &(impl Abort + AllocGlobal), row: &[u8]) -> Vec<u8> {
     let mut text = Vec::new(rt.alloc());
@@ -32,7 +32,7 @@ fn text_of(rt: &(impl Abort + AllocGlobal), row: &[u8]) -> Vec<u8> {
     text
 }
 
-/// A head, and the body behind it.
+/// A head, followed by the body.
 fn joined(rt: &(impl Abort + AllocGlobal), head: &str, body: &[u8]) -> Vec<u8> {
     let mut bytes = Vec::new(rt.alloc());
     bytes
@@ -42,7 +42,7 @@ fn joined(rt: &(impl Abort + AllocGlobal), head: &str, body: &[u8]) -> Vec<u8> {
     bytes
 }
 
-/// The whole reply. `lines` stand between those of the length and of the connection.
+/// The whole reply. `lines` are header lines between `Content-Length` and `Connection`.
 fn reply(rt: &(impl Abort + AllocGlobal), status: &str, lines: &str, body: &str) -> Vec<u8> {
     let body = text_of(rt, body.as_bytes());
     let length = body.len();

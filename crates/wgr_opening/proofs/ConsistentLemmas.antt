@@ -16,7 +16,7 @@ use Rattle.wgr_model.proofs.KeptLemmas.{distinct_filter}
 use Rattle.wgr_model.proofs.MemberLemmas.{permuted}
 use Rattle.wgr_model.proofs.OrderLemmas.{from_filter}
 use Rattle.wgr_model.proofs.SameLemmas.{at_has, eqb_sym}
-use Rattle.wgr_tables.specs.Told.{IsTold}
+use Rattle.wgr_tables.specs.Stored.{IsStored}
 use Rattle.wgr_tables.proofs.RouteRests.{allowed_self, allowed_sym, pair_sym}
 use Rattle.wgr_opening.specs.Whole.{AreWhole, IsNamed}
 
@@ -124,7 +124,7 @@ module _ (t : Tables) (good : AreConsistent t) where
           (subst (λ (x : AllowedRow). (x.is_route && nat_eq x.network w.id) ≡ true) p.2 (eqb_self w.id))),
     )
 
-    told : IsTold t w.id h.network
+    told : IsStored t w.id h.network
     told =
         let rules = (holding w here).rules in
         record {

@@ -35,7 +35,7 @@ use Rattle.wgr_checks.proofs.TokenLaws.{good_tokens_are}
 use Rattle.wgr_checks.proofs.TokenLemmas.{int_is}
 use Rattle.wgr_checks.specs.PeerRows.{AreWrittenPeers, IsPeerRow}
 use Rattle.wgr_checks.specs.AllowedRows.{AreWrittenAllowed, IsAllowedRow}
-use Rattle.wgr_opening.specs.Good.{IsGood, TellsNetwork}
+use Rattle.wgr_opening.specs.Good.{IsGood, StoresNetwork}
 use Rattle.wgr_opening.specs.Whole.{AreWhole, IsThere}
 use Rattle.wgr_opening.proofs.ConsistentLemmas.{consistent_is_whole, holding, pair_self}
 
@@ -144,8 +144,8 @@ module _ (db : Database) (good : IsGood db) where
           (all_from (λ r. list_any (λ id. nat_eq (number_at r 1) id) ids ≡ true) (db.trees 10) (λ r here. among (number_at r 1) (whole.allowed (allowed_in r) (has_map allowed_in (db.trees 10) r (to_model (db.trees 10) r here)))));
     }
 
-    pub all_told : AllByRecursion (TellsNetwork t) ids
-    all_told = all_from (TellsNetwork t) ids (λ id here.
+    pub all_told : AllByRecursion (StoresNetwork t) ids
+    all_told = all_from (StoresNetwork t) ids (λ id here.
         let listed = has_permutation ids (map (λ r. number_at r 0) (db.trees 5)) id (IsPermutation-sym (map (λ r. number_at r 0) (db.trees 5)) ids are.same) (to_model ids id here) in
         let row = from_map (λ (r : Row). number_at r 0) (db.trees 5) id listed in
-        subst (TellsNetwork t) row.2 (whole.told (network_in row.0) (has_map network_in (db.trees 5) row.0 row.1)))
+        subst (StoresNetwork t) row.2 (whole.told (network_in row.0) (has_map network_in (db.trees 5) row.0 row.1)))

@@ -39,7 +39,7 @@ use Rattle.wgr_checks.proofs.TenantLaws.{good_is}
 use Rattle.wgr_checks.proofs.NetworkLaws.{good_networks_are}
 use Rattle.wgr_checks.proofs.TokenLaws.{good_tokens_are}
 use Rattle.wgr_checks.proofs.MemberLaws.{allowed_are, peers_are}
-use Rattle.wgr_opening.specs.Good.{HasEntries, HasTables, IsGood, TellsNetwork}
+use Rattle.wgr_opening.specs.Good.{HasEntries, HasTables, IsGood, StoresNetwork}
 use Rattle.wgr_opening.specs.Whole.{AreWhole, IsNamed, IsThere}
 use Rattle.wgr_opening.proofs.WholeLemmas.{whole_is_consistent}
 
@@ -152,7 +152,7 @@ module _ (db : Database) (laid : IsLaidOut db.schema) (first : SaysFirst (db.tre
       let row = from_map (λ (r : Row). number_at r 0) (db.trees 5) id.0 listed in
       (network_in row.0, has_map network_in (db.trees 5) row.0 row.1, row.2 ∙ sym (nat_eq_is owner id.0 id.2))
 
-  whole : AllByRecursion (TellsNetwork t) ids → AreWhole t
+  whole : AllByRecursion (StoresNetwork t) ids → AreWhole t
   whole told = record {
     meta = sym (map_map (λ (r : Row). column r 0) (λ v. record { version = unsigned_abs (id_in v) }) (db.trees 0)) ∙ ap (map (λ v. record { version = unsigned_abs (id_in v) })) first;
     tenants = record { each = tenants.each; ids = tenants.ids; names = tenants.names; few = subst (λ n. n ≤ 65536) (sym (length-map (db.trees 1) tenant_in)) entries.few };
@@ -166,12 +166,12 @@ module _ (db : Database) (laid : IsLaidOut db.schema) (first : SaysFirst (db.tre
       owners = networks.owners;
       few = networks.few;
     };
-    told = λ w here. at_has (TellsNetwork t) ids w.id told (has_id w here);
+    told = λ w here. at_has (StoresNetwork t) ids w.id told (has_id w here);
     peers = λ p here. there p.network (at_has (λ owner. list_any (λ id. nat_eq owner id) ids ≡ true) (map (λ (x : PeerRow). x.network) t.peers) p.network peers.2 (has_map (λ (x : PeerRow). x.network) t.peers p here));
     allowed = λ a here. there a.network (at_has (λ owner. list_any (λ id. nat_eq owner id) ids ≡ true) (map (λ (x : AllowedRow). x.network) t.allowed) a.network allowed.2 (has_map (λ (x : AllowedRow). x.network) t.allowed a here));
   }
 
-  pub is_good : AllByRecursion (TellsNetwork t) ids → IsGood db
+  pub is_good : AllByRecursion (StoresNetwork t) ids → IsGood db
   is_good told = record { register = register; consistent = whole_is_consistent t (whole told) }
 
 -- the register that an open connection showed stands after a reading where it stood

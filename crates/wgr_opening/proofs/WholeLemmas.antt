@@ -16,7 +16,7 @@ use Rattle.wgr_model.proofs.GatherLemmas.{eqb_self, in_filter, map_map}
 use Rattle.wgr_model.proofs.HolderLemmas.{one_or_apart}
 use Rattle.wgr_model.proofs.OrderLemmas.{from_filter}
 use Rattle.wgr_model.proofs.SameLemmas.{at_has, eqb_sym, has_permutation}
-use Rattle.wgr_tables.specs.Told.{IsTold}
+use Rattle.wgr_tables.specs.Stored.{IsStored}
 use Rattle.wgr_tables.proofs.LoadLemmas.{network_is_read}
 use Rattle.wgr_model.specs.RowLaws.{AreConsistent}
 use Rattle.wgr_opening.specs.Whole.{AreWhole, IsNamed, IsThere}
@@ -48,7 +48,7 @@ routes_at t i = filter (λ a. a.is_route && nat_eq a.network i) t.allowed
 abbrev held : ℕ → NetworkValue → Holding
 held i n = record { id = i; tenant = 0; name = []; network = n }
 
-module _ (t : Tables) (i : ℕ) (n : NetworkValue) (told : IsTold t i n) where
+module _ (t : Tables) (i : ℕ) (n : NetworkValue) (told : IsStored t i n) where
   own_peers_apart : IsDistinct same_pair (map (λ p. (p.network, number_in p.network p.id)) (peers_at t i))
   own_peers_apart = apart_in same_pair pair_sym (λ p. (p.network, number_in p.network p.id)) (peers_at t i) (map (peer_row i) n.peers) told.peers (peers_apart (held i n) told.rules)
 
@@ -82,8 +82,8 @@ by_network a b other = ap (λ x. x && nat_eq (allowed_key a).1 (allowed_key b).1
 
 module _ (t : Tables) (whole : AreWhole t) where
   -- what the rows of a network that is there tell
-  at : (i : ℕ) → IsThere t i → (n : NetworkValue) × IsTold t i n
-  at i there = let found = whole.told there.0 there.1 in (found.0, subst (λ j. IsTold t j found.0) there.2 found.1)
+  at : (i : ℕ) → IsThere t i → (n : NetworkValue) × IsStored t i n
+  at i there = let found = whole.told there.0 there.1 in (found.0, subst (λ j. IsStored t j found.0) there.2 found.1)
 
   peer_keys : IsDistinct same_pair (map (λ p. (p.network, number_in p.network p.id)) t.peers)
   peer_keys = by_parts same_pair (λ (p : PeerRow). (p.network, number_in p.network p.id)) (λ a b. nat_eq b.network a.network) (λ a. eqb_self a.network) t.peers
@@ -103,7 +103,7 @@ module _ (t : Tables) (whole : AreWhole t) where
 
   parts_apart : (a b : AllowedRow) → Has t.allowed a → Has t.allowed b → part_of a.is_route a.network b ≡ false → same_allowed (allowed_key a) (allowed_key b) ≡ false
   parts_apart a b here there other = by_kind a.is_route b.is_route refl refl (nat_eq b.network a.network) refl where
-    told : (n : NetworkValue) × IsTold t a.network n
+    told : (n : NetworkValue) × IsStored t a.network n
     told = at a.network (whole.allowed a here)
 
     by_kind : (r s : Bool) → a.is_route ≡ r → b.is_route ≡ s → (same : Bool) → nat_eq b.network a.network ≡ same → same_allowed (allowed_key a) (allowed_key b) ≡ false
@@ -127,7 +127,7 @@ module _ (t : Tables) (whole : AreWhole t) where
   -- ---- each network, as it is read
 
   module _ (w : NetworkRow) (here : Has t.networks w) where
-    told_at : (n : NetworkValue) × IsTold t w.id n
+    told_at : (n : NetworkValue) × IsStored t w.id n
     told_at = whole.told w here
 
     row_is : told_at.1.row ≡ w

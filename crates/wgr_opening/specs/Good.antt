@@ -7,7 +7,7 @@ use Rattle.wgr_model.specs.Rows.{Tables}
 use Rattle.wgr_model.specs.RowLaws.{AreConsistent}
 use Rattle.wgr_columns.specs.Layout.{allowed_tree, network_tree, peer_tree, tenant_tree, token_tree}
 use Rattle.wgr_columns.specs.Decode.{IsRegister, tables_of}
-use Rattle.wgr_tables.specs.Told.{IsTold}
+use Rattle.wgr_tables.specs.Stored.{IsStored}
 use Rattle.wgr_checks.specs.TenantRows.{AreGoodTenants, AreIdsOf}
 use Rattle.wgr_checks.specs.TokenRows.{AreGoodTokens}
 use Rattle.wgr_checks.specs.NetworkRows.{AreGoodNetworks}
@@ -15,7 +15,7 @@ use Rattle.wgr_checks.specs.PeerRows.{AreWrittenPeers}
 use Rattle.wgr_checks.specs.AllowedRows.{AreWrittenAllowed}
 use Rattle.wgr_model.specs.Consistent.{max_entries}
 
--- the rows of tenants and of tokens; the tenants have these ids, rising
+-- the rows of tenants and of tokens; the tenants have these ids, ascending
 pub record HasEntries (trees : Trees) (tenants : List ℕ) : Type 0 where
   pub apart : AreGoodTenants (trees tenant_tree)
   pub few : length (trees tenant_tree) ≤ max_entries
@@ -35,9 +35,9 @@ pub record HasTables (trees : Trees) (networks : List ℕ) : Type 0 where
   pub peers : AreWrittenPeers networks (trees peer_tree)
   pub allowed : AreWrittenAllowed networks (trees allowed_tree)
 
--- the rows of the network of this id tell a network that keeps the rules
-abbrev pub TellsNetwork : Tables → ℕ → Type 0
-TellsNetwork t id = (n : NetworkValue) × IsTold t id n
+-- the rows of the network of this id form a network that keeps the rules
+abbrev pub StoresNetwork : Tables → ℕ → Type 0
+StoresNetwork t id = (n : NetworkValue) × IsStored t id n
 
 -- a register whose rows are consistent
 pub record IsGood (db : Database) : Type 0 where

@@ -1,4 +1,4 @@
--- Rows that are those of a consistent register, told table by table.
+-- Rows that are those of a consistent register, stated table by table.
 use Rattle.std.specs.Prelude.{◌≡◌, ◌≤◌, ◌↔◌, ℕ, true, nat_eq, length, map}
 use Rattle.std.specs.List.{AllByRecursion, IsDistinct}
 use Rattle.wgr_peers.specs.Host.{IsHost}
@@ -8,7 +8,7 @@ use Rattle.wgr_model.specs.Consistent.{IsDigest, IsId, IsName, IsTenant, has_ten
 use Rattle.wgr_model.specs.Laws.{Has}
 use Rattle.wgr_model.specs.Rows.{AllowedRow, NetworkRow, PeerRow, Tables, first_version}
 use Rattle.wgr_model.specs.RowLaws.{AreConsistent}
-use Rattle.wgr_tables.specs.Told.{IsTold}
+use Rattle.wgr_tables.specs.Stored.{IsStored}
 
 pub record AreTenantsApart (t : Tables) : Type 0 where
   pub each : AllByRecursion IsTenant t.tenants
@@ -37,18 +37,18 @@ pub record AreNetworksApart (t : Tables) : Type 0 where
   pub owners : AllByRecursion (λ w. has_tenant t.tenants w.tenant ≡ true) t.networks
   pub few : length t.networks ≤ max_entries
 
--- the network of this id is there
+-- the network of this id exists
 abbrev pub IsThere : Tables → ℕ → Type 0
 IsThere t id = (w : NetworkRow) × Has t.networks w × (w.id ≡ id)
 
--- The rows of each table are those of entries that are apart, each network's rows tell a network that
--- keeps the rules, and no peer and no allowed prefix is of a network that isn't there.
+-- The rows of each table are those of distinct entries, each network's rows form a network that
+-- keeps the rules, and no peer and no allowed prefix is of a network that doesn't exist.
 pub record AreWhole (t : Tables) : Type 0 where
   pub meta : t.meta ≡ first_version
   pub tenants : AreTenantsApart t
   pub tokens : AreTokensApart t
   pub networks : AreNetworksApart t
-  pub told : (w : NetworkRow) → Has t.networks w → (n : NetworkValue) × IsTold t w.id n
+  pub told : (w : NetworkRow) → Has t.networks w → (n : NetworkValue) × IsStored t w.id n
   pub peers : (p : PeerRow) → Has t.peers p → IsThere t p.network
   pub allowed : (a : AllowedRow) → Has t.allowed a → IsThere t a.network
 

@@ -1,4 +1,4 @@
-//! Whether a database is a register whose rows are good. In this order are tested
+//! Whether a database is a register whose rows are good. The tests are, in this order,
 //!
 //! 1. the layout and its version (`wgr_schema`),
 //! 2. the rows of tenants,
@@ -6,7 +6,7 @@
 //! 4. of networks,
 //! 5. of peers,
 //! 6. and of allowed prefixes (`wgr_checks`, called in `read.rt`),
-//! 7. and each network as a whole, with its peers and routes (`wgr_tables`, called in `told.rt`).
+//! 7. and each network as a whole, with its peers and routes (`wgr_tables`, called in `stored.rt`).
 ghost use Rattle.std.specs.Prelude.{◌≡◌, [], false, Err, IsTrue, IfErr, IfOk, OnOk};
 ghost use Rattle.sqlite.specs.State.{HasCleanDisk, Survives};
 ghost use Rattle.sqlite.specs.Held.{state};
@@ -19,7 +19,7 @@ ghost use Rattle.wgr_tables.specs.Standing.{Stands};
 ghost use Rattle.wgr_opening.specs.Good.{IsGood};
 
 use crate::read::read_tables;
-use crate::told::networks_are_told;
+use crate::stored::networks_are_stored;
 use sqlite::{Alter, Connection};
 use std::alloc::Global;
 use wgr_schema::{RegisterFault, check_layout, register_fault};
@@ -43,11 +43,11 @@ fn rows_are_good<S: Alter>(alloc: Global, conn: &mut Connection<S>) -> Result<bo
     let Some(networks) = read_tables(alloc, conn)? else {
         return Ok(false);
     };
-    networks_are_told(alloc, conn, networks.as_slice())
+    networks_are_stored(alloc, conn, networks.as_slice())
 }
 
-/// Tells by `NotARegister` that the database lacks the register's tables or has those of another
-/// version, and by `NotGood` that it is of the first version, and its rows aren't those of a consistent
+/// `NotARegister` means that the database lacks the register's tables or has those of another version,
+/// and `NotGood` that it is of the first version, but its rows aren't those of a consistent
 /// register. A fault of the store has a cause. It changes nothing.
 pub fn check_register<S: Alter>(
     alloc: Global,

@@ -1,4 +1,4 @@
-//! What follows of the definitions. The function does nothing: its contract is the law.
+//! What follows from the definitions. The function does nothing: its contract is the law.
 ghost use Rattle.wgr_opening.specs.Whole.{WholeRowsAreConsistent};
 
 /// The rows that are whole are those of a consistent register.

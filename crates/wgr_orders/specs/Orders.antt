@@ -1,4 +1,4 @@
--- Orders and their refusals in the words of the model.
+-- Orders and their refusals in the model's terms.
 use Rattle.std.specs.Prelude.{◌≡◌, ℕ, false, Some, None, Result, Ok, Err, string_bytes}
 use Rattle.wgr_text.specs.Prefix.{PrefixValue}
 use Rattle.wgr_orders.specs.declared.refusal.OrderRefusal as refusal
@@ -30,13 +30,13 @@ order_event (ordered.EndToken digest) = EndToken digest
 order_event (ordered.AddNetwork tenant name settings) = AddNetwork tenant name settings
 order_event (ordered.EndNetwork tenant name) = EndNetwork tenant name
 
--- the checks of a new network are passed, and the pool is the one that is asked for; or one is not
+-- the checks of a new network pass, and the pool is the requested one; or one check fails
 abbrev pub IsChecked : Register → ℕ → Bytes → Settings → Result PrefixValue fault.OrderFault → Type 0
 IsChecked r id name settings (Ok pool) = (first_refusal (network_checks r id name settings) ≡ None) × (pool ≡ settings.pool)
 IsChecked r id name settings (Err (faulted.Refused why)) = first_refusal (network_checks r id name settings) ≡ Some (refusal_of why)
 IsChecked r id name settings (Err faulted.NoMemory) = Unit {0}
 
--- a new network passes the checks and has an id that no other has, or one check is not passed
+-- a new network passes the checks and has an id that no other has, or one check fails
 abbrev pub IsAdmitted : Register → ℕ → Bytes → Settings → Result ℕ refusal.OrderRefusal → Type 0
 IsAdmitted r tenant name settings (Ok new) = (first_refusal (network_checks r tenant name settings) ≡ None) × IsId new × (has_network r.networks new ≡ false)
 IsAdmitted r tenant name settings (Err why) = first_refusal (network_checks r tenant name settings) ≡ Some (refusal_of why)

@@ -1,4 +1,4 @@
--- Where an entry stands in a list.
+-- Where an entry is in a list.
 use Rattle.std.specs.Prelude.{◌≡◌, ℕ, ◌<◌, List, length, slice_index_or, slice_set, Some}
 use Rattle.wgr_core.specs.Network.{NetworkValue}
 use Rattle.wgr_model.specs.Register.{Bytes, Holding}

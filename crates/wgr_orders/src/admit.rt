@@ -13,8 +13,8 @@ use std::alloc::{AllocError, Global};
 use wgr_core::{Name, Pool};
 use wgr_model::MAX_ENTRIES;
 
-/// The id that a network of these settings takes beside these networks, or why it isn't added. Of
-/// the networks, their settings alone are looked at.
+/// The id for a network of these settings among these networks, or why it isn't added. Only the
+/// settings of the given networks are read.
 pub fn admit_network(
     alloc: Global,
     tenants: &[Tenant],
@@ -32,7 +32,7 @@ pub fn admit_network(
     }
 }
 
-/// The pool of a network of these settings, where it may be added beside these networks.
+/// The pool of a network of these settings, where it may be added to these networks.
 pub fn checked_pool(
     alloc: Global,
     tenants: &[Tenant],
@@ -70,7 +70,7 @@ pub fn new_id(alloc: Global, networks: &[Holding]) -> Result<u32, AllocError>
     Ok(unused_id(&ids))
 }
 
-/// Whether no more entries are taken.
+/// Whether a list of entries is full.
 pub fn is_full<T>(entries: &[T]) -> bool
     ensures { result ≡ is_full entries.now }
 {

@@ -1,4 +1,4 @@
-//! Tenants and networks, as an order is judged by them.
+//! Tenants and networks, as the checks of an order see them.
 use std::marker::Model;
 use wgr_core::{Name, Network};
 

@@ -11,7 +11,7 @@ mod overlap;
 mod refusal;
 
 pub use admit::{admit_network, checked_pool, is_full, new_id};
-pub use forms::{tell_digest, tell_name, tell_settings};
+pub use forms::{digest_has_form, name_has_form, settings_have_forms};
 pub use holding::{Holding, Tenant};
 pub use listing::put_entry;
 pub use look::{is_same, place_of, unused_id};

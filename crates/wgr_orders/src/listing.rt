@@ -6,7 +6,7 @@ use std::alloc::AllocError;
 use std::cmp::Ordering;
 use wgr_core::{Name, Network};
 
-/// Puts an entry in its place, in that of the one of its name if there is one.
+/// Puts an entry in its place, and replaces the one of its name if there is one.
 pub fn put_entry(
     entries: &mut Vec<(Name, Network)>,
     name: Name,
@@ -21,7 +21,7 @@ pub fn put_entry(
     Ok(())
 }
 
-// The place of the entry of this name, or else the one that it would have.
+// The place of the entry of this name, or else the place that it would have.
 fn entry_place(entries: &[(Name, Network)], name: &[u8]) -> Result<usize, usize>
     ensures { EntryPlace entries.now name.now result }
 {

@@ -1,4 +1,4 @@
-//! Look-ups, each a walk along one list.
+//! Lookups, each a walk along one list.
 ghost use Rattle.std.specs.Prelude.{◌≡◌, ◌<◌, length, map, nat_eq, false, MatchOption, None, IfOk};
 ghost use Rattle.std.specs.List.{list_any};
 ghost use Rattle.wgr_model.specs.Register.{is_same};

@@ -6,7 +6,7 @@ use std::marker::Model;
 use wgr_core::{Capacity, Host, Name, Pool, Port};
 use wgr_text::{Addr, Key};
 
-/// What an operator settles of a new network.
+/// The settings of a new network, which an operator chooses.
 #[derive(Debug, Drop)]
 pub struct Settings {
     /// The pool's first address.
@@ -44,7 +44,7 @@ impl Settings {
     }
 }
 
-/// What an operator asks of a register. A digest is the SHA-256 of a token.
+/// An operator's order on a register. A digest is the SHA-256 of a token.
 #[derive(Debug, Drop)]
 pub enum Order {
     /// A new tenant.
@@ -56,17 +56,17 @@ pub enum Order {
         tenant: Name,
         digest: [u8; 32],
     },
-    /// The token goes.
+    /// The token is removed.
     EndToken {
         digest: [u8; 32],
     },
-    /// A new network of a tenant's, without peers.
+    /// A new network of a tenant, without peers.
     AddNetwork {
         tenant: Name,
         name: Name,
         settings: Settings,
     },
-    /// The network goes, and its peers and routes with it.
+    /// The network is removed, with its peers and routes.
     EndNetwork {
         tenant: Name,
         name: Name,

@@ -5,24 +5,24 @@ use std::fmt;
 /// Why an order is refused.
 #[derive(Debug, Drop)]
 pub enum OrderRefusal {
-    /// A tenant, or a network of the tenant, has the name.
+    /// A tenant, or a network of the tenant, already has the name.
     NameHeld,
     /// No tenant has the name.
     NoSuchTenant,
-    /// A tenant has the token.
+    /// A tenant already has the token.
     DigestHeld,
-    /// The pool of this network of this tenant has an address in common; of several networks, the
+    /// The pool of this network of this tenant shares an address with the new one; of several networks, the
     /// first by the tenant's name, then by its own.
     PoolOverlaps { tenant: String, network: String },
     /// The address and the length make no pool.
     BadPool,
-    /// A network has the host and the port.
+    /// A network already has the host and the port.
     PortHeld,
     /// No tenant has the token.
     NoSuchToken,
     /// The tenant has no network of the name.
     NoNetwork,
-    /// As many entries stand as the register takes.
+    /// The register already has as many entries as it takes.
     RegisterFull,
 }
 

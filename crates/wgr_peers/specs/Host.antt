@@ -21,6 +21,6 @@ IsHostText text kept = MatchBool (is_host_name text)
     (kept ≡ map to_ascii_lowercase text)
     ((n : ℕ) × SpellsNumber text V6 n × (kept ≡ canonical_number V6 n))
 
--- some text of a host is kept so
+-- some text of a host is kept as this
 abbrev pub IsHost : List ℕ → Type 0
 IsHost kept = (text : List ℕ) × IsHostText text kept

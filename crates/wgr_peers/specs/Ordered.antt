@@ -1,7 +1,7 @@
 -- Lists in the order of their keys.
 use Rattle.std.specs.Prelude.{◌≡◌, ℕ, ◌<◌, ◌≤◌, Bool, true, false, cond, List, [], ◌∷◌, length, slice_index_or, Result, Ok, Err}
 
--- the item after those below it, in the place of the one with its key if there is one
+-- the list with the item after those below it, replacing the one with its key if there is one
 abbrev pub put_in_order : {X : Type 0} → (X → Bool) → (X → Bool) → List X → X → List X
 put_in_order is_below is_same [] x = x ∷ []
 put_in_order is_below is_same (y ∷ ys) x = cond (is_below y) (y ∷ put_in_order is_below is_same ys x) (cond (is_same y) (x ∷ ys) (x ∷ y ∷ ys))

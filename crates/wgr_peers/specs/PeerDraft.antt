@@ -12,7 +12,7 @@ use Rattle.wgr_pool.specs.PrefixTests.{same_address}
 use Rattle.wgr_pool.specs.Spans.{IsHeld}
 use Rattle.wgr_peers.specs.Peers.{is_own, key_holder, same_key, AreNumbered}
 
--- the widths and the numbers of addresses, which tell them apart
+-- the widths and the numbers of addresses, which distinguish them
 abbrev pub Owned : Type 0
 Owned = HashSet (ℕ × ℕ) (BuildHasherDefault FoldHasher)
 

@@ -22,14 +22,14 @@ pub record IsIndexed (peers : List Peer) (numbers : HashMap Key ℕ (BuildHasher
   pub by_address : (b : AddrValue) → IsAddr b → IsHeld runs b ↔ (is_own peers b ≡ true)
   pub ends : All (EndsFrom soonest) peers
 
--- the peer that stands at the place has the number, the key and the address of `p`
+-- the peer at the place has the number, the key and the address of `p`
 pub record IsAlikeAt (peers : List Peer) (p : Peer) (at : ℕ) : Type 0 where
   pub within : at < length peers
   pub number : (d : Peer) → (slice_index_or peers at d).number ≡ p.number
   pub key : (d : Peer) → (slice_index_or peers at d).key ≡ p.key
   pub address : (d : Peer) → (slice_index_or peers at d).address ≡ p.address
 
--- the peer that stands at the place has the number and the key of `p`
+-- the peer at the place has the number and the key of `p`
 pub record IsKeyedAt (peers : List Peer) (p : Peer) (at : ℕ) : Type 0 where
   pub within : at < length peers
   pub number : (d : Peer) → (slice_index_or peers at d).number ≡ p.number

@@ -28,12 +28,12 @@ abbrev pub key_holder : List Peer → Key → Option ℕ
 key_holder [] key = None
 key_holder (p ∷ peers) key = cond (same_key p.key key) (Some p.number) (key_holder peers key)
 
--- the peer of the number
+-- the peer with the number
 abbrev pub peer_of : List Peer → ℕ → Option Peer
 peer_of [] number = None
 peer_of (p ∷ peers) number = cond (nat_eq p.number number) (Some p) (peer_of peers number)
 
--- the peers without that of the number
+-- the peers without the one with the number
 abbrev pub without_peer : List Peer → ℕ → List Peer
 without_peer peers number = filter (λ p. not (nat_eq p.number number)) peers
 
@@ -56,6 +56,6 @@ AreNumbered = AllPairs IsNumberedBelow
 abbrev pub IsApart : Peer → Peer → Type 0
 IsApart p q = (same_key p.key q.key ≡ false) × (same_address p.address q.address ≡ false)
 
--- no key and no address stands twice
+-- no key and no address occurs twice
 abbrev pub AreApart : List Peer → Type 0
 AreApart = AllPairs IsApart

@@ -1,4 +1,4 @@
--- Routes in the order of their prefixes: each leads to the peer of a number.
+-- Routes in the order of their prefixes: each leads to the peer with a number.
 use Rattle.std.specs.Prelude.{ℕ, ◌≡◌, true, not, cond, nat_eq, List, [], ◌∷◌, map, Option, Some, None, AllPairs}
 use Rattle.std.specs.List.{filter}
 use Rattle.wgr_text.specs.Prefix.{PrefixValue, IsAddr}
@@ -13,11 +13,11 @@ abbrev pub route_of : Routes → PrefixValue → Option ℕ
 route_of [] p = None
 route_of (r ∷ routes) p = cond (same_prefix r.0 p) (Some r.1) (route_of routes p)
 
--- the prefixes that lead to the peer of the number
+-- the prefixes that lead to the peer with the number
 abbrev pub routes_to : Routes → ℕ → List PrefixValue
 routes_to routes number = map (λ r. r.0) (filter (λ r. nat_eq r.1 number) routes)
 
--- the routes with `p` led to the number, and else as they were
+-- the routes with `p` leading to the number, and otherwise unchanged
 abbrev pub assign_route : Routes → PrefixValue → ℕ → Routes
 assign_route routes p number = put_in_order (λ r. is_before r.0 p) (λ r. same_prefix r.0 p) routes (p, number)
 

@@ -46,7 +46,7 @@ impl Host {
         }))
     }
 
-    /// The same host again.
+    /// A copy of the host.
     pub fn copy(&self) -> Result<Host, AllocError>
         ensures { IfOk result (λ h. h ≡ self.now) }
     {

@@ -4,8 +4,8 @@ ghost use Rattle.std.specs.Prelude.{◌≡◌, List, [], ◌∷◌, ◌++◌, On
 use std::alloc::{AllocError, Global};
 use std::marker::Model;
 
-/// A vector that contracts see as the list of its items, so that two of them are equal where
-/// their items are, whatever room they reserve.
+/// A vector that contracts see as the list of its items, so that two of them are equal if
+/// their items are, whatever their capacity.
 #[derive(Debug, Drop)]
 pub struct Items<T> {
     items: Vec<T>,
@@ -58,7 +58,7 @@ impl<T> Items<T> {
 }
 
 impl<T: Drop> Items<T> {
-    /// Puts an item at the end; for want of memory the list is as before.
+    /// Appends an item; if memory runs out, the list is unchanged.
     pub fn push(&mut self, item: T) -> Result<(), AllocError>
         ensures ok { OnOk result (self.new ≡ self.old ++ item ∷ []) }
         ensures err { OnErr result (self.new ≡ self.old) }

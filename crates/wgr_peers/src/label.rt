@@ -7,7 +7,7 @@ use std::alloc::{AllocError, Global};
 use std::marker::Model;
 use std::str;
 
-/// An operator's note on a peer: 0 to 64 printable ASCII characters. They are kept as a `String`, which
+/// A tenant's note on a peer: 0 to 64 printable ASCII characters. They are kept as a `String`, which
 /// is shown and put into texts without another check.
 #[derive(Debug, Drop)]
 pub struct Label {
@@ -23,7 +23,7 @@ impl Model for Label {
 }
 
 impl Label {
-    /// The label without characters.
+    /// The empty label.
     pub fn empty(alloc: Global) -> Label
         ensures { result ≡ [] }
     {
@@ -46,7 +46,7 @@ impl Label {
         }
     }
 
-    /// The same label again.
+    /// A copy of the label.
     pub fn copy(&self) -> Result<Label, AllocError>
         ensures { IfOk result (λ l. l ≡ self.now) }
     {

@@ -1,4 +1,4 @@
-//! Peers and routes in order, and what stands in them: keys, labels, names, hosts, leases and other numbers
+//! Peers and routes in order, and what they contain: keys, labels, names, hosts, leases and other numbers
 //! with limits.
 #![tactic(auto)]
 

@@ -37,7 +37,7 @@ impl Name {
         }
     }
 
-    /// The same name again.
+    /// A copy of the name.
     pub fn copy(&self) -> Result<Name, AllocError>
         ensures { IfOk result (λ n. n ≡ self.now) }
     {

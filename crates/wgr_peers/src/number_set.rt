@@ -5,8 +5,8 @@ ghost use Rattle.std.specs.List.{list_any};
 use std::alloc::AllocError;
 use std::marker::Model;
 
-/// Numbers of peers, sorted, so that one is sought among them without a walk. It is made of a
-/// vector and takes no memory.
+/// Numbers of peers, sorted, so that a lookup is a binary search. It is made from a
+/// vector without allocating memory.
 #[derive(Debug, Drop)]
 pub struct NumberSet {
     numbers: Vec<u32>,
@@ -24,7 +24,7 @@ impl Model for NumberSet {
 }
 
 impl NumberSet {
-    /// The set of these numbers, which are sorted if they don't rise.
+    /// The set of these numbers, which may be in any order.
     pub fn of(mut numbers: Vec<u32>) -> NumberSet
         ensures { (n : ℕ) → list_any (nat_eq n) result ≡ list_any (nat_eq n) numbers.items }
     {
@@ -46,7 +46,7 @@ impl NumberSet {
         self.numbers.binary_search(&number).is_ok()
     }
 
-    /// Puts one number more into the set; for want of memory the set is as before.
+    /// Inserts a number into the set; if memory runs out, the set is unchanged.
     pub fn insert(&mut self, number: u32) -> Result<(), AllocError>
         ensures ok { OnOk result ((n : ℕ) → list_any (nat_eq n) self.new ≡ cond (nat_eq number n) true (list_any (nat_eq n) self.old)) }
         ensures err { OnErr result (self.new ≡ self.old) }

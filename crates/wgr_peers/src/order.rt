@@ -11,7 +11,7 @@ use crate::peer::Peer;
 use std::alloc::AllocError;
 use wgr_text::Prefix;
 
-/// The place of the peer of this number, or else the one that it would have.
+/// The place of the peer with this number, or else the place that it would have.
 pub fn peer_place(peers: &[Peer], number: u32) -> Result<usize, usize>
     requires { AreNumbered peers.now }
     ensures { EndsAt (λ p. nat_lt p.number number) (λ p. nat_eq p.number number) peers.now result }
@@ -35,8 +35,8 @@ pub(crate) fn are_below(peers: &[Peer], number: u32) -> bool
     }
 }
 
-/// Puts a peer in its place, in that of the peer of its number if there is one, which takes no
-/// memory; for want of memory the peers are as before.
+/// Puts a peer in its place, replacing the peer with its number if there is one, which allocates no
+/// memory; if memory runs out, the peers are unchanged.
 pub fn put_peer(peers: &mut Vec<Peer>, peer: Peer) -> Result<(), AllocError>
     requires { AreNumbered peers.old.items }
     ensures put { OnOk result (peers.new.items ≡ put_peer peers.old.items peer) }
@@ -67,13 +67,13 @@ pub fn is_same(one: &Prefix, other: &Prefix) -> bool
     one == other
 }
 
-/// The place of the prefix's route, or else the one that it would have.
+/// The place of the prefix's route, or else the place that it would have.
 pub fn route_place(routes: &[(Prefix, u32)], prefix: &Prefix) -> Result<usize, usize>
     requires ordered { AreOrdered routes.now }
     ensures found { EndsAt (λ r. is_before r.0 prefix.now) (λ r. same_prefix r.0 prefix.now) routes.now result }
     ensures masked { IsAddr prefix.now.address }
 {
-    prefix.tell_rules();
+    prefix.rules_hold();
     let place = routes.partition_point(|route| comes_before(&route.0, prefix));
     if place < routes.len() && is_same(&routes[place].0, prefix) {
         Ok(place)
@@ -82,8 +82,8 @@ pub fn route_place(routes: &[(Prefix, u32)], prefix: &Prefix) -> Result<usize, u
     }
 }
 
-/// Leads a prefix to the peer of this number; for want of memory the routes are as before. A prefix
-/// that leads to a peer already takes no memory.
+/// Leads a prefix to the peer with this number; if memory runs out, the routes are unchanged. A prefix
+/// that already leads to a peer needs no memory.
 pub fn put_route(
     routes: &mut Vec<(Prefix, u32)>,
     prefix: Prefix,
@@ -104,7 +104,7 @@ pub fn put_route(
     Ok(())
 }
 
-/// Takes away the route of a prefix, if there is one.
+/// Removes the route of a prefix, if there is one.
 pub fn drop_route(routes: &mut Vec<(Prefix, u32)>, prefix: &Prefix)
     requires { AreOrdered routes.old.items }
     ensures { routes.new.items ≡ without_route routes.old.items prefix.now }
@@ -114,14 +114,14 @@ pub fn drop_route(routes: &mut Vec<(Prefix, u32)>, prefix: &Prefix)
     }
 }
 
-// Whether the route leads to the peer of this number.
+// Whether the route leads to the peer with this number.
 fn leads_to(route: &(Prefix, u32), number: u32) -> bool
     ensures { result ≡ nat_eq route.now.1 number }
 {
     route.1 == number
 }
 
-/// Takes away the routes to the peer of this number.
+/// Removes the routes to the peer with this number.
 pub fn drop_routes_to(routes: &mut Vec<(Prefix, u32)>, number: u32)
     ensures { routes.new.items ≡ filter (λ r. not (nat_eq r.1 number)) routes.old.items }
 {

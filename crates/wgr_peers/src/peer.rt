@@ -61,7 +61,7 @@ impl Peer {
         self.key == *key
     }
 
-    /// The same peer again.
+    /// A copy of the peer.
     pub fn copy(&self) -> Result<Peer, AllocError>
         ensures { IfOk result (λ p. p ≡ self.now) }
     {

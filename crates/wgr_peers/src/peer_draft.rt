@@ -1,4 +1,4 @@
-//! Peers to which many come.
+//! Peers to which many are added.
 ghost use Rattle.std.specs.Prelude.{◌≡◌, ◌<◌, ◌↔◌, ◌||◌, [], ◌∷◌, ◌++◌, length, IsTrue, IfOk, OnOk, OnErr, All, None};
 ghost use Rattle.std.specs.HashMap.{get};
 ghost use Rattle.wgr_text.specs.Prefix.{width};
@@ -19,11 +19,11 @@ use std::marker::Model;
 use wgr_pool::{AddressSet, Pool};
 use wgr_text::{Addr, Key};
 
-/// Peers in the order of their numbers that many others are to join, one after the other.
+/// Peers in the order of their numbers, to which many others are added, one after the other.
 ///
-/// Unlike those of a [`PeerTable`](crate::PeerTable) their addresses aren't kept as runs, in whose
-/// vector each address that touches no run moves all runs behind it: the runs are made of all
-/// addresses at once, when they are first asked for.
+/// Unlike in a [`PeerTable`](crate::PeerTable), their addresses aren't kept as runs, in whose
+/// vector each address that touches no run moves all runs after it: the runs are made from all
+/// addresses at once, when they are first needed.
 #[derive(Drop)]
 pub struct PeerDraft {
     peers: Vec<Peer>,
@@ -81,7 +81,7 @@ impl PeerDraft {
         &self.peers
     }
 
-    /// The peers, and the number of each key's.
+    /// The peers, and the number of each key's peer.
     pub(crate) fn into_parts(self) -> (Vec<Peer>, HashMap<Key, u32>)
         ensures peers { result.0.items ≡ self }
         ensures numbers { (key : KeyValue) → get same_key result.1 key ≡ key_holder self key }
@@ -144,7 +144,7 @@ impl PeerDraft {
         Ok(lowest)
     }
 
-    /// Puts a peer at the end, above all numbers; for want of memory the draft is as before.
+    /// Appends a peer whose number is above all others; if memory runs out, the draft is unchanged.
     pub fn push(&mut self, peer: Peer) -> Result<(), AllocError>
         requires above { All (λ p. p.number < peer.number) self.old }
         requires new_key { key_holder self.old peer.key ≡ None }
@@ -165,7 +165,7 @@ impl PeerDraft {
         Ok(())
     }
 
-    /// Puts a peer in the place of one that has its number, key and address.
+    /// Replaces a peer with one that has its number, key and address.
     pub fn replace(&mut self, place: usize, peer: Peer)
         requires { IsAlikeAt self.old peer place }
         ensures { self.new ≡ put_peer self.old peer }
@@ -181,7 +181,7 @@ fn spot(address: &Addr) -> (u8, u128)
     (address.family().width(), address.number())
 }
 
-// Puts the address into the set, where there is one.
+// Inserts the address into the set, if there is one.
 fn insert_address(addresses: &mut Option<AddressSet>, address: Addr) -> Result<(), AllocError>
     ensures ok { OnOk result (HasOneMore address addresses.old addresses.new) }
     ensures err { OnErr result (addresses.new ≡ addresses.old) }

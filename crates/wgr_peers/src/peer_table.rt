@@ -31,8 +31,8 @@ pub struct ExpiredPeers {
     pub addresses: Items<Addr>,
 }
 
-/// Peers in the order of their numbers, with indexes by key and by address, so that neither is
-/// sought by a walk.
+/// Peers in the order of their numbers, with indexes by key and by address, so that neither
+/// lookup is a linear search.
 #[derive(Drop)]
 pub struct PeerTable {
     peers: Vec<Peer>,
@@ -89,7 +89,7 @@ impl PeerTable {
         self.numbers.get(key).copied()
     }
 
-    /// The peer of this number.
+    /// The peer with this number.
     pub fn peer(&self, number: u32) -> Option<&Peer>
         ensures { option_copied result ≡ peer_of self.now number }
     {
@@ -103,7 +103,7 @@ impl PeerTable {
     pub fn owns(&self, address: &Addr) -> bool
         ensures { result ≡ is_own self.now address.now }
     {
-        address.tell_rules();
+        address.rules_hold();
         self.addresses.contains(address)
     }
 
@@ -114,7 +114,7 @@ impl PeerTable {
         &self.addresses
     }
 
-    /// Puts a peer at the end, above all numbers; for want of memory the table is as before.
+    /// Appends a peer whose number is above all others; if memory runs out, the table is unchanged.
     pub fn push(&mut self, peer: Peer) -> Result<(), AllocError>
         requires above { All (λ p. p.number < peer.number) self.old }
         requires new_key { key_holder self.old peer.key ≡ None }
@@ -147,7 +147,7 @@ impl PeerTable {
         }
     }
 
-    // Puts a peer in the place of one that has its number and key.
+    // Replaces a peer with one that has its number and key.
     fn replace(&mut self, place: usize, peer: Peer)
         requires keyed { IsKeyedAt self.old peer place }
         requires apart { AreApart self.old }
@@ -156,14 +156,14 @@ impl PeerTable {
         let (address, until) = (peer.address, peer.until);
         if !self.peers[place].is_at(&address) {
             let left = self.peers[place].address;
-            left.tell_rules();
+            left.rules_hold();
             self.addresses.replace(&left, address);
         }
         self.peers[place] = peer;
         self.soonest_end = sooner(self.soonest_end, until);
     }
 
-    /// Takes away the peer of this number, if there is one.
+    /// Removes the peer with this number, if there is one.
     pub fn remove(&mut self, number: u32)
         requires { AreApart self.old }
         ensures { self.new ≡ without_peer self.old number }
@@ -246,7 +246,7 @@ impl PeerTable {
         Ok(peers)
     }
 
-    /// The peers that are expired at this moment; one walk over the peers, and none before the
+    /// The peers that are expired at this moment; one pass over the peers, and none before the
     /// soonest end of a lease.
     pub fn expired(&self, alloc: Global, now: u64) -> Result<ExpiredPeers, AllocError>
         ensures numbers { IfOk result (λ found. found.numbers ≡ expired now self.now) }

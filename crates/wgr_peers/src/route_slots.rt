@@ -16,7 +16,7 @@ use wgr_pool::{AddressSet, Pool, lowest_address};
 use wgr_text::{Addr, Prefix};
 
 /// Routes in the order of their prefixes, with vacant slots for prefixes that are expected, so that
-/// a route that comes there moves no other. A prefix that wasn't expected is only slower.
+/// a route that is added there moves no other. A prefix that wasn't expected is only slower.
 #[derive(Drop)]
 pub struct RouteSlots {
     slots: Vec<(Prefix, u32)>,
@@ -88,8 +88,8 @@ impl RouteSlots {
         slot_number(&self.slots, &self.vacant, prefix)
     }
 
-    /// Leads a prefix to the peer of this number; for want of memory the routes are as before. A
-    /// prefix that leads to a peer already takes no memory.
+    /// Leads a prefix to the peer with this number; if memory runs out, the routes are unchanged. A
+    /// prefix that already leads to a peer needs no memory.
     pub fn put(&mut self, prefix: Prefix, number: u32) -> Result<(), AllocError>
         ensures ok { OnOk result (self.new ≡ assign_route self.old prefix number) }
         ensures err { OnErr result (self.new ≡ self.old) }
@@ -127,7 +127,7 @@ impl RouteSlots {
     }
 }
 
-// Puts a vacant slot at the end, unless the last one comes no earlier.
+// Appends a vacant slot, unless the last one comes no earlier.
 fn push_vacant(slots: &mut Vec<(Prefix, u32)>, prefix: Prefix) -> Result<(), AllocError>
     requires slots { AreSlots slots.old.items }
     requires vacant { All (λ s. s.1 ≡ 0) slots.old.items }
@@ -160,14 +160,14 @@ fn slot_number(slots: &[(Prefix, u32)], vacant: &HashSet<u32>, prefix: &Prefix) 
     Some(number)
 }
 
-// Takes the vacant slots away.
+// Removes the vacant slots.
 fn drop_vacant(slots: &mut Vec<(Prefix, u32)>, vacant: &HashSet<u32>)
     ensures { slots.new.items ≡ filled vacant.now slots.old.items }
 {
     slots.retain(|slot| !vacant.contains(&slot.1));
 }
 
-// Where vacant slots have this number, takes them away, so that it is left to a peer.
+// If vacant slots have this number, removes them, so that it is left to a peer.
 fn reserve_number(slots: &mut Vec<(Prefix, u32)>, vacant: &mut HashSet<u32>, number: u32)
     requires { AreSlots slots.old.items }
     ensures slots { AreSlots slots.new.items }

@@ -1,4 +1,4 @@
--- What the calls of the plain register are in the words of the definitions.
+-- The calls of the plain register in the model's terms.
 use Rattle.std.specs.Prelude.{◌≡◌, ℕ, false, List, map, Option, Some, None, Result, Ok, Err}
 use Rattle.std.specs.Option.{option_map}
 use Rattle.wgr_core.specs.Network.{NetworkValue}
@@ -35,14 +35,14 @@ event_of (events.Order order) = order_event order
 abbrev pub AreAnswered : List event.Event → List (Option answer.Answer) → List Served → Type 0
 AreAnswered events answers es = AreServed (map event_of events) (map (option_map answer_of) answers) es
 
--- what a command gives on a network is answered, and the network after it is handed out
+-- a command's result on a network is answered, and the network after it is returned
 abbrev pub IsActed : Result (Reply × NetworkValue) Refusal → Answer → Option NetworkValue → Type 0
 IsActed (Err why) answer None = answer ≡ Declined why
 IsActed (Err why) answer (Some after) = ⊥
 IsActed (Ok done) answer None = ⊥
 IsActed (Ok done) answer (Some after) = (answer ≡ Replied done.0 done.1) × (after ≡ done.1)
 
--- an order is a step, or for want of memory nothing changed
+-- an order is a step, or memory ran out and nothing changed
 abbrev pub IsOrdered : Register → Event → Result Unit fault.OrderFault → Register → Type 0
 IsOrdered r event (Ok done) s = IsStep r event Done s
 IsOrdered r event (Err (faulted.Refused why)) s = IsStep r event (Refused (refusal_of why)) s

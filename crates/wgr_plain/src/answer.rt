@@ -1,8 +1,8 @@
-//! What an event is answered.
+//! The answer to an event.
 use wgr_core::{Items, Name, Network, Refusal, Reply};
 use wgr_orders::OrderRefusal;
 
-/// What an event is answered.
+/// The answer to an event.
 #[derive(Drop)]
 pub enum Answer {
     /// What a command replies, with a copy of the network after it, from which files are written.

@@ -14,8 +14,8 @@ use wgr_core::{ActFault, Change, Command, Items, Name, Network};
 use wgr_orders::{Holding, place_of};
 
 impl Register {
-    /// A command, at this moment, to the network of this name that the tenant of the token has; for
-    /// want of memory the register is as before.
+    /// A command, at this moment, to the network of this name that the tenant of the token has; if
+    /// memory runs out, the register is as before.
     pub fn ask(
         &mut self,
         alloc: Global,
@@ -34,7 +34,7 @@ impl Register {
             return Ok(Answer::NoSuchNetwork);
         };
         let Acted { answer, after } = act_on(alloc, &self.networks[place].network, now, command)?;
-        command.tell_forms();
+        command.forms_hold();
         match after {
             Some(network) => {
                 put_network(&mut self.networks, place, network);
@@ -62,7 +62,7 @@ struct Acted {
     after: Option<Network>,
 }
 
-// The command on one network, which stays as it is.
+// The command on one network, which is left unchanged.
 fn act_on(
     alloc: Global,
     network: &Network,
@@ -88,7 +88,7 @@ fn act_on(
     }
 }
 
-// Puts a network in the place of another, under its ids and its name.
+// Replaces a network by another, under the same ids and name.
 fn put_network(networks: &mut Vec<Holding>, place: usize, network: Network)
     requires { place < length networks.old.items }
     ensures { (d : Holding) → networks.new.items ≡ slice_set networks.old.items place (record (slice_index_or networks.old.items place d) { network = network }) }
@@ -108,7 +108,7 @@ fn changed(alloc: Global, network: &Network, change: &Option<Change>) -> Result<
     }
 }
 
-// The network again.
+// A copy of the network.
 pub(crate) fn copied(alloc: Global, network: &Network) -> Result<Network, AllocError>
     ensures { IfOk result (λ copy. copy ≡ network.now) }
 {

@@ -1,4 +1,4 @@
-//! A plain register in memory: lists of tenants, tokens and networks, and a walk for each look-up.
+//! A plain register in memory: lists of tenants, tokens and networks, and a walk for each lookup.
 //! It shows that the definitions of `wgr_model` can be met, and tests compare the register with it.
 #![tactic(auto)]
 

@@ -1,4 +1,4 @@
-//! Look-ups, each a walk along one list.
+//! Lookups, each a walk along one list.
 ghost use Rattle.std.specs.Prelude.{◌≡◌, map, false, None, IfOk};
 ghost use Rattle.wgr_model.specs.Register.{id_of};
 ghost use Rattle.wgr_model.specs.Steps.{tenant_of_token};

@@ -13,12 +13,12 @@ use crate::register::{Register, Token};
 use std::alloc::{AllocError, Global};
 use wgr_core::{Name, Network, Pool};
 use wgr_orders::{
-    Holding, Order, OrderFault, OrderRefusal, Settings, Tenant, checked_pool, is_full, is_same,
-    new_id, place_of, tell_digest, tell_name, tell_settings, unused_id,
+    Holding, Order, OrderFault, OrderRefusal, Settings, Tenant, checked_pool, digest_has_form,
+    is_full, is_same, name_has_form, new_id, place_of, settings_have_forms, unused_id,
 };
 
 impl Register {
-    /// Does the order, or refuses it; for want of memory the register is as before.
+    /// Does the order, or refuses it; if memory runs out, the register is as before.
     pub fn operate(&mut self, alloc: Global, order: &Order) -> Result<Answer, AllocError>
         ensures step { IfOk result (λ answer. IsStep self.old (order_event order.now) (answer_of answer) self.new) }
         ensures undone { OnErr result (self.new ≡ self.old) }
@@ -60,7 +60,7 @@ impl Register {
             id: unused_id(&ids),
             name: name.copy()?,
         };
-        tell_name(name);
+        name_has_form(name);
         push(&mut self.tenants, tenant)?;
         Ok(())
     }
@@ -81,7 +81,7 @@ impl Register {
             digest: *digest,
             tenant: id,
         };
-        tell_digest(digest);
+        digest_has_form(digest);
         push(&mut self.tokens, token)?;
         Ok(())
     }
@@ -110,8 +110,8 @@ impl Register {
         };
         let pool = checked_pool(alloc, &self.tenants, &self.networks, id, name, settings)?;
         let holding = new_holding(alloc, &self.networks, id, name, settings, pool)?;
-        tell_name(name);
-        tell_settings(settings);
+        name_has_form(name);
+        settings_have_forms(settings);
         push(&mut self.networks, holding)?;
         Ok(())
     }
@@ -168,7 +168,7 @@ fn network_of(alloc: Global, settings: &Settings, pool: Pool) -> Result<Network,
     ))
 }
 
-// Puts an entry at the end; for want of memory the entries are as before.
+// Puts an entry at the end; if memory runs out, the entries are as before.
 fn push<T: Drop>(entries: &mut Vec<T>, entry: T) -> Result<(), AllocError>
     ensures ok { OnOk result (entries.new.items ≡ entries.old.items ++ entry ∷ []) }
     ensures err { OnErr result (entries.new.items ≡ entries.old.items) }
@@ -177,14 +177,14 @@ fn push<T: Drop>(entries: &mut Vec<T>, entry: T) -> Result<(), AllocError>
     Ok(())
 }
 
-// Takes the token of this digest away.
+// Removes the token of this digest.
 fn drop_token(tokens: &mut Vec<Token>, digest: &[u8; 32])
     ensures { tokens.new.items ≡ filter (λ t. not (is_same digest.now t.digest)) tokens.old.items }
 {
     tokens.retain(|token| !is_same(digest, &token.digest));
 }
 
-// Takes the network of this name of the tenant of this id away.
+// Removes the network of this name of the tenant of this id.
 fn drop_network(networks: &mut Vec<Holding>, id: u32, name: &Name)
     ensures { networks.new.items ≡ filter (λ h. not (same_slot (id, name.now) (slot h))) networks.old.items }
 {

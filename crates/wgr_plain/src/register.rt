@@ -22,8 +22,8 @@ impl Model for Token {
     ghost view = { λ t. record { digest = t.digest; tenant = t.tenant } };
 }
 
-/// A register in memory, plain and slow: three lists, and a walk for each look-up. A network is
-/// kept whole, where tables have rows; the laws say which rows stand for it.
+/// A register in memory, plain and slow: three lists, and a walk for each lookup. A network is
+/// kept as one value, where tables have rows; the laws say which rows represent it.
 #[derive(Drop)]
 pub struct Register {
     pub(crate) tenants: Vec<Tenant>,
@@ -56,7 +56,7 @@ impl Register {
     }
 
     /// Does nothing. Every register is consistent.
-    pub fn tell_rules(&self)
+    pub fn rules_hold(&self)
         ensures { IsConsistent self.now }
     {
         let _tenants = &self.tenants;

@@ -12,7 +12,7 @@ use std::alloc::{AllocError, Global};
 use wgr_core::{Command, Name};
 use wgr_orders::Order;
 
-/// What a register is asked. A digest is the SHA-256 of a token.
+/// An event for a register. A digest is the SHA-256 of a token.
 #[derive(Drop)]
 pub enum Event {
     /// A command, at a moment, to the network of a name that the tenant of the token has.
@@ -31,8 +31,8 @@ pub enum Event {
 }
 
 impl Register {
-    /// Takes all events in turn and answers each in its place. Where one can't be done for want of
-    /// memory, `None` stands there, and the register is as before it; where there is no memory for
+    /// Takes all events in turn and answers each in its place. If memory runs out for one, its
+    /// answer is `None`, and the register is as before it; where there is no memory for
     /// the answers no event is done.
     ///
     /// Each tenant has the answers and the networks that it would have alone.
@@ -46,17 +46,17 @@ impl Register {
         ensures isolated { IfOk result (λ answers. (es : List Served) × AreAnswered events.now answers.items es × IsIsolated self.old es self.new) }
         ensures undone { OnErr result (self.new ≡ self.old) }
     {
-        self.tell_rules();
+        self.rules_hold();
         let mut answers = Vec::with_capacity(alloc, events.len())?;
         for event in events {
-            event.tell_forms();
+            event.forms_hold();
             let answer = self.serve(alloc, event);
             answers.push(answer)?;
         }
         Ok(answers)
     }
 
-    // The answer to one event, or none for want of memory.
+    // The answer to one event, or none if memory runs out.
     fn serve(&mut self, alloc: Global, event: &Event) -> Option<Answer>
         ensures { IsServed self.old (event_of event.now) (option_map answer_of result) self.new }
     {
@@ -66,7 +66,7 @@ impl Register {
         }
     }
 
-    /// Takes one event; for want of memory the register is as before.
+    /// Takes one event; if memory runs out, the register is as before.
     pub fn answer(&mut self, alloc: Global, event: &Event) -> Result<Answer, AllocError>
         ensures step { IfOk result (λ answer. IsStep self.old (event_of event.now) (answer_of answer) self.new) }
         ensures undone { OnErr result (self.new ≡ self.old) }

@@ -24,7 +24,7 @@ pub record Plan : Type 0 where
   pub printed : List ℕ
   pub refused : Option (ℕ × Refusal)
 
--- an empty network; of its server key nobody has the private key, and its endpoint has no effect
+-- an empty network; nobody has the private key of its server key, and its endpoint has no effect
 abbrev pub plan_network : PrefixValue → NetworkValue
 plan_network pool = record { pool = pool; host = codes "localhost"; port = 51820; server = record { 0 = replicate 32 255 }; capacity = 4096; next = 1; peers = []; routes = [] }
 
@@ -70,7 +70,7 @@ IsPlanOf pool text p = Plans (plan_network pool) 1 (lines_of text) p
 
 -- ---- one line
 
--- the network stays, and refuses the key; want of memory says nothing
+-- the network is unchanged, and refuses the key; if memory ran out, this says nothing
 abbrev pub Refuses : NetworkValue → Key → NetworkValue → ActFault → Type 0
 Refuses n key n' (Refused why) = (n' ≡ n) × (outcome_of n 0 (joining key) ≡ Err why)
 Refuses n key n' NoMemory = Unit {0}

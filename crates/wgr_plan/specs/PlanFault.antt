@@ -25,9 +25,9 @@ pub record Streams : Type 0 where
 abbrev pub AreSound : Streams → Streams → Type 0
 AreSound old new = (new.read_failed ≡ old.read_failed) × (new.write_failed ≡ old.write_failed)
 
--- the lines before the refused one are written, all lines where none is; a fault of memory or of
--- the reader leaves the writer as it was; a fault of the writer tells how many bytes it took, and
--- each fault of a device is marked at that device alone
+-- the lines before the refused one are written, all lines if none is; an error of memory or of
+-- the reader leaves the writer as it was; an error of the writer reports how many bytes it took, and
+-- each error of a device is marked only at that device
 abbrev pub Answers : PrefixValue → Streams → Streams → Result (Unit {0}) PlanFault → Type 0
 Answers pool old new (Ok done) = (p : Plan) × Reads pool old.input new.input p × Appends old.written new.written p.printed × (p.refused ≡ None) × AreSound old new
 Answers pool old new (Err (Refused line why)) = (p : Plan) × Reads pool old.input new.input p × Appends old.written new.written p.printed × (p.refused ≡ Some (line, why)) × AreSound old new

@@ -1,4 +1,4 @@
-//! What follows of the definitions. The functions do nothing: their contracts are the laws.
+//! What follows from the definitions. The functions do nothing: their contracts are the laws.
 ghost use Rattle.wgr_plan.specs.PlanLaws.{OnePlan};
 
 /// A text has one plan at most.

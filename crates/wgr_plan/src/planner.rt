@@ -20,7 +20,7 @@ use wgr_text::{Key, Prefix, TextLines, write_key, write_prefix};
 pub enum PlanFault {
     /// The plan refuses this line; the lines before it are written.
     Refused { line: u32, refusal: Refusal },
-    /// Memory was refused, and nothing is written.
+    /// Memory ran out, and nothing is written.
     NoMemory,
     /// A read failed, and nothing is written.
     Read,
@@ -31,7 +31,7 @@ pub enum PlanFault {
 /// Reads one key a line to the end of the input, gives each the lowest free address of the pool,
 /// and writes a line for each: its number, the key and its address, separated by tabs.
 ///
-/// All is read before anything is written, so a reader that fails leaves no half of an output. The
+/// All is read before anything is written, so a reader that fails leaves no partial output. The
 /// capacity is 4,096 keys.
 pub fn plan<R: Read, W: Write>(
     alloc: Global,
@@ -131,7 +131,7 @@ fn read_key(line: &[u8]) -> Option<Key>
     Some(key)
 }
 
-// What a slice of bytes holds is known to be bytes.
+// Does nothing. The items of a slice of bytes are bytes.
 fn are_bytes(bytes: &[u8])
     ensures { IsBytes bytes.now }
 {}

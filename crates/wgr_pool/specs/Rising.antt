@@ -1,4 +1,4 @@
--- That spans rise is a fact with one proof, as a ghost field asks.
+-- That spans rise is a fact with one proof, as a ghost field requires.
 use Rattle.std.specs.Prelude.{ℕ, List, [], ◌∷◌}
 use mathlib.Core.HLevel.{×_prop, Unit-prop}
 use native.Mathlib.Bridge.{le_prop}

@@ -5,7 +5,7 @@ use Rattle.wgr_text.specs.Prefix.{AddrValue, IsAddr, rank}
 use Rattle.wgr_pool.specs.PrefixTests.{same_address}
 use Rattle.wgr_pool.specs.Spans.{IsWithin, IsHeld}
 
--- the runs follow one another from this place on, none empty and none over the next
+-- the runs are in order from this place on, none is empty and none overlaps the next
 abbrev pub AreRunsFrom : ℕ → List Span → Type 0
 AreRunsFrom floor [] = Unit {0}
 AreRunsFrom floor (s ∷ runs) = (floor ≤ rank s.lo) × (rank s.lo ≤ rank s.hi) × AreRunsFrom (rank s.hi + 1) runs
@@ -20,12 +20,12 @@ pub record IsPartAbove (run : Span) (a : AddrValue) (part : Option Span) : Type 
   pub held : (b : AddrValue) → IsAddr b → IsHeld (option_to_list part) b ↔ (IsWithin run b × (rank a < rank b))
   pub ends : IfSome part (λ s. (rank a < rank s.lo) × (rank s.lo ≤ rank s.hi) × (rank s.hi ≤ rank run.hi))
 
--- how many places the runs have, one for each address that they could
+-- how many places the runs have, one for each address that they could have
 abbrev pub places : List Span → ℕ
 places [] = 0
 places (s ∷ runs) = rank s.hi + 1 - rank s.lo + places runs
 
--- the address is in no run: it stands below those from `at` on, and above those before
+-- the address is in no run: it is below those from `at` on, and above those before
 pub record IsGapAt (runs : List Span) (at : ℕ) (a : AddrValue) : Type 0 where
   pub within : at ≤ length runs
   pub above : (k : ℕ) (d : Span) → at ≤ k → k < length runs → rank a < rank (slice_index_or runs k d).lo

@@ -19,12 +19,12 @@ abbrev pub RisesFrom : ℕ → List Span → Type 0
 RisesFrom floor [] = Unit {0}
 RisesFrom floor (s ∷ spans) = (floor ≤ rank s.lo) × RisesFrom (rank s.lo) spans
 
--- where the span that was given last begins: of the first address where none was
+-- where the span that was returned last begins, or 0 if none was
 abbrev pub reached : Option AddrValue → ℕ
 reached None = 0
 reached (Some a) = rank a
 
--- a call that gave `given` took the first of the spans to come
+-- a call that returned `given` took the first of the remaining spans
 abbrev pub Takes : List Span → Option Span → List Span → Type 0
 Takes old None new = (old ≡ []) × (new ≡ [])
 Takes old (Some s) new = old ≡ s ∷ new

@@ -1,4 +1,4 @@
--- The spans of routes that are still to come.
+-- The remaining spans of routes.
 use Rattle.std.specs.Prelude.{◌≡◌, ◌+◌, List, [], MatchOption, Option, nat_eq}
 use Rattle.std.specs.HashSet.{contains}
 use Rattle.wgr_text.specs.declared.prefix.Span.{Span}

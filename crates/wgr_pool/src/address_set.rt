@@ -14,9 +14,9 @@ use wgr_text::{Addr, Family, Span};
 
 /// A set of addresses, kept as its runs of consecutive addresses.
 ///
-/// Addresses that follow one another take one span, however many they are, so the first gap after
-/// them is found at once. There is room for a span of each address, so that none needs memory to
-/// go, also where it splits a run.
+/// Consecutive addresses take one span, however many they are, so the first gap after
+/// them is found at once. There is room for a span for each address, so that removing one
+/// needs no memory, even if it splits a run.
 #[derive(Drop)]
 pub struct AddressSet {
     runs: Vec<Span>,
@@ -43,8 +43,8 @@ impl AddressSet {
         }
     }
 
-    /// The set of these addresses. They are sorted first, so that each comes last where it is put
-    /// and moves none before it.
+    /// The set of these addresses. They are sorted first, so that each is inserted at the end
+    /// and moves no other.
     pub fn collect(alloc: Global, mut addresses: Vec<Addr>) -> Result<AddressSet, AllocError>
         ensures { IfOk result (λ set. (b : AddrValue) → IsAddr b → IsHeld set b ↔ (list_any (λ a. same_address a b) addresses.items ≡ true)) }
     {
@@ -73,8 +73,8 @@ impl AddressSet {
         is_in_last(runs, place, address)
     }
 
-    /// Puts the address into the set, where it joins the runs that it touches. An address that the
-    /// set has already takes no memory.
+    /// Inserts the address into the set, joining the runs that it touches. An address that the
+    /// set already has needs no memory.
     pub fn insert(&mut self, address: Addr) -> Result<(), AllocError>
         ensures held { OnOk result ((b : AddrValue) → IsAddr b → IsHeld self.new b ↔ ((same_address address b ≡ true) ⊎ IsHeld self.old b)) }
         ensures unchanged { OnErr result (self.new ≡ self.old) }
@@ -90,7 +90,7 @@ impl AddressSet {
         Ok(())
     }
 
-    /// The same set again.
+    /// A copy of the set.
     pub fn copy(&self) -> Result<AddressSet, AllocError>
         ensures { IfOk result (λ copy. copy ≡ self.now) }
     {
@@ -102,12 +102,12 @@ impl AddressSet {
         })
     }
 
-    /// Takes the address out of the set, where the run that has it grows shorter or is split in
+    /// Removes the address from the set; the run that has it becomes shorter or is split in
     /// two.
     pub fn remove(&mut self, address: &Addr)
         ensures { (b : AddrValue) → IsAddr b → IsHeld self.new b ↔ ((same_address address.now b ≡ false) × IsHeld self.old b) }
     {
-        address.tell_rules();
+        address.rules_hold();
         let place = place_above(&self.runs, address);
         if is_in_last(&self.runs, place, address) {
             part(&mut self.runs, place - 1, address);
@@ -115,12 +115,12 @@ impl AddressSet {
         }
     }
 
-    /// Takes an address that the set has out of it, and puts the other in its stead.
+    /// Removes an address that the set has, and inserts the other instead.
     pub fn replace(&mut self, address: &Addr, by: Addr)
         requires { IsHeld self.old address.now }
         ensures { (b : AddrValue) → IsAddr b → IsHeld self.new b ↔ ((same_address by b ≡ true) ⊎ ((same_address address.now b ≡ false) × IsHeld self.old b)) }
     {
-        address.tell_rules();
+        address.rules_hold();
         let place = place_above(&self.runs, address);
         if !is_in_last(&self.runs, place, address) {
             unreachable!();
@@ -135,7 +135,7 @@ impl AddressSet {
     }
 }
 
-// Puts an address in the gap before the run at the place, where it joins the runs that it touches.
+// Inserts an address into the gap before the run at the place, joining the runs that it touches.
 // There is room for one more.
 fn join(runs: &mut Vec<Span>, place: usize, address: Addr)
     requires in_order { AreRunsFrom 0 runs.old.items }
@@ -165,7 +165,7 @@ fn join(runs: &mut Vec<Span>, place: usize, address: Addr)
     }
 }
 
-// Takes an address out of the run at this place, which has it. There is room for a run of each
+// Removes an address from the run at this place, which has it. There is room for a run for each
 // address.
 fn part(runs: &mut Vec<Span>, at: usize, address: &Addr)
     requires in_order { AreRunsFrom 0 runs.old.items }
@@ -227,7 +227,7 @@ fn before(address: &Addr, other: &Addr) -> Addr
     ensures below { rank result < rank address.now }
     ensures last { (b : AddrValue) → IsAddr b → rank b < rank address.now → rank b ≤ rank result }
 {
-    other.tell_rules();
+    other.rules_hold();
     let number = address.number();
     let (family, last) = if number == 0 {
         (Family::V4, u128::from(u32::MAX))
@@ -247,7 +247,7 @@ fn after(address: &Addr, other: &Addr) -> Addr
     ensures to { rank result ≤ rank other.now }
     ensures first { (b : AddrValue) → IsAddr b → rank address.now < rank b → rank result ≤ rank b }
 {
-    other.tell_rules();
+    other.rules_hold();
     let number = address.number();
     let (family, first) = if address.family() == Family::V4 && number == u128::from(u32::MAX) {
         (Family::V6, 0)
@@ -295,7 +295,7 @@ fn follows_last(runs: &[Span], place: usize, address: &Addr) -> bool
     ensures next { IsTrue result → (0 < place) × ((d : SpanValue) → rank address.now ≡ rank (slice_index_or runs.now (place - 1) d).hi + 1) }
     ensures fits { IsAddr address.now }
 {
-    address.tell_rules();
+    address.rules_hold();
     place > 0 && is_next(&runs[place - 1].hi, address)
 }
 

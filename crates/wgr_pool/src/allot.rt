@@ -7,7 +7,7 @@ ghost use Rattle.wgr_pool.specs.Spans.{RisesFrom, Takes, IsLowestFree, IsFull, I
 use crate::pool::Pool;
 use wgr_text::{Addr, Span};
 
-/// Why a source of spans gave none.
+/// Why a source of spans returned none.
 #[derive(Clone, Copy, Debug, PartialEq, Eq)]
 pub enum Stop {
     NoMemory,
@@ -18,16 +18,16 @@ pub enum Stop {
 pub trait Holds {
     ghost use Rattle.wgr_pool.specs.declared.allot.Stop.{Stop};
 
-    /// The spans that it still has to give.
+    /// The spans that it has yet to return.
     ghost rest: { Self → List Span };
 
-    /// Whether it gives just these.
+    /// Whether it returns exactly these.
     ghost honest: { Self → Type 0 };
 
-    /// No span that it gives from now on begins below this place, which never falls.
+    /// No span that it returns from now on begins below this place, which never decreases.
     ghost floor: { Self → ℕ };
 
-    /// How many spans it can still give at most.
+    /// How many more spans it can return at most.
     ghost left: { Self → ℕ };
 
     /// Whether it has stopped, and why.
@@ -44,8 +44,8 @@ pub trait Holds {
     ghost in_order: { (s : Self) → honest s → RisesFrom (floor s) (rest s) };
 }
 
-/// The lowest address that the pool may give and that no span of the source has. Of the source it
-/// takes no span after the first that tells: the one that begins above the address, or the one that
+/// The lowest address that the pool may give and that no span of the source has. From the source it
+/// takes no span after the first that decides: the one that begins above the address, or the one that
 /// fills the pool.
 pub fn lowest_free<H: Holds>(pool: &Pool, holds: &mut H) -> Result<Option<Addr>, Stop>
     ensures lowest { H.honest holds.new → IfOk result (λ found. MatchOption found (IsFull pool.now (H.rest holds.old)) (IsLowestFree pool.now (H.rest holds.old))) }

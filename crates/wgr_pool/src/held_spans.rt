@@ -18,7 +18,7 @@ use crate::pool::{Pool, covers};
 use std::collections::HashSet;
 use wgr_text::{Addr, Prefix, Span};
 
-/// The spans of the routes that lie wholly in a pool, but for those to expired peers.
+/// The spans of the routes that lie wholly in a pool, except for those to expired peers.
 #[derive(Drop)]
 struct RouteSpans<'a> {
     pool: Prefix,
@@ -49,7 +49,7 @@ pub struct HeldSpans<'a> {
     // The next route's span, which waits while runs begin before it.
     route: Option<Span>,
     routes: RouteSpans<'a>,
-    // Where the span that was given last begins: what is to come begins no lower.
+    // Where the span that was returned last begins: later ones begin no lower.
     last: Option<Addr>,
     ghost runs_rise: { RisesFrom (reached last) runs.now } by { RisesFrom-prop (reached last) runs.now },
     ghost routes_rise: { RisesFrom (reached last) (waiting route routes) } by { RisesFrom-prop (reached last) (waiting route routes) },
@@ -57,8 +57,8 @@ pub struct HeldSpans<'a> {
 }
 
 impl<'a> HeldSpans<'a> {
-    /// The source of the runs and of the routes that lie wholly in the pool, but for those to the
-    /// peers of these numbers.
+    /// The source of the runs and of the routes that lie wholly in the pool, except for those to the
+    /// peers with these numbers.
     pub fn new(
         pool: &Pool,
         runs: &'a [Span],
@@ -135,7 +135,7 @@ fn whole(route: &Prefix) -> Span
 }
 
 /// The lowest address of the pool that may be given and that neither the set has nor a route that
-/// lies wholly in the pool. Routes to the peers of the numbers in `expired` don't count.
+/// lies wholly in the pool. Routes to the peers with the numbers in `expired` don't count.
 pub fn lowest_address(
     pool: &Pool,
     addresses: &AddressSet,

@@ -53,7 +53,7 @@ impl Pool {
     }
 
     // Does nothing. Every pool is of a length that a pool may have.
-    fn tell_rules(&self)
+    fn rules_hold(&self)
         ensures { IsPool self.now }
     {
         let _prefix = self.prefix;
@@ -72,7 +72,7 @@ impl Pool {
     pub fn gives(&self, address: &Addr) -> bool
         ensures { result ≡ is_assignable self.now address.now }
     {
-        self.tell_rules();
+        self.rules_hold();
         let Span { lo, hi } = self.assignable();
         is_between(address, &lo, &hi)
     }
@@ -119,6 +119,6 @@ fn is_between(address: &Addr, lo: &Addr, hi: &Addr) -> bool
     ensures within { IsTrue result ↔ ((rank lo.now ≤ rank address.now) × (rank address.now ≤ rank hi.now)) }
     ensures fits { IsAddr address.now }
 {
-    address.tell_rules();
+    address.rules_hold();
     lo.is_at_most(address) && address.is_at_most(hi)
 }

@@ -1,4 +1,4 @@
-//! Spans of a slice, as a source of what is held.
+//! Spans of a slice, as a source of held addresses.
 ghost use Rattle.std.specs.Prelude.{◌≡◌, ℕ, ◌+◌, ◌-◌, ◌<◌, ◌≤◌, List, length, ◌↔◌};
 ghost use Rattle.wgr_text.specs.Prefix.{rank};
 ghost use Rattle.wgr_text.specs.declared.prefix.Span.{Span, Span as SpanValue};
@@ -12,7 +12,7 @@ use wgr_text::{Addr, Span};
 #[derive(Drop)]
 pub struct SortedSpans<'a> {
     spans: &'a [Span],
-    // Where the span that was given last begins: what is to come begins no lower.
+    // Where the span that was returned last begins: later ones begin no lower.
     last: Option<Addr>,
     ghost in_order: { RisesFrom (reached last) spans.now } by { RisesFrom-prop (reached last) spans.now },
 }

@@ -1,4 +1,4 @@
--- What the words leave that answer tenants' requests.
+-- The effects of the commands that answer tenants' requests.
 use Rattle.std.specs.Prelude.{ℕ, ◌≡◌, ◌⊎◌, Bool, true, List, [], ◌∷◌, length, codes, Option, Some, None, Result, Ok, Err, All, flat_map}
 use Rattle.std.specs.Io.KnownBytes.{Appends}
 use Rattle.std.specs.List.{list_all}
@@ -51,7 +51,7 @@ abbrev pub IsAskedAt : ℕ → event.Event → Type 0
 IsAskedAt now (events.Ask moment bytes) = moment ≡ now
 IsAskedAt now (events.Order order) = ⊥
 
--- so many requests, each at this moment
+-- this many requests, each at this moment
 abbrev pub AreAsked : ℕ → ℕ → List event.Event → Type 0
 AreAsked now count asked = (length asked ≡ count) × All (IsAskedAt now) asked
 
@@ -59,14 +59,14 @@ AreAsked now count asked = (length asked ≡ count) × All (IsAskedAt now) asked
 abbrev pub AreSpelled : List ℕ → List (List ℕ) → List event.Event → Type 0
 AreSpelled now files asked = (moment : ℕ) × SpellsWhole now moment × AreAsked moment (length files) asked
 
--- the moment is not of its form, or memory or a file fails
+-- the moment is malformed, or memory or a file fails
 abbrev pub IsBatchFault : List ℕ → WordFault → Type 0
 IsBatchFault now (word_fault.Field field) = IsFirst field ((of.Now, now) ∷ [])
 IsBatchFault now word_fault.NoMemory = Unit {0}
 IsBatchFault now word_fault.Device = Unit {0}
 
 -- These requests were run, with these answers, on the register that was in the files, and nothing else; and between any
--- two of them it was somewhere.
+-- two of them it was at some rows.
 pub record HasAnswered {D : Type 0} (g : disk.Ghosts D) (start : Image) (closed : Option (Files D)) (asked : List event.Event) (answers : List given.Answer) : Type 0 where
   pub each : length answers ≡ length asked
   pub register : Held (FileStore D g)
@@ -75,7 +75,7 @@ pub record HasAnswered {D : Type 0} (g : disk.Ghosts D) (start : Image) (closed 
   pub closed_to : IsClosedTo g closed left
   pub run : HasCleanDisk (file_state left) → (db : Database) × StoodIn start db × HasPassed over_files register left db [] asked answers
 
--- They were answered, and their replies written. It tells whether none was answered Unavailable.
+-- They were answered, and their replies written. `whole` says whether none was answered Unavailable.
 pub record HasReplied {D : Type 0} (g : disk.Ghosts D) (start : Image) (closed : Option (Files D)) (asked : List event.Event) (old new : Output) (whole : Bool) : Type 0 where
   pub answers : List given.Answer
   pub answered : HasAnswered g start closed asked answers
@@ -83,25 +83,25 @@ pub record HasReplied {D : Type 0} (g : disk.Ghosts D) (start : Image) (closed :
   pub sound : new.failed ≡ old.failed
   pub available : whole ≡ list_all is_available answers
 
--- They were answered, but a write failed behind a beginning of the replies.
+-- They were answered, but a write of the replies failed partway.
 pub record HasBrokenOff {D : Type 0} (g : disk.Ghosts D) (start : Image) (closed : Option (Files D)) (asked : List event.Event) (old new : Output) : Type 0 where
   pub answers : List given.Answer
   pub answered : HasAnswered g start closed asked answers
   pub cut : IsCut old.written new.written (flat_map reply_of answers)
   pub failed : new.failed ≡ true
 
--- the requests are answered, or the register isn't opened or memory is wanting
+-- the requests are answered, or the register isn't opened, or there is no memory
 abbrev pub Answers : {D : Type 0} → disk.Ghosts D → Image → Option (Files D) → List event.Event → Output → Output → Result Bool Failure → Type 0
 Answers g start closed asked old new (Ok whole) = HasReplied g start closed asked old new whole
 Answers g start closed asked old new (Err (failure.Register why)) = (new ≡ old) × Stays g start closed
 Answers g start closed asked old new (Err failure.Device) = HasBrokenOff g start closed asked old new
 Answers g start closed asked old new (Err other) = ⊥
 
--- The register was asked for, so this was read of the words; or memory was refused before.
+-- The words were read before the register was asked for; or there was no memory.
 abbrev pub OnceRead : RegisterFault → Type 0 → Type 0
 OnceRead why read = (why ≡ register_fault.NoMemory) ⊎ read
 
--- How the requests in these files end: where they end by a fault, nothing is written, or a beginning of the replies.
+-- How the requests in these files end: on an error, nothing is written, or only the first bytes of the replies.
 abbrev pub EndsBatch : {D : Type 0} → disk.Ghosts D → Image → Option (Files D) → List ℕ → List (List ℕ) → Output → Output → Result Bool Failure → Type 0
 EndsBatch g start closed now files old new (Ok whole) = (asked : List event.Event) × AreSpelled now files asked × HasReplied g start closed asked old new whole
 EndsBatch g start closed now files old new (Err (failure.Field field)) = (new ≡ old) × Stays g start closed × IsFirst field ((of.Now, now) ∷ [])
@@ -116,7 +116,7 @@ abbrev pub SpellsMoment : Option (List ℕ) → Option ℕ → Type 0
 SpellsMoment None moment = moment ≡ None
 SpellsMoment (Some text) moment = (n : ℕ) × SpellsWhole text n × (moment ≡ Some n)
 
--- it is read, or the first fault is told
+-- it is read, or the error says why not
 abbrev pub IsChoice : Option (List ℕ) → Result (Option ℕ) WordFault → Type 0
 IsChoice None result = result ≡ Ok None
 IsChoice (Some text) (Ok moment) = SpellsMoment (Some text) moment
@@ -134,15 +134,15 @@ serve_fields place count now = (of.HostPort, place) ∷ (of.Count, count) ∷ ch
 abbrev pub IsServing : List ℕ → List ℕ → Option (List ℕ) → Serving → Type 0
 IsServing place count now s = SpellsEndpoint place s.endpoint × SpellsWhole count s.count × SpellsMoment now s.moment
 
--- the address was bound, and these connections came
+-- the address was bound, and the connections with these outcomes were accepted
 abbrev pub HasListened : Serving → Log → Log → List Outcome → Type 0
 HasListened s before after outcomes = Logs before after (bound s.endpoint.0 s.endpoint.1 ∷ flat_map contacts_of outcomes)
 
--- the address can't be had, and nothing is written; or it was bound, and a write failed before any connection came
+-- the address can't be bound, and nothing is written; or it was bound, and a write failed before any connection came
 abbrev pub IsUnserved : Serving → Log → Log → Output → Output → Type 0
 IsUnserved s before after old new = ((after ≡ before) × (new ≡ old)) ⊎ (HasListened s before after [] × (new.failed ≡ true))
 
--- so many connections were served, at this address, by the register that was in the files
+-- `count` connections were served, at this address, by the register that was in the files
 pub record HasServed {D : Type 0} (g : disk.Ghosts D) (start : Image) (closed : Option (Files D)) (s : Serving) (before after : Log) : Type 0 where
   pub register : Held (FileStore D g)
   pub opened : IsOpen start register
@@ -153,7 +153,7 @@ pub record HasServed {D : Type 0} (g : disk.Ghosts D) (start : Image) (closed : 
   pub served : AreServed over_files register left s.moment s.count outcomes
   pub listened : HasListened s before after outcomes
 
--- `listening` is written and so many connections are served; or none is served
+-- `listening` is written and `count` connections are served; or none is served
 abbrev pub Listens : {D : Type 0} {g : disk.Ghosts D} → Held (FileStore D g) → Held (FileStore D g) → Serving → Log → Log → Output → Output → Result (Unit {0}) Failure → Type 0
 Listens register left s before after old new (Ok done) =
     (HasCleanDisk (file_state left) → HasCleanDisk (file_state register))
@@ -162,14 +162,14 @@ Listens register left s before after old new (Ok done) =
 Listens register left s before after old new (Err failure.Device) = (left ≡ register) × IsUnserved s before after old new
 Listens register left s before after old new (Err other) = ⊥
 
--- `listening` is written and so many connections are served; or the register isn't opened, or the address can't be had
+-- `listening` is written and `count` connections are served; or the register isn't opened, or none is served
 abbrev pub ServesAll : {D : Type 0} → disk.Ghosts D → Image → Option (Files D) → Serving → Log → Log → Output → Output → Result (Unit {0}) Failure → Type 0
 ServesAll g start closed s before after old new (Ok done) = HasServed g start closed s before after × Appends old.written new.written (codes "listening\n") × (new.failed ≡ old.failed)
 ServesAll g start closed s before after old new (Err (failure.Register why)) = (after ≡ before) × (new ≡ old) × Stays g start closed
 ServesAll g start closed s before after old new (Err failure.Device) = IsUnserved s before after old new × Stays g start closed
 ServesAll g start closed s before after old new (Err other) = ⊥
 
--- How serving ends: at the address that the words spell, `listening` is written and so many connections are served; or
+-- How serving ends: at the address that the words spell, `listening` is written and `count` connections are served; or
 -- none is served.
 abbrev pub EndsServe : {D : Type 0} → disk.Ghosts D → Image → Option (Files D) → List ℕ → List ℕ → Option (List ℕ) → Log → Log → Output → Output → Result (Unit {0}) Failure → Type 0
 EndsServe g start closed place count now before after old new (Ok done) = (s : Serving) × IsServing place count now s × ServesAll g start closed s before after old new (Ok done)

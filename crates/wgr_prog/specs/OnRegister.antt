@@ -1,4 +1,4 @@
--- How the words on a register end.
+-- The results of the commands on a register.
 use Rattle.std.specs.Prelude.{ℕ, ◌≡◌, ◌⊎◌, true, List, Option, Result, Ok, Err}
 use Rattle.sqlite.specs.Recovery.{Image}
 use Rattle.sqlite_disk.specs.declared.Disk as disk
@@ -43,7 +43,7 @@ EndsAs g start closed order (Err (failure.Refused why)) = HasEnded g start close
 EndsAs g start closed order (Err (failure.Register why)) = Stays g start closed ⊎ ((fault : Fault) × (why ≡ as_register_fault fault) × HasEnded g start closed order (Err (order_fault.Fault fault)))
 EndsAs g start closed order (Err other) = ⊥
 
--- the order that the words and the input spell ended so
+-- the order that the words and the input spell had this result
 abbrev pub HasOrdered : {D : Type 0} → disk.Ghosts D → Image → Option (Files D) → OrderAsked → Input → Input → Result Done OrderFault → Type 0
 HasOrdered g start closed asked old new ended = (token : List ℕ) × (order : Order) × TakesToken asked old new token × MakesOrder asked token order × HasEnded g start closed order ended
 
@@ -51,9 +51,9 @@ HasOrdered g start closed asked old new ended = (token : List ℕ) × (order : O
 abbrev pub SpellOrder : OrderAsked → Input → Input → Type 0
 SpellOrder asked old new = (token : List ℕ) × (order : Order) × TakesToken asked old new token × MakesOrder asked token order
 
--- The order that the words and the input spell is done or refused on the register; or a field is not of its form. A
--- fault of the input is told as one, and any other leaves the input sound, and the rows as they were. The register is
--- opened only for an order that was read.
+-- The order that the words and the input spell is done or refused on the register; or a field is malformed. A fault of
+-- the input is reported as such; after any other the input has not failed, and the rows are unchanged. The register
+-- is opened only for an order that was read.
 abbrev pub CarriesOut : {D : Type 0} → disk.Ghosts D → Image → Option (Files D) → OrderAsked → Input → Input → Result Done Failure → Type 0
 CarriesOut g start closed asked old new (Ok done) = HasOrdered g start closed asked old new (Ok done)
 CarriesOut g start closed asked old new (Err (failure.Refused why)) = HasOrdered g start closed asked old new (Err (order_fault.Refused why))

@@ -1,4 +1,4 @@
--- What a run of `wgr` leaves, and its exit status.
+-- The effects of a run of `wgr`, and its exit status.
 use Rattle.std.specs.Prelude.{ℕ, ◌≡◌, ◌≢◌, ◌⊎◌, true, false, Bool, List, Option, Result, Ok, Err, IfErr, IfNone, IfOk, IfSome, codes}
 use Rattle.std.specs.Io.KnownBytes.{Appends}
 use Rattle.std.specs.declared.io.ErrorKind as io
@@ -67,7 +67,7 @@ RunsPlan text old new status = RefusesPool text old new status ⊎ TellsPlan tex
 abbrev pub ReadsNothing : Streams → Streams → Type 0
 ReadsNothing old new = (new.input ≡ old.input) × (new.read_failed ≡ old.read_failed)
 
--- a failure of the words is a refusal, as is that of the register
+-- a malformed field counts as a refusal, as does a refusal by the register
 abbrev pub failure_status : Failure → ℕ
 failure_status (failure.Field field) = REFUSED
 failure_status (failure.Refused why) = REFUSED
@@ -80,7 +80,7 @@ TellsDone written written' failed failed' status =
     ((status ≡ DONE) × Appends written written' (codes "done\n") × (failed' ≡ failed))
     ⊎ ((status ≡ FAULT) × (failed' ≡ true))
 
--- how it went is told; where nothing is done, nothing is printed
+-- the result is reported; if nothing is done, nothing is printed
 abbrev pub TellsEnd : Option (List ℕ) → Option (List ℕ) → Bool → Bool → Result Done Failure → ℕ → Type 0
 TellsEnd written written' failed failed' (Ok done) status = TellsDone written written' failed failed' status
 TellsEnd written written' failed failed' (Err why) status = (status ≡ failure_status why) × (written' ≡ written) × (failed' ≡ failed)
@@ -88,7 +88,7 @@ TellsEnd written written' failed failed' (Err why) status = (status ≡ failure_
 abbrev pub Told : Streams → Streams → Result Done Failure → ℕ → Type 0
 Told old new answer status = TellsEnd old.written new.written old.write_failed new.write_failed answer status
 
--- a register is made, or a fault is told; nothing is read
+-- a register is made, or a fault is reported; nothing is read
 pub record RunsInit {D : Type 0} (g : disk.Ghosts D) (start : Image) (closed : Option (Files D)) (old new : Streams) (status : ℕ) : Type 0 where
   pub answer : Result Done Failure
   pub made : IfOk answer (λ done. IsMade g start closed)
@@ -136,7 +136,7 @@ pub record RunsServe {D : Type 0} (g : disk.Ghosts D) (start : Image) (closed : 
 
 -- ---- the command line
 
--- memory is wanting, and nothing is read or printed
+-- there is no memory, and nothing is read or printed
 abbrev pub LacksMemory : Streams → Streams → ℕ → Type 0
 LacksMemory old new status = (new ≡ old) × (status ≡ FAULT)
 
@@ -151,7 +151,7 @@ Runs g start closed (Serve db place count now) before after old new status = Run
 abbrev pub ServesAsked : {D : Type 0} → disk.Ghosts D → Image → Option (Files D) → Asked → Log → Log → Streams → Streams → ℕ → Type 0
 ServesAsked g start closed asked before after old new status = ((after ≡ before) × LacksMemory old new status) ⊎ Runs g start closed asked before after old new status
 
--- help and the version were asked for, and are no mistake
+-- asking for help or the version is not a mistake
 abbrev pub kind_status : ErrorKind → ℕ
 kind_status DisplayHelp = DONE
 kind_status DisplayVersion = DONE
@@ -162,7 +162,7 @@ kind_status mistake = REFUSED
 abbrev pub FailsToWrite : Streams → Streams → ℕ → Type 0
 FailsToWrite old new status = ReadsNothing old new × (new.write_failed ≡ true) × (status ≡ FAULT)
 
--- an error of one of the kinds is told, without a failure of the writer; nothing is printed on a mistake
+-- an error of one of the kinds is reported, without a failure of the writer; nothing is printed on a mistake
 pub record TellsKind (kinds : Kinds) (old new : Streams) (status : ℕ) : Type 0 where
   pub kind : ErrorKind
   pub among : IsAmong kind kinds
@@ -175,12 +175,12 @@ pub record TellsKind (kinds : Kinds) (old new : Streams) (status : ℕ) : Type 0
 abbrev pub TellsError : Kinds → Streams → Streams → ℕ → Type 0
 TellsError kinds old new status = LacksMemory old new status ⊎ FailsToWrite old new status ⊎ TellsKind kinds old new status
 
--- The words ask for something, or for nothing. Only words that ask to serve meet the network.
+-- The words ask for something, or for nothing. Only `serve` uses the network.
 pub record Serves {D : Type 0} (g : disk.Ghosts D) (start : Image) (closed : Option (Files D)) (words : List Text) (before after : Log) (old new : Streams) (status : ℕ) : Type 0 where
   pub served : IfSome (asked_by words) (λ asked. ServesAsked g start closed asked before after old new status)
   pub told : IfNone (asked_by words) ((after ≡ before) × TellsError (wrong_with words) old new status)
 
--- the words can't be had: they aren't UTF-8, or memory is wanting; nothing is read or printed
+-- the arguments are not available: they aren't UTF-8, or there is no memory; nothing is read or printed
 pub record LacksWords (why : io.ErrorKind) (old new : Streams) (status : ℕ) : Type 0 where
   pub kept : new ≡ old
   pub not_utf8 : why ≡ InvalidData → status ≡ REFUSED

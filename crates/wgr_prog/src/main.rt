@@ -13,7 +13,7 @@ use std::{env, io};
 use wgr_io::Device;
 use wgr_service::Sockets;
 
-// The program's own name and the words behind it.
+// The program's own name and the arguments after it.
 fn arguments(rt: &HostRuntime) -> io::Result<Vec<String>> {
     Ok(env::args(rt)?.collect(rt.alloc())?)
 }

@@ -1,6 +1,6 @@
 //! Messages on standard error, and exit statuses.
 //!
-//! Where standard error fails there is nobody to tell, and the status stays.
+//! If standard error fails, nothing can be reported, and the status is unchanged.
 ghost use Rattle.std.specs.Prelude.{◌≡◌};
 ghost use Rattle.wgr_prog.specs.Status.{TellsDone, TellsEnd, failure_status};
 
@@ -14,7 +14,7 @@ use wgr_register::{Done, RegisterFault};
 pub(crate) const DONE: u8 = 0;
 /// Memory, a file or a stream failed.
 pub(crate) const FAULT: u8 = 1;
-/// A refusal, or a command line that does not read.
+/// A refusal, or a command line with an error.
 pub(crate) const REFUSED: u8 = 2;
 
 pub(crate) fn fault<E: Write>(err: &mut E, text: &[u8]) -> u8
@@ -53,7 +53,7 @@ pub(crate) fn done<W: Write, E: Write>(out: &mut W, err: &mut E) -> u8
     }
 }
 
-/// Prints that an order is done, or tells why it isn't.
+/// Prints that an order is done, or reports why it isn't.
 pub(crate) fn ended<W: Write, E: Write>(
     ended: &Result<Done, Failure>,
     out: &mut W,
@@ -67,7 +67,7 @@ pub(crate) fn ended<W: Write, E: Write>(
     }
 }
 
-/// Tells why what was asked for is not done.
+/// Reports why what was asked for is not done.
 pub(crate) fn failure<E: Write>(why: &Failure, err: &mut E) -> u8
     ensures status { result ≡ failure_status why.now }
 {
@@ -97,7 +97,7 @@ fn register_fault<E: Write>(why: RegisterFault, err: &mut E) -> u8
     }
 }
 
-/// Standard error as a sink of text: what is told needs no memory.
+/// Standard error as a writer of text: printing a message needs no memory.
 #[derive(Drop)]
 pub(crate) struct Text<'a, E> {
     pub(crate) err: &'a mut E,

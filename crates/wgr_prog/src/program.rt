@@ -25,14 +25,14 @@ use wgr_plan::{PlanFault, plan};
 use wgr_service::Network;
 use wgr_text::read_loose;
 
-/// Does what the program's arguments ask for, of which the first is its own name, and answers the
-/// exit status; or says why there are none. A register's files are given back as they were closed.
+/// Does what the program's arguments ask for, of which the first is its own name, and returns the
+/// exit status; or reports why there are none. A register's files are returned as they were closed.
 ///
-/// `start` is what the files held as they were opened, which no system tells: `main` passes `Unknown`, and
-/// the contract says for each first contents what is in them afterwards. Only words that ask to serve
-/// meet the network.
+/// `start` is what the files held when they were opened, which no system reports: `main` passes `Unknown`,
+/// and the contract says for each initial content what is in them afterwards. Only `serve` uses the
+/// network.
 ///
-/// Where standard error fails there is nobody to tell, and the status stays.
+/// If standard error fails, nothing can be reported, and the status is unchanged.
 pub fn run<S: Start, N: Network, R: Read, W: Write, E: Write>(
     rt: &HostRuntime,
     start: S,
@@ -61,7 +61,7 @@ fn words_of(arguments: &[String]) -> &[String]
     }
 }
 
-// Does what the words ask for, and answers the exit status.
+// Does what the words ask for, and returns the exit status.
 fn program<S: Start, T: AsStr, N: Network, R: Read, W: Write, E: Write>(
     rt: &HostRuntime,
     start: S,
@@ -93,12 +93,12 @@ fn program<S: Start, T: AsStr, N: Network, R: Read, W: Write, E: Write>(
     }
 }
 
-// Says why the words of the command line can't be had.
+// Reports why the command-line arguments are not available.
 fn no_words<E: Write>(error: &io::Error, err: &mut E) -> u8
     ensures not_utf8 { error_kind error.now ≡ InvalidData → result ≡ REFUSED }
     ensures fault { error_kind error.now ≢ InvalidData → result ≡ FAULT }
 {
-    // Std gives words as strings. No word of the program could be another text, so it is refused.
+    // Std returns arguments as strings. Every valid argument of the program is UTF-8, so any other is refused.
     if error.kind() == io::ErrorKind::InvalidData {
         refusal(err, b"wgr: the command line is not UTF-8\n")
     } else {
@@ -106,7 +106,7 @@ fn no_words<E: Write>(error: &io::Error, err: &mut E) -> u8
     }
 }
 
-// Prints the help or the version, or says what is wrong with the command line.
+// Prints the help or the version, or reports what is wrong with the command line.
 fn no_invocation<W: Write, E: Write>(
     alloc: Global,
     answer: &clap::Error,

@@ -1,4 +1,4 @@
-//! The words on a register in a file.
+//! The commands on a register in a file.
 ghost use Rattle.std.specs.Prelude.{◌≡◌, ℕ, Bool, List, Option, false};
 ghost use Rattle.sqlite.specs.WalFiles.{image_at};
 ghost use Rattle.wgr_command_line.specs.Words.{order_asked};
@@ -16,10 +16,10 @@ use wgr_orders::{Order, OrderRefusal};
 use wgr_register::{Done, OrderFault, RegisterFault, register_fault};
 use wgr_words::{WordFault, WordField, order_of};
 
-/// Why a word on a register is not done.
+/// Why a command on a register is not done.
 #[derive(Drop)]
 pub(crate) enum Failure {
-    /// The first field that is not of its form.
+    /// The first malformed field.
     Field(WordField),
     /// The register refuses the order.
     Refused(OrderRefusal),
@@ -69,7 +69,7 @@ impl From<OrderFault> for Failure {
     }
 }
 
-/// Makes a register in the file at this path, and answers the exit status.
+/// Makes a register in the file at this path, and returns the exit status.
 pub(crate) fn run_init<S: Start, W: Write, E: Write>(
     rt: &HostRuntime,
     path: &str,
@@ -91,7 +91,7 @@ pub(crate) fn run_init<S: Start, W: Write, E: Write>(
     }
 }
 
-/// Does an order on the register in the file at this path, and answers the exit status.
+/// Carries out an order on the register in the file at this path, and returns the exit status.
 pub(crate) fn run_order<S: Start, R: Read, W: Write, E: Write>(
     rt: &HostRuntime,
     path: &str,
@@ -125,7 +125,7 @@ fn carry_out<S: Start, R: Read>(
     }
 }
 
-// Does an order on the register in the file at this path.
+// Carries out an order on the register in the file at this path.
 fn done_or_failed<S: Start>(
     rt: &HostRuntime,
     path: &str,

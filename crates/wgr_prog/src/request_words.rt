@@ -1,4 +1,4 @@
-//! The words that answer tenants' requests over the register in a file.
+//! The commands that answer tenants' requests from the register in a file.
 ghost use Rattle.std.specs.Prelude.{◌≡◌, ℕ, Bool, IfErr, IfOk, List, Option, map, option_map};
 ghost use Rattle.sqlite.specs.WalFiles.{image_at};
 ghost use Rattle.wgr_file.specs.OnFiles.{IsClosedTo, IsOpen, Stays};
@@ -21,7 +21,7 @@ use wgr_register::RegisterFault;
 use wgr_service::{BatchFault, Network, answer_all, serve_connections};
 use wgr_words::{WordFault, WordField, read_endpoint_field, read_whole_field};
 
-/// Answers the requests in files in turn, and answers the exit status.
+/// Answers the requests in files in order, and returns the exit status.
 pub(crate) fn run_batch<S: Start, W: Write, E: Write>(
     rt: &HostRuntime,
     path: &str,
@@ -40,7 +40,7 @@ pub(crate) fn run_batch<S: Start, W: Write, E: Write>(
     (batch_status(&answered, err), closed)
 }
 
-// Where no reply is that of want of memory or of a fault of the store, all is done.
+// All is done if no reply reports lack of memory or a fault of the store.
 fn batch_status<E: Write>(answered: &Result<bool, Failure>, err: &mut E) -> u8
     ensures { result ≡ batch_status answered.now }
 {
@@ -77,8 +77,8 @@ fn read_batch(rt: &HostRuntime, now: &str, files: &[&str]) -> Result<Vec<Event>,
     read_requests(rt, moment, files)
 }
 
-// Answers requests over the register in the file at this path. Tells whether none of the replies is
-// that of want of memory or of a fault of the store.
+// Answers requests from the register in the file at this path. Returns whether none of the replies
+// reports lack of memory or a fault of the store.
 fn answer_requests<S: Start, W: Write>(
     rt: &HostRuntime,
     path: &str,
@@ -108,11 +108,11 @@ pub(crate) struct Serving {
     pub(crate) endpoint: (IpAddr, Port),
     /// How many connections are served.
     pub(crate) count: u64,
-    /// The moment of all requests, where one is given.
+    /// The moment of all requests, if one is given.
     pub(crate) moment: Option<u64>,
 }
 
-/// Serves so many connections, and answers the exit status.
+/// Serves this many connections, and returns the exit status.
 pub(crate) fn run_serve<S: Start, N: Network, W: Write, E: Write>(
     rt: &HostRuntime,
     path: &str,
@@ -177,7 +177,7 @@ fn read_serving(place: &str, count: &str, now: Option<&str>) -> Result<Serving, 
     })
 }
 
-// The moment of all requests, where one is given.
+// The moment of all requests, if one is given.
 fn read_choice(now: Option<&str>) -> Result<Option<u64>, WordFault>
     ensures { IsChoice (option_map (λ now. now.now) now.entry) result }
 {
@@ -210,7 +210,7 @@ fn serve_all<S: Start, N: Network, W: Write, E: Write>(
     (served, close_office(office))
 }
 
-// Listens, tells so, and serves so many connections.
+// Listens, prints `listening`, and serves this many connections.
 fn listen<S: Start, N: Network, W: Write, E: Write>(
     alloc: Global,
     office: &mut Office<FileStore<FileFrom<S>>>,

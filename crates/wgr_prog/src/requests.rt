@@ -7,7 +7,7 @@ use wgr_io::{Device, ReadFault, read_to_end};
 use wgr_office::Event;
 use wgr_words::WordFault;
 
-/// The request in each of these files, which came at this moment.
+/// The request in each of these files, all at this moment.
 pub(crate) fn read_requests(
     rt: &HostRuntime,
     now: u64,

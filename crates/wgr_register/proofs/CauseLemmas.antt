@@ -34,7 +34,7 @@ use Rattle.wgr_sql.specs.declared.fault.Fault.{Fault}
 use Rattle.wgr_sql.specs.declared.fault.Fault.TheVariants.{NoMemory, Store}
 use Rattle.wgr_columns.specs.Decode.{network_in}
 use Rattle.wgr_columns.specs.Stored.{AreSettings, AreStored, IsKeptNetwork, stored_network}
-use Rattle.wgr_tables.specs.Told.{IsTold}
+use Rattle.wgr_tables.specs.Stored.{IsStored}
 use Rattle.wgr_entries.specs.Kept.{AreOf}
 use Rattle.wgr_entries.proofs.KeptLemmas as kept
 use Rattle.wgr_tables.proofs.ToldLemmas.{told_settings}
@@ -170,5 +170,5 @@ module _ (t : Tables) (good : AreConsistent t) where
   rows_kept tenant rows shows stored = kept.rows_kept network_in stored_network IsKeptNetwork _ rows shows stored (λ w here. network_kept w (from_filter (λ w. nat_eq w.tenant tenant) t.networks w here).0)
 
   -- the rows of a network that is there tell it
-  pub told_at : (w : NetworkRow) → Has t.networks w → (id : ℕ) → w.id ≡ id → (n : NetworkValue) × IsTold t id n
-  told_at w here id is = subst (λ i. (n : NetworkValue) × IsTold t i n) is ((consistent_is_whole t good).told w here)
+  pub told_at : (w : NetworkRow) → Has t.networks w → (id : ℕ) → w.id ≡ id → (n : NetworkValue) × IsStored t id n
+  told_at w here id is = subst (λ i. (n : NetworkValue) × IsStored t i n) is ((consistent_is_whole t good).told w here)

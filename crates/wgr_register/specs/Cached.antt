@@ -1,4 +1,4 @@
--- The servers' files that a register keeps in memory, and what they are to its rows.
+-- The servers' files that a register keeps in memory, and how they relate to its rows.
 use Rattle.std.specs.Prelude.{◌≡◌, ℕ, ◌+◌, ◌*◌, false, List, [], Option, None, Some, nat_eq}
 use Rattle.std.specs.Map.{lookup}
 use Rattle.lru.specs.LruCache.{LruCache}
@@ -27,10 +27,10 @@ file_key id Quick = id * 2 + 1
 abbrev pub IsCurrent : Tables → ℕ → Form → KeptFile → Type 0
 IsCurrent t id form e = (n : NetworkValue) × IsFormed t id n × ((m : ℕ) → IsWithin e.moments m → e.text.items ≡ server_config n m form)
 
--- each file that is found is so
+-- each file that is found is current
 abbrev pub AreCurrent : Cached → Tables → Type 0
 AreCurrent files t = (id : ℕ) (form : Form) (e : KeptFile) → lookup (nat_eq (file_key id form)) files ≡ Some e → IsCurrent t id form e
 
--- so is each but those of this id
+-- and so is each except those of this id
 abbrev pub AreOthersCurrent : ℕ → Cached → Tables → Type 0
 AreOthersCurrent id files t = (other : ℕ) (form : Form) (e : KeptFile) → nat_eq id other ≡ false → lookup (nat_eq (file_key other form)) files ≡ Some e → IsCurrent t other form e

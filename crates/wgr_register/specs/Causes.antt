@@ -1,4 +1,4 @@
--- Why an ask or an order ends by a fault.
+-- Why a request or an order ends with a fault.
 use Rattle.std.specs.Prelude.{◌≡◌, ℕ, false, Option, Some, None, Result, Ok, Err}
 use Rattle.std.specs.declared.vec.Vec.{Vec}
 use Rattle.std.specs.declared.alloc.Global.{Global}
@@ -24,7 +24,7 @@ use Rattle.wgr_register.specs.declared.fault.Done.{Done}
 use Rattle.wgr_register.specs.declared.fault.OrderFault.{OrderFault}
 use Rattle.wgr_register.specs.declared.fault.OrderFault.TheVariants as order_fault
 
--- this holds of the fault by which an ask ended, if it ended by one
+-- this holds for the fault with which a request ended, if it ended with one
 abbrev pub IfFault : (Fault → Type 0) → Result (Vec ℕ Global) AskFault → Type 0
 IfFault P (Ok text) = Unit {0}
 IfFault P (Err (fault.Refused why)) = Unit {0}
@@ -51,7 +51,7 @@ pub record AskStops (t : Tables) (digest name : Bytes) (now : ℕ) (command : Co
 
 -- ---- orders
 
--- this holds of the fault by which an order ended, if it ended by one
+-- this holds for the fault with which an order ended, if it ended with one
 abbrev pub IfOrderFault : (Fault → Type 0) → Result Done OrderFault → Type 0
 IfOrderFault P (Ok done) = Unit {0}
 IfOrderFault P (Err (order_fault.Refused why)) = Unit {0}

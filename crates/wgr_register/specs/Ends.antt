@@ -31,7 +31,7 @@ use Rattle.wgr_register.specs.declared.fault.Done.{Done}
 use Rattle.wgr_register.specs.declared.fault.OrderFault.{OrderFault}
 use Rattle.wgr_register.specs.declared.fault.OrderFault.TheVariants as order_fault
 
--- whether a change was done: by an order, or by a command that isn't a reading
+-- whether a change was done: by an order, or by a command that isn't read-only
 abbrev pub is_change : Answer → Event → Bool
 is_change (Replied reply network) (Ask digest name now command) = not (is_reading command)
 is_change answered.Done event = true
@@ -54,7 +54,7 @@ EndsStill g conn db late event answer = StandsAt g conn db late × (HasCleanDisk
 abbrev pub EndsLate : {S : Type 0} → Ghosts S → Held S → Database → List Event → Event → Type 0
 EndsLate g conn db late event = StandsAt g conn db (event ∷ late)
 
--- how an ask ends: with a text that shows its answer, with a refusal, or by a fault
+-- how a request ends: with a text that shows its answer, with a refusal, or with a fault
 abbrev pub AskEnds : {S : Type 0} → Ghosts S → (GivenValue → Bytes) → Held S → Database → List Event → Event → ℕ → Result (Vec ℕ Global) AskFault → Type 0
 AskEnds g shown conn db late event now (Ok text) = EndsWith g conn db late event (IsShown shown now text.items)
 AskEnds g shown conn db late event now (Err (fault.Refused why)) = EndsStill g conn db late event (Declined why)
@@ -62,19 +62,19 @@ AskEnds g shown conn db late event now (Err fault.UnknownToken) = EndsStill g co
 AskEnds g shown conn db late event now (Err fault.NoSuchNetwork) = EndsStill g conn db late event NoSuchNetwork
 AskEnds g shown conn db late event now (Err (fault.Fault why)) = EndsLate g conn db late event
 
--- how an order ends: done, refused, or by a fault
+-- how an order ends: done, refused, or with a fault
 abbrev pub OrderEnds : {S : Type 0} → Ghosts S → Held S → Database → List Event → Event → Result Done OrderFault → Type 0
 OrderEnds g conn db late event (Ok done) = EndsWith g conn db late event (λ answer. answer ≡ answered.Done)
 OrderEnds g conn db late event (Err (order_fault.Refused why)) = EndsStill g conn db late event (answered.Refused (refusal_of why))
 OrderEnds g conn db late event (Err (order_fault.Fault why)) = EndsLate g conn db late event
 
--- a new network passes the checks beside these and has an id that no other has, or it is refused
+-- a new network passes the checks against these and has an id that no other has, or it is refused
 abbrev pub Admits : Register → ℕ → Bytes → Settings → Result ℕ OrderFault → Type 0
 Admits r tenant name settings (Ok new) = IsAdmitted r tenant name settings (Ok new)
 Admits r tenant name settings (Err (order_fault.Refused why)) = IsAdmitted r tenant name settings (Err why)
 Admits r tenant name settings (Err (order_fault.Fault why)) = why ≡ NoMemory
 
--- why a command isn't done, as a fault of an ask
+-- why a command isn't done, as a fault of a request
 abbrev pub ask_fault : ActFault → AskFault
 ask_fault (act_fault.Refused why) = fault.Refused why
 ask_fault act_fault.NoMemory = fault.Fault NoMemory

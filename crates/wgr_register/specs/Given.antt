@@ -1,4 +1,4 @@
--- What an answer gives to be rendered.
+-- What is rendered of an answer.
 use Rattle.std.specs.Prelude.{◌≡◌, ℕ, List, map, Option, Some, None, option_map}
 use Rattle.wgr_core.specs.Network.{NetworkValue}
 use Rattle.wgr_core.specs.declared.reply.Reply.{Reply}
@@ -20,7 +20,7 @@ given_view (given.Reply reply) = OfReply reply.now
 given_view (given.File text) = OfFile text.now
 given_view (given.Networks networks) = OfNetworks networks.now
 
--- what was settled of a network
+-- the settings of a network
 abbrev pub settings_in : NetworkValue → Settings
 settings_in n = record { pool = n.pool; host = n.host; port = n.port; server = n.server; capacity = n.capacity }
 

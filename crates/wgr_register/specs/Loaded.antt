@@ -1,4 +1,4 @@
--- The networks that a register keeps in memory, and what they are to its rows.
+-- The networks that a register keeps in memory, and how they relate to its rows.
 use Rattle.std.specs.Prelude.{◌≡◌, ℕ, IsTrue, false, List, [], Option, None, Some, Result, Ok, Err, nat_eq}
 use Rattle.std.specs.Map.{lookup}
 use Rattle.std.specs.declared.vec.Vec.{Vec}
@@ -33,15 +33,15 @@ IsFormed t id n = (w : NetworkRow) × Has t.networks w × (w.id ≡ id) × (n �
 abbrev pub AreFormed : Loaded → Tables → Type 0
 AreFormed loaded t = (id : ℕ) (n : NetworkValue) → lookup (nat_eq id) loaded ≡ Some n → IsFormed t id n
 
--- so is each but the one of this id
+-- and so is each except the one of this id
 abbrev pub AreOthersFormed : ℕ → Loaded → Tables → Type 0
 AreOthersFormed id loaded t = (other : ℕ) (n : NetworkValue) → nat_eq id other ≡ false → lookup (nat_eq other) loaded ≡ Some n → IsFormed t other n
 
--- this holds of the rows that the connection shows, while it is open and its disk returns what was written
+-- this holds for the rows that the connection shows, while it is open and its disk returns what was written
 abbrev pub Shows : {S : Type 0} → Ghosts S → Held S → (Tables → Type 0) → Type 0
 Shows g conn P = HasCleanDisk (state g conn) → IsTrue (state g conn).is_open → P (tables_of (state g conn).now)
 
--- this holds, or an ask ended by a fault
+-- this holds, or a request ended with a fault
 abbrev pub UnlessFault : Result (Vec ℕ Global) AskFault → Type 0 → Type 0
 UnlessFault (Ok text) P = P
 UnlessFault (Err (fault.Refused why)) P = P
@@ -49,7 +49,7 @@ UnlessFault (Err fault.UnknownToken) P = P
 UnlessFault (Err fault.NoSuchNetwork) P = P
 UnlessFault (Err (fault.Fault why)) P = Unit {0}
 
--- this holds, or an order ended by a fault
+-- this holds, or an order ended with a fault
 abbrev pub UnlessUndone : Result Done OrderFault → Type 0 → Type 0
 UnlessUndone (Ok done) P = P
 UnlessUndone (Err (order_fault.Refused why)) P = P

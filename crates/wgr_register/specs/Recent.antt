@@ -1,4 +1,4 @@
--- How much of what was last asked of stays in memory.
+-- How many of the most recently used values stay in memory.
 use Rattle.std.specs.Prelude.{ℕ}
 
 -- at most so many networks, and at most so many servers' files, of all tenants together

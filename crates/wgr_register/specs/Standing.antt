@@ -1,4 +1,4 @@
--- At which database a register stands, and what a stop at this moment may leave.
+-- Which database a register is in, and what a stop at this moment may leave.
 use Rattle.std.specs.Prelude.{◌≡◌, false, List}
 use Rattle.sqlite.specs.Effect.{Database}
 use Rattle.sqlite.specs.State.{HasCleanDisk}
@@ -17,7 +17,7 @@ use Rattle.wgr_tables.specs.Writes.{Changes, Written}
 abbrev pub AreSteps : Tables → List Written → List Event → Type 0
 AreSteps t pending late = (one : Written) → Has pending one → (u : Tables) → Changes one t u → (event : Event) × model.Has late event × IsProper event × (answer : Answer) × IsRowStep t event answer u
 
--- The register stands at the consistent rows of this database. A stop at this moment leaves them, or
+-- The register has the consistent rows of this database. A stop at this moment leaves them, or
 -- those after one of these events: the ones that were answered by a fault since the last that was
 -- acknowledged and changed a row.
 pub record StandsAt {S : Type 0} (g : Ghosts S) (conn : Held S) (db : Database) (late : List Event) : Type 0 where

@@ -35,7 +35,7 @@ use wgr_core::{Change, Command, Form, Name, Network};
 use wgr_entries::{network_id, tenant_of_token};
 use wgr_tables::{Fault, commit_change, load_network};
 
-// The network whose row has this id: the one that is kept, which is taken, or else what its rows form.
+// The network whose row has this id: the kept one, which is taken out, or else the one that its rows form.
 fn take_network<S: Alter>(
     alloc: Global,
     conn: &mut Connection<S>,
@@ -111,8 +111,8 @@ fn commit_if<S: Alter>(
     }
 }
 
-// The text of what the command answers on the network whose row has this id. What it changes is
-// committed once the text is made; then the network as it stands is kept.
+// The text of the command's answer on the network whose row has this id. What it changes is
+// committed once the text is made; then the network is kept as it is after that.
 fn act_on<S: Alter, R: Render>(
     alloc: Global,
     conn: &mut Connection<S>,
@@ -137,7 +137,7 @@ fn act_on<S: Alter, R: Render>(
     ensures survives { Survives (state S.Store conn.old) (state S.Store conn.new) (λ _. ⊤) }
     ensures stops { (db : Database) (late : List Event) (digest name : Bytes) → StandsAt S.Store conn.old db late → IsFound (tables_of db) digest name id network → IfFault (HasCauseOr (AskStops (tables_of db) digest name now command.now) (state S.Store conn.old) (state S.Store conn.new)) result }
 {
-    command.tell_forms();
+    command.forms_hold();
     let (reply, change) = match network.act(alloc, now, command) {
         Ok(done) => done,
         Err(why) => {
@@ -152,7 +152,7 @@ fn act_on<S: Alter, R: Render>(
     Ok(text)
 }
 
-// The text of the server's file of the network whose row has this id: of the file that is kept, or of
+// The text of the server's file of the network whose row has this id: from the file that is kept, or from
 // one that is made.
 fn file_at<S: Alter, R: Render>(
     alloc: Global,
@@ -191,7 +191,7 @@ fn file_at<S: Alter, R: Render>(
     Ok(text)
 }
 
-// The text of what the command answers on the network of this name that the tenant of the token has.
+// The text of the command's answer on the network of this name that the tenant of the token has.
 pub(crate) fn ask<S: Alter, R: Render>(
     alloc: Global,
     conn: &mut Connection<S>,

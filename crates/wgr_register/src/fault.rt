@@ -36,7 +36,7 @@ impl From<Fault> for OrderFault {
     }
 }
 
-/// Why an ask gives no text.
+/// Why a request gives no text.
 #[derive(Clone, Copy, Debug, Drop, PartialEq, Eq)]
 pub enum AskFault {
     /// The network refuses the command.

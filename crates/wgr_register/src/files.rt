@@ -1,7 +1,7 @@
 //! Servers' files that stay in memory between requests.
 //!
 //! Each has a span of moments: within it no lease ends, so the file stays the same until the network
-//! changes. The least recently asked of gives way. Where memory is refused, and after a fault, none
+//! changes. The least recently used is dropped first. Where memory is refused, and after a fault, none
 //! is kept: the next request makes its file again.
 ghost use Rattle.std.specs.Prelude.{◌≡◌, ◌≤◌, ℕ, length, None, Some, IfOk, IfSome, false, is_some, nat_eq, true};
 ghost use Rattle.std.specs.List.{IsDistinct, filter};
@@ -77,7 +77,7 @@ fn keep_file(alloc: Global, files: &mut Option<Files>, id: u32, form: Form, file
     }
 }
 
-/// Keeps no file of the network of this id any longer.
+/// Drops the files of the network of this id.
 pub(crate) fn drop_files(files: &mut Option<Files>, id: u32)
     ensures { (t : Tables) → AreOthersCurrent id (files_of files.old) t → AreCurrent (files_of files.new) t }
 {
@@ -85,7 +85,7 @@ pub(crate) fn drop_files(files: &mut Option<Files>, id: u32)
     let _long = take_file(files, file_key(id, Form::Quick));
 }
 
-/// Keeps no file of the network of this id any longer, if it changes.
+/// Drops the files of the network of this id, if it changes.
 pub(crate) fn drop_changed(files: &mut Option<Files>, id: u32, change: &Option<Change>)
     ensures some { is_some change.now ≡ true → (t : Tables) → AreOthersCurrent id (files_of files.old) t → AreCurrent (files_of files.new) t }
     ensures none { is_some change.now ≡ false → files.new ≡ files.old }
@@ -95,7 +95,7 @@ pub(crate) fn drop_changed(files: &mut Option<Files>, id: u32, change: &Option<C
     }
 }
 
-/// The text that is made of the file that is kept for this moment, if one is.
+/// The text made from the file that is kept for this moment, if there is one.
 pub(crate) fn kept_text<R: Render>(
     alloc: Global,
     files: &mut Option<Files>,
@@ -118,7 +118,7 @@ pub(crate) fn kept_text<R: Render>(
     Ok(Some(text))
 }
 
-/// The text that is made of the network's file at this moment. The file is kept.
+/// The text made from the network's file at this moment. The file is kept.
 pub(crate) fn made_text<R: Render>(
     alloc: Global,
     files: &mut Option<Files>,
@@ -170,7 +170,7 @@ pub(crate) fn count(files: &Option<Files>) -> usize
     }
 }
 
-/// Keeps none after a fault.
+/// Drops all after a fault.
 pub(crate) fn drop_after_fault(files: &mut Option<Files>, answered: &Result<Vec<u8>, AskFault>)
     ensures { (t : Tables) → UnlessFault answered.now (AreCurrent (files_of files.old) t) → AreCurrent (files_of files.new) t }
 {
@@ -179,7 +179,7 @@ pub(crate) fn drop_after_fault(files: &mut Option<Files>, answered: &Result<Vec<
     }
 }
 
-/// Keeps none after an order that failed.
+/// Drops all after an order that failed.
 pub(crate) fn drop_after_failure(files: &mut Option<Files>, ended: &Result<Done, OrderFault>)
     ensures { (t : Tables) → UnlessUndone ended.now (AreCurrent (files_of files.old) t) → AreCurrent (files_of files.new) t }
 {

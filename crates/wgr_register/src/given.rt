@@ -1,4 +1,4 @@
-//! What is made of an answer before it is committed.
+//! What is rendered of an answer before it is committed.
 ghost use Rattle.std.specs.Prelude.{◌≡◌, List, ℕ, true, is_some, option_map, Some, IfOk};
 ghost use Rattle.wgr_register.specs.Given.{GivenValue, given_view, reply_given};
 
@@ -18,7 +18,7 @@ pub enum Given<'a> {
     Networks(&'a [(Name, Network)]),
 }
 
-/// Makes the text of what is given. It is called before the commit, so that nothing grows after it.
+/// Makes the text of what is given. It is called before the commit, so lack of memory for it changes no row.
 pub trait Render {
     ghost shown: { GivenValue → List ℕ };
 
@@ -27,7 +27,7 @@ pub trait Render {
         ensures { IfOk result (λ text. text.items ≡ shown (given_view given.entry)) };
 }
 
-// The text of what a command replies on a network.
+// The text of a command's reply on a network.
 pub(crate) fn render_reply<R: Render>(
     alloc: Global,
     render: &R,

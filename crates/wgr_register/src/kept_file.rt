@@ -29,8 +29,8 @@ impl Moments {
         from <= now && comes_before(now, until)
     }
 
-    /// Those of these at which a lease with this end is over if it is so at this moment, and runs if
-    /// it runs then. The greatest end that is past, and the least that is to come, bound them.
+    /// The moments of this span at which a lease with this end is over exactly if it is over at `now`. The
+    /// end bounds them from below if it is past, and from above if it is to come.
     pub(crate) fn around(self, end: u64, now: u64) -> Moments
         ensures within { IsWithin self now → IsWithin result now }
         ensures narrower { (m : ℕ) → IsWithin result m → IsWithin self m }
@@ -60,7 +60,7 @@ fn comes_before(now: u64, until: Option<u64>) -> bool
     }
 }
 
-// The sooner of the two.
+// The earlier of the two.
 fn sooner(end: u64, until: Option<u64>) -> u64
     ensures first { result ≤ end }
     ensures other { IfSome until (λ other. result ≤ other) }

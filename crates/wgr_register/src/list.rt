@@ -30,7 +30,7 @@ use wgr_entries::{networks_of_tenant, read_settled, tenant_of_token};
 use wgr_orders::{Holding, put_entry};
 use wgr_tables::Fault;
 
-// Puts a network in the place that its name has.
+// Puts a network in the place for its name.
 fn put(entries: &mut Vec<(Name, Network)>, name: Name, network: Network) -> Result<(), Fault>
     ensures put { OnOk result (entries.new.items ≡ put_entry name network entries.old.items) }
     ensures memory { IfErr result (λ why. why ≡ NoMemory) }

@@ -1,6 +1,6 @@
 //! Networks that stay in memory between requests.
 //!
-//! The least recently asked of gives way. Where memory is refused, and after a fault, none is kept:
+//! The least recently used is dropped first. Where memory is refused, and after a fault, none is kept:
 //! the next request loads its network from the rows.
 ghost use Rattle.std.specs.Prelude.{◌≡◌, None, IfOk, IfSome, nat_eq};
 ghost use Rattle.std.specs.List.{IsDistinct};
@@ -77,14 +77,14 @@ pub(crate) fn keep_changed(
     }
 }
 
-/// Keeps the network of this id no longer.
+/// Drops the network of this id.
 pub(crate) fn forget(loaded: &mut Option<Networks>, id: u32)
     ensures { (t : Tables) → AreOthersFormed id (entries_of loaded.old) t → AreFormed (entries_of loaded.new) t }
 {
     let _gone = take(loaded, id);
 }
 
-/// Keeps none after a fault.
+/// Drops all after a fault.
 pub(crate) fn drop_after_fault(loaded: &mut Option<Networks>, answered: &Result<Vec<u8>, AskFault>)
     ensures { (t : Tables) → UnlessFault answered.now (AreFormed (entries_of loaded.old) t) → AreFormed (entries_of loaded.new) t }
 {
@@ -93,7 +93,7 @@ pub(crate) fn drop_after_fault(loaded: &mut Option<Networks>, answered: &Result<
     }
 }
 
-/// Keeps none after an order that failed.
+/// Drops all after an order that failed.
 pub(crate) fn drop_after_failure(loaded: &mut Option<Networks>, ended: &Result<Done, OrderFault>)
     ensures { (t : Tables) → UnlessUndone ended.now (AreFormed (entries_of loaded.old) t) → AreFormed (entries_of loaded.new) t }
 {

@@ -28,7 +28,7 @@ use wgr_model::MAX_ENTRIES;
 use wgr_orders::{Holding, Order, OrderRefusal, Settings, Tenant, admit_network, unused_id};
 use wgr_tables::Fault;
 
-// Does the order, or refuses it. The networks and files that are kept stay, but for those of a network
+// Does the order, or refuses it. Kept networks and files stay, except those of a network
 // that ends.
 pub(crate) fn operate<S: Alter>(
     alloc: Global,
@@ -46,7 +46,7 @@ pub(crate) fn operate<S: Alter>(
     ensures current { (db : Database) (late : List Event) → StandsAt S.Store conn.old db late → AreCurrent (files_of files.old) (tables_of db) → UnlessUndone result (Shows S.Store conn.new (AreCurrent (files_of files.new))) }
     ensures stops { (db : Database) (late : List Event) → StandsAt S.Store conn.old db late → IfOrderFault (HasCauseOr (OrderStops (tables_of db) (order_event order.now)) (state S.Store conn.old) (state S.Store conn.new)) result }
 {
-    order.tell_forms();
+    order.forms_hold();
     match order {
         Order::AddTenant { name } => add_tenant(alloc, conn, name),
         Order::Grant { tenant, digest } => grant(conn, tenant, digest),
@@ -60,7 +60,7 @@ pub(crate) fn operate<S: Alter>(
     }
 }
 
-// The token of this digest goes.
+// Removes the token of this digest.
 fn end_token<S: Alter>(conn: &mut Connection<S>, digest: &[u8; 32]) -> Result<Done, OrderFault>
     requires idle { conn.old.in_transaction ≡ false }
     ensures idle { conn.new.in_transaction ≡ false }
@@ -76,7 +76,7 @@ fn end_token<S: Alter>(conn: &mut Connection<S>, digest: &[u8; 32]) -> Result<Do
     Ok(Done)
 }
 
-// The network of this name that the tenant has goes, with its peers and routes.
+// Removes the network of this name that the tenant has, with its peers and routes.
 fn end_network<S: Alter>(
     conn: &mut Connection<S>,
     loaded: &mut Option<Networks>,
@@ -105,7 +105,7 @@ fn end_network<S: Alter>(
     Ok(Done)
 }
 
-// A token of this digest for the tenant of this name.
+// Adds a token of this digest for the tenant of this name.
 fn grant<S: Alter>(
     conn: &mut Connection<S>,
     tenant: &Name,
@@ -132,7 +132,7 @@ fn grant<S: Alter>(
     Ok(Done)
 }
 
-// A tenant of this name, under an id that no other has.
+// Adds a tenant of this name, under an id that no other has.
 fn add_tenant<S: Alter>(
     alloc: Global,
     conn: &mut Connection<S>,
@@ -156,7 +156,7 @@ fn add_tenant<S: Alter>(
     Ok(Done)
 }
 
-// A network of these settings, without peers, of the tenant of this name, under an id that no other
+// Adds a network of these settings, without peers, of the tenant of this name, under an id that no other
 // has.
 fn add_network<S: Alter>(
     alloc: Global,
@@ -189,7 +189,7 @@ fn add_network<S: Alter>(
     Ok(Done)
 }
 
-// The id that the network takes, or why it isn't added.
+// The id of the new network, or why it isn't added.
 fn admit(
     alloc: Global,
     tenants: &[Tenant],
@@ -207,7 +207,7 @@ fn admit(
     }
 }
 
-// Whether no more than so many entries are taken.
+// Whether a list of so many entries is full.
 fn is_full(count: usize) -> bool
     ensures { result ≡ not (nat_lt count max_entries) }
 {

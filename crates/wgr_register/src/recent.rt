@@ -1,4 +1,4 @@
-//! What was last asked of, as much of it as stays in memory.
+//! The most recently used values, as many as stay in memory.
 ghost use Rattle.std.specs.Prelude.{◌≡◌, ◌≤◌, [], length, nat_eq, IfOk, OnOk};
 ghost use Rattle.std.specs.List.{IsDistinct};
 ghost use Rattle.std.specs.Map.{keys_of, lookup, remove_entry};
@@ -13,7 +13,7 @@ use std::num::NonZeroUsize;
 /// How many entries a [`Recent`] has at most.
 pub(crate) const MAX_RECENT: usize = 64;
 
-/// Values by their keys, [`MAX_RECENT`] at most. The least recently put gives way.
+/// Values by their keys, [`MAX_RECENT`] at most. The least recently put is dropped first.
 #[derive(Drop)]
 pub(crate) struct Recent<V> {
     cache: LruCache<u64, V>,

@@ -35,11 +35,11 @@ use wgr_schema::make;
 
 /// The networks of many tenants, in a database whose rows are consistent at all times.
 ///
-/// The [`NETWORKS_IN_MEMORY`](crate::NETWORKS_IN_MEMORY) networks that were last asked of stay in
+/// The [`NETWORKS_IN_MEMORY`](crate::NETWORKS_IN_MEMORY) most recently used networks stay in
 /// memory as their rows form them, so a request loads a network only where it isn't one of them. So
-/// do the [`FILES_IN_MEMORY`](crate::FILES_IN_MEMORY) servers' files that were last asked of.
+/// do the [`FILES_IN_MEMORY`](crate::FILES_IN_MEMORY) most recently used servers' files.
 ///
-/// Every contract names the database at which the register stands, and the events that a stop at
+/// Every contract names the database that the register is in, and the events that a stop at
 /// this moment may leave done: those that were answered by a fault since the last acknowledged change.
 pub struct Register<S: Alter> {
     conn: Connection<S>,
@@ -94,7 +94,7 @@ impl<S: Alter> Register<S> {
         }
     }
 
-    /// Opens the register that the database holds. Whatever else the database has is left alone.
+    /// Opens the register that the database holds. Anything else in the database is left unchanged.
     ///
     /// `NotARegister` where the register's tables are missing or of another version, and `NotGood`
     /// where they are of the first version and the rows aren't those of a consistent register, and
@@ -127,16 +127,16 @@ impl<S: Alter> Register<S> {
         }
     }
 
-    /// Does nothing. Every register is at rest: while its disk is clean, there are rows at which it stands.
-    pub fn tell_rules(&self)
+    /// Does nothing. Every register is at rest: while its disk is clean, it has consistent rows.
+    pub fn rules_hold(&self)
         ensures { IsAtRest S.Store self.now }
     {
         let _rest = &self.conn;
     }
 
-    /// Does nothing. Whatever a stop at this moment leaves is a good register: at the rows at which this
-    /// one is, or at those after one event that was answered by a fault since the last acknowledged change.
-    pub fn tell_left(&self)
+    /// Does nothing. Whatever a stop at this moment leaves is a good register: with the rows that this
+    /// one has, or with those after one event that was answered by a fault since the last acknowledged change.
+    pub fn stops_leave_good(&self)
         ensures { (db : Database) (late : List Event) → LeavesGood S.Store self.now db late }
     {
         let _rest = &self.conn;
@@ -151,7 +151,7 @@ impl<S: Alter> Register<S> {
         files::count(&self.files)
     }
 
-    /// The connection, as it stands.
+    /// The connection, as it is.
     pub fn into_connection(self) -> Connection<S>
         ensures { result ≡ self }
     {
@@ -164,7 +164,7 @@ impl<S: Alter> Register<S> {
     }
 
     /// Does an order of the operator, in one commit, or refuses it. A refusal and a fault leave the rows
-    /// as they are. A fault is want of memory, or it has a cause, or the database refuses a statement of
+    /// as they are. A fault is lack of memory, or it has a cause, or the database refuses a statement of
     /// the order.
     pub fn operate(&mut self, alloc: Global, order: &Order) -> Result<Done, OrderFault>
         ensures clean { HasCleanDisk (state S.Store self.new) → HasCleanDisk (state S.Store self.old) }
@@ -183,11 +183,11 @@ impl<S: Alter> Register<S> {
         ended
     }
 
-    /// The text of what the command answers at this moment, on the network of this name that the
+    /// The text of the command's answer at this moment, on the network of this name that the
     /// tenant of the token with this digest (SHA-256) has.
     ///
-    /// What the command changes is committed once the text is made; a reading or a refusal writes
-    /// nothing. A fault leaves the rows as they are; it is want of memory, or it has a cause:
+    /// What the command changes is committed once the text is made; a read-only command or a refusal writes
+    /// nothing. A fault leaves the rows as they are; it is lack of memory, or it has a cause:
     /// that of a change may also be a statement that the database refuses.
     pub fn ask<R: Render>(
         &mut self,
@@ -220,9 +220,9 @@ impl<S: Alter> Register<S> {
     }
 
     /// The text of the list of the networks that the tenant of the token with this digest (SHA-256)
-    /// has, in the byte order of their names. The moment is of no account.
+    /// has, in the byte order of their names. The moment doesn't matter.
     ///
-    /// It writes nothing. A fault is want of memory, or it has a cause.
+    /// It writes nothing. A fault is lack of memory, or it has a cause.
     pub fn networks<R: Render>(
         &mut self,
         alloc: Global,

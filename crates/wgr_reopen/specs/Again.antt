@@ -19,7 +19,7 @@ use Rattle.wgr_register.specs.Standing.{StandsAt}
 use Rattle.wgr_columns.specs.Decode.{tables_of}
 use Rattle.wgr_opening.specs.Good.{IsGood}
 
--- the register is at the rows of a good database that a stop of the other one left, and no event is late
+-- the register has the rows of a good database that a stop of the other one left, and no event is late
 abbrev pub StandsOn : {S : Type 0} → Ghosts S → Held S → Database → List Event → Type 0
 StandsOn g again db late = (now : Database) × IsGood now × StandsAt g again now [] × ∥ IsLeft (tables_of db) late (tables_of now) ∥₁
 
@@ -31,7 +31,7 @@ StandsAgain g again db late = HasCleanDisk (state g again) → StandsOn g again 
 abbrev pub HoldsLeft : {D : Type 0} → disk.Ghosts D → Files D → Database → List Event → Type 0
 HoldsLeft g files db late = ∥ ((next : Database) × IsGood next × IsLeft (tables_of db) late (tables_of next) × HoldsDatabase (image_of g files) next.trees) ∥₁
 
--- an open fails for memory, for a fault that the disk met meanwhile, or for a limit of the format
+-- an open fails for lack of memory, for a fault of the disk meanwhile, or for a limit of the format
 abbrev pub FailsByFault : {D : Type 0} (g : disk.Ghosts D) → Files D → Leftover D g → Error → Type 0
 FailsByFault g files left e =
     (e ≡ SqliteFailure OutOfMemory) ⊎ (((kind : StoreError) × (e ≡ store_error kind) × MoreFaults (faults_of g files) (faults_left left)) ⊎ ((e ≡ SqliteFailure DiskFull) × IsFullLeft left))

@@ -18,8 +18,8 @@ use Rattle.wgr_register.specs.declared.fault.Done.{Done}
 use Rattle.wgr_columns.specs.Decode.{tables_of}
 use Rattle.wgr_opening.specs.Good.{IsGood}
 
--- Whatever a stop leaves is a good register: at the rows of a change that was done, or else at those
--- that a stop left before.
+-- Whatever a stop leaves is a good register: with the rows after a change that was done, or else with
+-- those that a stop would have left before.
 abbrev pub Keeps : {S : Type 0} → Ghosts S → Held S → Bool → Database → List Event → Database → Type 0
 Keeps g conn true db late next = (trees : Trees) → (state g conn).may_leave trees → (left : Database) × IsGood left × (trees ≡ left.trees) × (tables_of left ≡ tables_of next)
 Keeps g conn false db late next = (next ≡ db) × ((trees : Trees) → (state g conn).may_leave trees → (left : Database) × IsGood left × (trees ≡ left.trees) × IsLeft (tables_of db) late (tables_of left))

@@ -11,7 +11,7 @@ pub fn done_stays<S: Alter>(register: &Register<S>)
     let _register = register;
 }
 
-/// What a request changed that was answered is in whatever a stop leaves then.
+/// What an answered request changed is in whatever a stop leaves then.
 pub fn answered_stays<S: Alter, R: Render>(register: &Register<S>, render: &R)
     ensures { AnsweredStays S.Store R.shown register.now }
 {

@@ -33,8 +33,8 @@ pub fn stopped<D: Crash + Drop>(register: Register<FileStore<D>>) -> Files<D>
     files
 }
 
-/// Opens the register in files that hold what a stop left of one. They are refused for memory, for a
-/// fault of the disk or for a limit alone, and what is found is never told to be no register or no good one.
+/// Opens the register in files that hold what a stop left of one. It fails only for lack of memory, a fault
+/// of the disk or a limit, and what is found is never reported as no register or as one that isn't good.
 pub fn open_again<D: Disk + Drop>(
     alloc: Global,
     files: Files<D>,
@@ -55,8 +55,8 @@ pub fn open_again<D: Disk + Drop>(
 
 /// Stops the register at this moment, and opens its files again; none where they can't be opened.
 ///
-/// What is found is a register at the rows at which it stood, or at those after one event that was
-/// answered by a fault since the last acknowledged change.
+/// What is found is a register with the rows that it had, or with those after one event that was
+/// answered with a fault since the last acknowledged change.
 pub fn reopened<D: Crash + Drop>(
     alloc: Global,
     register: Register<FileStore<D>>,
@@ -75,7 +75,7 @@ pub fn reopened<D: Crash + Drop>(
 }
 
 /// As [`reopened`], on disks in memory whose fuse blew at some call, so that each later one failed: a
-/// stop in the middle of whatever the register did. Nothing is asked of the disk.
+/// stop in the middle of whatever the register did. No premise about the disk is needed.
 pub fn stopped_in_a_call(
     alloc: Global,
     register: Register<FileStore<Fuse<Memory>>>,

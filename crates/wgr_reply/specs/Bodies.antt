@@ -24,7 +24,7 @@ abbrev pub adopted_data : List ℕ → ℕ → Data
 adopted_data added known =
     object (member (codes "added") (array_of (map count added)) (member (codes "known") (count known) no_members))
 
--- the members that tell a fact
+-- the members that give a fact
 abbrev pub fact_members : Fact → Members
 fact_members fact.None = no_members
 fact_members (fact.Number number) = member (codes "number") (count number) no_members

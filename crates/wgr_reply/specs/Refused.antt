@@ -1,4 +1,4 @@
--- What tells the refusals of a network.
+-- The status and the fact of each refusal of a network.
 use Rattle.std.specs.Prelude.{codes}
 use Rattle.serde_json.specs.Data.{Members, string, member, no_members}
 use Rattle.wgr_core.specs.declared.refusal.Field.TheVariants.{Key}
@@ -28,7 +28,7 @@ refusal_status refusal.ServerKey = Conflict
 refusal_status refusal.WrongServer = Conflict
 refusal_status (refusal.InLine n why) = Conflict
 
--- the members beside the name: the peer that holds the key, the field, or the line of the dump
+-- the members other than the name: the peer that holds the key, the field, or the line of the dump
 abbrev pub refusal_facts : Refusal → Members
 refusal_facts refusal.NoSuchPeer = no_members
 refusal_facts (refusal.KeyHeld number) = member (codes "number") (count number) no_members

@@ -1,4 +1,4 @@
--- What is answered to a request, as the bytes of a reply.
+-- The answer to a request, as the bytes of a reply.
 use Rattle.std.specs.Prelude.{ℕ, List, [], codes}
 use Rattle.serde_json.specs.Data.{Data, string, object, Members, member, no_members}
 use Rattle.serde_json.specs.Written.{compact_text}
@@ -45,7 +45,7 @@ shown_bytes s = reply_bytes s.status (content_kind s.content) s.allow (content_b
 abbrev pub done : Content → Shown
 done content = record { status = status.Done; allow = []; content = content }
 
--- a refusal by its name, with members that tell its fact
+-- a refusal by its name, with members that give its fact
 abbrev pub problem : StatusCode → List ℕ → List ℕ → Members → Shown
 problem code allow name facts =
     record { status = code; allow = allow; content = json (object (member (codes "error") (string name) facts)) }
@@ -78,6 +78,6 @@ response_shown (response.Fault why) = fault_shown why
 abbrev pub response_bytes : Response → List ℕ
 response_bytes r = shown_bytes (response_shown r)
 
--- where memory is wanting, or the store
+-- where memory or the store fails
 abbrev pub unavailable_shown : Shown
 unavailable_shown = plain status.ServiceUnavailable (codes "unavailable")

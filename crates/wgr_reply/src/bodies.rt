@@ -20,7 +20,7 @@ pub(crate) struct Peers<'a>(pub &'a [PeerView]);
 #[derive(Clone, Copy)]
 pub(crate) struct Networks<'a>(pub &'a [(Name, Network)]);
 
-/// The number of the peer that went.
+/// The number of the removed peer.
 #[derive(Clone, Copy, Debug)]
 pub(crate) struct Revoked(pub u32);
 
@@ -28,7 +28,7 @@ pub(crate) struct Revoked(pub u32);
 #[derive(Clone, Copy, Debug)]
 pub(crate) struct Owner(pub u32);
 
-/// The numbers of the peers that came, upwards, and how many lines found their key held.
+/// The numbers of the added peers, ascending, and how many lines had a key that was already held.
 #[derive(Clone, Copy)]
 pub(crate) struct Adopted<'a> {
     pub added: &'a [u32],

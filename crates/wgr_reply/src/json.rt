@@ -43,7 +43,7 @@ pub(crate) fn to_json<T: ToJson>(alloc: Global, value: &T) -> Result<Vec<u8>, Al
 {
     match serde_json::to_vec(alloc, &Shown { value, alloc }) {
         Ok(text) => Ok(text),
-        // A value that says what it writes is refused for want of memory alone.
+        // A value that says what it writes is refused only for lack of memory.
         Err(_) => Err(AllocError),
     }
 }

@@ -1,4 +1,4 @@
-//! What requests are answered, as bytes: the mirror of `wgr_request`.
+//! The answers to requests, as bytes: the mirror of `wgr_request`.
 //!
 //! [`write_response`] makes the bytes of a reply, and [`unavailable`] has those of the one reply that
 //! takes no memory. The body of a reply is JSON (RFC 8259) or the text of a file. The JSON is compact,

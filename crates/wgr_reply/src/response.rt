@@ -1,4 +1,4 @@
-//! What is answered to a request, as bytes.
+//! The answer to a request, as bytes.
 ghost use Rattle.std.specs.Prelude.{◌≡◌, [], codes, IfOk};
 ghost use Rattle.serde_json.specs.Written.{compact_text};
 ghost use Rattle.wgr_http.specs.Reply.{reply_bytes};
@@ -14,18 +14,18 @@ use wgr_core::{Name, Network, PeerView, Refusal};
 use wgr_http::{Kind, StatusCode, write_reply};
 use wgr_request::RequestFault;
 
-/// What a request is answered.
+/// The answer to a request.
 #[derive(Clone, Copy)]
 pub enum Response<'a> {
     /// The peer after the change.
     Peer(&'a PeerView),
-    /// The number of the peer that went.
+    /// The number of the removed peer.
     Revoked(u32),
     /// The peers, in their order.
     Peers(&'a [PeerView]),
     /// The number of the peer that has the address.
     Owner(u32),
-    /// The numbers of the peers that came, upwards, and how many lines found their key held.
+    /// The numbers of the added peers, ascending, and how many lines had a key that was already held.
     Adopted { added: &'a [u32], known: u32 },
     /// A tenant's networks by name, in their order.
     Networks(&'a [(Name, Network)]),
@@ -59,7 +59,7 @@ pub fn write_response(alloc: Global, response: Response<'_>) -> Result<Vec<u8>, 
     }
 }
 
-/// The bytes of the reply where a request can't be served for want of memory or of the store. They
+/// The bytes of the reply where a request can't be served because memory or the store fails. They
 /// take no memory, since there may be none to make them.
 pub fn unavailable() -> &'static [u8]
     ensures { result.now ≡ shown_bytes unavailable_shown }
@@ -75,7 +75,7 @@ fn write_done<T: ToJson>(alloc: Global, value: &T) -> Result<Vec<u8>, AllocError
     write_reply(alloc, StatusCode::Done, Kind::Json, b"", &body)
 }
 
-// The reply that tells a refusal with the fact that it carries.
+// The reply that reports a refusal with the fact that it carries.
 fn write_problem(
     alloc: Global,
     status: StatusCode,
@@ -89,14 +89,14 @@ fn write_problem(
     write_reply(alloc, status, Kind::Json, allow, &body)
 }
 
-// The reply that tells a refusal without a fact.
+// The reply that reports a refusal without a fact.
 fn write_plain(alloc: Global, status: StatusCode, name: &str) -> Result<Vec<u8>, AllocError>
     ensures { IfOk result (λ bytes. bytes.items ≡ shown_bytes (problem status [] name.now (fact_members Fact.None))) }
 {
     write_problem(alloc, status, b"", name, Fact::None)
 }
 
-// The reply that tells a fault of a request.
+// The reply that reports a fault of a request.
 fn write_fault(alloc: Global, fault: RequestFault) -> Result<Vec<u8>, AllocError>
     ensures { IfOk result (λ bytes. bytes.items ≡ shown_bytes (fault_shown fault)) }
 {

@@ -82,7 +82,7 @@ fn network(rt: &(impl Abort + AllocGlobal), name: &str, host: &str, pool: &str) 
     (name.expect(rt, "a name"), network)
 }
 
-/// Compares the whole reply, in which `lines` stand between those of the length and of the connection.
+/// Compares the whole reply, in which `lines` are between those of the length and of the connection.
 fn check(
     rt: &(impl Abort + AllocGlobal),
     response: Response<'_>,

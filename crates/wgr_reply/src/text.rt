@@ -22,13 +22,13 @@ pub(crate) fn bytes_of_prefix(alloc: Global, prefix: &Prefix) -> Result<Vec<u8>,
     ensures bytes { IfOk result (λ v. v.items ≡ canonical_text prefix.now) }
     ensures utf8 { IfOk result (λ v. IsUtf8 v.items) }
 {
-    prefix.tell_rules();
+    prefix.rules_hold();
     let mut text = Vec::new(alloc);
     write_prefix(prefix, &mut text)?;
     Ok(text)
 }
 
-// Bytes that are text, as such.
+// Bytes that are text, as a string.
 pub(crate) fn as_text(bytes: &[u8]) -> &str
     requires { IsUtf8 bytes.now }
     ensures { result.now ≡ bytes.now }
@@ -39,7 +39,7 @@ pub(crate) fn as_text(bytes: &[u8]) -> &str
     text
 }
 
-// A host and a port; an IPv6 address stands in brackets.
+// A host and a port; an IPv6 address is in brackets.
 pub(crate) fn text_of_endpoint(alloc: Global, host: &str, port: u16) -> Result<String, AllocError>
     ensures { IfOk result (λ s. string_bytes s ≡ endpoint_text host.now port) }
 {

@@ -19,7 +19,7 @@ use Rattle.wgr_request.specs.declared.fault.RequestField.TheVariants.{Body, Key,
 abbrev pub Outcome : Type 0
 Outcome = Result Command RequestFault
 
--- the outcome is so, unless memory was wanting
+-- this is the outcome, unless memory ran out
 abbrev pub ReadsAs : (Outcome → Type 0) → Result Command BodyFault → Type 0
 ReadsAs Is (Ok command) = Is (Ok command)
 ReadsAs Is (Err (body_fault.Refused why)) = Is (Err why)

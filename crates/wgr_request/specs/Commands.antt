@@ -1,4 +1,4 @@
--- Commands that are read of no JSON body.
+-- Commands that aren't read from a JSON body.
 use Rattle.std.specs.Prelude.{◌≡◌, ◌⊎◌, ℕ, Bool, true, false, List, Some, Ok, Err}
 use Rattle.wgr_core.specs.declared.command.Command.{Command}
 use Rattle.wgr_core.specs.declared.command.Command.TheVariants as command
@@ -26,6 +26,6 @@ IsAdoption body r =
     ((dump : DumpValue) × IsDump body dump.interface dump.lines × (r ≡ Ok (adoption_asked dump)))
     ⊎ ((line : ℕ) × (field : ℕ) × IsFirstBad body line field × (r ≡ Err (BadDump line field)))
 
--- whose an address is, which stands without a length
+-- the owner of an address, which is written without a length
 abbrev pub IsOwner : List ℕ → Outcome → Type 0
 IsOwner text r = With (IsText SpellsAddr (Some text)) Address (λ address r. IsCommand (command.Owner address) r) r

@@ -8,12 +8,12 @@ use Rattle.wgr_text.specs.PrefixText.{Spells}
 use Rattle.wgr_dump.specs.Fields.{SpellsKey, SpellsMasked}
 use Rattle.wgr_peers.specs.Label.{IsLabel}
 
--- a field that may be absent: the value that stands for it then, or none
+-- a field that may be absent: the value that is used then, or none
 abbrev pub IsField : {A : Type 0} → (Option (List ℕ) → Option A → Type 0) → Option A → Option Data → Option A → Type 0
 IsField Form absent None r = r ≡ absent
 IsField Form absent (Some d) r = Form (as_str d) r
 
--- the value that a text spells; none where it spells none, or where no text is
+-- the value that a text spells; none where it spells none, or where there is no text
 abbrev pub IsText : {A : Type 0} → (List ℕ → A → Type 0) → Option (List ℕ) → Option A → Type 0
 IsText Form None r = r ≡ None
 IsText Form (Some text) (Some a) = Form text a

@@ -1,4 +1,4 @@
--- What follows of the definition of a request.
+-- What follows from the definition of a request.
 use Rattle.std.specs.Prelude.{◌≡◌, ◌↔◌, ◌⊎◌, ℕ, List, codes, Option, Some, None, Ok}
 use Rattle.wgr_core.specs.declared.command.Command.{Command}
 use Rattle.wgr_core.specs.declared.command.Command.TheVariants as command
@@ -16,7 +16,7 @@ use Rattle.wgr_request.specs.Request.{MessageAsks, RequestView, Requests, ask, d
 use Rattle.wgr_request.specs.Target.{TargetValue, resolved}
 use Rattle.wgr_request.specs.Target as target
 
--- it holds of at most one thing
+-- it holds for at most one thing
 abbrev pub IsOne : {A : Type 0} → (A → Type 0) → Type 0
 IsOne {A} Is = (r s : A) → Is r → Is s → r ≡ s
 
@@ -34,11 +34,11 @@ abbrev pub RequestsAs : List ℕ → Option (List ℕ) → Type 0
 RequestsAs front None = Unit {0}
 RequestsAs front (Some all) = (r : RequestView) → Requests front r → Requests all r
 
--- one that is answered as all of them are does
+-- a beginning that has the answer of all bytes asks what they ask
 abbrev pub BeginningsAsk : Type 0
 BeginningsAsk = (front : List ℕ) (all : Option (List ℕ)) → AnswersAs front all → RequestsAs front all
 
--- of two dumps that differ in private and preshared keys alone, the same is asked
+-- two dumps that differ only in private and preshared keys ask the same
 abbrev pub SecretsAreUnasked : Type 0
 SecretsAreUnasked = (m : MessageView) (other name : List ℕ) (r : RequestView) → resolved m.method m.target ≡ Ok (target.dump name)
     → DifferInSecrets m.body other → MessageAsks m r ↔ MessageAsks (record m { body = other }) r
@@ -80,7 +80,7 @@ abbrev pub PathsMakeCommands : Type 0
 PathsMakeCommands = (m : MessageView) (digest name : List ℕ) (c : Command) → MessageAsks m (ask digest name c)
     → (t : TargetValue) × (resolved m.method m.target ≡ Ok t) × (digest_given m ≡ Some digest) × (network_of t ≡ Some name) × Makes t m c
 
--- and the list of networks stands at its own path
+-- and the list of networks has its own path
 abbrev pub OnePathListsNetworks : Type 0
 OnePathListsNetworks = (m : MessageView) (digest : List ℕ) → MessageAsks m (networks digest)
     → (resolved m.method m.target ≡ Ok target.networks) × (digest_given m ≡ Some digest) × (m.method ≡ codes "GET")

@@ -11,7 +11,7 @@ use Rattle.wgr_request.specs.declared.paths.Methods.TheVariants.{Get, GetOrPost,
 use Rattle.wgr_request.specs.declared.paths.Place.{Place}
 use Rattle.wgr_request.specs.declared.paths.Place.TheVariants.{Networks, Peers, Peer, Address, Routes, Lease, PeerFile, Unroute, Dump, Owner, ServerFile}
 
--- a path, what stands there, and its methods
+-- a path, what is at it, and its methods
 pub record Row : Type 0 where
   pub path : List ℕ
   pub place : Place
@@ -20,7 +20,7 @@ pub record Row : Type 0 where
 abbrev at : List ℕ → Place → Methods → Row
 at path place methods = record { path = path; place = place; methods = methods }
 
--- all paths; a part in braces stands for one or more bytes without `/`
+-- all paths; a part in braces matches one or more bytes without `/`
 abbrev pub row : Place → Row
 row Networks = at (codes "/networks") Networks Get
 row Peers = at (codes "/networks/{name}/peers") Peers GetOrPost
@@ -37,7 +37,7 @@ row ServerFile = at (codes "/networks/{name}/server/{form}") ServerFile Get
 abbrev pub methods : Place → Methods
 methods place = (row place).methods
 
--- the names of methods, in the order in which a reply tells them
+-- the names of methods, in the order in which a reply lists them
 abbrev pub method_names : Methods → List (List ℕ)
 method_names Get = codes "GET" ∷ []
 method_names GetOrPost = codes "GET" ∷ codes "POST" ∷ []

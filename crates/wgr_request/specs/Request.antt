@@ -1,4 +1,4 @@
--- What a message asks of the register, by its bytes alone. Of its checks the first that fails tells why
+-- What a message asks of the register, by its bytes alone. The first check that fails decides why
 -- it is refused: those of the message, its path, its method, its token, and then its address or body.
 use Rattle.std.specs.Prelude.{◌≡◌, ℕ, List, codes, bytes_eq, Option, Some, None, option_and_then, option_map, Result, Ok, Err}
 use Rattle.wgr_core.specs.declared.command.Command.{Command}
@@ -38,7 +38,7 @@ abbrev pub on_network : List ℕ → List ℕ → Outcome → RequestView
 on_network digest name (Ok asked) = ask digest name asked
 on_network digest name (Err why) = refused why (Some digest)
 
--- the outcome is so, and the request is that of it
+-- this is the outcome, and the request is that of it
 abbrev pub On : List ℕ → List ℕ → (Outcome → Type 0) → RequestView → Type 0
 On digest name Is r = (outcome : Outcome) × Is outcome × (r ≡ on_network digest name outcome)
 
@@ -77,7 +77,7 @@ Judged (Ok m) r = MessageAsks m r
 abbrev pub Requests : List ℕ → RequestView → Type 0
 Requests bytes r = (m : Result MessageView MessageFault) × Answers bytes m × Judged m r
 
--- ---- what is read with memory to take
+-- ---- what is read while memory lasts
 
 -- what was read is the request
 abbrev pub IsOn : List ℕ → List ℕ → Result Command BodyFault → RequestView → Type 0

@@ -47,7 +47,7 @@ target_view (target.ServerFile name form) = server_file name.now form
 abbrev pub found_view : Found → Place × TargetValue
 found_view f = (f.place, target_view f.target)
 
--- the parts of a path that stand for names in braces
+-- the parts of a path that match names in braces
 pub record PathParts : Type 0 where
   pub name : Option (List ℕ)
   pub number : Option (List ℕ)
@@ -122,7 +122,7 @@ abbrev pub resolved_view : Result Target RequestFault → Result TargetValue Req
 resolved_view (Ok t) = Ok (target_view t)
 resolved_view (Err why) = Err why
 
--- the path is told first, then the method
+-- the path is reported first, then the method
 abbrev pub with_method : List ℕ → Option (Place × TargetValue) → Result TargetValue RequestFault
 with_method method None = Err NoSuchPath
 with_method method (Some found) = cond (has_method (methods found.0) method) (Ok found.1) (Err (WrongMethod (methods found.0)))

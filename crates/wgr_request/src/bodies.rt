@@ -1,4 +1,4 @@
-//! JSON bodies as commands. A body has no members but those of its path; of doubled members the last
+//! JSON bodies as commands. A body has no members but those of its path; of repeated members the last
 //! counts.
 ghost use Rattle.std.specs.Prelude.{◌≡◌, map, string_bytes, bytes_eq, option_map, Err, IfOk};
 ghost use Rattle.std.specs.List.{list_all, list_any};
@@ -87,7 +87,7 @@ pub fn read_move(alloc: Global, number: u32, body: &[u8]) -> Result<Command, Bod
     }
 }
 
-/// The command that leads a prefix to the peer of this number: `prefix`.
+/// The command that routes a prefix to the peer of this number: `prefix`.
 pub fn read_route(alloc: Global, number: u32, body: &[u8]) -> Result<Command, BodyFault>
     ensures { ReadsAs (IsRoute number body.now) result }
 {
@@ -113,7 +113,7 @@ pub fn read_renew(alloc: Global, number: u32, body: &[u8]) -> Result<Command, Bo
     }
 }
 
-/// The command that takes back a route: `prefix`.
+/// The command that removes a route: `prefix`.
 pub fn read_unroute(alloc: Global, body: &[u8]) -> Result<Command, BodyFault>
     ensures { ReadsAs (IsUnroute body.now) result }
 {

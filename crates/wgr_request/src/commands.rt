@@ -23,7 +23,7 @@ pub fn read_adoption(alloc: Global, body: &[u8]) -> Result<Command, BodyFault>
     }
 }
 
-/// The command that asks whose an address is. The text has no length.
+/// The command that asks for the owner of an address. The text has no length.
 pub fn read_owner(text: &[u8]) -> Result<Command, BodyFault>
     ensures { ReadsAs (IsOwner text.now) result }
 {

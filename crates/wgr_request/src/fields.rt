@@ -98,7 +98,7 @@ fn read_key(text: &[u8]) -> Option<Key>
     }
 }
 
-// What a slice of bytes holds is known to be bytes.
+// States that each item of a slice of bytes is a byte.
 fn are_bytes(bytes: &[u8])
     ensures { (i : ℕ) → slice_index bytes.now i < 256 }
 {}
@@ -127,7 +127,7 @@ fn read_masked(text: &[u8]) -> Option<Prefix>
     }
 }
 
-// The end of a lease; where it is absent, what the caller says.
+// The end of a lease; where it is absent, the caller's default.
 pub(crate) fn end_field(body: &Value, absent: Option<LeaseEnd>) -> Option<LeaseEnd>
     ensures { result ≡ field_value end_value absent (get (codes "end") (view body.now)) }
 {

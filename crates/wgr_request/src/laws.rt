@@ -1,4 +1,4 @@
-//! What follows of the definition of a request. Each function does nothing: its contract is the law.
+//! What follows from the definition of a request. Each function does nothing: its contract is the law.
 ghost use Rattle.wgr_request.specs.Adopting.{AdoptionsHaveNoSecrets};
 ghost use Rattle.wgr_request.specs.Laws.{BeginningsAsk, OneOutcome, OnePathListsNetworks, OneRequest, PathsMakeCommands, SecretsAreUnasked, TokensAreKept};
 
@@ -8,13 +8,13 @@ pub fn requests_are_unique()
     ensures outcome { OneOutcome }
 {}
 
-/// A beginning of a reader's bytes that is answered as all of them are asks what they ask.
+/// A beginning of a reader's bytes that has the answer of all of them asks what they ask.
 pub fn beginnings_ask()
     ensures { BeginningsAsk }
 {}
 
 /// What is asked of a network is a command of the path, with the digest of the token and the name that
-/// stands in the path; the list of networks has a path of its own.
+/// is in the path; the list of networks has a path of its own.
 pub fn paths_make_commands()
     ensures commands { PathsMakeCommands }
     ensures networks { OnePathListsNetworks }

@@ -2,8 +2,8 @@
 //!
 //! [`request_of`] joins the readers below it: from the bytes of a message to a [`Request`], which is a
 //! command on a network, the list of networks, or a [`RequestFault`] that the bytes alone show.
-//! [`Paths::resolve`] says what is served at a path and by which methods, and [`token_digest`] is what
-//! a token is known by.
+//! [`Paths::resolve`] says what is served at a path and by which methods, and [`token_digest`] gives
+//! the digest by which a token is known.
 #![tactic(auto)]
 
 mod adoption;

@@ -6,7 +6,7 @@ ghost use Rattle.wgr_request.specs.Paths.{allow_text, has_method, methods, route
 use matchit::{InsertError, Router};
 use std::alloc::{AllocError, Global};
 
-/// What stands at a path.
+/// What is at a path.
 #[derive(Clone, Copy, Debug, PartialEq, Eq)]
 pub(crate) enum Place {
     Networks,
@@ -103,11 +103,11 @@ pub struct Paths {
 }
 
 impl Paths {
-    /// All paths, as the type's invariant has them: it says all that there is to say of the value.
+    /// All paths, as the type's invariant has them, which says everything about the value.
     pub fn new(alloc: Global) -> Result<Paths, AllocError> {
         match router(alloc) {
             Ok(router) => Ok(Paths { router }),
-            // No path is one of another's, so only memory was wanting.
+            // No path conflicts with another, so only memory can have run out.
             Err(_) => Err(AllocError),
         }
     }

@@ -36,7 +36,7 @@ pub enum Request<'a> {
     },
 }
 
-/// What the message at the front of the bytes asks. The first check that fails tells why it is
+/// What the message at the front of the bytes asks. The first check that fails decides why it is
 /// refused: those of the message, its path, its method, its token, and then its address or body.
 pub fn request_of<'a>(
     alloc: Global,

@@ -29,9 +29,9 @@ pub enum Target<'t> {
     Lease(&'t str, u32),
     /// The peer's file.
     PeerFile(&'t str, u32, Form),
-    /// Where routes of the network are taken back.
+    /// Where routes of the network are removed.
     Unroute(&'t str),
-    /// Where the network takes over a dump.
+    /// Where the network adopts a dump.
     Dump(&'t str),
     /// The owner of the address that this text may spell.
     Owner(&'t str, &'t str),
@@ -46,7 +46,7 @@ struct Found<'t> {
     target: Target<'t>,
 }
 
-// The parts of a path, as they stand there.
+// The parts of a path, as they are in it.
 #[derive(Clone, Copy)]
 struct PathTexts<'t> {
     name: Option<&'t str>,
@@ -105,7 +105,7 @@ fn is_ascii(bytes: &[u8]) -> bool
     bytes.iter().all(|byte| *byte < 0x80)
 }
 
-// The parts that a path's names in braces stand for.
+// The parts that match a path's names in braces.
 fn parts_of<'t>(params: &Params<'_, 't>) -> PathTexts<'t>
     requires { ArePartsTexts params.now.pattern.now params.now.text.now params.now.path.now params.now.names.now }
     ensures { parts_view result ≡ parts_in params.now.pattern.now params.now.text.now params.now.path.now params.now.names.now }
@@ -146,7 +146,7 @@ fn number_of(text: &str) -> Option<u32>
     ensures { result ≡ number_of text.now }
 {
     let first = *text.as_bytes().first()?;
-    // `parse` reads a sign and leading zeros too.
+    // `parse` accepts a sign and leading zeros too.
     if first <= b'0' {
         return None;
     }

@@ -1,5 +1,5 @@
 //! Digests, paths and bodies in tables. The expected values are those of FIPS 180-2, and follow from
-//! RFC 8259 and the formats of requests and replies; no row is what this crate has answered.
+//! RFC 8259 and the formats of requests and replies; no row is copied from this crate's answers.
 use crate::{
     BodyFault, Paths, RequestFault, Target, read_add, read_move, read_renew, read_route,
     read_unroute, token_digest,
@@ -26,7 +26,7 @@ fn digests(rt: HostRuntime) {
     assert!(rt; token_digest(&[b'a'; 128]).is_some() && token_digest(&[b'a'; 129]).is_none());
 }
 
-/// The text of a table: in it `@` stands for the key of 32 bytes 0x01.
+/// The text of a table: in it `@` is the key of 32 bytes 0x01.
 fn text_of(rt: &(impl Abort + AllocGlobal), row: &[u8]) -> Vec<u8> {
     let mut text = Vec::new(rt.alloc());
     for &byte in row {
@@ -41,7 +41,7 @@ fn text_of(rt: &(impl Abort + AllocGlobal), row: &[u8]) -> Vec<u8> {
     text
 }
 
-/// Puts a word behind the others, unless it is empty.
+/// Puts a word after the others, unless it is empty.
 fn put(rt: &(impl Abort + AllocGlobal), out: &mut Vec<u8>, word: &[u8]) {
     if !out.is_empty() && !word.is_empty() {
         out.push(b' ').expect(rt, "memory");
@@ -80,7 +80,7 @@ fn named<'t>(target: Target<'t>) -> Named<'t> {
     }
 }
 
-/// The words of what is named, or of why nothing is; a wrong method tells those that the path has.
+/// The words of what is named, or of why nothing is; for a wrong method, the methods of the path.
 fn told(rt: &(impl Abort + AllocGlobal), answer: Result<Target<'_>, RequestFault>) -> Vec<u8> {
     let (place, name, number, other) = match answer {
         Ok(target) => named(target),
@@ -207,7 +207,7 @@ fn shown(rt: &(impl Abort + AllocGlobal), command: &Command) -> Vec<u8> {
 }
 
 /// What is read of a body for this command, of peer 7 where it has a number: the command's fields,
-/// or the field that is told.
+/// or the field that is reported.
 fn read(rt: &(impl Abort + AllocGlobal), command: &str, body: &[u8]) -> Vec<u8> {
     let found = match command {
         "add" => read_add(rt.alloc(), body),

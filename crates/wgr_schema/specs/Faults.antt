@@ -9,6 +9,6 @@ abbrev pub as_register_fault : Fault → RegisterFault
 as_register_fault fault.NoMemory = register_fault.NoMemory
 as_register_fault fault.Store = register_fault.Store
 
--- where the reason is that a statement failed, this holds of its fault
+-- if the reason is that a statement failed, this holds for its fault
 abbrev pub IfStatementFails : (Fault → Type 0) → RegisterFault → Type 0
 IfStatementFails P reason = (why : Fault) → reason ≡ as_register_fault why → P why

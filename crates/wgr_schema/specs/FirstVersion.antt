@@ -9,6 +9,6 @@ use Rattle.wgr_columns.specs.LaidOut.{IsLaidOut}
 abbrev pub SaysFirst : List Row → Type 0
 SaysFirst rows = map (λ r. column r 0) rows ≡ Int (pos 1) ∷ []
 
--- the tables are there, and that of the version says the first
+-- the tables are there, and the row of the version says that it is the first
 abbrev pub IsFirstVersion : Database → Type 0
 IsFirstVersion db = IsLaidOut db.schema × SaysFirst (db.trees 0)

@@ -1,4 +1,4 @@
--- What a form stands for.
+-- What a form means.
 use Rattle.std.specs.Prelude.{◌≡◌, false, [], map}
 use Rattle.sqlite_schema.specs.declared.schema.Column.{Column}
 use Rattle.sqlite.specs.Table.{Table}

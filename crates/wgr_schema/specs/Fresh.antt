@@ -1,4 +1,4 @@
--- What the making of a register leaves.
+-- What the creation of a register leaves.
 use Rattle.std.specs.Prelude.{◌≡◌, ℕ, Bool, ◌||◌, false, is_some, IsTrue, IfErr, Result, List, [], ◌∷◌, codes}
 use Rattle.std.specs.List.{AllByRecursion, list_any}
 use Rattle.sqlite_schema.specs.Names.{table_named, view_named}
@@ -18,13 +18,13 @@ use Rattle.wgr_columns.specs.Decode.{IsRegister, tables_of}
 abbrev pub no_others : Others
 no_others = record { tables = []; indexes = []; views = [] }
 
--- the register's tables have no row but that of the version, and nothing else is in the database
+-- the register's tables have no row except that of the version, and nothing else is in the database
 pub record IsFresh (db : Database) : Type 0 where
   pub schema_is : db.schema ≡ schema_with no_others
   pub register : IsRegister db
   pub rows : tables_of db ≡ no_rows
 
--- what a stop may leave while a register is made, beside what was there before: the whole
+-- what a stop may leave while a register is created, other than what was there before: all of it
 abbrev pub LeavesFresh : Trees → Type 0
 LeavesFresh trees = (db : Database) × IsFresh db × (trees ≡ db.trees)
 
@@ -32,11 +32,11 @@ LeavesFresh trees = (db : Database) × IsFresh db × (trees ≡ db.trees)
 abbrev pub is_taken : Schema → List ℕ → Bool
 is_taken schema name = is_some (table_named schema name) || is_some (view_named schema name)
 
--- one of the register's tables is there
+-- a table or a view has the name of one of the register's tables
 abbrev pub is_any_taken : Schema → Bool
 is_any_taken schema = list_any (is_taken schema) (codes "meta" ∷ codes "tenant" ∷ codes "token" ∷ codes "network" ∷ codes "peer" ∷ codes "allowed" ∷ [])
 
--- ---- while the tables are made
+-- ---- while the tables are created
 
 -- the schema, and no row in any of its tables
 pub record HasBlank (schema : Schema) (db : Database) : Type 0 where
@@ -47,14 +47,14 @@ pub record HasBlank (schema : Schema) (db : Database) : Type 0 where
 abbrev pub Lays : {X E : Type 0} → (Database → Type 0) → (Database → Type 0) → State → State → Result X E → Type 0
 Lays from to old new r = StepsOn from (λ _ db. to db) old new r
 
--- where a step from such a database fails by the store, that has a cause
+-- if a step from such a database fails with a fault of the store, the fault has a cause
 abbrev pub FailsFrom : {X : Type 0} → (Database → Type 0) → State → State → Result X Fault → Type 0
 FailsFrom from old new r = IsTrue old.in_transaction → (IsTrue old.is_open → from old.now) → IfErr r (HasCause old new)
 
 abbrev pub no_schema : Schema
 no_schema = record { tables = []; indexes = []; views = [] }
 
--- a new table or index gets its tree when it is made
+-- a new table or index gets its tree when it is created
 abbrev pub meta_schema : Schema
 meta_schema = created no_schema (meta_at 0)
 

@@ -1,4 +1,4 @@
--- What follows of the definitions.
+-- What follows from the definitions.
 use Rattle.std.specs.Prelude.{◌≡◌, ◌↔◌}
 use Rattle.sqlite.specs.Effect.{Database}
 use Rattle.wgr_model.specs.Rows.{first_version}
@@ -11,6 +11,6 @@ use Rattle.wgr_schema.specs.FirstVersion.{IsFirstVersion}
 abbrev pub FreshIsConsistent : Type 0
 FreshIsConsistent = (db : Database) → IsFresh db → IsFirstVersion db × AreConsistent (tables_of db)
 
--- the version that is asked for is the one that the rows of `wgr_model` have
+-- the version that is required is the one that the rows of `wgr_model` have
 abbrev pub VersionIsRead : Type 0
 VersionIsRead = (db : Database) → IsRegister db → IsFirstVersion db ↔ ((tables_of db).meta ≡ first_version)

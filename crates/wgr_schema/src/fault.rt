@@ -8,19 +8,19 @@ use wgr_sql::Fault;
 /// Why no register was made or opened.
 #[derive(Clone, Copy, Debug, PartialEq, Eq)]
 pub enum RegisterFault {
-    /// Memory was refused.
+    /// An allocation failed.
     NoMemory,
-    /// The store refused, or holds what it shouldn't.
+    /// Any other error of the store, or invalid contents.
     Store,
     /// The database has no tables of a register, or those of another version.
     NotARegister,
     /// The rows break the register's rules.
     NotGood,
-    /// One of the register's tables is there already.
+    /// A table or a view has the name of one of the register's tables.
     NotEmpty,
 }
 
-/// A fault of a statement as the reason why no register was made or opened; it says nothing of what the
+/// A fault of a statement as the reason why no register was made or opened; it says nothing about what the
 /// database holds.
 pub fn register_fault(fault: Fault) -> RegisterFault
     ensures value { result ≡ as_register_fault fault }

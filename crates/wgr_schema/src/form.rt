@@ -51,7 +51,7 @@ fn are_columns(columns: &[Column], forms: &[ColumnForm<'_>]) -> bool
     true
 }
 
-// Whether the table has this name, place and key.
+// Whether the table has this name, tree, rowid column and primary key.
 fn is_head(table: &Table, form: &TableForm<'_>) -> bool
     ensures is { IsTrue result → IsHead table.now form.now }
     ensures only { IsHead table.now form.now → IsTrue result }

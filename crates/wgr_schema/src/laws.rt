@@ -1,4 +1,4 @@
-//! What follows of the definitions. Each function does nothing: its contract is the law.
+//! What follows from the definitions. Each function does nothing: its contract is the law.
 ghost use Rattle.wgr_schema.specs.Laws.{FreshIsConsistent, VersionIsRead};
 
 /// A register that was just made is of the first version, and its rows are those of a consistent
@@ -7,8 +7,8 @@ pub fn fresh_is_consistent()
     ensures { FreshIsConsistent }
 {}
 
-/// Where the rows are written as such, the version that `check_layout` asks for is the one of
-/// `meta`'s row.
+/// If the rows are written as the register writes them, the version that `check_layout` requires is
+/// the one in `meta`'s row.
 pub fn version_is_read()
     ensures { VersionIsRead }
 {}

@@ -9,7 +9,7 @@ use crate::indexes::are_register_indexes;
 use crate::tables::are_register_tables;
 use sqlite_schema::schema::{Index, Reference, Schema, Table};
 
-// The first tree that is none of the register's tables and indexes.
+// The first tree that is not one of the register's tables and indexes.
 const FIRST_FREE_TREE: u32 = 13;
 
 // Whether the reference names one of the tables.
@@ -27,7 +27,7 @@ fn refers_somewhere(tables: &[Table], references: &[Reference]) -> bool
     references.iter().any(|r| refers(tables, r))
 }
 
-// Whether a table's rows stand past the register's, and none refers to one of the tables.
+// Whether a table's rows are in a tree after the register's, and it refers to none of the tables.
 fn is_apart(tables: &[Table], table: &Table) -> bool
     ensures { result ≡ is_apart tables.now table.now }
 {
@@ -52,7 +52,7 @@ fn are_past(indexes: &[Index]) -> bool
     indexes.iter().all(|i| is_past(i))
 }
 
-// Whether the first tables and indexes are the register's, and the others stand apart.
+// Whether the first tables and indexes are the register's, and the others are separate.
 fn begins_with_register(schema: &Schema) -> bool
     ensures { IsTrue result ↔ BeginsWithRegister schema.now }
 {
@@ -78,8 +78,8 @@ fn begins_with_register(schema: &Schema) -> bool
     are_past(further)
 }
 
-/// Whether the schema has the register's tables and indexes first, and whatever else after them, if
-/// it stands apart: with rows and entries of its own, and no reference to the register's tables.
+/// Whether the schema has the register's tables and indexes first, and everything after them is
+/// separate: with its own rows and entries, and no reference to the register's tables.
 pub fn holds_register(schema: &Schema) -> bool
     ensures { IsTrue result ↔ IsLaidOut schema.now }
 {

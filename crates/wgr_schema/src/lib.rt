@@ -1,4 +1,4 @@
-//! The making of the register's tables in an empty database, and the test whether a database has
+//! Creates the register's tables in an empty database, and tests whether a database has
 //! them.
 #![tactic(auto)]
 

@@ -1,4 +1,4 @@
-//! The making of the register's tables.
+//! Creates the register's tables.
 ghost use Rattle.std.specs.Prelude.{◌≡◌, ◌↔◌, [], ◌||◌, true, false, codes, IsTrue, Ok, Err, IfErr, OnOk, OnErr, is_some};
 ghost use Rattle.std.specs.List.{list_any};
 ghost use Rattle.sqlite.specs.Effect.{Database};
@@ -19,7 +19,7 @@ use sqlite::{Alter, Connection, Transaction};
 use sqlite_schema::schema::Schema;
 use wgr_sql::{Fault, execute, fault_of};
 
-// Makes the tables of the version, of tenants and of tokens.
+// Creates the tables of the version, of tenants and of tokens.
 fn make_entries<S: Alter>(tx: &mut Transaction<'_, S>) -> Result<usize, Fault>
     ensures same_reference { tx.new.conn.ghost_name ≡ tx.old.conn.ghost_name }
     ensures step { HasCleanDisk (state S.Store tx.new.conn.now) → Lays (HasBlank no_schema) (HasBlank entries_schema) (state S.Store tx.old.conn.now) (state S.Store tx.new.conn.now) result }
@@ -43,7 +43,7 @@ fn make_entries<S: Alter>(tx: &mut Transaction<'_, S>) -> Result<usize, Fault>
     )
 }
 
-// Makes the tables of networks, of peers and of what they are allowed.
+// Creates the tables of networks, of peers and of their allowed prefixes.
 fn make_networks<S: Alter>(tx: &mut Transaction<'_, S>) -> Result<usize, Fault>
     ensures same_reference { tx.new.conn.ghost_name ≡ tx.old.conn.ghost_name }
     ensures step { HasCleanDisk (state S.Store tx.new.conn.now) → Lays (HasBlank entries_schema) (HasBlank tables_schema) (state S.Store tx.old.conn.now) (state S.Store tx.new.conn.now) result }
@@ -67,7 +67,7 @@ fn make_networks<S: Alter>(tx: &mut Transaction<'_, S>) -> Result<usize, Fault>
     )
 }
 
-// Makes the index, and says the version.
+// Creates the index, and writes the version.
 fn make_rest<S: Alter>(tx: &mut Transaction<'_, S>) -> Result<usize, Fault>
     ensures same_reference { tx.new.conn.ghost_name ≡ tx.old.conn.ghost_name }
     ensures step { HasCleanDisk (state S.Store tx.new.conn.now) → Lays (HasBlank tables_schema) IsFresh (state S.Store tx.old.conn.now) (state S.Store tx.new.conn.now) result }
@@ -82,7 +82,7 @@ fn make_rest<S: Alter>(tx: &mut Transaction<'_, S>) -> Result<usize, Fault>
     execute(tx, "INSERT INTO meta (version) VALUES (1)", &[])
 }
 
-// Makes all.
+// Creates all tables and the index.
 fn make_all<S: Alter>(tx: &mut Transaction<'_, S>) -> Result<usize, Fault>
     ensures same_reference { tx.new.conn.ghost_name ≡ tx.old.conn.ghost_name }
     ensures step { HasCleanDisk (state S.Store tx.new.conn.now) → Lays (HasBlank no_schema) IsFresh (state S.Store tx.old.conn.now) (state S.Store tx.new.conn.now) result }
@@ -94,7 +94,7 @@ fn make_all<S: Alter>(tx: &mut Transaction<'_, S>) -> Result<usize, Fault>
     make_rest(tx)
 }
 
-// Makes all in an empty database, in one commit.
+// Creates all of it in an empty database, in one commit.
 fn fill<S: Alter>(conn: &mut Connection<S>) -> Result<(), Fault>
     requires idle { conn.old.in_transaction ≡ false }
     requires empty { (state S.Store conn.old).now.schema ≡ no_schema }
@@ -121,7 +121,7 @@ fn is_taken(schema: &Schema, name: &[u8]) -> bool
     schema.table_named(name).is_some() || schema.view_named(name).is_some()
 }
 
-// Whether one of the register's tables is there.
+// Whether a table or a view has the name of one of the register's tables.
 fn is_any_taken(schema: &Schema) -> bool
     ensures { result ≡ is_any_taken schema.now }
 {
@@ -140,10 +140,10 @@ fn is_empty(schema: &Schema) -> bool
     schema.tables.is_empty() && schema.indexes.is_empty() && schema.views.is_empty()
 }
 
-/// Makes the tables of a register without entries, in a database that has no table, index or view.
-/// Where one of the register's names is taken, it is `NotEmpty`, where anything else is there,
-/// `NotARegister`, and the database is as it was. A fault of the store has a cause: it
-/// is none of the statements, which an empty database never refuses.
+/// Creates the tables of a register without entries, in a database that has no table, index or view.
+/// If one of the register's names is taken, the error is `NotEmpty`; if anything else is there, it is
+/// `NotARegister`; and the database is unchanged. A fault of the store has a cause, which is never a
+/// refused statement: an empty database refuses none of them.
 pub fn make<S: Alter>(conn: &mut Connection<S>) -> Result<(), RegisterFault>
     requires idle { conn.old.in_transaction ≡ false }
     ensures idle { conn.new.in_transaction ≡ false }

@@ -43,8 +43,8 @@ fn is_first_version<S: Alter>(conn: &mut Connection<S>) -> Result<bool, Fault>
     Ok(says_first(rows.as_slice()))
 }
 
-/// Tells by `NotARegister` that the database lacks the register's tables, or has those of another
-/// version. It looks at no row but that of the version, and changes nothing. A fault of the
+/// `NotARegister` means that the database lacks the register's tables, or has those of another
+/// version. It reads no row except that of the version, and changes nothing. A fault of the
 /// store has a cause.
 pub fn check_layout<S: Alter>(conn: &mut Connection<S>) -> Result<(), RegisterFault>
     requires idle { conn.old.in_transaction ≡ false }

@@ -1,4 +1,4 @@
--- What a list of requests is answered and what is written of it.
+-- The answers to a list of requests, and what is written of them.
 use Rattle.std.specs.Prelude.{◌≡◌, ◌++◌, Bool, true, false, List, length, Option}
 use Rattle.std.specs.Io.KnownBytes.{Appends}
 use Rattle.sqlite.specs.Effect.{Database}
@@ -18,10 +18,10 @@ is_available (givens.Bytes bytes) = true
 is_available (givens.Order done) = true
 is_available givens.Unavailable = false
 
--- one answer for each request, and a run of them wherever the register stood, with the places between them
+-- one answer for each request, and a run from whatever rows the register was at, with the places between the requests
 abbrev pub IsBatch : {S : Type 0} → Ghosts S → Held S → Held S → List event.Event → List given.Answer → Type 0
 IsBatch g old new asked answers = (length answers ≡ length asked) × ((db : Database) (late : List Event) → StandsAt g old db late → HasCleanDisk (state g new) → HasPassed g old new db late asked answers)
 
--- a beginning of the bytes was written
+-- a first part of the bytes was written, which may be none or all
 abbrev pub IsCut : Option Bytes → Option Bytes → Bytes → Type 0
 IsCut before after bytes = (beginning : Bytes) × (rest : Bytes) × (bytes ≡ beginning ++ rest) × Appends before after beginning

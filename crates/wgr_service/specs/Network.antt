@@ -3,9 +3,9 @@ use Rattle.std.specs.Prelude.{◌≡◌, ◌++◌, ℕ, Bool, List, Option, Some
 use Rattle.std.specs.declared.net.ip_addr.IpAddr.{IpAddr}
 use Rattle.wgr_model.specs.Register.{Bytes}
 
--- An address and a port were bound. No connection could be accepted; or one came: what the clock gave then, what was
--- still to be read of it, and what had been written to it. It was ended: what had been written to it then, and whether a
--- read and a write had failed. Bytes and moments are told where they are known.
+-- An address and a port were bound. No connection could be accepted; or one was accepted: the clock's time then, what
+-- was still to be read from it, and what had been written to it. It was ended: what had been written to it then, and
+-- whether a read and a write had failed. Bytes and moments are given where they are known.
 pub data Contact : Type 0 where
   bound : IpAddr → ℕ → Contact
   missed : Contact
@@ -16,7 +16,7 @@ pub data Contact : Type 0 where
 abbrev pub Log : Type 0
 Log = Option (List Contact)
 
--- these came to the log
+-- these were added to the log
 abbrev pub Logs : Log → Log → List Contact → Type 0
 Logs None after contacts = Unit {0}
 Logs (Some log) after contacts = after ≡ Some (log ++ contacts)

@@ -1,4 +1,4 @@
-//! Requests that are answered in turn, and their replies one after the other.
+//! Answers a list of requests in order, and writes the replies one after the other.
 ghost use Rattle.std.specs.Prelude.{◌≡◌, flat_map, Err, IfOk, OnErr, OnOk, List, true};
 ghost use Rattle.std.specs.Io.KnownBytes.{Appends};
 ghost use Rattle.std.specs.List.{list_all};
@@ -19,12 +19,12 @@ use wgr_office::{Answer, Event, Office};
 pub enum BatchFault {
     /// There was no memory for the answers: nothing was done or written.
     NoMemory,
-    /// All requests were answered, but a write failed behind a beginning of the replies.
+    /// All requests were answered, but a write of the replies failed partway.
     Write,
 }
 
 /// Answers all requests in turn, as [`Office::run`] does, and writes their replies one after the other.
-/// Tells whether all were available, none of them answered by the bytes of `unavailable`.
+/// Returns whether all were available, that is, none was answered with the bytes of `unavailable`.
 pub fn answer_all<S: Alter, W: Write>(
     alloc: Global,
     office: &mut Office<S>,
@@ -60,7 +60,7 @@ fn is_available(answer: &Answer) -> bool
     !matches!(answer, Answer::Unavailable)
 }
 
-// Writes the replies, or a beginning of them.
+// Writes the replies, or only their first bytes if a write fails.
 fn write_replies<W: Write>(answers: &[Answer], out: &mut W) -> Result<(), WriteFault>
     ensures ok { OnOk result (Appends (W.contents out.old) (W.contents out.new) (flat_map reply_of answers.now)) }
     ensures sound { OnOk result (W.failed out.new ≡ W.failed out.old) }

@@ -1,4 +1,4 @@
-//! Connections, one after the other.
+//! Serves connections one after the other: reads one message of each, answers it and writes the reply.
 ghost use Rattle.std.specs.Prelude.{◌≡◌, false, List, Option, flat_map};
 ghost use Rattle.sqlite.specs.Effect.{Database};
 ghost use Rattle.sqlite.specs.Held.{state};
@@ -18,22 +18,22 @@ use wgr_office::{Office, ServeFault};
 /// Why a connection failed.
 #[derive(Clone, Copy, Debug)]
 pub(crate) enum ConnectionFault {
-    /// None could be accepted.
+    /// No connection could be accepted.
     Accept,
-    /// The clock gave no moment.
+    /// The clock returned no time.
     Clock,
-    /// It could not be read, or its reply not be written to its end.
+    /// The message could not be read, or its reply could not be fully written.
     Serve(ServeFault),
 }
 
-/// Serves so many connections: one message of each is read, answered and its reply written.
+/// Serves `count` connections: reads and answers one message of each, and writes the reply.
 ///
-/// A message's moment is `now`, else what the clock gave when its connection had come (seconds since
-/// 1970-01-01). Of a connection that fails, `wgr: connection` is written to `err`, and it counts.
+/// A message's moment is `now`, or else the clock's time after its connection was accepted (seconds
+/// since 1970-01-01). For a connection that fails, `wgr: connection` is written to `err`; it counts too.
 ///
-/// The register runs along the messages that were answered as along a list of events, so each tenant's
-/// replies and rows are those that its own requests give on its own rows alone. Where the network's log
-/// is known, the message is what its connection brought and the reply is what was written to it.
+/// The register handles the answered messages like a list of events, so each tenant's replies and rows are
+/// those that its own requests give on its own rows alone. Where the network's log is known, a message asks what
+/// its connection's bytes ask, unless answered Unavailable, and the reply is what was written to that connection.
 pub fn serve_connections<S: Alter, N: Network, E: Write>(
     alloc: Global,
     office: &mut Office<S>,
@@ -43,20 +43,20 @@ pub fn serve_connections<S: Alter, N: Network, E: Write>(
     err: &mut E,
 )
     ensures clean { HasCleanDisk (state S.Store office.new) → HasCleanDisk (state S.Store office.old) }
-    // The register stood somewhere.
+    // The register was at some rows.
     ensures stood { HasCleanDisk (state S.Store office.new) → (db : Database) × (late : List Event) × StandsAt S.Store office.old db late }
     ensures served { (outcomes : List Outcome) × AreServed S.Store office.old office.new now count outcomes
         × AreWritten (E.failed err.new) (E.contents err.old) (E.contents err.new) (flat_map line_of outcomes)
         × Logs (N.log network.old) (N.log network.new) (flat_map contacts_of outcomes) }
 {
-    office.tell_rules();
+    office.rules_hold();
     for _ in 0..count {
         serve_next(alloc, office, network, now, err);
     }
     rows_are_isolated();
 }
 
-// Serves the next connection, and tells it if it fails.
+// Serves the next connection, and reports a failure on `err`.
 fn serve_next<S: Alter, N: Network, E: Write>(
     alloc: Global,
     office: &mut Office<S>,
@@ -71,7 +71,7 @@ fn serve_next<S: Alter, N: Network, E: Write>(
         × Logs (N.log network.old) (N.log network.new) (contacts_of outcome) }
 {
     if serve_one(alloc, office, network, now).is_err() {
-        // Where standard error fails there is nobody to tell.
+        // If standard error fails, the failure can't be reported.
         let _ = write_all(err, b"wgr: connection\n");
     }
 }
@@ -102,7 +102,7 @@ fn serve_one<S: Alter, N: Network>(
     served
 }
 
-// Serves a connection that came when the clock gave this.
+// Serves a connection that was accepted at this time of the clock.
 fn serve_arrival<S: Alter, R: Read, W: Write>(
     alloc: Global,
     office: &mut Office<S>,
@@ -124,7 +124,7 @@ fn serve_arrival<S: Alter, R: Read, W: Write>(
     }
 }
 
-// The moment that is given, else the clock's.
+// The given moment, or else the clock's.
 fn moment_of(now: Option<u64>, clock: Option<u64>) -> Option<u64>
     ensures { result ≡ moment_of now clock }
 {

@@ -1,4 +1,4 @@
-//! Serves connections, and lists of requests, by an office, one after the other.
+//! Serves connections and answers lists of requests through an office, one after the other.
 #![tactic(auto)]
 
 mod batch;

@@ -1,29 +1,29 @@
-//! The network as a server meets it: connections that come, and the clock at which they come.
+//! The network as a server sees it: incoming connections, and the clock read for each.
 ghost use Rattle.std.specs.Prelude.{◌≡◌, [], ◌∷◌, false, IfOk, OnErr, OnOk};
 ghost use Rattle.wgr_service.specs.Network.{Log, Logs, bound, came, ended, missed};
 
 use std::net::IpAddr;
 use wgr_io::{DeviceError, Read, Write};
 
-/// A connection that came.
+/// An accepted connection.
 pub struct Arrival<R, W> {
     /// What the client sends.
     pub reader: R,
-    /// What the client is sent.
+    /// What is sent to the client.
     pub writer: W,
-    /// What the clock gave when it had come, in whole seconds since 1970-01-01 00:00 UTC; none where
+    /// The clock's time after it was accepted, in whole seconds since 1970-01-01 00:00 UTC; none if
     /// the clock failed.
     pub clock: Option<u64>,
 }
 
-/// The network as a server meets it.
+/// The network as a server sees it.
 ///
-/// [`Sockets`](crate::Sockets) is the system's, of which no log is known. What is proved of a server
-/// over any network holds for one that knows its log.
+/// [`Sockets`](crate::Sockets) is the system's network, whose log is unknown. What is proved of a server
+/// over any network also holds for one whose log is known.
 ///
-/// A connection comes together with its moment, so the moment of an earlier one can't be taken for it.
-/// Reader and writer aren't `Drop`, so each has to be handed to `end`. Both own a handle of the socket,
-/// since a type of a trait has no lifetime here that a borrowed stream would need.
+/// A connection is returned with its own time, so that of an earlier one can't be used for it.
+/// Reader and writer aren't `Drop`, so each has to be passed to `end`. Both own a handle to the socket,
+/// since an associated type has no lifetime here, which a borrowed stream would need.
 pub trait Network {
     /// The reader of a connection.
     type Reader: Read;
@@ -44,7 +44,7 @@ pub trait Network {
         ensures sound { IfOk result (λ it. (Self.Reader.failed it.reader ≡ false) × (Self.Writer.failed it.writer ≡ false)) }
         ensures missed { OnErr result (Logs (log self.old) (log self.new) (missed ∷ [])) };
 
-    /// Says that no more is written, waits for what the client still sends, and closes the connection.
+    /// Shuts down writing, waits for what the client still sends, and closes the connection.
     fn end(&mut self, reader: Self::Reader, writer: Self::Writer)
         ensures ended { Logs (log self.old) (log self.new) (ended (Self.Writer.contents writer) (Self.Reader.failed reader) (Self.Writer.failed writer) ∷ []) };
 }

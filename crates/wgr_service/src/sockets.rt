@@ -14,7 +14,7 @@ const PATIENCE_MILLIS: u64 = 250;
 /// How many such reads are made at most.
 const REST_READS: usize = 128;
 
-/// How many bytes each of them takes at most.
+/// How many bytes each of them reads at most.
 const REST_CHUNK: usize = 65536;
 
 /// The sockets of a host, and its clock.
@@ -25,7 +25,7 @@ pub struct Sockets<'a, H: Net> {
 }
 
 impl<'a, H: Net> Sockets<'a, H> {
-    /// Sockets that listen nowhere yet. No log of theirs is known, so no clause can say more.
+    /// Sockets that don't listen yet. Their log is unknown, so no clause can say more.
     pub fn new(host: &'a H) -> Sockets<'a, H> {
         Sockets {
             host,
@@ -76,7 +76,7 @@ impl<'a, H: Clock + Net> Network for Sockets<'a, H> {
     }
 }
 
-// What the clock gives, in whole seconds since 1970-01-01 00:00 UTC.
+// The clock's time, in whole seconds since 1970-01-01 00:00 UTC.
 fn seconds_now<C: Clock>(clock: &C) -> Option<u64> {
     seconds_of(SystemTime::now(clock).ok()?)
 }
@@ -90,7 +90,7 @@ fn seconds_of(time: SystemTime) -> Option<u64>
 }
 
 // Reads what the client still sends: the system resets a connection that is closed with bytes unread,
-// and the client may lose its reply by that.
+// and the client may then lose its reply.
 fn read_rest<S: io::Read + OpenStream + Drop>(mut rest: Device<S>) {
     let patience = Duration::from_millis(PATIENCE_MILLIS);
     if rest.inner.set_read_timeout(Some(patience)).is_err() {

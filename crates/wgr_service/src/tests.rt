@@ -64,7 +64,7 @@ fn add_acme(rt: &(impl Abort + AllocGlobal), office: &mut Office<MemStore>) {
     let _answers = office.run(rt.alloc(), &orders).expect(rt, "memory");
 }
 
-/// An address at which nobody listens.
+/// An address without a listener.
 fn free_address<H: Net>(host: &H) -> io::Result<SocketAddr> {
     TcpListener::bind(host, "127.0.0.1:0")?.local_addr()
 }

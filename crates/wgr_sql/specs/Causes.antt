@@ -1,4 +1,4 @@
--- Why a call is answered by a fault of the store.
+-- Why a call returns a fault of the store.
 use Rattle.std.specs.Prelude.{◌≡◌, ◌≤◌, ◌⊎◌, ℕ, false, List, [], length, Option, None, Result, Ok, Err, IsSome, ⊤}
 use Rattle.sqlite_disk.specs.Disk.{MoreFaults}
 use Rattle.sqlite_value.specs.Order.{Row}
@@ -17,13 +17,13 @@ use Rattle.sqlite.specs.State.{State, HasCleanDisk, shows_rows, text_of}
 use Rattle.wgr_sql.specs.declared.fault.Fault.{Fault}
 use Rattle.wgr_sql.specs.declared.fault.Fault.TheVariants.{NoMemory, Store}
 
--- The disk failed meanwhile, or the store was shut before, or whoever opened the connection set a
--- limit on the steps of a query.
+-- The disk failed during the call, or the store was shut before it, or whoever opened the connection
+-- set a limit on the steps of a query.
 abbrev pub IsHindered : State → State → Type 0
 IsHindered old new = MoreFaults old.faults new.faults ⊎ ((old.is_open ≡ false) ⊎ IsSome old.step_limit)
 
--- Where a fault is the store's, and the disk returns what was written, the call was hindered or this
--- is so. What refuses memory isn't told.
+-- If the fault is `Store`, and the disk returns what was written, the call was hindered or `P` holds.
+-- For a failed allocation no cause is stated.
 abbrev pub HasCauseOr : Type 0 → State → State → Fault → Type 0
 HasCauseOr P old new NoMemory = ⊤
 HasCauseOr P old new Store = HasCleanDisk new → IsHindered old new ⊎ P
@@ -40,12 +40,12 @@ abbrev pub IsGiven : List ℕ → Row → Result Compiled CompileError → Type 
 IsGiven sql params (Ok c) = (c.returning ≡ None) × (c.formats ≡ []) × (length sql ≤ c.tail) × (length params ≡ length c.names)
 IsGiven sql params (Err e) = ⊥
 
--- It is a query that nothing but a limit on steps refuses, whatever rows there are.
+-- It is a query that only a limit on steps can refuse, whatever rows there are.
 abbrev pub AsksPlainly : Schema → Row → Result Compiled CompileError → Type 0
 AsksPlainly schema params (Ok c) = (limit : Option ℕ) (trees : Trees) (e : Error) → RefusesToRead limit c.command (record { schema = schema; trees = trees }) params e → IsSome limit
 AsksPlainly schema params (Err e) = ⊥
 
--- A query that is answered, whatever rows there are, unless something hinders it.
+-- A query that returns its rows, whatever they are, unless something hinders it.
 pub record IsAnswered (schema : Schema) (sql : List ℕ) (params : Row) : Type 0 where
   pub given : IsGiven sql params (understood schema sql)
   pub unlisted : reads_listing schema sql ≡ false
@@ -55,7 +55,7 @@ abbrev pub WritesPlainly : Result Compiled CompileError → Type 0
 WritesPlainly (Ok c) = IsWrite c.command × (shows_rows false c ≡ false)
 WritesPlainly (Err e) = ⊥
 
--- A statement that writes, and shows no rows.
+-- A statement that writes, and returns no rows.
 pub record IsWriting (schema : Schema) (sql : List ℕ) (params : Row) : Type 0 where
   pub given : IsGiven sql params (understood schema sql)
   pub plain : WritesPlainly (understood schema sql)
@@ -68,7 +68,7 @@ abbrev pub RefusesAs : Option ℕ → Database → List ℕ → Row → Result C
 RefusesAs limit db sql params (Ok c) = (stop : Option Error) × Does limit usual params db (text_of sql c) c.returning c.command (Err stop)
 RefusesAs limit db sql params (Err e) = ⊥
 
--- The statement isn't done on this database, where the steps of a query are limited so: it is against
--- a rule of a table, or a row that it writes can't be stored.
+-- The statement fails on this database, under this limit on the steps of a query: it breaks a
+-- constraint of a table, or a row that it writes can't be stored.
 abbrev pub Refuses : Option ℕ → Database → List ℕ → Row → Type 0
 Refuses limit db sql params = RefusesAs limit db sql params (understood db.schema sql)

@@ -1,20 +1,20 @@
--- Steps of a transaction on a database that is good, whatever a program means by that.
+-- Steps of a transaction on a good database; each program defines what good means.
 use Rattle.std.specs.Prelude.{◌≡◌, true, IsTrue, Result, OnOk, List, [], ◌∷◌}
 use Rattle.sqlite.specs.Effect.{Database}
 use Rattle.sqlite.specs.State.{State, KeepsCommit, Shows}
 
--- A step of a transaction on a good database makes this of it, or fails; in any case it commits
--- nothing. The premise holds of a store that is shut, too: nothing is known of what it shows.
+-- A step of a transaction changes a good database as `P` says, or fails; in any case it commits
+-- nothing. The premise also holds for a shut store: nothing is known of what it shows.
 abbrev pub StepsOn : {X E : Type 0} → (Database → Type 0) → (Database → Database → Type 0) → State → State → Result X E → Type 0
 StepsOn good P old new r = IsTrue old.in_transaction → (IsTrue old.is_open → good old.now) → KeepsCommit old new × OnOk r (P old.now new.now × Shows old new new.now old.committed true)
 
--- The same of a chain of steps that may be empty, and so may succeed on a store that is shut: what
--- it makes is told where the store was open.
+-- The same for a chain of steps, which may be empty and so may succeed on a shut store: its effect
+-- is stated only if the store was open.
 abbrev pub StepsFrom : {X E : Type 0} → (Database → Type 0) → (Database → Database → Type 0) → State → State → Result X E → Type 0
 StepsFrom good P old new r = IsTrue old.in_transaction → (IsTrue old.is_open → good old.now) → KeepsCommit old new
     × OnOk r ((new.in_transaction ≡ true) × (IsTrue old.is_open → P old.now new.now × Shows old new new.now old.committed true))
 
--- The database is good again, and what a program reads in it is related so to what it read before.
+-- The new database is good too, and `P` relates what a program reads in the old one and in the new one.
 pub record Makes {T : Type 0} (good : Database → Type 0) (view : Database → T) (P : T → T → Type 0) (old new : Database) : Type 0 where
   pub sound : good new
   pub made : P (view old) (view new)

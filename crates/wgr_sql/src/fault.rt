@@ -9,13 +9,13 @@ use sqlite::{Error, ErrorCode};
 /// Why a statement failed.
 #[derive(Clone, Copy, Debug, PartialEq, Eq)]
 pub enum Fault {
-    /// Memory was refused.
+    /// An allocation failed.
     NoMemory,
-    /// The store refused, or holds what it shouldn't.
+    /// Any other error of the store, or invalid contents.
     Store,
 }
 
-/// The fault that an error of the database is.
+/// The fault for an error of the database.
 pub fn fault_of(error: Error) -> Fault
     ensures { (result ≡ NoMemory) ↔ (error ≡ SqliteFailure OutOfMemory) }
 {

@@ -1,9 +1,9 @@
-//! Statements on a SQLite database, and what they make of it, in words that are of no one table.
+//! Statements on a SQLite database and their effects, in terms that name no table.
 //!
-//! [`query`] reads in a transaction of its own, [`execute`] writes in its caller's. The definitions
-//! say what a step of a transaction leaves, and at which database a connection stands, also where
-//! its store was shut by a fault; the lemmas what each kind of statement does to the rows of one
-//! table, and what a commit and a rollback make of a connection.
+//! [`query`] reads in its own transaction, [`execute`] writes in its caller's. The definitions say
+//! what a step of a transaction leaves, and which database a connection is at, also after a fault
+//! shut its store; the lemmas say what each kind of statement does to the rows of one table, and what
+//! a commit and a rollback do to a connection.
 #![tactic(auto)]
 
 mod fault;

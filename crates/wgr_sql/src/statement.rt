@@ -1,4 +1,4 @@
-//! A reading in a transaction of its own, and a statement in its caller's.
+//! A query in its own transaction, and a statement in its caller's.
 ghost use Rattle.std.specs.Prelude.{◌≡◌, [], ◌∷◌, false, true, IsTrue, Ok, IfErr, IfOk, IfSome, IfNone, OnErr};
 ghost use Rattle.sqlite.specs.Values.{bound};
 ghost use Rattle.sqlite.specs.State.{HasCleanDisk, Survives, Executes, KeepsCommit, Shows};
@@ -12,8 +12,8 @@ use crate::fault::{Fault, fault_of};
 use sqlite::types::ValueRef;
 use sqlite::{Alter, Connection, Row, Transaction};
 
-/// The rows that a query shows. It runs in a transaction of its own, which is rolled back, so
-/// whatever comes of it, nothing is committed.
+/// The rows that a query returns. It runs in its own transaction, which is rolled back, so nothing is
+/// committed, whatever the result.
 pub fn query<S: Alter>(
     conn: &mut Connection<S>,
     sql: &str,
@@ -44,7 +44,7 @@ pub fn only(mut rows: Vec<Row>) -> Result<Option<Row>, Fault>
     Ok(row)
 }
 
-/// Runs a statement in its caller's transaction, and tells how many rows it wrote.
+/// Runs a statement in its caller's transaction, and returns how many rows it wrote.
 pub fn execute<S: Alter>(
     tx: &mut Transaction<'_, S>,
     sql: &str,

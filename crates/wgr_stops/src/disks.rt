@@ -25,7 +25,7 @@ pub(crate) fn file_of(rt: &(impl Abort + AllocGlobal), bytes: &[u8]) -> Fuse<Mem
     Fuse::new(file, u64::MAX)
 }
 
-/// The register, and no reason why there is none.
+/// The register; the test ends if there is none.
 pub(crate) fn found(
     rt: &impl Abort,
     opened: Result<Register<Stored>, OpenFault<Stored>>,
@@ -64,7 +64,7 @@ pub(crate) fn new_register(rt: &(impl Abort + AllocGlobal)) -> Register<Stored> 
     }
 }
 
-/// A new register in files, of which each fails after so many calls; the files, where it isn't made.
+/// A new register in files, each of which fails after this many calls; the files, if it isn't made.
 pub(crate) fn fused(
     rt: &(impl Abort + AllocGlobal),
     log_calls: u64,

@@ -17,7 +17,7 @@ fn put(rt: &impl Abort, bytes: &[u8], text: &mut Vec<u8>) {
     text.extend_from_slice(bytes).expect(rt, "memory");
 }
 
-// The bytes of a text or a blob, behind their count.
+// The bytes of a text or a blob, after their count.
 fn put_bytes(rt: &impl Abort, bytes: &[u8], text: &mut Vec<u8>) {
     put(rt, &bytes.len().to_le_bytes(), text);
     put(rt, bytes, text);

@@ -87,7 +87,7 @@ fn order(rt: &(impl Abort + AllocGlobal), step: &Step) -> Order {
     }
 }
 
-// The command by which the peers of the dump are taken over.
+// The command by which the peers of the dump are adopted.
 fn taking(rt: &(impl Abort + AllocGlobal), dump: &str) -> Command {
     match Dump::open(dump.as_bytes()) {
         Ok(dump) => adoption_of(rt.alloc(), &dump).expect(rt, "memory"),
@@ -167,8 +167,8 @@ fn is_listed<S: Alter>(
     is_answered(rt, &asked)
 }
 
-/// Whether the step is done, and not ended by a fault. What acme is given ends the test where it is
-/// wrong, and so does a refusal.
+/// Whether the step is done, and not ended by a fault. A wrong value returned to acme ends the test,
+/// and so does a refusal.
 pub(crate) fn is_done<S: Alter>(
     rt: &(impl Abort + AllocGlobal),
     register: &mut Register<S>,

@@ -42,8 +42,8 @@ fn check_changes(rt: &impl Abort, rows: &[Vec<u8>]) {
     }
 }
 
-// Does the steps in new files, of which each fails after so many calls. Gives how many were done, the
-// making of the register being the first, and the files.
+// Does the steps in new files, each of which fails after this many calls. Returns how many were done, of
+// which the making of the register is the first, and the files.
 fn run(
     rt: &(impl Abort + AllocGlobal),
     log_calls: u64,
@@ -59,7 +59,7 @@ fn run(
     }
 }
 
-// The register in files that a stop left when so many steps were done. Where it wasn't made yet, the
+// The register in files that a stop left when this many steps were done. If it wasn't made yet, the
 // files may have none, and one can be made.
 fn again(
     rt: &(impl Abort + AllocGlobal),
@@ -79,7 +79,7 @@ fn again(
     }
 }
 
-// The place of the next step, of a register that was stopped when so many were done: its rows are those
+// The place of the next step, of a register that was stopped when this many were done: its rows are those
 // after them, or those after one more.
 fn place_of(rt: &impl Abort, now: &[u8], done: usize, rows: &[Vec<u8>]) -> usize {
     for (at, known) in rows.iter().enumerate() {
@@ -90,7 +90,7 @@ fn place_of(rt: &impl Abort, now: &[u8], done: usize, rows: &[Vec<u8>]) -> usize
     panic!(rt; "other rows, after {done} steps")
 }
 
-// Opens what a stop left when so many steps were done, and does the others.
+// Opens what a stop left when this many steps were done, and does the others.
 fn check_left(
     rt: &(impl Abort + AllocGlobal),
     log: &[u8],
@@ -112,7 +112,7 @@ fn check_left(
     assert_eq!(rt; all_rows(rt, &mut conn).as_slice(), last.as_slice());
 }
 
-// Of each file a stop leaves what was written, or what was synced alone.
+// In each file a stop leaves all that was written, or only what was synced.
 fn check_stopped(
     rt: &(impl Abort + AllocGlobal),
     mut files: Files<Fuse<Memory>>,

@@ -8,7 +8,7 @@ use Rattle.wgr_core.specs.Network.{NetworkValue}
 use Rattle.wgr_model.specs.Rows.{Tables}
 use Rattle.wgr_sql.proofs.ResultLemmas.{if_ok, if_some, if_none}
 use Rattle.wgr_columns.specs.Stored.{AreSettings}
-use Rattle.wgr_tables.specs.Told.{IsTold}
+use Rattle.wgr_tables.specs.Stored.{IsStored}
 
 pub told_as : {X E : Type 0} (read : Result X E) (r : Result (Option X) E) (P : X → Type 0) → IfOk read P → IfOk r (λ found. IfSome found (λ x. read ≡ Ok x)) → IfOk r (λ found. IfSome found P)
 told_as read r P given told =
@@ -22,7 +22,7 @@ pub none_as : {X E : Type 0} (read : Result X E) (r : Result (Option X) E) (e : 
 none_as read r e Q only told = if_ok r (λ found. IfNone found (read ≡ Err e)) (λ found. IfNone found Q) (λ found h. if_none found (read ≡ Err e) Q (λ is. subst (λ o. IfErr o (λ x. x ≡ e → Q)) is only refl) h) told
 
 -- the settings of a network that its rows tell are of their forms
-pub told_settings : (t : Tables) (id : ℕ) (n : NetworkValue) (told : IsTold t id n) → AreSettings told.row
+pub told_settings : (t : Tables) (id : ℕ) (n : NetworkValue) (told : IsStored t id n) → AreSettings told.row
 told_settings t id n told = record {
   pool = subst IsPool (λ k. (told.value k).pool) told.rules.pool;
   host = subst IsHost (λ k. (told.value k).host) told.host;

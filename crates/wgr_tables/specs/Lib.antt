@@ -2,5 +2,5 @@ pub mod TableSteps
 pub mod Loads
 pub mod Writes
 pub mod Standing
-pub mod Told
+pub mod Stored
 pub mod Stops

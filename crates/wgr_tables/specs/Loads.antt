@@ -1,4 +1,4 @@
--- What queries show of a network, and a network of the settings of a row.
+-- What queries return for a network, and a network with the settings of a row.
 use Rattle.std.specs.Prelude.{◌≡◌, ◌&&◌, ℕ, List, filter, map, nat_eq, not}
 use Rattle.std.specs.List.Sorted.{IsPermutation}
 use Rattle.wgr_peers.specs.declared.peer.Peer.{Peer}
@@ -8,7 +8,7 @@ use Rattle.sqlite_value.specs.Order.{Row}
 use Rattle.wgr_model.specs.Rows.{NetworkRow, Tables}
 use Rattle.wgr_columns.specs.Decode.{network_in, peer_in, allowed_in}
 
--- these are the rows of the network's peers, in whatever order; of their addresses; of its routes
+-- these are the rows of the network's peers, in any order; of their addresses; of its routes
 abbrev pub ShowPeers : ℕ → Tables → List Row → Type 0
 ShowPeers id t rows = IsPermutation (filter (λ p. nat_eq p.network id) t.peers) (map peer_in rows)
 

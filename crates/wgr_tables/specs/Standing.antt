@@ -1,4 +1,4 @@
--- Steps on the rows of the register, and the rows at which it stands.
+-- Steps on the rows of the register, and the rows that it is at.
 use Rattle.std.specs.Prelude.{Result, List, []}
 use Rattle.sqlite.specs.Effect.{Database}
 use Rattle.sqlite.specs.State.{State}
@@ -10,17 +10,17 @@ use Rattle.wgr_sql.specs.Standing as standing
 use Rattle.wgr_columns.specs.Decode.{IsRegister, tables_of}
 use Rattle.wgr_tables.specs.Writes.{Written, Writes}
 
--- The register is held by this database, in no transaction. A stop at this moment leaves its rows,
--- or those after one of the writes that are pending: those that were answered by a fault since the
--- last that was acknowledged.
+-- The register is in this database, and no transaction is open. A stop at this moment leaves its rows,
+-- or those after one of the pending writes: the ones that returned a fault since the last
+-- acknowledged write.
 abbrev pub Stands : {S : Type 0} → Ghosts S → Held S → Database → List Written → Type 0
 Stands g conn db pending = standing.Stands IsRegister Writes g conn db pending
 
--- a write was done and acknowledged: the register is held by the database after it, and nothing is pending
+-- a write was done and acknowledged: the register is in the database after it, and nothing is pending
 abbrev pub IsDone : {S : Type 0} → Ghosts S → Held S → Database → Written → Type 0
 IsDone g conn db one = (next : Database) × Writes one db next × Stands g conn next []
 
--- a step of a transaction makes this of the rows
+-- a step of a transaction changes the rows as `P` says
 abbrev pub StepsOn : {X E : Type 0} → (Tables → Tables → Type 0) → State → State → Result X E → Type 0
 StepsOn P old new r = steps.StepsOn IsRegister (steps.Makes IsRegister tables_of P) old new r
 

@@ -1,4 +1,4 @@
--- Where a change of the register isn't done: the database refuses one of its statements.
+-- When a change of the register fails: the database refuses one of its statements.
 use Rattle.std.specs.Prelude.{◌≡◌, ◌⊎◌, ◌+◌, ℕ, pos, IsTrue, List, [], ◌∷◌, length, codes, None, Result, IfErr}
 use Rattle.sqlite_value.specs.Order.{Row}
 use Rattle.sqlite.specs.declared.types.Value.{Value}
@@ -21,15 +21,15 @@ use Rattle.wgr_tables.specs.TableSteps.{AreFrom, PeerGoes, PeerLeaves, PeerComes
 abbrev pub IsRefused : List ℕ → Row → Tables → Type 0
 IsRefused text params t = (db : Database) × IsRegister db × (tables_of db ≡ t) × Refuses None db text params
 
--- A fault of a step of a transaction has a cause, or the step stops so at the rows that it began with.
+-- If a step of a transaction fails, that has a cause, or the step stops so at the rows that it began with.
 abbrev pub FailsBy : {X : Type 0} → (Tables → Type 0) → State → State → Result X Fault → Type 0
 FailsBy stops old new r = IsTrue old.in_transaction → (IsTrue old.is_open → IsRegister old.now) → IfErr r (HasCauseOr (stops (tables_of old.now)) old new)
 
--- the first of two steps stops, or the second on what the first makes
+-- the first of two steps stops, or the second stops on the rows that the first leaves
 abbrev pub OneOfTwo : (Tables → Type 0) → (Tables → Tables → Type 0) → (Tables → Type 0) → Tables → Type 0
 OneOfTwo first step second t = first t ⊎ ((u : Tables) × step t u × second u)
 
--- so one of a list of steps
+-- the same for a list of steps: one of them stops
 abbrev pub OneOfEach : {X : Type 0} → (X → Tables → Tables → Type 0) → (X → Tables → Type 0) → List X → Tables → Type 0
 OneOfEach step stops [] t = ⊥
 OneOfEach step stops (x ∷ xs) t = stops x t ⊎ ((u : Tables) × step x t u × OneOfEach step stops xs u)
@@ -75,7 +75,7 @@ AddressStaysOut a = IsRefused (codes "INSERT INTO allowed (network, family, lo, 
 abbrev pub RouteStaysOut : ℕ → PrefixValue × ℕ → Tables → Type 0
 RouteStaysOut network r = IsRefused (codes "INSERT INTO allowed (network, family, lo, length, hi, peer, kind) VALUES (?1, ?2, ?3, ?4, ?5, ?6, 'route')") (allowed_values (route_row network r))
 
--- ---- what they are parts of
+-- ---- steps made of these statements
 
 abbrev pub PeerStays : ℕ → ℕ → Tables → Type 0
 PeerStays network k = OneOfTwo (PeerRowStays network (peer_id network k)) (PeerGoes network (peer_id network k)) (AllowedStays network (peer_id network k))
@@ -86,7 +86,7 @@ PeerRowsStay network k = OneOfTwo (PeerRowStays network (peer_id network k)) (Pe
 abbrev pub RangeStays : ℕ → ℕ → ℕ → Tables → Type 0
 RangeStays network first last = OneOfTwo (PeerRangeStays network (peer_id network first) (peer_id network last)) (PeersGo network (peer_id network first) (peer_id network last)) (AddressRangeStays network (peer_id network first) (peer_id network last))
 
--- the rows of these peers go one by one, or by a range where their numbers follow one another
+-- the rows of these peers are deleted one by one, or by a range if their numbers are consecutive
 abbrev pub AllRowsStay : ℕ → List Peer → Tables → Type 0
 AllRowsStay network ps t =
     OneOfEach (λ p. PeerRowsGo network p.number) (λ p. PeerRowsStay network p.number) ps t
@@ -101,7 +101,7 @@ PeersStayOut network ps = OneOfTwo (AllRowsStay network ps) (Each (λ p. PeerRow
 abbrev pub RouteIsNotPut : ℕ → PrefixValue × ℕ → Tables → Type 0
 RouteIsNotPut network r = OneOfTwo (RouteStays network r.0) (RouteGoes network r.0) (RouteStaysOut network r)
 
--- routes are put one by one, or added where none is there
+-- routes are replaced one by one, or added if there are none
 abbrev pub RoutesAreNotPut : ℕ → List (PrefixValue × ℕ) → Tables → Type 0
 RoutesAreNotPut network rs t = OneOfEach (RoutePuts network) (RouteIsNotPut network) rs t ⊎ OneOfEach (RouteComes network) (RouteStaysOut network) rs t
 

@@ -10,8 +10,8 @@ use Rattle.wgr_model.specs.RowRules.{Removes}
 use Rattle.wgr_sql.specs.Steps as steps
 use Rattle.wgr_columns.specs.Decode.{IsRegister, tables_of}
 
--- A network's value takes the place of the one whose rows have this id; a tenant, a token and a
--- network come; the token of this digest goes; and so do all rows of the network of this id.
+-- A network's value replaces the one whose rows have this id; a tenant, a token and a network are
+-- added; the token of this digest is deleted; and so are all rows of the network of this id.
 pub data Written : Type 0 where
   Replaced : (network : ℕ) (value : NetworkValue) → Written
   TenantGained : (tenant : Tenant) → Written
@@ -32,7 +32,7 @@ TokenGoes digest t u = u ≡ record t { tokens = filter (λ x. not (is_same dige
 abbrev pub NetworkComes : NetworkRow → Tables → Tables → Type 0
 NetworkComes network t u = (networks : List NetworkRow) × IsPermutation (network ∷ t.networks) networks × (u ≡ record t { networks = networks })
 
--- what it makes of the rows
+-- what it does to the rows
 abbrev pub Changes : Written → Tables → Tables → Type 0
 Changes (Replaced network value) = Replaces network value
 Changes (TenantGained tenant) = TenantComes tenant

@@ -39,8 +39,8 @@ fn set_next<S: Alter>(tx: &mut Transaction<'_, S>, network: u32, next: u32) -> R
     )
 }
 
-// Writes a change of a network. Peers go before others take their keys, and routes and addresses
-// before others take theirs.
+// Writes a change of a network. Peers are removed before others take their keys, and routes and
+// addresses are deleted before others take theirs.
 fn write_change<S: Alter>(
     tx: &mut Transaction<'_, S>,
     network: u32,
@@ -58,9 +58,9 @@ fn write_change<S: Alter>(
     set_next(tx, network, change.next)
 }
 
-/// Commits a change of the network whose row has this id. Where it succeeds, the rows of the
-/// network are those of the network with the change, and nothing is pending; where it fails, the
-/// rows are as before, and a stop may leave the change.
+/// Commits a change of the network whose row has this id. If it succeeds, the rows of the network are
+/// those of the network with the change, and nothing is pending; if it fails, the rows are as before,
+/// and a stop may leave the change.
 pub fn commit_change<S: Alter>(
     conn: &mut Connection<S>,
     network: u32,

@@ -1,4 +1,4 @@
-//! Peers that come to a network, or take the place of the one of their number.
+//! Peers that are added to a network, or replace the one with their number.
 ghost use Rattle.std.specs.Prelude.{◌≡◌};
 ghost use Rattle.sqlite.specs.State.{HasCleanDisk, Survives};
 ghost use Rattle.sqlite.specs.Held.{state};
@@ -16,7 +16,7 @@ use wgr_columns::{bytes_of, end_value, family_value, number_value, peer_id_value
 use wgr_peers::Peer;
 use wgr_sql::{Fault, execute};
 
-// Takes the row of a peer's address away.
+// Deletes the row of a peer's address.
 fn drop_address<S: Alter>(
     tx: &mut Transaction<'_, S>,
     network: u32,
@@ -34,7 +34,7 @@ fn drop_address<S: Alter>(
     )
 }
 
-// Takes the rows of a peer and of its address away; the routes to it stay.
+// Deletes the rows of a peer and of its address; the routes to it stay.
 fn drop_rows<S: Alter>(
     tx: &mut Transaction<'_, S>,
     network: u32,
@@ -49,7 +49,7 @@ fn drop_rows<S: Alter>(
     drop_address(tx, network, number)
 }
 
-// Takes the rows of each of these peers away, one peer after the other.
+// Deletes the rows of each of these peers, one peer after the other.
 fn drop_one_by_one<S: Alter>(
     tx: &mut Transaction<'_, S>,
     network: u32,
@@ -66,7 +66,7 @@ fn drop_one_by_one<S: Alter>(
     Ok(())
 }
 
-// Takes the rows of each of these peers away.
+// Deletes the rows of each of these peers.
 fn drop_all_rows<S: Alter>(
     tx: &mut Transaction<'_, S>,
     network: u32,
@@ -172,8 +172,8 @@ fn add_peers<S: Alter>(
     Ok(())
 }
 
-/// Puts each of these peers in the place of the one of its number. The rows of all go first, since
-/// two of them may have changed their addresses.
+/// Writes each of these peers in place of the one with its number. All old rows are deleted first,
+/// since two of the peers may have exchanged their addresses.
 pub(crate) fn put_peers<S: Alter>(
     tx: &mut Transaction<'_, S>,
     network: u32,

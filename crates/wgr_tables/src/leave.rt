@@ -1,4 +1,4 @@
-//! Peers that leave a network.
+//! Peers that are removed from a network.
 ghost use Rattle.std.specs.Prelude.{◌≡◌};
 ghost use Rattle.sqlite.specs.State.{HasCleanDisk, Survives};
 ghost use Rattle.sqlite.specs.Held.{state};
@@ -12,7 +12,7 @@ use sqlite::{Alter, Transaction};
 use wgr_columns::{number_value, peer_id_value};
 use wgr_sql::{Fault, execute};
 
-/// Takes the row of a peer away.
+/// Deletes the row of a peer.
 pub(crate) fn drop_peer_row<S: Alter>(
     tx: &mut Transaction<'_, S>,
     network: u32,
@@ -30,7 +30,7 @@ pub(crate) fn drop_peer_row<S: Alter>(
     )
 }
 
-// Takes away what leads to a peer.
+// Deletes the prefixes that lead to a peer.
 fn drop_allowed_rows<S: Alter>(
     tx: &mut Transaction<'_, S>,
     network: u32,
@@ -48,7 +48,7 @@ fn drop_allowed_rows<S: Alter>(
     )
 }
 
-// Takes a peer away.
+// Removes a peer.
 fn remove_peer<S: Alter>(
     tx: &mut Transaction<'_, S>,
     network: u32,
@@ -63,7 +63,7 @@ fn remove_peer<S: Alter>(
     drop_allowed_rows(tx, network, number)
 }
 
-/// Takes each of these peers away.
+/// Removes each of these peers.
 pub(crate) fn remove_peers<S: Alter>(
     tx: &mut Transaction<'_, S>,
     network: u32,

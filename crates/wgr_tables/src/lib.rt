@@ -1,7 +1,7 @@
-//! One network in the register's tables: it is loaded of its rows, and a change of it is written.
+//! One network in the register's tables: it is loaded from its rows, and a change of it is written.
 //!
-//! Every contract speaks of the rows as `wgr_model` has them, and of what stands in the database
-//! also where its store was shut by a fault.
+//! Every contract is about the rows as `wgr_model` defines them, and about what the database holds,
+//! also after a fault shut its store.
 #![tactic(auto)]
 
 mod commit;
@@ -11,9 +11,9 @@ mod load;
 mod range;
 mod read;
 mod route;
-mod told;
+mod stored;
 
 pub use commit::commit_change;
 pub use load::load_network;
-pub use told::told_network;
+pub use stored::network_if_stored;
 pub use wgr_sql::Fault;

@@ -12,7 +12,7 @@ ghost use Rattle.wgr_sql.specs.Causes.{HasCause};
 ghost use Rattle.wgr_sql.specs.declared.fault.Fault.TheVariants.{Store};
 ghost use Rattle.wgr_columns.specs.Decode.{tables_of, allowed_in, network_in, number_at, peer_in};
 ghost use Rattle.wgr_columns.specs.Stored.{AreRising, AreSettings, AreStored, stored_allowed, stored_network, stored_peer};
-ghost use Rattle.wgr_tables.specs.Told.{IsTold};
+ghost use Rattle.wgr_tables.specs.Stored.{IsStored};
 ghost use Rattle.wgr_tables.specs.Loads.{IsMade, ShowAddresses, ShowNetwork, ShowPeers, ShowRoutes, network_with};
 ghost use Rattle.wgr_tables.specs.Writes.{Written};
 ghost use Rattle.wgr_tables.specs.Standing.{Stands};
@@ -51,7 +51,7 @@ pub(crate) fn peer_rows<S: Alter>(conn: &mut Connection<S>, network: u32) -> Res
     )
 }
 
-// The rows of their addresses, in the order of an index, which costs the database no sort.
+// The rows of their addresses, in the order of an index, so that the database needs no sort.
 fn unsorted_addresses<S: Alter>(conn: &mut Connection<S>, network: u32) -> Result<Vec<Row>, Fault>
     requires idle { conn.old.in_transaction ≡ false }
     ensures idle { conn.new.in_transaction ≡ false }
@@ -71,8 +71,8 @@ fn unsorted_addresses<S: Alter>(conn: &mut Connection<S>, network: u32) -> Resul
     )
 }
 
-// Puts rows of addresses in the order of their peers, to be read side by side with the rows of peers.
-// Std's sort takes no memory, and only walks over rows that are in order already.
+// Sorts rows of addresses in the order of their peers, to be read together with the rows of peers.
+// Std's sort allocates no memory, and only walks over rows that are in order already.
 fn sort_by_peer(rows: &mut Vec<Row>)
     ensures same { IsPermutation rows.old.items rows.new.items }
     ensures sorted { AreRising (λ a. a.peer) allowed_in rows.new.items }
@@ -160,9 +160,9 @@ fn load_peers<S: Alter>(
         → IfOk result (λ peers. IsPermutation (filter (λ p. nat_eq p.network network) (tables_of db).peers) (map (peer_row network) peers.items)) }
     ensures addresses { (db : Database) (pending : List Written) → Stands S.Store conn.old db pending → HasCleanDisk (state S.Store conn.new)
         → IfOk result (λ peers. IsPermutation (filter (λ a. nat_eq a.network network && not a.is_route) (tables_of db).allowed) (map (address_row network) peers.items)) }
-    ensures own { (db : Database) (pending : List Written) (n : NetworkValue) → Stands S.Store conn.old db pending → IsTold (tables_of db) network n → HasCleanDisk (state S.Store conn.new) → IfOk result (λ peers. peers.items ≡ n.peers) }
+    ensures own { (db : Database) (pending : List Written) (n : NetworkValue) → Stands S.Store conn.old db pending → IsStored (tables_of db) network n → HasCleanDisk (state S.Store conn.new) → IfOk result (λ peers. peers.items ≡ n.peers) }
     ensures survives { Survives (state S.Store conn.old) (state S.Store conn.new) (λ _. ⊥) }
-    ensures cause { (db : Database) (pending : List Written) (n : NetworkValue) → Stands S.Store conn.old db pending → IsTold (tables_of db) network n → IfErr result (HasCause (state S.Store conn.old) (state S.Store conn.new)) }
+    ensures cause { (db : Database) (pending : List Written) (n : NetworkValue) → Stands S.Store conn.old db pending → IsStored (tables_of db) network n → IfErr result (HasCause (state S.Store conn.old) (state S.Store conn.new)) }
 {
     let rows = peer_rows(conn, network)?;
     let addresses = address_rows(conn, network)?;
@@ -182,7 +182,7 @@ fn load_routes<S: Alter>(
     ensures rows { (db : Database) (pending : List Written) → Stands S.Store conn.old db pending → HasCleanDisk (state S.Store conn.new)
         → IfOk result (λ routes. IsPermutation (filter (λ a. a.is_route && nat_eq a.network network) (tables_of db).allowed) (map (route_row network) routes.items)) }
     ensures survives { Survives (state S.Store conn.old) (state S.Store conn.new) (λ _. ⊥) }
-    ensures cause { (db : Database) (pending : List Written) (n : NetworkValue) → Stands S.Store conn.old db pending → IsTold (tables_of db) network n → IfErr result (HasCause (state S.Store conn.old) (state S.Store conn.new)) }
+    ensures cause { (db : Database) (pending : List Written) (n : NetworkValue) → Stands S.Store conn.old db pending → IsStored (tables_of db) network n → IfErr result (HasCause (state S.Store conn.old) (state S.Store conn.new)) }
 {
     let rows = route_rows(conn, network)?;
     routes_of(alloc, rows.as_slice(), network)
@@ -229,7 +229,7 @@ pub(crate) fn make_network(
     let parts = parts_of(alloc, row, peers, routes)?;
     match Network::of(alloc, parts) {
         Ok(Some(network)) => {
-            network.tell_rules();
+            network.rules_hold();
             Ok(network)
         }
         Ok(None) => Err(Fault::Store),
@@ -251,7 +251,7 @@ fn load_row<S: Alter>(
     ensures read { (db : Database) (pending : List Written) → Stands S.Store conn.old db pending → AreKeyed (tables_of db) → HasCleanDisk (state S.Store conn.new) → number_at row.now 0 ≡ network
         → IfOk result (λ n. n ≡ (holding_of (tables_of db) (network_in row.now)).network) }
     ensures survives { Survives (state S.Store conn.old) (state S.Store conn.new) (λ _. ⊥) }
-    ensures cause { (db : Database) (pending : List Written) (n : NetworkValue) → Stands S.Store conn.old db pending → (told : IsTold (tables_of db) network n) → (HasCleanDisk (state S.Store conn.new) → (network_in row.now ≡ told.row) × (row.now ≡ stored_network (network_in row.now))) → IfErr result (HasCause (state S.Store conn.old) (state S.Store conn.new)) }
+    ensures cause { (db : Database) (pending : List Written) (n : NetworkValue) → Stands S.Store conn.old db pending → (told : IsStored (tables_of db) network n) → (HasCleanDisk (state S.Store conn.new) → (network_in row.now ≡ told.row) × (row.now ≡ stored_network (network_in row.now))) → IfErr result (HasCause (state S.Store conn.old) (state S.Store conn.new)) }
 {
     let peers = load_peers(alloc, conn, network)?;
     let routes = load_routes(alloc, conn, network)?;
@@ -282,8 +282,8 @@ pub(crate) fn network_row<S: Alter>(
     only(rows)
 }
 
-/// The network whose row has this id, or `None` where no row has it. A row that is none of a
-/// network's, or rows that form none, are a fault of the store.
+/// The network whose row has this id, or `None` where no row has it. A row that is not a network's,
+/// or rows that form no network, are a fault of the store.
 pub fn load_network<S: Alter>(
     alloc: Global,
     conn: &mut Connection<S>,
@@ -298,7 +298,7 @@ pub fn load_network<S: Alter>(
     ensures none { (db : Database) (pending : List Written) → Stands S.Store conn.old db pending → HasCleanDisk (state S.Store conn.new)
         → IfOk result (λ found. IfNone found ((w : NetworkRow) → Has (tables_of db).networks w → nat_eq w.id network ≡ false)) }
     ensures survives { Survives (state S.Store conn.old) (state S.Store conn.new) (λ _. ⊥) }
-    ensures cause { (db : Database) (pending : List Written) (n : NetworkValue) → Stands S.Store conn.old db pending → IsDistinct nat_eq (map (λ w. w.id) (tables_of db).networks) → IsTold (tables_of db) network n → IfErr result (HasCause (state S.Store conn.old) (state S.Store conn.new)) }
+    ensures cause { (db : Database) (pending : List Written) (n : NetworkValue) → Stands S.Store conn.old db pending → IsDistinct nat_eq (map (λ w. w.id) (tables_of db).networks) → IsStored (tables_of db) network n → IfErr result (HasCause (state S.Store conn.old) (state S.Store conn.new)) }
 {
     let Some(row) = network_row(conn, network)? else {
         return Ok(None);

@@ -1,5 +1,5 @@
-//! Peers whose numbers follow one another. The rows of all go by one statement for each table, in
-//! place of one for each peer.
+//! Peers with consecutive numbers. All their rows are deleted by one statement for each table,
+//! instead of one for each peer.
 ghost use Rattle.std.specs.Prelude.{◌≡◌, ◌+◌, ◌<◌, ℕ, get_or, length, IfSome, IsTrue};
 ghost use Rattle.sqlite.specs.State.{HasCleanDisk, Survives};
 ghost use Rattle.sqlite.specs.Held.{state};
@@ -21,8 +21,8 @@ fn follow_one_another(peers: &[Peer]) -> bool
     peers.is_sorted_by(|one, other| u64::from(other.number) == u64::from(one.number) + 1)
 }
 
-/// The first and the last number of these peers, where they are more than one and no number between
-/// them is left out: a range over a gap would take the rows of a peer that stays.
+/// The first and the last number of these peers, if there are at least two and no number between
+/// them is left out: a range over a gap would delete the rows of a peer that stays.
 pub(crate) fn range_of(peers: &[Peer]) -> Option<(u32, u32)>
     ensures { IfSome result (λ ends. AreFrom ends.0 peers.now × (ends.1 + 1 ≡ ends.0 + length peers.now)) }
 {
@@ -32,7 +32,7 @@ pub(crate) fn range_of(peers: &[Peer]) -> Option<(u32, u32)>
     Some((peers[0].number, peers[peers.len() - 1].number))
 }
 
-// Takes the rows of the peers of these numbers away.
+// Deletes the rows of the peers with these numbers.
 fn drop_peer_range<S: Alter>(
     tx: &mut Transaction<'_, S>,
     network: u32,
@@ -55,7 +55,7 @@ fn drop_peer_range<S: Alter>(
     )
 }
 
-// Takes the rows of their addresses away.
+// Deletes the rows of their addresses.
 fn drop_address_range<S: Alter>(
     tx: &mut Transaction<'_, S>,
     network: u32,
@@ -78,7 +78,7 @@ fn drop_address_range<S: Alter>(
     )
 }
 
-/// Takes the rows of the peers of these numbers and of their addresses away; the routes to them
+/// Deletes the rows of the peers with these numbers and of their addresses; the routes to them
 /// stay.
 pub(crate) fn drop_range<S: Alter>(
     tx: &mut Transaction<'_, S>,

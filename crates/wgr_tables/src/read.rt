@@ -22,7 +22,7 @@ use wgr_peers::{Peer, Status};
 use wgr_sql::Fault;
 use wgr_text::{Addr, Prefix};
 
-// What a running interface last showed of a peer, if it showed it.
+// The status of a peer that a running interface last reported, if it reported one.
 fn status_of(row: &Row) -> Option<Option<Status>>
     ensures value { IfSome result (λ status. status ≡ status_at row.now) }
     ensures only { IfNone result ((status : Option Status) → IfSome status IsStatus → HasStatus row.now status → ⊥) }
@@ -85,7 +85,7 @@ fn peer_of(alloc: Global, row: &Row, address: &Row, network: u32) -> Result<Peer
     })
 }
 
-/// The peers of a network, of their rows and those of their addresses, both in the order of ids.
+/// The peers of a network, from their rows and those of their addresses, both in the order of ids.
 pub(crate) fn peers_of(
     alloc: Global,
     rows: &[Row],
@@ -125,7 +125,7 @@ fn route_of(row: &Row, network: u32) -> Option<(Prefix, u32)>
     Some((prefix, peer_number_at(row, allowed::PEER, network)?))
 }
 
-/// The routes of a network, of their rows.
+/// The routes of a network, from their rows.
 pub(crate) fn routes_of(
     alloc: Global,
     rows: &[Row],

@@ -1,4 +1,4 @@
-//! Routes of a network that come and go.
+//! Routes that are added to a network or deleted from it.
 ghost use Rattle.std.specs.Prelude.{◌≡◌, ◌↔◌, [], IfOk, IsTrue};
 ghost use Rattle.sqlite.specs.declared.error.Error.TheVariants.{SqliteFailure};
 ghost use Rattle.sqlite.specs.declared.error.ErrorCode.TheVariants.{OutOfMemory};
@@ -18,10 +18,10 @@ use wgr_peers::order::comes_before;
 use wgr_sql::{Fault, execute, fault_of};
 use wgr_text::Prefix;
 
-/// From so many routes on, a query whether the network has any costs less than it saves.
+/// From this many routes on, a query whether the network has any costs less than it saves.
 const MANY: usize = 64;
 
-// Takes a route away.
+// Deletes a route.
 fn drop_route<S: Alter>(
     tx: &mut Transaction<'_, S>,
     network: u32,
@@ -75,7 +75,7 @@ fn add_route<S: Alter>(
     )
 }
 
-// Leads a prefix to a peer.
+// Routes a prefix to a peer.
 fn put_route<S: Alter>(
     tx: &mut Transaction<'_, S>,
     network: u32,
@@ -90,7 +90,7 @@ fn put_route<S: Alter>(
     add_route(tx, network, &route.0, route.1)
 }
 
-// Leads each of these prefixes to its peer, in place of the route that it has.
+// Routes each of these prefixes to its peer, replacing the route that it has.
 fn replace_routes<S: Alter>(
     tx: &mut Transaction<'_, S>,
     network: u32,
@@ -149,7 +149,7 @@ fn are_ordered(routes: &[(Prefix, u32)]) -> bool
     routes.is_sorted_by(|one, other| comes_before(&one.0, &other.0))
 }
 
-// Whether none of these routes takes the place of another; where they are few, it isn't asked.
+// Whether these routes are known to replace none; `false` without a query if they are few or not in order.
 fn are_new<S: Alter>(
     tx: &mut Transaction<'_, S>,
     network: u32,
@@ -168,9 +168,9 @@ fn are_new<S: Alter>(
     Ok(found.is_empty())
 }
 
-/// Leads each of these prefixes to its peer. Many that come to a network without routes come without
-/// a statement for each that takes away what isn't there: they have to be in strict order, so that no
-/// prefix stands twice.
+/// Routes each of these prefixes to its peer. Many that are added to a network without routes are added
+/// without a DELETE statement for each, which would delete nothing: they have to be in strict order, so
+/// that no prefix occurs twice.
 pub(crate) fn put_routes<S: Alter>(
     tx: &mut Transaction<'_, S>,
     network: u32,
@@ -188,7 +188,7 @@ pub(crate) fn put_routes<S: Alter>(
     }
 }
 
-/// Takes each of these routes away.
+/// Deletes each of these routes.
 pub(crate) fn drop_routes<S: Alter>(
     tx: &mut Transaction<'_, S>,
     network: u32,

@@ -1,4 +1,4 @@
-//! Configuration files byte by byte. The expected ones are written by hand, of wg(8) and wg-quick(8).
+//! Configuration files byte by byte. The expected ones are written by hand, from wg(8) and wg-quick(8).
 mod peers;
 mod servers;
 

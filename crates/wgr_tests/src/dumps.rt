@@ -1,4 +1,4 @@
-//! Dumps that a network takes over. The lines are written with blanks for tabs and names for keys, and
+//! Dumps that a network adopts. The lines are written with blanks for tabs and names for keys, and
 //! the network after them as its peers, each with its key.
 use crate::fixtures::new_network;
 use crate::network::answer;
@@ -79,7 +79,7 @@ fn refused(rt: &(impl Abort + AllocGlobal), bad: &BadDump) -> Vec<u8> {
     text.into_text()
 }
 
-// What is answered to the dump; a change is made.
+// The answer to the dump; a change is made.
 fn taken(rt: &(impl Abort + AllocGlobal), network: &mut Network, text: &[u8]) -> Vec<u8> {
     match Dump::open(text) {
         Ok(dump) => {
@@ -90,7 +90,7 @@ fn taken(rt: &(impl Abort + AllocGlobal), network: &mut Network, text: &[u8]) ->
     }
 }
 
-/// The lines of a dump, what is answered to it, and the network after it.
+/// The lines of a dump, the answer to it, and the network after it.
 type Step<'a> = (&'a [&'a str], &'a str, &'a str);
 
 fn said(
@@ -219,7 +219,7 @@ fn lines_become_peers(rt: HostRuntime) {
                 "K1 1 10.8.0.5/32 10.8.0.6/32 at 1 9223372036854775807 9223372036854775807 0",
             ),
             (
-                // of two lines of a key the last that is taken tells the status
+                // of two lines of a key the last that is taken gives the status
                 &[
                     INTERFACE,
                     "K2 (none) (none) 192.168.4.7/24 2 2 2 off",

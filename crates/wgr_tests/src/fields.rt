@@ -81,7 +81,7 @@ fn keeps_items(rt: HostRuntime) {
     assert_eq!(rt; again.as_slice(), [5, 3].as_slice());
 }
 
-// Whether the text is a label, which is then kept as it is.
+// Whether the text is a valid label, which is then stored unchanged.
 fn reads_label(rt: &(impl Abort + AllocGlobal), text: &[u8]) -> bool {
     match Label::read(rt.alloc(), text).expect(rt, "memory") {
         Some(label) => {
@@ -111,7 +111,7 @@ fn reads_labels(rt: HostRuntime) {
     }
 }
 
-// Whether the text is a name, which is then kept as it is, and copied so.
+// Whether the text is a valid name, which is then stored and copied unchanged.
 fn reads_name(rt: &(impl Abort + AllocGlobal), text: &[u8]) -> bool {
     match Name::read(rt.alloc(), text).expect(rt, "memory") {
         Some(name) => {
@@ -146,7 +146,7 @@ fn reads_names(rt: HostRuntime) {
     }
 }
 
-// A name that is written out is always read: no caller needs an answer for `None`.
+// `localhost` is always a valid host: no caller needs an answer for `None`.
 fn localhost(alloc: Global) -> Result<Host, AllocError> {
     match Host::read(alloc, b"localhost")? {
         Some(host) => Ok(host),
@@ -162,7 +162,7 @@ fn reads_a_written_name(rt: HostRuntime) {
     );
 }
 
-// Whether the text is read as the host that is kept so, or isn't read.
+// Whether the text is read as this host, or is refused if there is none.
 fn reads_host(rt: &(impl Abort + AllocGlobal), text: &[u8], want: Option<&[u8]>) -> bool {
     match Host::read(rt.alloc(), text).expect(rt, "memory") {
         Some(host) => want == Some(host.as_str().as_bytes()),

@@ -1,4 +1,4 @@
-//! Keys, addresses, pools and networks, of the words of a table.
+//! Keys, addresses, pools and networks, from the words of a table.
 use std::alloc::AllocGlobal;
 use std::process::Abort;
 use wgr_core::{Capacity, Host, Label, LeaseEnd, Network, Parts, Peer, Pool, Port};
@@ -106,7 +106,7 @@ pub(crate) fn add_route(
     parts.routes.push((route, number)).expect(rt, "memory");
 }
 
-/// Puts in the next peer, whose key is of its number and whose lease ends at this second.
+/// Adds the next peer, whose key is of its number and whose lease ends at this second.
 pub(crate) fn join(
     rt: &(impl Abort + AllocGlobal),
     parts: &mut Parts,
@@ -130,7 +130,7 @@ pub(crate) fn network(rt: &(impl Abort + AllocGlobal), parts: Parts) -> Network 
 }
 
 /// The parts of a network that has three peers and as many routes as it may: the last of them leads
-/// to the peer 3, which is over at 100, and the others to the peer 1.
+/// to the peer 3, which is expired at 100, and the others to the peer 1.
 pub(crate) fn full_of_routes(rt: &(impl Abort + AllocGlobal)) -> Parts {
     let mut parts = empty(rt, "10.8.0.0/24");
     parts.capacity = capacity(rt, 8);
@@ -149,7 +149,7 @@ pub(crate) fn full_of_routes(rt: &(impl Abort + AllocGlobal)) -> Parts {
     parts
 }
 
-/// The IPv4 address that stands so many places after the first.
+/// The IPv4 address that is this many places after the first.
 pub(crate) fn address_after(rt: &(impl Abort + AllocGlobal), first: u32, count: u32) -> Addr {
     Addr::new(Family::V4, u128::from(first) + u128::from(count)).expect(rt, "an address")
 }
@@ -168,7 +168,7 @@ fn peer_at(rt: &(impl Abort + AllocGlobal), place: u16) -> Peer {
     peer
 }
 
-/// The parts of a network of so many peers, each of whose addresses has 14 characters:
+/// The parts of a network of this many peers, each of whose addresses has 14 characters:
 /// 10.100.100.100 and so on.
 pub(crate) fn crowd(rt: &(impl Abort + AllocGlobal), peers: u16) -> Parts {
     let mut parts = empty(rt, "10.100.0.0/16");

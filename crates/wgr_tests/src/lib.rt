@@ -1,7 +1,7 @@
 //! Tests over the public calls of the libraries: that calls succeed, and what no contract says. The
 //! expected values are written by hand.
 //!
-//! A test is a table of lines that one function runs. What is no address, no number and so on in a
+//! A test is a table of lines that one function runs. A malformed address, number and so on in a
 //! table ends the test.
 #![tactic(auto)]
 

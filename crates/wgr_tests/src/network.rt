@@ -233,7 +233,7 @@ pub(crate) fn answer(
 /// A line of a script: the moment, the command, and what it answers.
 pub(crate) type Step<'a> = (u64, &'a str, &'a str);
 
-/// What a line is answered.
+/// The answer to a line.
 pub(crate) fn said(
     rt: &(impl Abort + AllocGlobal),
     network: &mut Network,

@@ -75,7 +75,7 @@ fn keeps_slots(rt: HostRuntime) {
     assert_eq!(rt; slots.len(), 1);
     assert_eq!(rt; route(&rt, &slots, "10.8.0.4/30"), Some(2));
     assert_eq!(rt; route(&rt, &slots, "10.8.0.0/30"), None);
-    // A vacant slot holds no address, and its route does.
+    // A vacant slot holds no address; once it is a route, it does.
     assert!(rt; lowest(&rt, &slots) == Some(address(&rt, "10.8.0.2")));
     put(&rt, &mut slots, "10.8.0.0/30", 3);
     assert!(rt; lowest(&rt, &slots).is_none());
@@ -92,7 +92,7 @@ fn check_routes(rt: &(impl Abort + AllocGlobal), routes: &[(Prefix, u32)], want:
 #[test]
 fn fills_slots(rt: HostRuntime) {
     let mut slots = slots(&rt);
-    // A prefix without a slot, a route led elsewhere, and a number that meant a vacant slot.
+    // A prefix without a slot, a route that changes its peer, and a number that meant a vacant slot.
     for (text, number) in [
         ("10.8.0.0/30", 3),
         ("10.7.0.0/16", 4),
@@ -111,7 +111,7 @@ fn fills_slots(rt: HostRuntime) {
     check_routes(&rt, &slots.into_routes(), &want);
 }
 
-// A peer with this number, the end of whose lease tells it from others of its number.
+// A peer with this number, which the end of its lease distinguishes from others of its number.
 fn numbered(rt: &(impl Abort + AllocGlobal), number: u32, until: u64) -> Peer {
     let mut peer = peer(rt, number, 7, "10.8.0.2");
     peer.until = end(rt, until);

@@ -1,4 +1,4 @@
-//! Addresses as runs, and the lowest that is free.
+//! Runs of addresses, and the lowest free address.
 use crate::fixtures::{address, pool};
 use std::alloc::AllocGlobal;
 use std::process::Abort;
@@ -36,12 +36,12 @@ fn refuses_pools(rt: HostRuntime) {
     }
 }
 
-// The lowest address that is free where these are held.
+// The lowest free address if these are held.
 fn lowest(rt: &(impl Abort + AllocGlobal), pool: &Pool, set: &AddressSet) -> Option<Addr> {
     lowest_free(pool, &mut SortedSpans::new(set.spans())).expect(rt, "an answer")
 }
 
-// Whether this address is the lowest, or none is.
+// Whether the address that was found is this one, or none was found for `none`.
 fn is_lowest(rt: &(impl Abort + AllocGlobal), found: Option<Addr>, text: &str) -> bool {
     match found {
         Some(found) => found == address(rt, text),

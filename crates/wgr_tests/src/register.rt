@@ -1,11 +1,11 @@
-//! The register of many tenants: what events come to, one after the other. Events are lines of words,
+//! The register of many tenants: the results of events, one after the other. Events are lines of words,
 //! so that a test is a table:
 //!
 //! - `tenant NAME`, `grant TENANT TOKEN`, `end-token TOKEN`, `network TENANT NAME POOL HOST PORT
 //!   CAPACITY`, where the capacity may be left out, and `end-network TENANT NAME`;
 //! - `networks TOKEN`;
 //! - `list TOKEN NETWORK` and each other command as `network.rt` writes it, with `TOKEN NETWORK`
-//!   behind its first word;
+//!   after its first word;
 //!
 //! where `TOKEN` is the byte that a digest repeats. Answers are written as `shown.rt` says, and
 //! networks are answered by their names.
@@ -48,7 +48,7 @@ fn digest(rt: &(impl Abort + AllocGlobal), text: &str) -> [u8; 32] {
     [byte(rt, text); 32]
 }
 
-// How many peers a network may have, 4,096 where no word says it.
+// How many peers a network may have, 4,096 if no word gives it.
 fn room(rt: &(impl Abort + AllocGlobal), text: &str) -> u16 {
     if text.is_empty() {
         return 4096;
@@ -102,7 +102,7 @@ fn first_word(text: &str) -> (&str, &str) {
     text.split_once(' ').unwrap_or((text, ""))
 }
 
-// A command to a network, behind whose first word stand the token and the network.
+// A command to a network, whose first word is followed by the token and the network.
 fn ask(rt: &(impl Abort + AllocGlobal), now: u64, kind: &str, rest: &str) -> Event {
     let (token, rest) = first_word(rest);
     let (network, rest) = first_word(rest);
@@ -165,14 +165,14 @@ fn shown(rt: &(impl Abort + AllocGlobal), answer: &Answer) -> Vec<u8> {
     text.into_text()
 }
 
-// What the event of a line is answered.
+// The answer to the event of a line.
 fn said(rt: &(impl Abort + AllocGlobal), register: &mut Register, now: u64, line: &str) -> Vec<u8> {
     let event = event(rt, now, line);
     let answer = register.answer(rt.alloc(), &event).expect(rt, "memory");
     shown(rt, &answer)
 }
 
-// Takes the events of the lines, each at its moment.
+// Applies the events of the lines, each at its moment.
 fn check(rt: &(impl Abort + AllocGlobal), register: &mut Register, script: &[Step<'_>]) {
     for (now, line, want) in script {
         let said = said(rt, register, *now, line);

@@ -4,7 +4,7 @@
 //!   where an interface showed it; peers are separated by `; `;
 //! - an adoption as `[NUMBER ..] known COUNT`;
 //! - files that may be made as `server FORM` or `NUMBER FORM`;
-//! - a refusal by its text, behind `line LINE: ` where a line of an adoption is refused.
+//! - a refusal by its text, after `line LINE: ` if a line of an adoption is refused.
 use std::alloc::AllocGlobal;
 use std::process::Abort;
 use wgr_core::{Form, Peer, PeerView, Refusal, Reply, Status};
@@ -42,7 +42,7 @@ impl<'a, R: Abort + AllocGlobal> Shown<'a, R> {
         self.put(&text);
     }
 
-    // Puts the mark, unless nothing stands before it.
+    // Puts the mark, unless the text is empty.
     pub(crate) fn separate(&mut self, mark: &str) {
         if !self.text.is_empty() {
             self.put(mark);

@@ -1,5 +1,5 @@
-//! Calls at size. Contracts let each call that takes memory be refused, so a body that answers that
-//! from some size on is seen here alone.
+//! Calls with large inputs. Contracts allow each call that allocates to fail for lack of memory, so only
+//! these tests show a body that does so from some size on.
 use crate::fixtures::{add_route, address_after, crowd, empty, join, network};
 use crate::network::{answer, said};
 use std::alloc::AllocGlobal;

@@ -1,4 +1,4 @@
-//! The register's tables in a database: made, told from others, and found again.
+//! The register's tables in a database: created, distinguished from others, and found again.
 use crate::disks::{in_files, in_memory, in_new_files};
 use sqlite::{Alter, Connection, MemStore};
 use std::alloc::AllocGlobal;
@@ -37,7 +37,7 @@ fn a_register_is_made_once(rt: HostRuntime) {
     assert!(rt; checked(&rt, &mut conn) == Ok(()));
 }
 
-// What `make` answers where these statements were run before.
+// What `make` returns after these statements.
 fn made_after(rt: &(impl Abort + AllocGlobal), statements: &str) -> Result<(), RegisterFault> {
     made(rt, &mut database(rt, statements))
 }
@@ -62,7 +62,7 @@ fn only_an_empty_database_serves(rt: HostRuntime) {
     assert!(rt; made_after(&rt, "CREATE TABLE note (id INTEGER); DROP TABLE note") == Ok(()));
 }
 
-// Whether a register is still one once the statements are run.
+// Whether a register is still valid after the statements.
 fn is_register(rt: &(impl Abort + AllocGlobal), statements: &str) -> bool {
     let mut conn = database(rt, "");
     made(rt, &mut conn).expect(rt, "a register");
@@ -113,7 +113,7 @@ fn a_register_is_found_again(rt: HostRuntime) {
     assert!(rt; checked(&rt, &mut again) == Ok(()));
 }
 
-// How many tenants are read of the rows that the statements leave, or none where these aren't good.
+// How many tenants are read from the rows that the statements leave, or none if these are invalid.
 fn tenants(rt: &(impl Abort + AllocGlobal), statements: &str) -> Option<usize> {
     let mut conn = database(rt, "");
     made(rt, &mut conn).expect(rt, "a register");
@@ -141,8 +141,8 @@ fn rows_of_tenants_are_tested(rt: HostRuntime) {
     }
 }
 
-// How many networks of the tenant 7 are read of two good rows that the statements change, or none
-// where they aren't good any more.
+// How many networks of the tenant 7 are read from two valid rows that the statements change, or none
+// if they are no longer valid.
 fn networks(rt: &(impl Abort + AllocGlobal), statements: &str) -> Option<usize> {
     let mut conn = database(rt, "");
     made(rt, &mut conn).expect(rt, "a register");

@@ -1,4 +1,4 @@
-//! A network in the tables of a database: the rows after each change, and what is loaded of rows. Rows
+//! A network in the tables of a database: the rows after each change, and what is loaded from rows. Rows
 //! are shown as `rows.rt` says.
 mod statements;
 
@@ -63,21 +63,21 @@ const LINES: [Line<'_>; 11] = [
         "3145729 32*1  0 0 - - -; 3145730 32*2  200 0 - - -",
         "4 16:10.8.0.4 32 16:10.8.0.4 3145729 address; 4 16:10.8.0.5 32 16:10.8.0.5 3145730 address; 6 16:253.0.0.9.0.0.0.0.0.0.0.0.0.0.0.0 64 16:253.0.0.9.0.0.0.0.255.255.255.255.255.255.255.255 3145729 route",
     ),
-    // who is known gets the status alone
+    // a known peer gets the status alone
     (
         0,
         "adopt 9|2 7 25|3 8 25 10.8.0.2/32 10.0.0.0/8",
         "3145729 32*1  0 0 - - -; 3145730 32*2  200 0 7 0 0; 3145731 32*3  0 25 8 0 0",
         "4 16:10.0.0.0 8 16:10.255.255.255 3145731 route; 4 16:10.8.0.2 32 16:10.8.0.2 3145731 address; 4 16:10.8.0.4 32 16:10.8.0.4 3145729 address; 4 16:10.8.0.5 32 16:10.8.0.5 3145730 address; 6 16:253.0.0.9.0.0.0.0.0.0.0.0.0.0.0.0 64 16:253.0.0.9.0.0.0.0.255.255.255.255.255.255.255.255 3145729 route",
     ),
-    // its routes go with a peer
+    // a peer's routes are removed with it
     (
         0,
         "revoke 1",
         "3145730 32*2  200 0 7 0 0; 3145731 32*3  0 25 8 0 0",
         "4 16:10.0.0.0 8 16:10.255.255.255 3145731 route; 4 16:10.8.0.2 32 16:10.8.0.2 3145731 address; 4 16:10.8.0.5 32 16:10.8.0.5 3145730 address",
     ),
-    // who is over goes with the next change
+    // an expired peer is removed with the next change
     (
         200,
         "add 4",
@@ -268,7 +268,7 @@ fn foreign_rows_are_faults(rt: HostRuntime) {
     }
 }
 
-// What the change of a command is answered.
+// The answer to the change of a command.
 fn written(
     rt: &(impl Abort + AllocGlobal),
     conn: &mut Connection<MemStore>,

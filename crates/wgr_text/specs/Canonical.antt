@@ -7,8 +7,8 @@ use Rattle.std.specs.Net.Grammar.{IsGroup}
 abbrev pub IsLowerHex : ℕ → Type 0
 IsLowerHex c = IsInRange 48 57 c ⊎ IsInRange 97 102 c
 
--- one to four hex digits that write the group, in lower case (section 4.3), of which the first is
--- `0` only where it stands alone (section 4.1)
+-- one to four hex digits of the group, in lower case (section 4.3), the first of which is
+-- `0` only if it is the only one (section 4.1)
 pub record IsShortGroup (text : List ℕ) (group : ℕ) : Type 0 where
   pub writes : IsGroup text group
   pub lower : All IsLowerHex text
@@ -25,7 +25,7 @@ AreShortGroups text (g ∷ h ∷ groups) =
 abbrev pub AreZeros : List ℕ → ℕ → ℕ → Type 0
 AreZeros groups start len = (start + len ≤ length groups) × (take len (drop start groups) ≡ replicate len 0)
 
--- the run that `::` stands for: two groups or more (section 4.2.2), as many as there are in any
+-- the run that `::` replaces: two groups or more (section 4.2.2), as many as there are in any
 -- run (section 4.2.1), and of equal runs the first (section 4.2.3)
 pub record IsElidedRun (groups : List ℕ) (start len : ℕ) : Type 0 where
   pub zeros : AreZeros groups start len
@@ -33,7 +33,7 @@ pub record IsElidedRun (groups : List ℕ) (start len : ℕ) : Type 0 where
   pub longest : (s l : ℕ) → AreZeros groups s l → l ≤ len
   pub first : (s : ℕ) → AreZeros groups s len → start ≤ s
 
--- the groups beside that run, and `::` in its place
+-- the groups before and after that run, and `::` in its place
 pub record IsShortened (text groups : List ℕ) : Type 0 where
   pub head_text : List ℕ
   pub tail_text : List ℕ
@@ -44,7 +44,7 @@ pub record IsShortened (text groups : List ℕ) : Type 0 where
   pub tail : AreShortGroups tail_text (drop (start + len) groups)
   pub spelled : text ≡ head_text ++ codes "::" ++ tail_text
 
--- all groups, where no two zero groups stand together
+-- all groups, where no two zero groups are adjacent
 pub record IsWhole (text groups : List ℕ) : Type 0 where
   pub none : (s l : ℕ) → AreZeros groups s l → l < 2
   pub all : AreShortGroups text groups

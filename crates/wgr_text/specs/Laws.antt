@@ -7,23 +7,23 @@ use Rattle.wgr_text.specs.KeyText.{key_text}
 use Rattle.wgr_text.specs.Prefix.{AddrValue, PrefixValue, IsAddr, IsPrefix}
 use Rattle.wgr_text.specs.PrefixText.{SpellsAddr, Spells, canonical_addr, canonical_number, canonical_text, groups_of_number}
 
--- a text spells one address at most
+-- a text spells at most one address
 abbrev pub SpellsOneAddr : Type 0
 SpellsOneAddr = (text : List ℕ) (a b : AddrValue) → SpellsAddr text a → SpellsAddr text b → a ≡ b
 
--- a text spells one address and length at most
+-- a text spells at most one address and length
 abbrev pub SpellsOnePair : Type 0
 SpellsOnePair = (text : List ℕ) (a b : AddrValue) (k j : ℕ) → Spells text a k → Spells text b j → (a ≡ b) × (k ≡ j)
 
--- what is written of an address spells it
+-- the written text of an address spells it
 abbrev pub WrittenAddrSpells : Type 0
 WrittenAddrSpells = (a : AddrValue) → IsAddr a → SpellsAddr (canonical_addr a) a
 
--- what is written of a prefix spells it
+-- the written text of a prefix spells it
 abbrev pub WrittenPrefixSpells : Type 0
 WrittenPrefixSpells = (p : PrefixValue) → IsAddr p.address → IsPrefix p → Spells (canonical_text p) p.address p.length
 
--- what is written of an IPv6 address is the text that RFC 5952, section 4, recommends, and no other is
+-- the written text of an IPv6 address is the one that RFC 5952, section 4, recommends, and no other is
 abbrev pub WrittenIsRecommended : Type 0
 WrittenIsRecommended = (n : ℕ) → n < 2 ^ 128 → (text : List ℕ) → (text ≡ canonical_number V6 n) ↔ IsRecommended text (groups_of_number n)
 

@@ -50,15 +50,15 @@ Spells text a k = (SpellsAddr text a × (k ≡ width a.family)) ⊎ SpellsWithLe
 abbrev pub HasNoSlash : List ℕ → Type 0
 HasNoSlash text = All (λ c. c ≢ 47) text
 
--- the one text that is written of an address (IPv6: RFC 5952, section 4)
+-- the one text written for an address (IPv6: RFC 5952, section 4)
 abbrev pub canonical_number : Family → ℕ → List ℕ
 canonical_number V4 n = ipv4_text (octets_of_number n)
 canonical_number V6 n = hex_groups_text (groups_of_number n)
 
--- the same, of a family and a number in one
+-- the same, for a family and a number together
 abbrev pub canonical_addr : AddrValue → List ℕ
 canonical_addr a = canonical_number a.family a.number
 
--- the one text that is written of a prefix
+-- the one text written for a prefix
 abbrev pub canonical_text : PrefixValue → List ℕ
 canonical_text p = canonical_addr p.address ++ codes "/" ++ decimal p.length

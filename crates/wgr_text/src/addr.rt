@@ -58,7 +58,7 @@ impl Addr {
 
     /// The address that the whole text spells, without a length: IPv4 as four octets with dots,
     /// IPv6 in any form of RFC 4291 section 2.2. Blanks, zone names and leading zeros of an octet
-    /// are not read.
+    /// are not accepted.
     pub fn read(text: &[u8]) -> Option<Addr>
         ensures spelled { IfSome result (λ a. SpellsAddr text.now a) }
         ensures none { IfNone result ((a : AddrValue) → ¬ (SpellsAddr text.now a)) }
@@ -93,7 +93,7 @@ impl Addr {
     }
 
     /// Does nothing. The number of every address fits its family.
-    pub fn tell_rules(&self)
+    pub fn rules_hold(&self)
         ensures { IsAddr self.now }
     {
         let _number = self.number;

@@ -11,7 +11,7 @@ use std::alloc::AllocError;
 pub struct Key(pub [u8; 32]);
 
 impl Key {
-    /// The key whose base64 text this is (RFC 4648 section 4, with padding). Of any other text it
+    /// The key whose base64 text this is (RFC 4648 section 4, with padding). For any other text it
     /// is `None`: a key has one text, of 44 bytes, whose unused bits are zero.
     pub fn read(text: &[u8]) -> Option<Key>
         ensures spelled { IfSome result (λ key. text.now ≡ key_text key.0) }
@@ -33,7 +33,7 @@ impl Key {
     }
 }
 
-/// Appends the base64 text of a key (RFC 4648 section 4, with padding). Where memory is wanting,
+/// Appends the base64 text of a key (RFC 4648 section 4, with padding). If memory runs out,
 /// `out` keeps its items.
 pub fn write_key(key: &Key, out: &mut Vec<u8>) -> Result<(), AllocError>
     ensures ok { OnOk result (out.new.items ≡ out.old.items ++ key_text key.now.0) }

@@ -1,8 +1,8 @@
 //! Addresses, prefixes and keys of WireGuard networks, and their texts.
 //!
 //! IPv4 (RFC 4632) and IPv6 (RFC 4291) are two families of one [`Addr`]; a [`Prefix`] is the set
-//! of the addresses that agree in its first bits. Each reader answers `Some` exactly on the texts
-//! that spell a value, and takes no memory.
+//! of the addresses that agree in its first bits. Each reader returns `Some` exactly for the texts
+//! that spell a value, and allocates no memory.
 #![tactic(auto)]
 
 mod addr;

@@ -3,8 +3,8 @@ ghost use Rattle.std.specs.Prelude.{◌≡◌, ◌==◌, ◌<◌, ◌∷◌, [],
 ghost use Rattle.std.specs.Iterator.{YieldsFirstRef, item_count};
 ghost use Rattle.wgr_text.specs.Lines.{lines_of, lines_or_one};
 
-/// The lines of a text that are still to come. What stands after the last newline is a line, unless
-/// it is empty. It takes no memory.
+/// The remaining lines of a text. What follows the last newline is a line, unless
+/// it is empty. It allocates no memory.
 #[derive(Drop)]
 pub struct TextLines<'a> {
     pub rest: &'a [u8],
@@ -36,7 +36,7 @@ impl<'a> Iterator for TextLines<'a> {
     }
 }
 
-/// The first line of a text and what stands after its newline. The empty text has one empty line.
+/// The first line of a text and what follows its newline. The empty text has one empty line.
 pub fn first_line(text: &[u8]) -> (&[u8], &[u8])
     ensures line { lines_or_one text.now ≡ result.0.now ∷ lines_of result.1.now }
     ensures shorter { (length result.1.now < length text.now) ⊎ (result.1.now ≡ []) }

@@ -49,7 +49,7 @@ impl Prefix {
     pub fn full(address: Addr) -> Prefix
         ensures { result ≡ record { address = address; length = width address.family } }
     {
-        address.tell_rules();
+        address.rules_hold();
         Prefix {
             address,
             length: address.family().width(),
@@ -73,7 +73,7 @@ impl Prefix {
     }
 
     /// Does nothing. Every prefix is masked and no longer than its family has bits, and its address fits.
-    pub fn tell_rules(&self)
+    pub fn rules_hold(&self)
         ensures prefix { IsPrefix self.now }
         ensures address { IsAddr self.now.address }
     {

@@ -42,7 +42,7 @@ fn read_length(digits: &[u8]) -> Option<u8>
     ensures written { IfSome result (λ k. digits.now ≡ decimal k) }
     ensures none { IfNone result ((k : ℕ) → k < 256 → digits.now ≢ decimal k) }
 {
-    // `parse` reads a sign and leading zeros too.
+    // `parse` accepts a sign and leading zeros too.
     if digits.len() > 1 && digits[0] <= b'0' {
         return None;
     }
@@ -53,7 +53,7 @@ fn read_length(digits: &[u8]) -> Option<u8>
 }
 
 /// Appends the text of an address, without a length. IPv6 is written as RFC 5952 section 4 says,
-/// and never with a dotted tail. Where memory is wanting, `out` keeps its items.
+/// and never with a dotted tail. If memory runs out, `out` keeps its items.
 pub fn write_addr(address: &Addr, out: &mut Vec<u8>) -> Result<(), AllocError>
     ensures ok { OnOk result (out.new.items ≡ out.old.items ++ canonical_addr address.now) }
     ensures err { OnErr result (out.new.items ≡ out.old.items) }
@@ -69,7 +69,7 @@ pub fn write_addr(address: &Addr, out: &mut Vec<u8>) -> Result<(), AllocError>
 }
 
 /// Appends the text of a prefix: its first address as [`write_addr`] writes it, `/`, and the
-/// length. Where memory is wanting, `out` keeps its items.
+/// length. If memory runs out, `out` keeps its items.
 pub fn write_prefix(prefix: &Prefix, out: &mut Vec<u8>) -> Result<(), AllocError>
     ensures ok { OnOk result (out.new.items ≡ out.old.items ++ canonical_text prefix.now) }
     ensures err { OnErr result (out.new.items ≡ out.old.items) }

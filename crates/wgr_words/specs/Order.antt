@@ -18,7 +18,7 @@ use Rattle.wgr_words.specs.Words.{IsOf, SpellsCapacity, SpellsName, SpellsPort, 
 
 -- ---- the order
 
--- the words of `network-add` spell the tenant, the name and what is settled
+-- the words of `network-add` spell the tenant, the name and the settings
 pub record SpellsNetwork (w : NetworkAsked) (tenant name : List ℕ) (settings : Settings) : Type 0 where
   pub tenant_is : SpellsName w.tenant tenant
   pub name_is : SpellsName w.name name
@@ -37,7 +37,7 @@ MakesOrder (NetworkAdd w) token (order.AddNetwork tenant name settings) = Spells
 MakesOrder (NetworkEnd first second) token (order.EndNetwork tenant name) = SpellsName first tenant × SpellsName second name
 MakesOrder asked token other = ⊥
 
--- ---- the first field that is not of its form
+-- ---- the first malformed field
 
 -- the fields and their texts, in the order of the words, and the token after them
 abbrev pub fields_of : OrderAsked → List ℕ → List (WordField × List ℕ)
@@ -48,12 +48,12 @@ fields_of (NetworkAdd w) token =
     (of.Tenant, w.tenant) ∷ (of.Name, w.name) ∷ (of.Pool, w.pool) ∷ (of.Host, w.host) ∷ (of.Port, w.port) ∷ (of.Key, w.key) ∷ (of.Capacity, w.capacity) ∷ []
 fields_of (NetworkEnd tenant name) token = (of.Tenant, tenant) ∷ (of.Name, name) ∷ []
 
--- all fields before this one are of their forms, and this one is not
+-- all fields before this one have their forms, and this one is malformed
 abbrev pub IsFirst : WordField → List (WordField × List ℕ) → Type 0
 IsFirst field [] = ⊥
 IsFirst field ((first, text) ∷ more) = ((field ≡ first) × ¬ (IsOf first text)) ⊎ (IsOf first text × IsFirst field more)
 
--- the first of these fields that is not of its form is told, or memory is wanting
+-- the error is the first of these fields that is malformed, or lack of memory
 abbrev pub IsFaultIn : List (WordField × List ℕ) → WordFault → Type 0
 IsFaultIn fields (fault.Field field) = IsFirst field fields
 IsFaultIn fields fault.NoMemory = Unit {0}
@@ -66,14 +66,14 @@ wants_token (TokenGrant tenant) = true
 wants_token TokenEnd = true
 wants_token other = false
 
--- what the words spell by themselves
+-- what the words spell without the token
 abbrev pub IsDraftOf : OrderAsked → OrderDraft → Type 0
 IsDraftOf asked (draft.Whole order) = (wants_token asked ≡ false) × ((token : List ℕ) → MakesOrder asked token order)
 IsDraftOf (TokenGrant text) (draft.Grant tenant) = SpellsName text tenant
 IsDraftOf TokenEnd draft.EndToken = Unit {0}
 IsDraftOf asked other = ⊥
 
--- a field of the words is not of its form, whatever the token; want of memory says nothing
+-- a field of the words is malformed, whatever the token; on lack of memory nothing is known
 abbrev pub IsDraftFault : OrderAsked → WordFault → Type 0
 IsDraftFault asked (fault.Field field) = (token : List ℕ) → IsFirst field (fields_of asked token)
 IsDraftFault asked fault.NoMemory = Unit {0}
@@ -81,7 +81,7 @@ IsDraftFault asked fault.Device = ⊥
 
 -- ---- with the input
 
--- what a reader has to come, and whether a read has failed
+-- what a reader has left, and whether a read has failed
 pub record Input : Type 0 where
   pub remaining : Option (List ℕ)
   pub failed : Bool
@@ -106,7 +106,7 @@ TakesDigest old new (Err fault.Device) = new.failed ≡ true
 abbrev pub TakesToken : OrderAsked → Input → Input → List ℕ → Type 0
 TakesToken asked old new token = MatchBool (wants_token asked) (IsTaken old new token) (new ≡ old)
 
--- a field of the words is not of its form, and nothing is read; or they are, and the token is not
+-- a field of the words is malformed, and nothing is read; or the token is read, and it or another field is malformed
 abbrev pub TellsField : OrderAsked → Input → Input → WordField → Type 0
 TellsField asked old new field =
     ((new ≡ old) × ((token : List ℕ) → IsFirst field (fields_of asked token)))

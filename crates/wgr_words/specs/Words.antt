@@ -48,15 +48,15 @@ pub record SpellsEndpoint (text : List ℕ) (endpoint : IpAddr × ℕ) : Type 0 
   pub address : SpellsListener host endpoint.0
   pub port : SpellsPort digits endpoint.1
 
--- the text less its last byte where that is a newline
+-- the text without its last byte if that is a newline
 abbrev pub line_of : List ℕ → List ℕ
 line_of text = cond (pointwise nat_eq (drop (length text - 1) text) (codes "\n")) (take (length text - 1) text) text
 
--- the digest of a token that is one line, whose newline may be missing
+-- the digest of a token on one line, whose newline may be missing
 abbrev pub SpellsToken : List ℕ → List ℕ → Type 0
 SpellsToken text digest = digest_of (line_of text) ≡ Some digest
 
--- the text is of the field's form
+-- the text has the field's form
 abbrev pub IsOf : WordField → List ℕ → Type 0
 IsOf of.Tenant text = (name : List ℕ) × SpellsName text name
 IsOf of.Name text = (name : List ℕ) × SpellsName text name
@@ -70,7 +70,7 @@ IsOf of.Count text = (n : ℕ) × SpellsWhole text n
 IsOf of.Now text = (n : ℕ) × SpellsWhole text n
 IsOf of.Token text = (digest : List ℕ) × SpellsToken text digest
 
--- the value that a field's text spells, or the field where it spells none; want of memory says nothing
+-- the value that a field's text spells, or the field if it spells none; on lack of memory nothing is known
 abbrev pub IsRead : {A : Type 0} → (A → Type 0) → WordField → Result A WordFault → Type 0
 IsRead Spelled field (Ok value) = Spelled value
 IsRead {A} Spelled field (Err (fault.Field other)) = (other ≡ field) × ((value : A) → ¬ (Spelled value))

@@ -1,4 +1,4 @@
-//! The fields of the words, each by its form.
+//! The fields of the words, each parsed by its form.
 ghost use Rattle.std.specs.Prelude.{ℕ, ◌<◌, slice_index};
 ghost use Rattle.wgr_dump.specs.Fields.{SpellsKey};
 ghost use Rattle.wgr_peers.specs.Host.{IsHostText};
@@ -52,7 +52,7 @@ impl fmt::Display for WordField {
 /// Why the words and standard input make no order.
 #[derive(Clone, Copy, Debug, PartialEq, Eq)]
 pub enum WordFault {
-    /// The first field that is not of its form.
+    /// The first malformed field.
     Field(WordField),
     /// Memory was refused.
     NoMemory,
@@ -71,7 +71,7 @@ impl From<AllocError> for WordFault {
     }
 }
 
-/// The name of a tenant or of a network, which is this field.
+/// The name of a tenant or of a network in this field.
 pub(crate) fn read_name(alloc: Global, field: WordField, text: &str) -> Result<Name, WordFault>
     ensures { IsRead (SpellsName text.now) field result }
 {
@@ -81,7 +81,7 @@ pub(crate) fn read_name(alloc: Global, field: WordField, text: &str) -> Result<N
     }
 }
 
-/// The address and the length, which an order takes whether or not they make a pool.
+/// The address and the length of a prefix; an order takes them even if they aren't a valid pool.
 pub(crate) fn read_pool(text: &str) -> Result<(Addr, u8), WordFault>
     ensures { IsRead (SpellsPlace text.now) of.Pool result }
 {
@@ -121,7 +121,7 @@ pub(crate) fn read_key(text: &str) -> Result<Key, WordFault>
     }
 }
 
-// What a slice of bytes holds is known to be bytes.
+// The items of a byte slice are known to be bytes.
 fn are_bytes(bytes: &[u8])
     ensures { (i : ℕ) → slice_index bytes.now i < 256 }
 {}
@@ -146,7 +146,7 @@ pub fn read_endpoint_field(text: &str) -> Result<(IpAddr, Port), WordFault>
     }
 }
 
-/// The number of connections, or the moment in seconds, which is this field: 1 to 19 decimal digits, up
+/// The number of connections, or the moment in seconds, in this field: 1 to 19 decimal digits, up
 /// to 9,223,372,036,854,775,807.
 pub fn read_whole_field(field: WordField, text: &str) -> Result<u64, WordFault>
     ensures { IsRead (SpellsWhole text.now) field result }
@@ -157,7 +157,7 @@ pub fn read_whole_field(field: WordField, text: &str) -> Result<u64, WordFault>
     }
 }
 
-/// The digest of the token that is one line, whose newline may be missing.
+/// The digest of a token on one line, whose newline may be missing.
 pub(crate) fn read_token(text: &[u8]) -> Result<[u8; 32], WordFault>
     ensures { IsRead (SpellsToken text.now) of.Token result }
 {

@@ -1,8 +1,8 @@
-//! The words of the command line, typed.
+//! The words of the command line, parsed into types.
 //!
-//! Which words stand where is read by `wgr_command_line`. Here each field is read by its form:
-//! [`order_of`] makes an operator's order of all its fields and the token, and [`read_endpoint_field`]
-//! and [`read_whole_field`] read one. A [`WordFault`] names the first field that is not of its form.
+//! `wgr_command_line` parses the positions of the words. Here each field is parsed by its form:
+//! [`order_of`] makes an operator's order from all its fields and the token, and [`read_endpoint_field`]
+//! and [`read_whole_field`] parse one. A [`WordFault`] names the first field that is malformed.
 #![tactic(auto)]
 
 mod endpoint;

@@ -7,12 +7,12 @@ ghost use Rattle.wgr_words.specs.Words.{SpellsCapacity, SpellsPort, SpellsWhole}
 use wgr_core::{Capacity, Port};
 
 // The number of 1 to 19 decimal digits, if it is at most 9,223,372,036,854,775,807. Leading zeros
-// are read.
+// are accepted.
 fn read_number(text: &str) -> Option<u128>
     ensures spelled { IfSome result (SpellsWhole text.now) }
     ensures none { IfNone result ((n : ℕ) → ¬ (SpellsWhole text.now n)) }
 {
-    // `parse` reads a sign too.
+    // `parse` also accepts a sign.
     if text.is_empty() || text.len() > 19 || !are_digits(text.as_bytes()) {
         return None;
     }
@@ -29,7 +29,7 @@ fn are_digits(text: &[u8]) -> bool
     text.iter().all(|byte| byte.is_ascii_digit())
 }
 
-// The number, if it has 16 bits.
+// The number, if it fits 16 bits.
 fn read_short(text: &str) -> Option<u16>
     ensures spelled { IfSome result (λ n. SpellsWhole text.now n) }
     ensures none { IfNone result ((n : ℕ) → SpellsWhole text.now n → 65535 < n) }

@@ -13,7 +13,7 @@ use wgr_core::Name;
 use wgr_io::{Read, ReadFault, read_to_end};
 use wgr_orders::{Order, Settings};
 
-/// An order whose token, if it has one, is still to come.
+/// An order whose token, if it has one, is not read yet.
 #[derive(Drop)]
 pub(crate) enum OrderDraft {
     Whole(Order),
@@ -23,8 +23,8 @@ pub(crate) enum OrderDraft {
 
 /// The order that the words and, for a token, the input spell.
 ///
-/// The fields are read in the order of the words, and the token after them: nothing is read of the
-/// input where the order has no token, or a field before it is not of its form.
+/// The fields are read in the order of the words, and the token after them: nothing is read from the
+/// input if the order has no token or if a field before it is malformed.
 pub fn order_of<R: Read>(
     alloc: Global,
     words: &OrderWords<'_>,
@@ -57,7 +57,7 @@ fn take_token<R: Read>(alloc: Global, input: &mut R) -> Result<[u8; 32], WordFau
     }
 }
 
-// What the words spell by themselves.
+// What the words spell without the token.
 fn draft_of(alloc: Global, words: &OrderWords<'_>) -> Result<OrderDraft, WordFault>
     ensures ok { IfOk result (IsDraftOf (order_asked words.now)) }
     ensures err { IfErr result (IsDraftFault (order_asked words.now)) }

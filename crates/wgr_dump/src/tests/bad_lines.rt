@@ -1,10 +1,10 @@
-//! Texts that are no dumps, and where they stop to be.
+//! Texts that are no dumps, and where they stop being one.
 use crate::Dump;
 use crate::tests::{joined, put};
 use std::alloc::AllocGlobal;
 use std::process::Abort;
 
-/// Whole texts, with the line and the field that are told.
+/// Whole texts, with the line and the field that are reported.
 const TEXTS: &[(&str, usize, u8)] = &[
     ("", 1, 1),
     ("\n", 1, 1),
@@ -71,7 +71,7 @@ const TEXTS: &[(&str, usize, u8)] = &[
     ),
 ];
 
-/// Lines that are no interface's, and the field that is told.
+/// Lines that are no interface's, and the field that is reported.
 const INTERFACE_LINES: &[(&str, u8)] = &[
     ("(none)", 2),
     ("(none)\tCQkJCQkJCQkJCQkJCQkJCQkJCQkJCQkJCQkJCQkJCQk=", 3),
@@ -90,7 +90,7 @@ const INTERFACE_LINES: &[(&str, u8)] = &[
     ),
 ];
 
-/// Lines that are no peer's, and the field that is told.
+/// Lines that are no peer's, and the field that is reported.
 const PEER_LINES: &[(&str, u8)] = &[
     ("AQEBAQEBAQEBAQEBAQEBAQEBAQEBAQEBAQEBAQEBAQE=", 2),
     ("AQEBAQEBAQEBAQEBAQEBAQEBAQEBAQEBAQEBAQEBAQE=\t(none)", 3),
@@ -310,7 +310,7 @@ fn replaced(rt: &(impl Abort + AllocGlobal), fields: &[&str], number: u8, text: 
     line
 }
 
-/// The line and the field at which the text stops to be a dump, if it does.
+/// The line and the field at which the text stops being a dump, if it does.
 fn fault(text: &[u8]) -> Option<(usize, u8)> {
     let bad = Dump::open(text).err()?;
     Some((bad.line, bad.field))

@@ -1,10 +1,10 @@
-//! What is read of good lines.
+//! What is read from good lines.
 use crate::tests::{GOOD, K1, K2, K3, S, joined};
 use crate::{Dump, InterfaceLine, PeerLine, WrittenCount};
 use std::process::Abort;
 use wgr_text::{Key, Prefix, read_loose};
 
-/// A peer's line, and what is read of it.
+/// A peer's line, and what is read from it.
 struct Row {
     line: &'static str,
     key: &'static str,
@@ -301,8 +301,8 @@ fn the_last_newline_may_be_absent(rt: HostRuntime) {
     }
 }
 
-/// The lengths at which the good dump, cut there, is one: behind a word that may end its line, and
-/// behind a newline. Line 1 may end in `o` or `of`, which are marks as `off` is, and line 3 in the `2`
+/// The lengths at which the good dump, cut there, is one: after a word that may end its line, and
+/// after a newline. Line 1 may end in `o` or `of`, which are marks as `off` is, and line 3 in the `2`
 /// of `25`.
 const LENGTHS: [usize; 11] = [59, 60, 61, 62, 137, 138, 258, 259, 260, 391, 392];
 

@@ -12,7 +12,7 @@ const PEER: &str =
 const PEERS: &str =
     r#"{"peers":[{"address":"10.8.0.2/32","end":0,"keepalive":0,"key":"@","label":"","number":1,"routes":[],"status":null}]}"#;
 
-/// What is listed once the dump is adopted.
+/// The list after the dump is adopted.
 const ADOPTED: &str =
     r#"{"peers":[{"address":"10.8.0.2/32","end":0,"keepalive":25,"key":"&","label":"","number":1,"routes":["192.168.4.0/24"],"status":{"handshake":1700000000,"received":1024,"sent":2048}},{"address":"10.8.0.3/32","end":0,"keepalive":0,"key":"@","label":"","number":2,"routes":[],"status":{"handshake":0,"received":0,"sent":0}},{"address":"10.8.0.4/32","end":0,"keepalive":0,"key":"~","label":"","number":3,"routes":["fd00:9::/64"],"status":{"handshake":0,"received":0,"sent":0}}]}"#;
 
@@ -53,7 +53,7 @@ const FROM_NOTHING: &[Row<'static>] = &[
     ("7 GET abc /networks/office/peers", NOT_FOUND, NOWHERE),
 ];
 
-/// The end of a token is no end of another.
+/// Ending one token doesn't end another.
 const ENDED_TOKEN: &[Row<'static>] = &[
     ("tenant bolt", "", "done"),
     ("grant bolt def", "", "done"),
@@ -64,7 +64,7 @@ const ENDED_TOKEN: &[Row<'static>] = &[
     ("end-token abc", "", "no_such_token"),
 ];
 
-/// A name that nobody has, and one that another tenant has.
+/// An unknown name, and one that another tenant has.
 const NAMES: &[Row<'static>] = &[
     ("7 GET abc /networks/lab/peers", NOT_FOUND, NOWHERE),
     ("tenant bolt", "", "done"),
@@ -75,7 +75,7 @@ const NAMES: &[Row<'static>] = &[
     ("7 GET abc /networks/Office/peers", NOT_FOUND, NOWHERE),
 ];
 
-/// What the bytes refuse, whoever asks; and what a network refuses.
+/// Requests refused for their bytes, whatever the token, and requests that a network refuses.
 const REFUSED: &[Row<'static>] = &[
     (
         "7 POST abc /networks/office/peers {\"key\":\"@\",\"extra\":0}",
@@ -164,7 +164,7 @@ const LEASE: &[Row<'static>] = &[
     ),
 ];
 
-/// Dumps that are none, and one that is adopted twice; then the same without its last newline.
+/// Malformed dumps, and one that is adopted twice; then the same without its last newline.
 const DUMPS: &[Row<'static>] = &[
     (
         "7 POST abc /networks/office/dump",

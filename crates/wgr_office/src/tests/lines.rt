@@ -12,7 +12,7 @@ use wgr_register::{OpenFault, Register};
 use wgr_request::token_digest;
 use wgr_text::{Key, read_loose};
 
-/// A line, the status of the reply, which is empty for an order, and the body or what the order is told.
+/// A line, the status of the reply (empty for an order), and the body or the order's result.
 pub(super) type Row<'t> = (&'t str, &'t str, &'t str);
 
 fn word<'t>(words: &mut Split<'t, char>) -> &'t str {
@@ -107,7 +107,7 @@ pub(super) fn event(rt: &(impl Abort + AllocGlobal), line: &str) -> Event {
     }
 }
 
-/// The whole reply of this status and body; that of an order is what it is told.
+/// The whole reply with this status and body; for an order, its result alone.
 pub(super) fn wanted(rt: &(impl Abort + AllocGlobal), status: &str, body: &str) -> Vec<u8> {
     match status {
         "" => text_of(rt, body.as_bytes()),
@@ -116,7 +116,7 @@ pub(super) fn wanted(rt: &(impl Abort + AllocGlobal), status: &str, body: &str) 
     }
 }
 
-/// The bytes of an answer; those of an order's are `done` or the refusal.
+/// The bytes of an answer; for an order, `done` or the refusal.
 pub(super) fn given(rt: &(impl Abort + AllocGlobal), answer: &Answer) -> Vec<u8> {
     let mut text = Vec::new(rt.alloc());
     match answer {

@@ -29,7 +29,7 @@ fn add(rt: &(impl Abort + AllocGlobal), token: &str, key: &str) -> Event {
     }
 }
 
-/// Each round adds a peer, asks with a token that nobody has, and orders a tenant that is there.
+/// Each round adds a peer, sends a request with an unknown token, and orders a tenant that already exists.
 fn rounds(rt: &(impl Abort + AllocGlobal)) -> Vec<Event> {
     let mut events = Vec::new(rt.alloc());
     for round in 1..255 {
@@ -87,7 +87,7 @@ const BOLT: &[Row<'static>] = &[
     ("network bolt office 10.9.0.0/24 bolt", "", "done"),
 ];
 
-/// What a tenant asks, and what it is told, whoever else is there.
+/// A tenant's requests and their replies, which don't depend on other tenants.
 const OWN: &[Row<'static>] = &[
     (
         "7 POST abc /networks/office/peers {\"key\":\"@\"}",

@@ -66,7 +66,7 @@ const NETWORKS: &[u8] =
 const TOO_LARGE: &[u8] =
     b"HTTP/1.1 413 Content Too Large\r\nContent-Type: application/json\r\nContent-Length: 21\r\nConnection: close\r\n\r\n{\"error\":\"too_large\"}";
 
-/// Connections that are served in turn: what comes, and what is written. What comes behind a message is no part of it.
+/// Connections served in turn: the bytes received and the bytes written. Bytes after a message are not part of it.
 const CONNECTIONS: &[(&[u8], &[u8])] = &[
     (
         b"POST /networks/office/peers HTTP/1.1\r\nAuthorization: Bearer abc\r\nContent-Length: 54\r\n\r\n{\"key\":\"@\"}",
@@ -95,7 +95,7 @@ fn check(
     );
 }
 
-/// A message for the list of networks that is a head of so many bytes.
+/// A message that asks for the list of networks, with a head of this many bytes.
 fn long_head(rt: &(impl Abort + AllocGlobal), length: usize) -> Vec<u8> {
     let mut bytes = text_of(
         rt,

@@ -1,4 +1,4 @@
-//! Connections of single bytes, and such as fail at each of their reads and writes in turn.
+//! Connections that pass one byte per call, and connections that fail at each read and write in turn.
 use super::lines::{end, given, message, office};
 use super::{joined, text_of};
 use crate::{Office, ServeFault};
@@ -8,7 +8,7 @@ use std::io;
 use std::process::Abort;
 use wgr_io::Device;
 
-/// Gives one byte a call; the call of this number fails.
+/// Returns one byte per call; the call with this number fails.
 #[derive(Drop)]
 struct Bytes<'a> {
     left: &'a [u8],
@@ -34,7 +34,7 @@ impl<'a> io::Read for Bytes<'a> {
     }
 }
 
-/// Takes one byte a call; the call of this number fails, or takes none.
+/// Accepts one byte per call; the call with this number fails, or accepts none.
 #[derive(Drop)]
 struct Narrow {
     taken: Vec<u8>,
@@ -93,7 +93,7 @@ fn a_read_that_fails_does_nothing(rt: HostRuntime) {
         assert!(rt; out.inner.is_empty());
         assert_eq!(rt; listed(&rt, &mut office).as_slice(), NO_PEERS);
     }
-    // The message is whole with its last byte, so no further read is made.
+    // The message is complete at its last byte, so no further read is made.
     let mut input = Device::new(Bytes {
         left: &message,
         calls: 0,
@@ -104,7 +104,7 @@ fn a_read_that_fails_does_nothing(rt: HostRuntime) {
     end(office);
 }
 
-// Renews the lease of the first peer over a writer with trouble, and tells how it went and what was taken.
+// Renews the first peer's lease over a failing writer, and returns the result and the bytes that were written.
 fn renewed(
     rt: &(impl Abort + AllocGlobal),
     office: &mut Office<MemStore>,
@@ -137,7 +137,7 @@ fn peer_until(rt: &(impl Abort + AllocGlobal), lease: usize) -> Vec<u8> {
     text_of(rt, peer.as_bytes())
 }
 
-// The reply of a renewal and the list then; the leases have four digits.
+// The reply to a renewal, and the list after it; the leases have four digits.
 fn renewal_and_list(rt: &(impl Abort + AllocGlobal), lease: usize) -> (Vec<u8>, Vec<u8>) {
     let peer = peer_until(rt, lease);
     let reply = joined(

@@ -1,4 +1,4 @@
-//! Peers that go, and one that comes, in one change.
+//! Removing peers, and adding or replacing one, in one change.
 ghost use Rattle.std.specs.Prelude.{◌≡◌, ◌≤◌, ◌<◌, ◌↔◌, true, IsOk, IfOk, OnOk, OnErr, Some};
 ghost use Rattle.std.specs.HashMap.{get, spare};
 ghost use Rattle.std.specs.Vec.{vec_len, vec_capacity};
@@ -18,11 +18,11 @@ use wgr_pool::AddressSet;
 use wgr_text::Key;
 
 impl PeerTable {
-    /// Takes away the peers of these numbers, and puts in the one that comes, in the place of the
-    /// one of its number if there is one; for want of memory the table is as before.
+    /// Removes the peers with these numbers, and puts in the one that comes, in place of the
+    /// one with its number if there is one; if memory runs out, the table is unchanged.
     ///
-    /// No peer is copied, and each is moved once at most. Where none comes, or one that renews a
-    /// peer that stays, no memory is taken.
+    /// No peer is copied, and each is moved at most once. If none comes, or one that renews a
+    /// peer that stays, no memory is allocated.
     pub fn change(&mut self, gone: NumberSet, coming: Option<Peer>) -> Result<(), AllocError>
         requires apart { AreApart self.old }
         requires fits { AreApart (peers_after self.old gone coming) }
@@ -43,10 +43,10 @@ impl PeerTable {
         }
     }
 
-    /// Puts in a peer, in the place of the one of its number if there is one; for want of memory the
-    /// table is as before. A peer that has its number and key already takes no memory.
+    /// Puts in a peer, in place of the one with its number if there is one; if memory runs out, the
+    /// table is unchanged. If a peer has its number and key already, no memory is allocated.
     ///
-    /// No peer is walked over if its number is above all, or the one in its place has its key.
+    /// There is no pass over the peers if its number is above all, or the one in its place has its key.
     pub fn put(&mut self, peer: Peer) -> Result<(), AllocError>
         requires apart { AreApart self.old }
         requires fits { AreApart (put_peer self.old peer) }
@@ -65,7 +65,7 @@ impl PeerTable {
         self.exchange(gone, peer)
     }
 
-    /// Takes away the peers of these numbers, in one walk.
+    /// Removes the peers with these numbers, in one pass.
     pub fn remove_all(&mut self, gone: &NumberSet)
         requires { AreApart self.old }
         ensures { self.new ≡ peers_left self.old gone.now }
@@ -76,7 +76,7 @@ impl PeerTable {
         self.soonest_end = soonest_end(&self.peers);
     }
 
-    // Takes away the peers of these numbers and that of the peer's number, and puts in the peer.
+    // Removes the peers with these numbers and the one with the peer's number, and puts in the peer.
     fn exchange(&mut self, mut gone: NumberSet, peer: Peer) -> Result<(), AllocError>
         requires apart { AreApart self.old }
         requires fits { AreApart (put_peer (peers_left self.old gone) peer) }
@@ -105,7 +105,7 @@ impl PeerTable {
         Ok(())
     }
 
-    // The addresses of the peers but those of these numbers.
+    // The addresses of the peers except those with these numbers.
     fn addresses_left(&self, gone: &NumberSet) -> Result<AddressSet, AllocError>
         requires { AreApart self.now }
         ensures { IfOk result (λ left. (b : AddrValue) → IsAddr b → IsHeld left b ↔ (is_own (peers_left self.now gone.now) b ≡ true)) }
@@ -116,7 +116,7 @@ impl PeerTable {
     }
 }
 
-// Takes the addresses of the peers of these numbers out of the set.
+// Removes the addresses of the peers with these numbers from the set.
 fn forget_addresses(addresses: &mut AddressSet, peers: &[Peer], gone: &[u32])
     requires numbered { AreNumbered peers.now }
     requires apart { AreApart peers.now }
@@ -130,7 +130,7 @@ fn forget_addresses(addresses: &mut AddressSet, peers: &[Peer], gone: &[u32])
     }
 }
 
-// Takes the keys of the peers of these numbers out of the index.
+// Removes the keys of the peers with these numbers from the index.
 fn forget_keys(numbers: &mut HashMap<Key, u32>, peers: &[Peer], gone: &[u32])
     requires numbered { AreNumbered peers.now }
     requires apart { AreApart peers.now }
@@ -145,7 +145,7 @@ fn forget_keys(numbers: &mut HashMap<Key, u32>, peers: &[Peer], gone: &[u32])
     }
 }
 
-// Takes away the peers of these numbers, in one walk.
+// Removes the peers with these numbers, in one pass.
 fn drop_peers(peers: &mut Vec<Peer>, gone: &NumberSet)
     ensures left { peers.new.items ≡ peers_left peers.old.items gone.now }
     ensures fewer { vec_len peers.new ≤ vec_len peers.old }

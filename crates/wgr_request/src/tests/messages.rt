@@ -1,4 +1,4 @@
-//! Whole messages in tables. `@` stands for the key of 32 bytes 0x01 wherever it stands.
+//! Whole messages in tables. `@` is the key of 32 bytes 0x01 wherever it occurs.
 use super::{put, put_number, put_prefix, shown, text_of};
 use crate::{Paths, Request, RequestFault, request_of, token_digest};
 use std::alloc::AllocGlobal;
@@ -186,13 +186,13 @@ const GRANTED: &[(&str, &str, &str)] = &[
     ),
     ("GET /networks/a/owner/FD00::2", "", "abc a owner fd00::2"),
     ("GET /networks/a/server/wg", "", "abc a server wg"),
-    // A name that no network has is none of another form.
+    // A name that no network can have isn't refused for its form.
     (
         "GET /networks/Office%20of%20a.name.that.has.more.than.32.bytes/peers",
         "",
         "abc Office%20of%20a.name.that.has.more.than.32.bytes list",
     ),
-    // Where two checks fail, the first one tells.
+    // Where two checks fail, the first one is reported.
     ("PUT /network", "", "abc no_such_path"),
     ("PUT /networks/a/peers/01", "", "abc no_such_path"),
     ("POST /networks/a/peers/0/lease", "x", "abc no_such_path"),

@@ -5,7 +5,7 @@ use std::alloc::AllocGlobal;
 use std::process::Abort;
 use wgr_core::Parts;
 
-// A network of the peer 1, which is over at 100, and its routes. It has five addresses to give.
+// A network with the peer 1, which is expired at 100, and its routes. It has five addresses to give.
 fn office(rt: &(impl Abort + AllocGlobal), next: u32) -> Parts {
     let mut parts = empty(rt, "10.8.0.0/29");
     parts.capacity = capacity(rt, 5);
@@ -20,7 +20,7 @@ fn office(rt: &(impl Abort + AllocGlobal), next: u32) -> Parts {
 #[test]
 fn an_interface_is_taken_over(rt: HostRuntime) {
     let scripts: [&[(u64, &str, &str)]; 6] = [
-        // the lines that name an address are taken first; the second time nobody is new
+        // the lines that name an address are taken first; the second time no peer is new
         &[
             (
                 100,
@@ -38,7 +38,7 @@ fn an_interface_is_taken_over(rt: HostRuntime) {
                 "2 10.8.0.2/32 192.168.4.0/24 at 8 0 0 25; 3 10.8.0.3/32 at 7 0 0 0; 4 10.8.0.4/32 fd00:9::/64 at 0 0 0 0",
             ),
         ],
-        // who is known gets the status alone
+        // a known peer gets the status alone
         &[
             (99, "adopt -|1 5 30 10.8.0.4/32|2 6 0", "2 known 1"),
             (
@@ -56,7 +56,7 @@ fn an_interface_is_taken_over(rt: HostRuntime) {
                 "1 10.8.0.2/32 10.8.0.6/32; 2 10.8.0.3/32 10.8.0.4/31 192.168.0.0/16 at 0 0 0 0",
             ),
         ],
-        // the first address that the pool gives is the peer's, and others are routes
+        // the first address of the line that the pool can assign is the peer's, and others are routes
         &[
             (
                 100,
@@ -69,12 +69,12 @@ fn an_interface_is_taken_over(rt: HostRuntime) {
                 "2 10.8.0.4/32 10.8.0.5/32 10.8.0.7/32 at 0 0 0 0",
             ),
         ],
-        // of two lines with a key the first that is taken makes the peer, and the last tells its status
+        // of two lines with one key the first that is taken makes the peer, and the last gives its status
         &[
             (100, "adopt 9|2 7 0|2 8 9 10.8.0.5/32", "2 known 1"),
             (0, "list", "2 10.8.0.5/32 at 7 0 0 9"),
         ],
-        // without lines only those that are over go
+        // without lines only expired peers are removed
         &[
             (99, "adopt 9", "known 0"),
             (0, "list", "1 10.8.0.2/32 10.8.0.6/32 192.168.0.0/16"),

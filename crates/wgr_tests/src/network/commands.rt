@@ -95,7 +95,7 @@ fn routes_lead_to_one_peer(rt: HostRuntime) {
             (0, "unroute 192.168.4.0/24", "2 10.8.0.3/32"),
             (0, "route 2 10.0.0.0/8", "2 10.8.0.3/32 10.0.0.0/8"),
             (0, "route 1 0.0.0.0/0", "1 10.8.0.2/32 0.0.0.0/0"),
-            // a route around the pool holds nothing
+            // a route that contains the whole pool and more holds no address
             (0, "add 3", "3 10.8.0.4/32"),
             (0, "owner 10.1.1.1", "2"),
             (0, "owner 1.1.1.1", "1"),
@@ -113,7 +113,7 @@ fn routes_lead_to_one_peer(rt: HostRuntime) {
             (0, "route 1 10.8.0.2/31", "1 10.8.0.6/32 10.8.0.2/31"),
             (0, "add 2", "2 10.8.0.4/32"),
             (0, "add 3 10.8.0.3", "3 10.8.0.3/32"),
-            // a route that is the pool holds the last address that was free
+            // a route that is the whole pool holds the last free address
             (
                 0,
                 "route 1 10.8.0.0/29",
@@ -223,7 +223,7 @@ fn a_peer_takes_the_place_of_one_whose_lease_is_over(rt: HostRuntime) {
     assert_eq!(rt; network.next(), 5);
 }
 
-// The parts of a network with room for one peer, which is there and whose lease ends at 100. It has a
+// The parts of a network with room for one peer, which it has and whose lease ends at 100. It has a
 // route of one address beyond the pool.
 fn taken(rt: &(impl Abort + AllocGlobal), next: u32) -> Parts {
     let mut parts = small(rt, 1);

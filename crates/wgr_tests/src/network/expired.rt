@@ -1,10 +1,10 @@
-//! Commands at a moment when leases are over.
+//! Commands at a moment when leases have expired.
 use super::{Step, check};
 use crate::fixtures::{add_route, capacity, empty, full_of_routes, join, prefix};
 use std::alloc::AllocGlobal;
 use std::process::Abort;
 
-// Runs the lines on a network of three peers, of which the first and the third are over at 100.
+// Runs the lines on a network of three peers, of which the first and the third are expired at 100.
 fn check_over(rt: &(impl Abort + AllocGlobal), script: &[Step<'_>]) {
     let mut parts = empty(rt, "10.8.0.0/29");
     parts.capacity = capacity(rt, 3);
@@ -91,7 +91,7 @@ fn routes_to_an_expired_peer_leave_room(rt: HostRuntime) {
     );
 }
 
-// What has come and what has gone is found by key, by address and by number.
+// Added and removed peers are looked up by key, by address and by number.
 #[test]
 fn one_comes_where_others_go(rt: HostRuntime) {
     let scripts: [&[(u64, &str, &str)]; 4] = [

@@ -1,4 +1,4 @@
-//! What commands leave of a peer's fields.
+//! A peer's fields after commands.
 use super::{answer, said};
 use crate::fixtures::{address, end, key, new_network};
 use std::alloc::AllocGlobal;
@@ -17,7 +17,7 @@ fn status(handshake: u64) -> Option<Status> {
     })
 }
 
-// The one peer has the fields that it was added with, but for its address, its end and its status.
+// The one peer has the fields with which it was added, except for its address, its end and its status.
 fn check_peer(
     rt: &(impl Abort + AllocGlobal),
     network: &Network,
@@ -57,7 +57,7 @@ fn fields_stay(rt: HostRuntime) {
         ("move 1 10.8.0.9", "10.8.0.9", 100, 0),
         ("renew 1 200", "10.8.0.9", 200, 0),
         ("route 1 10.9.0.0/24", "10.8.0.9", 200, 0),
-        // a line of a peer that is known tells its status alone
+        // a line of a known peer gives its status alone
         ("adopt 9|7 5 30 10.8.0.3/32", "10.8.0.9", 200, 5),
         ("move 1", "10.8.0.2", 200, 5),
         ("renew 1 0", "10.8.0.2", 0, 5),

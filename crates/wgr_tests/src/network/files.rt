@@ -1,4 +1,4 @@
-//! The commands that ask for files. The texts are made elsewhere; here it is told whether they may be.
+//! The commands that ask for files. The texts are made elsewhere; these tests show whether they may be.
 use super::check;
 use crate::fixtures::{empty, join};
 

@@ -1,4 +1,4 @@
-//! The parts of which a network is made, and those of which none is.
+//! Parts from which a network is made, and parts that are refused.
 use crate::fixtures::{add_peer, add_route, capacity, empty, network, peer, prefix};
 use std::alloc::AllocGlobal;
 use std::process::Abort;

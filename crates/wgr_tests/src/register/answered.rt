@@ -5,7 +5,7 @@ use sqlite::{Alter, Connection};
 use std::process::Abort;
 use wgr_register::RegisterFault;
 
-// Why no register is made of the connection of another.
+// Why no register is made from the connection of another.
 fn refused<S: Alter + Drop>(rt: &impl Abort, conn: Connection<S>) -> RegisterFault {
     match created(rt, empty(rt, conn).into_connection()) {
         Ok(register) => {
@@ -67,7 +67,7 @@ fn orders_are_answered(rt: HostRuntime) {
 
 #[test]
 fn commands_are_answered(rt: HostRuntime) {
-    // another tenant's network is one that nobody has, and keys stand in one network
+    // another tenant's network is reported as unknown, and keys are held within one network
     check(
         &rt,
         &[

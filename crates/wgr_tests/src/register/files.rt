@@ -1,5 +1,5 @@
-//! Servers' files that stay in memory between requests: each is the network's at the moment at which it
-//! is asked for, and at most 64 are kept.
+//! Servers' files that are cached between requests: each is the network's at the moment at which it
+//! is requested, and at most 64 are kept.
 ghost use Rattle.std.specs.Prelude.{[]};
 
 use super::stored::{Meant, empty, opened, run, take, told};
@@ -15,7 +15,7 @@ use wgr_register::{Given, Render};
 
 type Stored = wgr_register::Register<MemStore>;
 
-// The file of a server on which nobody is.
+// The file of a server without peers.
 const ALONE: &str = "[Interface]\nListenPort = 51820\n";
 
 // The file of the same server with one peer.
@@ -63,7 +63,7 @@ fn changes_reach_kept_files(rt: HostRuntime) {
     let _conn = register.into_connection();
 }
 
-// After each line so many files are kept.
+// After each line this many files are kept.
 const COUNTS: [(&str, usize); 12] = [
     ("server 1 office wg", 1),
     ("server 1 office quick", 2),
@@ -93,7 +93,7 @@ fn files_are_kept_until_a_change(rt: HostRuntime) {
     let _conn = register.into_connection();
 }
 
-// Finds no memory.
+// Fails for lack of memory.
 #[derive(Drop)]
 struct Full;
 

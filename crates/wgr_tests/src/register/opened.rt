@@ -1,4 +1,4 @@
-//! A register that a database holds is opened at its rows, and only where these are good.
+//! A register that a database holds is opened at its rows, and only if these are valid.
 use super::stored::{NETWORKS, empty, opened, run};
 use crate::disks::{copied, in_files, in_memory, in_new_files};
 use crate::network::Step;
@@ -66,7 +66,7 @@ fn a_register_is_opened_where_it_was_left(rt: HostRuntime) {
     check_anew(&rt, in_new_files(&rt));
 }
 
-// The connection, at a register with those networks and peers.
+// The connection to a register with those networks and peers.
 fn filled<S: Alter + Drop>(rt: &(impl Abort + AllocGlobal), conn: Connection<S>) -> Connection<S> {
     let mut register = empty(rt, conn);
     let mut plain = Register::new(rt.alloc());
@@ -80,7 +80,7 @@ fn filled_files(rt: &(impl Abort + AllocGlobal)) -> Files<Memory> {
     filled(rt, in_new_files(rt)).into_store().close()
 }
 
-// Why the database is no register after the statement, if so.
+// Why the database is not a register after the statement, if it isn't.
 fn told<S: Alter + Drop>(
     rt: &(impl Abort + AllocGlobal),
     mut conn: Connection<S>,

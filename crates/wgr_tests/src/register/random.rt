@@ -1,5 +1,5 @@
-//! Random events on the register in a database and on the plain one beside it: at each step the answers
-//! are the same, and so is all that each token opens.
+//! Random events on the register in a database and on a plain one in parallel: at each step the answers
+//! are the same, and so is all to which each token gives access.
 ghost use Rattle.std.specs.Prelude.{◌<◌};
 
 use super::digest;
@@ -16,7 +16,7 @@ use wgr_entries::{network_id, tenant_of_token};
 use wgr_plain::{Answer, Event, Register};
 use wgr_tables::load_network;
 
-// Events, in which a capital stands for one of its choices. What is to come more often stands here
+// Events, in which a capital denotes one of its choices. Events that should be more frequent are listed
 // more often.
 const LINES: [&str; 33] = [
     "tenant T",
@@ -54,7 +54,7 @@ const LINES: [&str; 33] = [
     "add 2 office K - E",
 ];
 
-// Pools, and prefixes that are none.
+// Pools, and prefixes that are not valid pools.
 const POOLS: [&str; 9] = [
     "10.8.0.0/24",
     "10.8.0.0/29",
@@ -87,7 +87,7 @@ const DUMPS: [&str; 5] = [
     "7|1 7 25",
 ];
 
-// What a capital of a line stands for; another word stands for itself.
+// What a capital of a line denotes; another word denotes itself.
 fn choices(word: &str) -> &'static [&'static str] {
     match word {
         "T" => &["acme", "acme", "bolt", "bolt", "cato", "nobody"],
@@ -108,7 +108,7 @@ fn choices(word: &str) -> &'static [&'static str] {
     }
 }
 
-// Random numbers, of a linear congruence.
+// Random numbers, from a linear congruential generator.
 #[derive(Drop)]
 struct Dice {
     state: u64,
@@ -182,7 +182,7 @@ fn check_networks<S: Alter + Drop>(
     }
 }
 
-// What a token opens is the same in the rows as in the plain register. The names of its networks are
+// What a token gives access to is the same in the rows as in the plain register. The names of its networks are
 // put into the text, as the query `NAMES` shows them.
 fn check_view<S: Alter + Drop>(
     rt: &(impl Abort + AllocGlobal),
@@ -221,7 +221,7 @@ fn put_names(
 const NAMES: &str =
     "SELECT digest, name FROM token JOIN network ON network.tenant = token.tenant ORDER BY digest, name";
 
-// All that tokens open is the same in the rows as in the plain register.
+// All that tokens give access to is the same in the rows as in the plain register.
 fn check_views<S: Alter + Drop>(
     rt: &(impl Abort + AllocGlobal),
     conn: &mut Connection<S>,
@@ -256,7 +256,7 @@ fn take_files<S: Alter + Drop>(
     }
 }
 
-// Takes a random event in both registers, and asks for files before and after it; compares all views,
+// Applies a random event to both registers, and asks for files before and after it; compares all views,
 // and opens the register anew.
 fn check_next<S: Alter + Drop>(
     rt: &(impl Abort + AllocGlobal),

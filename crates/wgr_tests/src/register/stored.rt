@@ -1,5 +1,5 @@
-//! The register in a database, and the plain one beside it. Each event is answered alike by both, and
-//! what an accepted request gives is the same.
+//! The register in a database, compared with the plain one. Both answer each event alike, and
+//! an accepted request returns the same.
 use super::{event, put_refused, put_shown, shown};
 use crate::disks::{in_memory, in_new_files};
 use crate::network::Step;
@@ -13,12 +13,12 @@ use wgr_orders::Order;
 use wgr_plain::{Answer, Event};
 use wgr_register::{AskFault, Given, OpenFault, OrderFault, Register, RegisterFault, Render};
 
-/// What an event is answered by the plain register.
+/// The plain register's answer to an event.
 #[derive(Drop)]
 pub(super) struct Meant {
     /// The answer, as `shown.rt` writes it.
     pub(super) shown: Vec<u8>,
-    // What is given, where a request is accepted.
+    // What is returned, if a request is accepted.
     given: Option<Vec<u8>>,
 }
 
@@ -33,7 +33,7 @@ impl Meant {
         }
     }
 
-    /// What the register in a database tells: of an accepted request, that it gave a text.
+    /// What the register in a database reports: for an accepted request, that it returned a text.
     pub(super) fn told(&self) -> &[u8] {
         match &self.given {
             Some(_) => b"done",
@@ -57,7 +57,7 @@ fn put_networks(networks: &[(Name, Network)], text: &mut Shown<'_, impl Abort + 
     }
 }
 
-// What a command's reply gives: a file where it allows one.
+// What a command's reply returns: a file if it allows one.
 fn given_reply(
     rt: &(impl Abort + AllocGlobal),
     reply: &Reply,
@@ -96,7 +96,7 @@ fn moment(event: &Event) -> u64 {
     }
 }
 
-/// What the event is answered by the plain register.
+/// The plain register's answer to the event.
 pub(super) fn answer_meant(
     rt: &(impl Abort + AllocGlobal),
     plain: &mut wgr_plain::Register,
@@ -109,7 +109,7 @@ pub(super) fn answer_meant(
     }
 }
 
-// Ends the test unless what is given is what the plain register gives.
+// Ends the test unless what is returned is what the plain register returns.
 #[derive(Drop)]
 struct Wanted<'a, R> {
     rt: &'a R,
@@ -194,8 +194,8 @@ fn put_list<S: Alter, R: Render>(
     put_asked(rt, &asked, text);
 }
 
-/// What the event is answered by the register in a database: `fault` where memory or the store fails.
-/// What is given ends the test unless it is as meant.
+/// The answer to the event of the register in a database: `fault` if memory or the store fails.
+/// The test ends unless what is returned is as expected.
 pub(super) fn told<S: Alter + Drop>(
     rt: &(impl Abort + AllocGlobal),
     register: &mut Register<S>,
@@ -219,7 +219,7 @@ pub(super) fn told<S: Alter + Drop>(
     text.into_text()
 }
 
-/// Takes the event in both registers, and gives what it is answered.
+/// Applies the event to both registers, and returns its answer.
 pub(super) fn take<S: Alter + Drop>(
     rt: &(impl Abort + AllocGlobal),
     register: &mut Register<S>,
@@ -234,7 +234,7 @@ pub(super) fn take<S: Alter + Drop>(
     meant.shown
 }
 
-/// Takes the events of the lines, each at its moment, in both registers.
+/// Applies the events of the lines, each at its moment, to both registers.
 pub(super) fn run<S: Alter + Drop>(
     rt: &(impl Abort + AllocGlobal),
     register: &mut Register<S>,
@@ -247,7 +247,7 @@ pub(super) fn run<S: Alter + Drop>(
     }
 }
 
-/// Makes a register of the connection, or tells why none was made.
+/// Makes a register of the connection, or reports why none was made.
 pub(super) fn created<S: Alter + Drop>(
     rt: &impl Abort,
     conn: Connection<S>,
@@ -264,7 +264,7 @@ pub(super) fn created<S: Alter + Drop>(
     }
 }
 
-/// Opens the register of the connection, or tells why there is none.
+/// Opens the register of the connection, or reports why there is none.
 pub(super) fn opened<S: Alter + Drop>(
     rt: &(impl Abort + AllocGlobal),
     conn: Connection<S>,
@@ -299,7 +299,7 @@ fn check_on<S: Alter + Drop>(
     let _conn = register.into_connection();
 }
 
-/// Takes the scripts, one after the other, in registers without entries: plain, in memory and in files.
+/// Runs the scripts, one after the other, on registers without entries: plain, in memory and in files.
 pub(super) fn check(rt: &(impl Abort + AllocGlobal), scripts: &[&[Step<'_>]]) {
     check_on(rt, in_memory(rt), scripts);
     check_on(rt, in_new_files(rt), scripts);

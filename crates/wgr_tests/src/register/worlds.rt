@@ -1,4 +1,4 @@
-//! Tenants beside each other, and lists of events.
+//! Several tenants in one register, and lists of events.
 use super::stored::{self, take};
 use super::{check, event, name, put_shown, shown};
 use crate::disks::{in_memory, in_new_files};
@@ -58,7 +58,7 @@ fn another_tenants_network_is_unknown(rt: HostRuntime) {
     );
 }
 
-// What acme asks, and what it is told whoever else is there.
+// Acme's requests and their answers, which don't depend on other tenants.
 const ASKED: [Step<'static>; 6] = [
     (10, "add 1 office 1 - 100", "1 10.8.0.2/32"),
     (20, "add 1 office 2", "2 10.8.0.3/32"),
@@ -120,7 +120,7 @@ fn crowd_office<S: Alter + Drop>(
     }
 }
 
-// What bolt asks beside each request of acme's.
+// What bolt asks after each request of acme's.
 const BESIDE: [Step<'static>; 3] = [
     (1000, "list 2 lab", "no_such_network"),
     (1000, "add 2 office 1", "key_held 1"),
@@ -131,7 +131,7 @@ const BESIDE: [Step<'static>; 3] = [
     ),
 ];
 
-// Acme is told the same beside bolt, who has a network of the same name, with the same keys.
+// Acme gets the same answers if there is bolt, who has a network of the same name, with the same keys.
 fn check_beside<S: Alter + Drop>(rt: &(impl Abort + AllocGlobal), conn: Connection<S>) {
     let mut stored = stored::empty(rt, conn);
     let mut plain = Register::new(rt.alloc());
@@ -152,7 +152,7 @@ fn two_worlds_are_alike(rt: HostRuntime) {
     check_beside(&rt, in_new_files(&rt));
 }
 
-// Office gives the addresses from 10.8.0.2 to 10.8.0.254, and then refuses.
+// Office assigns the addresses from 10.8.0.2 to 10.8.0.254, and then refuses.
 fn given(rt: &(impl Abort + AllocGlobal), last: u8) -> Vec<u8> {
     let mut shown = Shown::new(rt);
     if last == 254 {
@@ -222,7 +222,7 @@ fn put_answer(
     text.put(".");
 }
 
-// What a list of events is answered, each with a dot behind it.
+// The answers to a list of events, each followed by a dot.
 fn told(rt: &(impl Abort + AllocGlobal), register: &mut Register, events: &[Event]) -> Vec<u8> {
     let answers = register.run(rt.alloc(), events).expect(rt, "memory");
     let mut text = Shown::new(rt);

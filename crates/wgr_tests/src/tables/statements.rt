@@ -1,4 +1,4 @@
-//! The statements of the tests on tables: what they stand on, and what is shown of it.
+//! The statements of the tests on tables: those that make the first rows, and the queries that show rows.
 pub(super) const TABLES: &str = "CREATE TABLE meta (version INTEGER PRIMARY KEY) STRICT;
 CREATE TABLE tenant (id INTEGER PRIMARY KEY, name TEXT NOT NULL UNIQUE) STRICT;
 CREATE TABLE token (digest BLOB NOT NULL PRIMARY KEY, tenant INTEGER NOT NULL) STRICT;
@@ -35,7 +35,7 @@ pub(super) const PEERS: &str =
 pub(super) const ALLOWED: &str =
     "SELECT family, lo, length, hi, peer, kind FROM allowed WHERE network = 3 ORDER BY family, lo, length";
 
-// What stands of both networks, and of the network 4 alone.
+// The rows of both networks, and those of the network 4 alone.
 pub(super) const NEXT: &str =
     "SELECT id, tenant, name, port, capacity, next FROM network ORDER BY id";
 

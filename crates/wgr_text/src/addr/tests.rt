@@ -1,4 +1,4 @@
-//! The expected values are those of Python's `ipaddress`, but for the texts that only it reads.
+//! The expected values are those of Python's `ipaddress`, except for the texts that only it accepts.
 use super::*;
 use crate::text::write_addr;
 use std::alloc::AllocGlobal;
@@ -301,7 +301,7 @@ const NO_ADDRESSES: &[&str] = &[
     "1:2:3:4:5:6:7.8.9.10:11",
     "1:2:3:4:5:6:7::8",
     "1:2:3:4:5:6::1.2.3.4",
-    // Python reads a zone name (RFC 4007), which is no part of an address.
+    // Python accepts a zone name (RFC 4007), which is not part of an address.
     "fe80::1%eth0",
     "::%1",
 ];

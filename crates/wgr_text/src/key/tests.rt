@@ -55,7 +55,7 @@ const NO_KEYS: &[&str] = &[
     "AAAAAAAAAAAAAAAAAAAAAAAAAAAAAAAAAAAAAAAAAAA.",
 ];
 
-// The key is written twice, one text behind the other.
+// The key is written twice, one text after the other.
 fn check_written(rt: &(impl Abort + AllocGlobal), key: &Key, text: &str) {
     let mut out = Vec::new(rt.alloc());
     let mut twice = Vec::new(rt.alloc());

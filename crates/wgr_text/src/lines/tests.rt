@@ -1,4 +1,4 @@
-//! A newline ends a line, as in POSIX's definition of a line, and the last one may stand without.
+//! A newline ends a line, as in POSIX's definition of a line, and the last line may lack one.
 use super::*;
 
 const TEXTS: &[(&str, &[&str], &str)] = &[

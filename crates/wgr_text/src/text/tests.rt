@@ -1,4 +1,4 @@
-//! The expected values are those of Python's `ipaddress`, but for the texts that only it reads.
+//! The expected values are those of Python's `ipaddress`, except for the texts that only it accepts.
 use super::*;
 use std::alloc::AllocGlobal;
 use std::process::Abort;
@@ -91,7 +91,7 @@ const NO_PREFIXES: &[&str] = &[
     "10.0.0.0/3.2",
     "::/::",
     "1:2:3:4:5:6:7::8/64",
-    // Python reads leading zeros in a length, masks in place of one, and zone names.
+    // Python accepts leading zeros in a length, masks in place of one, and zone names.
     "10.0.0.0/08",
     "10.0.0.0/00",
     "1.2.3.4/032",

@@ -10,4 +10,4 @@ returns-in-Ask-clause-served g c db late at clean =
 
 pub returns-in-Order-clause-served : goal.returns-in-Order-clause-served
 returns-in-Order-clause-served g c db late at clean =
-    rw c.in-Order.is (order_served g.S.Store c.operate.new.self db late c.in-Order.order c.operate.result c.settled.result (c.operate.ensures.ends db late at) c.settled.ensures c.tell_forms.ensures clean)
+    rw c.in-Order.is (order_served g.S.Store c.operate.new.self db late c.in-Order.order c.operate.result c.settled.result (c.operate.ensures.ends db late at) c.settled.ensures c.forms_hold.ensures clean)

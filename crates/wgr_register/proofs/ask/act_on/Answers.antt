@@ -41,19 +41,19 @@ returns-in_err-text-clause-ends g c db late digest name at found =
 pub returns-in_err-commit_if-clause-ends : goal.returns-in_err-commit_if-clause-ends
 returns-in_err-commit_if-clause-ends g c db late digest name at found =
     late_ends g.S.Store g.R.Render.shown c.commit_if.new.conn db late (Ask digest name c.args.now c.args.command.now) c.args.now c.from_residual-in_err-commit_if.result c.in_err-commit_if.field-0.0 c.from_residual-in_err-commit_if.ensures.1
-    (acts_late g.S.Store g.R.Render.shown c.commit_if.new.conn db at.pending late at.consistent at.steps digest name c.args.now c.args.command.now (c.tell_forms.ensures.asked, c.tell_forms.ensures.forms) c.args.id c.args.network found c.in-Ok.done.0
+    (acts_late g.S.Store g.R.Render.shown c.commit_if.new.conn db at.pending late at.consistent at.steps digest name c.args.now c.args.command.now (c.forms_hold.ensures.asked, c.forms_hold.ensures.forms) c.args.id c.args.network found c.in-Ok.done.0
     c.in-Ok.done.1 c.in-Ok.ensures.outcome (c.in_err-commit_if.ensures.fault db at.pending found.row at.stands at.consistent found.there found.at))
 
 -- ---- it is done
 
 pub returns-clause-ends : goal.returns-clause-ends
 returns-clause-ends g c db late digest name at found clean =
-    acts_done g.S.Store g.R.Render.shown c.commit_if.new.conn db at.pending late at.consistent at.steps digest name c.args.now c.args.command.now (c.tell_forms.ensures.asked, c.tell_forms.ensures.forms) c.args.id c.args.network found c.in-Ok.done.0
+    acts_done g.S.Store g.R.Render.shown c.commit_if.new.conn db at.pending late at.consistent at.steps digest name c.args.now c.args.command.now (c.forms_hold.ensures.asked, c.forms_hold.ensures.forms) c.args.id c.args.network found c.in-Ok.done.0
     c.in-Ok.done.1 c.in_ok-text.text.items c.in-Ok.ensures.change c.in-Ok.ensures.outcome c.in_ok-text.ensures (c.in_ok-commit_if.ensures.done db at.pending found.row at.stands at.consistent found.there found.at clean) clean
 
 pub returns-clause-formed : goal.returns-clause-formed
 returns-clause-formed g c db late digest name at found others clean live =
-    committed_so g.S.Store c.commit_if.new.conn db at.pending at.consistent digest name c.args.now c.args.command.now (c.tell_forms.ensures.asked, c.tell_forms.ensures.forms) c.args.id c.args.network found c.in-Ok.done.0
+    committed_so g.S.Store c.commit_if.new.conn db at.pending at.consistent digest name c.args.now c.args.command.now (c.forms_hold.ensures.asked, c.forms_hold.ensures.forms) c.args.id c.args.network found c.in-Ok.done.0
     (entries_of c.args.loaded.now) (entries_of c.keep_changed.new.loaded) others c.in-Ok.done.1 c.in-Ok.ensures.outcome (c.in_ok-commit_if.ensures.done db at.pending found.row at.stands at.consistent found.there found.at clean) c.keep_changed.ensures clean live
 
 -- ---- a reading meets no fault but want of memory
@@ -96,6 +96,6 @@ returns-in-Err-clause-current g c db late digest name at found current =
 
 pub returns-clause-current : goal.returns-clause-current
 returns-clause-current g c db late digest name at found current clean live =
-    current_so g.S.Store c.commit_if.new.conn db at.pending at.consistent digest name c.args.now c.args.command.now (c.tell_forms.ensures.asked, c.tell_forms.ensures.forms) c.args.id c.args.network found c.in-Ok.done.0
+    current_so g.S.Store c.commit_if.new.conn db at.pending at.consistent digest name c.args.now c.args.command.now (c.forms_hold.ensures.asked, c.forms_hold.ensures.forms) c.args.id c.args.network found c.in-Ok.done.0
     (files_of c.args.files.now) (files_of c.drop_changed.new.files) current c.in-Ok.done.1 c.in-Ok.ensures.outcome (c.in_ok-commit_if.ensures.done db at.pending found.row at.stands at.consistent found.there found.at clean)
     (λ none. ap files_of (c.drop_changed.ensures.none none)) c.drop_changed.ensures.some clean live

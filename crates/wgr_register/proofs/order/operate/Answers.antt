@@ -5,16 +5,16 @@ use Rattle.wgr_register.proofs.StayLemmas.{files_shown, stay_shown}
 use Rattle.wgr_register.proofs.order.operate.Goals as goal
 
 pub returns-in-AddTenant-clause-ends : goal.returns-in-AddTenant-clause-ends
-returns-in-AddTenant-clause-ends g c db late at = rw c.in-AddTenant.is (c.add_tenant.ensures.ends db late at (rw c.in-AddTenant.is at c.tell_forms.ensures))
+returns-in-AddTenant-clause-ends g c db late at = rw c.in-AddTenant.is (c.add_tenant.ensures.ends db late at (rw c.in-AddTenant.is at c.forms_hold.ensures))
 
 pub returns-in-Grant-clause-ends : goal.returns-in-Grant-clause-ends
-returns-in-Grant-clause-ends g c db late at = rw c.in-Grant.is (c.grant.ensures.ends db late at (rw c.in-Grant.is at c.tell_forms.ensures))
+returns-in-Grant-clause-ends g c db late at = rw c.in-Grant.is (c.grant.ensures.ends db late at (rw c.in-Grant.is at c.forms_hold.ensures))
 
 pub returns-in-EndToken-clause-ends : goal.returns-in-EndToken-clause-ends
 returns-in-EndToken-clause-ends g c db late at = rw c.in-EndToken.is (c.end_token.ensures.ends db late at)
 
 pub returns-in-AddNetwork-clause-ends : goal.returns-in-AddNetwork-clause-ends
-returns-in-AddNetwork-clause-ends g c db late at = rw c.in-AddNetwork.is (c.add_network.ensures.ends db late at (rw c.in-AddNetwork.is at c.tell_forms.ensures))
+returns-in-AddNetwork-clause-ends g c db late at = rw c.in-AddNetwork.is (c.add_network.ensures.ends db late at (rw c.in-AddNetwork.is at c.forms_hold.ensures))
 
 pub returns-in-EndNetwork-clause-ends : goal.returns-in-EndNetwork-clause-ends
 returns-in-EndNetwork-clause-ends g c db late at = rw c.in-EndNetwork.is (c.end_network.ensures.ends db late at)
@@ -37,25 +37,25 @@ returns-in-EndNetwork-clause-stops g c db late at = rw c.in-EndNetwork.is (c.end
 -- ---- which networks stay in memory
 
 pub returns-in-AddTenant-clause-formed : goal.returns-in-AddTenant-clause-formed
-returns-in-AddTenant-clause-formed g c db late at = stay_shown g.S.Store c.add_tenant.new.conn db late at.consistent (AddTenant c.in-AddTenant.name) (rw c.in-AddTenant.is at c.tell_forms.ensures) tt c.add_tenant.result (c.add_tenant.ensures.ends db late at (rw c.in-AddTenant.is at c.tell_forms.ensures)) (entries_of c.args.loaded.now)
+returns-in-AddTenant-clause-formed g c db late at = stay_shown g.S.Store c.add_tenant.new.conn db late at.consistent (AddTenant c.in-AddTenant.name) (rw c.in-AddTenant.is at c.forms_hold.ensures) tt c.add_tenant.result (c.add_tenant.ensures.ends db late at (rw c.in-AddTenant.is at c.forms_hold.ensures)) (entries_of c.args.loaded.now)
 
 pub returns-in-Grant-clause-formed : goal.returns-in-Grant-clause-formed
-returns-in-Grant-clause-formed g c db late at = stay_shown g.S.Store c.grant.new.conn db late at.consistent (Grant c.in-Grant.tenant c.in-Grant.digest) (rw c.in-Grant.is at c.tell_forms.ensures) tt c.grant.result (c.grant.ensures.ends db late at (rw c.in-Grant.is at c.tell_forms.ensures)) (entries_of c.args.loaded.now)
+returns-in-Grant-clause-formed g c db late at = stay_shown g.S.Store c.grant.new.conn db late at.consistent (Grant c.in-Grant.tenant c.in-Grant.digest) (rw c.in-Grant.is at c.forms_hold.ensures) tt c.grant.result (c.grant.ensures.ends db late at (rw c.in-Grant.is at c.forms_hold.ensures)) (entries_of c.args.loaded.now)
 
 pub returns-in-EndToken-clause-formed : goal.returns-in-EndToken-clause-formed
-returns-in-EndToken-clause-formed g c db late at = stay_shown g.S.Store c.end_token.new.conn db late at.consistent (EndToken c.in-EndToken.digest) (rw c.in-EndToken.is at c.tell_forms.ensures) tt c.end_token.result (c.end_token.ensures.ends db late at) (entries_of c.args.loaded.now)
+returns-in-EndToken-clause-formed g c db late at = stay_shown g.S.Store c.end_token.new.conn db late at.consistent (EndToken c.in-EndToken.digest) (rw c.in-EndToken.is at c.forms_hold.ensures) tt c.end_token.result (c.end_token.ensures.ends db late at) (entries_of c.args.loaded.now)
 
 pub returns-in-AddNetwork-clause-formed : goal.returns-in-AddNetwork-clause-formed
-returns-in-AddNetwork-clause-formed g c db late at = stay_shown g.S.Store c.add_network.new.conn db late at.consistent (AddNetwork c.in-AddNetwork.tenant c.in-AddNetwork.name c.in-AddNetwork.settings) (rw c.in-AddNetwork.is at c.tell_forms.ensures) tt c.add_network.result (c.add_network.ensures.ends db late at (rw c.in-AddNetwork.is at c.tell_forms.ensures)) (entries_of c.args.loaded.now)
+returns-in-AddNetwork-clause-formed g c db late at = stay_shown g.S.Store c.add_network.new.conn db late at.consistent (AddNetwork c.in-AddNetwork.tenant c.in-AddNetwork.name c.in-AddNetwork.settings) (rw c.in-AddNetwork.is at c.forms_hold.ensures) tt c.add_network.result (c.add_network.ensures.ends db late at (rw c.in-AddNetwork.is at c.forms_hold.ensures)) (entries_of c.args.loaded.now)
 
 pub returns-in-AddTenant-clause-current : goal.returns-in-AddTenant-clause-current
-returns-in-AddTenant-clause-current g c db late at = files_shown g.S.Store c.add_tenant.new.conn db late at.consistent (AddTenant c.in-AddTenant.name) (rw c.in-AddTenant.is at c.tell_forms.ensures) tt c.add_tenant.result (c.add_tenant.ensures.ends db late at (rw c.in-AddTenant.is at c.tell_forms.ensures)) (files_of c.args.files.now)
+returns-in-AddTenant-clause-current g c db late at = files_shown g.S.Store c.add_tenant.new.conn db late at.consistent (AddTenant c.in-AddTenant.name) (rw c.in-AddTenant.is at c.forms_hold.ensures) tt c.add_tenant.result (c.add_tenant.ensures.ends db late at (rw c.in-AddTenant.is at c.forms_hold.ensures)) (files_of c.args.files.now)
 
 pub returns-in-Grant-clause-current : goal.returns-in-Grant-clause-current
-returns-in-Grant-clause-current g c db late at = files_shown g.S.Store c.grant.new.conn db late at.consistent (Grant c.in-Grant.tenant c.in-Grant.digest) (rw c.in-Grant.is at c.tell_forms.ensures) tt c.grant.result (c.grant.ensures.ends db late at (rw c.in-Grant.is at c.tell_forms.ensures)) (files_of c.args.files.now)
+returns-in-Grant-clause-current g c db late at = files_shown g.S.Store c.grant.new.conn db late at.consistent (Grant c.in-Grant.tenant c.in-Grant.digest) (rw c.in-Grant.is at c.forms_hold.ensures) tt c.grant.result (c.grant.ensures.ends db late at (rw c.in-Grant.is at c.forms_hold.ensures)) (files_of c.args.files.now)
 
 pub returns-in-EndToken-clause-current : goal.returns-in-EndToken-clause-current
-returns-in-EndToken-clause-current g c db late at = files_shown g.S.Store c.end_token.new.conn db late at.consistent (EndToken c.in-EndToken.digest) (rw c.in-EndToken.is at c.tell_forms.ensures) tt c.end_token.result (c.end_token.ensures.ends db late at) (files_of c.args.files.now)
+returns-in-EndToken-clause-current g c db late at = files_shown g.S.Store c.end_token.new.conn db late at.consistent (EndToken c.in-EndToken.digest) (rw c.in-EndToken.is at c.forms_hold.ensures) tt c.end_token.result (c.end_token.ensures.ends db late at) (files_of c.args.files.now)
 
 pub returns-in-AddNetwork-clause-current : goal.returns-in-AddNetwork-clause-current
-returns-in-AddNetwork-clause-current g c db late at = files_shown g.S.Store c.add_network.new.conn db late at.consistent (AddNetwork c.in-AddNetwork.tenant c.in-AddNetwork.name c.in-AddNetwork.settings) (rw c.in-AddNetwork.is at c.tell_forms.ensures) tt c.add_network.result (c.add_network.ensures.ends db late at (rw c.in-AddNetwork.is at c.tell_forms.ensures)) (files_of c.args.files.now)
+returns-in-AddNetwork-clause-current g c db late at = files_shown g.S.Store c.add_network.new.conn db late at.consistent (AddNetwork c.in-AddNetwork.tenant c.in-AddNetwork.name c.in-AddNetwork.settings) (rw c.in-AddNetwork.is at c.forms_hold.ensures) tt c.add_network.result (c.add_network.ensures.ends db late at (rw c.in-AddNetwork.is at c.forms_hold.ensures)) (files_of c.args.files.now)

@@ -15,4 +15,4 @@ pub returns-clause-utf8 : goal.returns-clause-utf8
 returns-clause-utf8 c =
     let p = c.args.prefix.now in
     let text = c.in_ok-write_prefix.ensures.ok ∙ ap (λ (xs : List ℕ). xs ++ canonical_text p) c.new-text.ensures.items in
-    subst IsUtf8 (sym text) (utf8_prefix p (small p.address.family p.length c.tell_rules.ensures.prefix.0))
+    subst IsUtf8 (sym text) (utf8_prefix p (small p.address.family p.length c.rules_hold.ensures.prefix.0))

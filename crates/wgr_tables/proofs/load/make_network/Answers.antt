@@ -9,7 +9,7 @@ use Rattle.wgr_tables.proofs.load.make_network.Goals as goal
 pub returns-in-Ok-Some-clause-made : goal.returns-in-Ok-Some-clause-made
 returns-in-Ok-Some-clause-made c =
     let given = subst (λ o. IfSome o (IsNetworkOf c.in_ok-parts.parts)) c.in-Ok-Some.field-0-is c.in-Ok-Some.ensures.some in
-    network_is_made (network_in c.args.row.now) c.args.peers.items c.args.routes.items c.in_ok-parts.parts c.in-Ok-Some.network c.in_ok-parts.ensures.value given c.tell_rules.ensures
+    network_is_made (network_in c.args.row.now) c.args.peers.items c.args.routes.items c.in_ok-parts.parts c.in-Ok-Some.network c.in_ok-parts.ensures.value given c.rules_hold.ensures
 
 pub returns-in_err-parts-clause-only : goal.returns-in_err-parts-clause-only
 returns-in_err-parts-clause-only c =

@@ -17,5 +17,5 @@ loop-peer-init c =
     let kept = c.in_ok-peers.ensures ∙ ap (filter (λ (p : Peer). not (has p.number))) c.peers.ensures ∙ kept_peers c.args.self.now.removed has n.peers c.requires in
     record {
       left = ap (λ (ps : List Peer). put_peers ps c.as_slice-peer-items.result.now) kept ∙ ap (put_peers (filter stays n.peers)) c.as_slice-peer-items.ensures;
-      numbered = subst (AllPairs IsNumberedBelow) (sym kept) (AllPairs-filter IsNumberedBelow stays n.peers c.tell_rules.ensures.numbered);
+      numbered = subst (AllPairs IsNumberedBelow) (sym kept) (AllPairs-filter IsNumberedBelow stays n.peers c.rules_hold.ensures.numbered);
     }

@@ -19,8 +19,8 @@ loop-prefix-init c =
     let kept = c.in_ok-routes.ensures ∙ ap (filter (λ (r : PrefixValue × ℕ). not (has r.1))) c.routes.ensures ∙ kept_routes c.args.self.now.removed has n.routes c.requires in
     record {
       left = ap (λ (rs : Routes). without_routes rs c.as_slice-prefix-items.result.now) kept ∙ ap (without_routes (filter stays n.routes)) c.as_slice-prefix-items.ensures;
-      ordered = subst (AllPairs ComesBefore) (sym kept) (AllPairs-filter ComesBefore stays n.routes c.tell_rules.ensures.ordered);
-      masked = subst (All HasAddr) (sym kept) (All-filter stays HasAddr n.routes (λ k d h. (c.tell_rules.ensures.routes k d h).masked.0));
+      ordered = subst (AllPairs ComesBefore) (sym kept) (AllPairs-filter ComesBefore stays n.routes c.rules_hold.ensures.ordered);
+      masked = subst (All HasAddr) (sym kept) (All-filter stays HasAddr n.routes (λ k d h. (c.rules_hold.ensures.routes k d h).masked.0));
     }
 
 pub loop-prefix-preserved : goal.loop-prefix-preserved

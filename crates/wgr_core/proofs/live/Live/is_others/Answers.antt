@@ -10,7 +10,7 @@ returns-then-not-is_at c =
     let n = c.args.self.now in
     let p = c.in-Some.peer.now in
     let a = c.args.address.now in
-    let is = c.tell_rules.ensures in
+    let is = c.rules_hold.ensures in
     let stands : peer_of n.peers p.number ≡ Some p = subst (λ m. IfSome m (λ q. peer_of n.peers q.now.number ≡ Some q.now)) c.in-Some.is c.requires in
     c.owns-then-not-is_at.ensures
     ∙ sym (ap (λ b. cond b false (is_own n.peers a)) (sym c.is_at.ensures ∙ c.if-not-is_at.true))
@@ -22,7 +22,7 @@ returns-else-not-is_at c =
     let n = c.args.self.now in
     let p = c.in-Some.peer.now in
     let a = c.args.address.now in
-    let is = c.tell_rules.ensures in
+    let is = c.rules_hold.ensures in
     let stands : peer_of n.peers p.number ≡ Some p = subst (λ m. IfSome m (λ q. peer_of n.peers q.now.number ≡ Some q.now)) c.in-Some.is c.requires in
     ap not c.if-not-is_at.false
     ∙ sym (ap (λ b. cond b false (is_own n.peers a)) (sym c.is_at.ensures ∙ c.if-not-is_at.false))

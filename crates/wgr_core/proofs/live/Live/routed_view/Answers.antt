@@ -9,10 +9,10 @@ use Rattle.wgr_core.proofs.RerouteLemmas.{own_ordered, own_masked}
 use Rattle.wgr_core.proofs.live.Live.routed_view.Goals as goal
 
 pub put_route-requires-clause-ordered : goal.put_route-requires-clause-ordered
-put_route-requires-clause-ordered c = subst AreOrdered (sym c.in_ok-own.ensures) (own_ordered c.args.self.now c.args.number c.tell_rules.ensures)
+put_route-requires-clause-ordered c = subst AreOrdered (sym c.in_ok-own.ensures) (own_ordered c.args.self.now c.args.number c.rules_hold.ensures)
 
 pub put_route-requires-clause-masked : goal.put_route-requires-clause-masked
-put_route-requires-clause-masked c = subst (All HasAddr) (sym c.in_ok-own.ensures) (own_masked c.args.self.now c.args.number c.tell_rules.ensures)
+put_route-requires-clause-masked c = subst (All HasAddr) (sym c.in_ok-own.ensures) (own_masked c.args.self.now c.args.number c.rules_hold.ensures)
 
 pub returns-clause-ok : goal.returns-clause-ok
 returns-clause-ok c =

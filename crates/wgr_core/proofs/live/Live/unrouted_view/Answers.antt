@@ -7,7 +7,7 @@ use Rattle.wgr_core.proofs.RerouteLemmas.{own_ordered}
 use Rattle.wgr_core.proofs.live.Live.unrouted_view.Goals as goal
 
 pub drop_route-requires : goal.drop_route-requires
-drop_route-requires c = subst AreOrdered (sym c.in_ok-own.ensures) (own_ordered c.args.self.now c.in-Some.number c.tell_rules.ensures)
+drop_route-requires c = subst AreOrdered (sym c.in_ok-own.ensures) (own_ordered c.args.self.now c.in-Some.number c.rules_hold.ensures)
 
 pub returns-clause-ok : goal.returns-clause-ok
 returns-clause-ok c =

@@ -11,7 +11,7 @@ returns-clause-outcome c =
 pub returns-clause-fits : goal.returns-clause-fits
 returns-clause-fits c =
     let n = c.args.self.now in
-    meets_fits n c.act.result (outcome_of n c.args.now c.args.command.now) (returns-clause-outcome c) (outcome_keeps n c.args.now c.args.command.now c.at.ensures.rules c.tell_forms.ensures.asked)
+    meets_fits n c.act.result (outcome_of n c.args.now c.args.command.now) (returns-clause-outcome c) (outcome_keeps n c.args.now c.args.command.now c.at.ensures.rules c.forms_hold.ensures.asked)
 
 pub returns-clause-change : goal.returns-clause-change
 returns-clause-change c =

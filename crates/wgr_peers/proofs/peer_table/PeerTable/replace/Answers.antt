@@ -18,7 +18,7 @@ replace-requires c =
     let keyed = subst (λ ps. IsKeyedAt ps c.args.peer c.args.place) (sym c.self.view_is) c.requires.keyed in
     let own = list_any-some (λ (p : Peer). same_address p.address q.address) items c.args.place q keyed.within
     (ap (λ (p : Peer). same_address p.address q.address) (sym c.index-then-not-is_at.ensures) ∙ same_address_self q.address) in
-    (c.self.invariant.by_address q.address c.tell_rules.ensures).1 own
+    (c.self.invariant.by_address q.address c.rules_hold.ensures).1 own
 
 pub invariant_of-self : goal.invariant_of-self
 invariant_of-self c =

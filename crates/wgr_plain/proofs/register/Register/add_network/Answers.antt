@@ -15,7 +15,7 @@ invariant_of-self-2 c =
     let passed : first_refusal (network_checks r id c.args.name.now c.args.settings.now) ≡ None =
     subst (λ (ts : List Tenant). first_refusal (network_checks (record r { tenants = ts }) id c.args.name.now c.args.settings.now) ≡ None) c.deref-2.ensures.value
     (subst (λ (hs : List Holding). first_refusal (network_checks (record r { tenants = c.deref-2.result.now; networks = hs }) id c.args.name.now c.args.settings.now) ≡ None) c.deref-3.ensures.value c.in_ok-pool.ensures.0) in
-    (step_law r s (AddNetwork c.args.tenant.now c.args.name.now c.args.settings.now) Done c.self.invariant (c.tell_name.ensures, c.tell_settings.ensures)
+    (step_law r s (AddNetwork c.args.tenant.now c.args.name.now c.args.settings.now) Done c.self.invariant (c.name_has_form.ensures, c.settings_have_forms.ensures)
     (network_added_is r c.args.tenant.now c.args.name.now c.args.settings.now id (sym looked ∙ c.in-Some.is) s holding.id passed
     c.in_ok-holding.ensures.0
     (ap (λ hs. has_network hs holding.id) (sym c.deref-4.ensures.value) ∙ c.in_ok-holding.ensures.1)

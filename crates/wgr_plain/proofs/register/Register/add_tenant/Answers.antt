@@ -26,7 +26,7 @@ invariant_of-self-2 c =
     let looked = c.id_of.ensures ∙ ap₂ id_of c.deref.ensures.value c.as_bytes.ensures in
     let new = c.unused_id.result in
     let ids = c.deref-4.ensures.value ∙ c.in_ok-ids.ensures ∙ ap (map (λ (t : Tenant). t.id)) c.deref-3.ensures.value in
-    (step_law r s (AddTenant c.args.name.now) Done c.self.invariant c.tell_name.ensures
+    (step_law r s (AddTenant c.args.name.now) Done c.self.invariant c.name_has_form.ensures
     (tenant_added r c.args.name.now s new
     (ap is_some (sym looked) ∙ sym c.is_some.ensures ∙ c.if-is_some.false)
     (sym (c.is_full.ensures ∙ ap {A = List Tenant} is_full c.deref-2.ensures.value) ∙ c.if-is_full.false)

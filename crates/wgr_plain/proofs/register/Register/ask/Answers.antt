@@ -48,7 +48,7 @@ invariant_of-self c =
     let after : NetworkValue = c.in-Some-after.network in
     let put : c.put_network.new.networks.items ≡ with_network r.networks c.in-Some.id c.args.name.now after =
     c.put_network.ensures c.index.result.now ∙ sym (place.put c.index.result.now after) in
-    (step_law r s event answer c.self.invariant (c.tell_forms.ensures.asked, c.tell_forms.ensures.forms)
+    (step_law r s event answer c.self.invariant (c.forms_hold.ensures.asked, c.forms_hold.ensures.forms)
     (reply_step r c.args.digest.now c.args.name.now c.args.now c.args.command.now c.in-Some.id known c.behind-self.inside.network found answer after s
     (subst (λ (after : Option NetworkValue). IsActed (act c.behind-self.inside.network c.args.now c.args.command.now) answer after) c.in-Some-after.is c.in_ok-answer.ensures)
     (ap (λ hs. record r { networks = hs }) put))).consistent

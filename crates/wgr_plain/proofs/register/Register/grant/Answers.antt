@@ -34,7 +34,7 @@ invariant_of-self-2 c =
     let s : Register = record { tenants = c.self.inside.tenants.items; tokens = c.push.new.entries.items; networks = c.self.inside.networks.items } in
     let looked = c.id_of.ensures ∙ ap₂ id_of c.deref.ensures.value c.as_bytes.ensures in
     let token = c.tenant_of_token.ensures ∙ ap (λ ts. tenant_of_token ts c.args.digest.now) c.deref-2.ensures.value in
-    (step_law r s (Grant c.args.tenant.now c.args.digest.now) Done c.self.invariant c.tell_digest.ensures
+    (step_law r s (Grant c.args.tenant.now c.args.digest.now) Done c.self.invariant c.digest_has_form.ensures
     (token_granted r c.args.tenant.now c.args.digest.now c.in-Some.id (sym looked ∙ c.in-Some.is) s (ap is_some (sym token) ∙ sym c.is_some.ensures ∙ c.if-is_some.false)
     (sym (c.is_full.ensures ∙ ap {A = List Token} is_full c.deref-3.ensures.value) ∙ c.if-is_full.false)
     c.in_ok-push.ensures.ok

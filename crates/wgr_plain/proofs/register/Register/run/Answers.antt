@@ -18,7 +18,7 @@ loop-event-preserved c =
       run = subst (λ es. IsExactRun c.args.self.now es c.serve-answer.new.self) (sym more)
           (run_more (served (take at events) answers) c.args.self.now c.loop-event.self c.serve-answer.new.self (event_of c.event-item.result) (option_map answer_of c.serve-answer.result) c.loop-event.invariant.run c.serve-answer.ensures);
       proper = subst AreProper (sym more)
-          (proper_more (served (take at events) answers) (event_of c.event-item.result) (option_map answer_of c.serve-answer.result) c.loop-event.invariant.proper c.tell_forms.ensures);
+          (proper_more (served (take at events) answers) (event_of c.event-item.result) (option_map answer_of c.serve-answer.result) c.loop-event.invariant.proper c.forms_hold.ensures);
       room = le_trans c.loop-event.invariant.room c.in_ok-push.ensures.capacity;
       long = search rules;
     }
@@ -35,6 +35,6 @@ returns c =
     record {
       each = each;
       run = (es, whole, run);
-      isolated = (es, whole, runs_isolated c.args.self.now c.loop-event.self es c.tell_rules.ensures proper run);
+      isolated = (es, whole, runs_isolated c.args.self.now c.loop-event.self es c.rules_hold.ensures proper run);
       undone = tt;
     }

@@ -1,4 +1,4 @@
--- A network that its rows tell.
+-- A network that its rows form.
 use Rattle.std.specs.Prelude.{◌≡◌, ◌&&◌, ℕ, filter, map, nat_eq, not}
 use Rattle.std.specs.List.Sorted.{IsPermutation}
 use Rattle.wgr_peers.specs.Host.{IsHost}
@@ -10,7 +10,7 @@ use Rattle.wgr_tables.specs.Loads.{network_with}
 
 -- The rows of the network of this id, of its peers, of their addresses and of its routes are those
 -- of `n`, which keeps the rules.
-pub record IsTold (t : Tables) (id : ℕ) (n : NetworkValue) : Type 0 where
+pub record IsStored (t : Tables) (id : ℕ) (n : NetworkValue) : Type 0 where
   pub row : NetworkRow
   pub there : Has t.networks row
   pub id_is : row.id ≡ id

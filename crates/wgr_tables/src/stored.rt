@@ -1,4 +1,4 @@
-//! A network that its rows tell, if they tell one.
+//! A network that its rows form, if they form one.
 ghost use Rattle.std.specs.Prelude.{◌≡◌, Ok, Err, IfErr, IfOk, IfSome, IfNone, IsPermutation, filter, map, not, ◌&&◌, nat_eq, false, List};
 ghost use Rattle.std.specs.List.{IsDistinct};
 ghost use Rattle.sqlite.specs.Effect.{Database};
@@ -9,7 +9,7 @@ ghost use Rattle.wgr_model.specs.Rows.{address_row, peer_row, route_row};
 ghost use Rattle.wgr_sql.specs.Causes.{HasCause};
 ghost use Rattle.wgr_sql.specs.declared.fault.Fault.TheVariants.{NoMemory, Store};
 ghost use Rattle.wgr_columns.specs.Decode.{tables_of};
-ghost use Rattle.wgr_tables.specs.Told.{IsTold};
+ghost use Rattle.wgr_tables.specs.Stored.{IsStored};
 ghost use Rattle.wgr_tables.specs.Writes.{Written};
 ghost use Rattle.wgr_tables.specs.Standing.{Stands};
 
@@ -22,8 +22,8 @@ use wgr_peers::Peer;
 use wgr_sql::Fault;
 use wgr_text::Prefix;
 
-// What rows tell, or `None` where they tell nothing of the sort.
-fn told<T>(read: Result<T, Fault>) -> Result<Option<T>, Fault>
+// What was read from rows, or `None` if they form nothing of that kind.
+fn if_stored<T>(read: Result<T, Fault>) -> Result<Option<T>, Fault>
     ensures some { IfOk result (λ found. IfSome found (λ x. read ≡ Ok x)) }
     ensures none { IfOk result (λ found. IfNone found (read ≡ Err Store)) }
     ensures memory { IfErr result (λ e. e ≡ NoMemory) }
@@ -35,8 +35,8 @@ fn told<T>(read: Result<T, Fault>) -> Result<Option<T>, Fault>
     }
 }
 
-// The network's peers, if its rows tell them.
-fn told_peers<S: Alter>(
+// The network's peers, if its rows form them.
+fn peers_if_stored<S: Alter>(
     alloc: Global,
     conn: &mut Connection<S>,
     network: u32,
@@ -50,19 +50,19 @@ fn told_peers<S: Alter>(
     ensures addresses { (db : Database) (pending : List Written) → Stands S.Store conn.old db pending → HasCleanDisk (state S.Store conn.new)
         → IfOk result (λ found. IfSome found (λ peers. IsPermutation (filter (λ a. nat_eq a.network network && not a.is_route) (tables_of db).allowed) (map (address_row network) peers.items))) }
     ensures own { (db : Database) (pending : List Written) → Stands S.Store conn.old db pending → HasCleanDisk (state S.Store conn.new)
-        → IfOk result (λ found. IfSome found (λ peers. (n : NetworkValue) → IsTold (tables_of db) network n → peers.items ≡ n.peers)) }
+        → IfOk result (λ found. IfSome found (λ peers. (n : NetworkValue) → IsStored (tables_of db) network n → peers.items ≡ n.peers)) }
     ensures none { (db : Database) (pending : List Written) → Stands S.Store conn.old db pending → HasCleanDisk (state S.Store conn.new)
-        → IfOk result (λ found. IfNone found ((n : NetworkValue) → IsTold (tables_of db) network n → ⊥)) }
+        → IfOk result (λ found. IfNone found ((n : NetworkValue) → IsStored (tables_of db) network n → ⊥)) }
     ensures survives { Survives (state S.Store conn.old) (state S.Store conn.new) (λ _. ⊥) }
     ensures cause { (db : Database) (pending : List Written) → Stands S.Store conn.old db pending → IfErr result (HasCause (state S.Store conn.old) (state S.Store conn.new)) }
 {
     let rows = peer_rows(conn, network)?;
     let addresses = address_rows(conn, network)?;
-    told(peers_of(alloc, rows.as_slice(), addresses.as_slice(), network))
+    if_stored(peers_of(alloc, rows.as_slice(), addresses.as_slice(), network))
 }
 
-// The network's routes, if its rows tell them.
-fn told_routes<S: Alter>(
+// The network's routes, if its rows form them.
+fn routes_if_stored<S: Alter>(
     alloc: Global,
     conn: &mut Connection<S>,
     network: u32,
@@ -74,17 +74,17 @@ fn told_routes<S: Alter>(
     ensures rows { (db : Database) (pending : List Written) → Stands S.Store conn.old db pending → HasCleanDisk (state S.Store conn.new)
         → IfOk result (λ found. IfSome found (λ routes. IsPermutation (filter (λ a. a.is_route && nat_eq a.network network) (tables_of db).allowed) (map (route_row network) routes.items))) }
     ensures none { (db : Database) (pending : List Written) → Stands S.Store conn.old db pending → HasCleanDisk (state S.Store conn.new)
-        → IfOk result (λ found. IfNone found ((n : NetworkValue) → IsTold (tables_of db) network n → ⊥)) }
+        → IfOk result (λ found. IfNone found ((n : NetworkValue) → IsStored (tables_of db) network n → ⊥)) }
     ensures survives { Survives (state S.Store conn.old) (state S.Store conn.new) (λ _. ⊥) }
     ensures cause { (db : Database) (pending : List Written) → Stands S.Store conn.old db pending → IfErr result (HasCause (state S.Store conn.old) (state S.Store conn.new)) }
 {
     let rows = route_rows(conn, network)?;
-    told(routes_of(alloc, rows.as_slice(), network))
+    if_stored(routes_of(alloc, rows.as_slice(), network))
 }
 
-/// The network of this id, or `None` where no row has the id or the rows tell no network that keeps
-/// the rules, and there alone.
-pub fn told_network<S: Alter>(
+/// The network of this id, or `None` exactly if no row has the id or the rows form no network that
+/// keeps the rules.
+pub fn network_if_stored<S: Alter>(
     alloc: Global,
     conn: &mut Connection<S>,
     network: u32,
@@ -94,24 +94,24 @@ pub fn told_network<S: Alter>(
     ensures stands { (db : Database) (pending : List Written) → Stands S.Store conn.old db pending → Stands S.Store conn.new db pending }
     ensures clean { HasCleanDisk (state S.Store conn.new) → HasCleanDisk (state S.Store conn.old) }
     ensures some { (db : Database) (pending : List Written) → Stands S.Store conn.old db pending → HasCleanDisk (state S.Store conn.new)
-        → IfOk result (λ found. IfSome found (λ n. IsTold (tables_of db) network n)) }
+        → IfOk result (λ found. IfSome found (λ n. IsStored (tables_of db) network n)) }
     ensures none { (db : Database) (pending : List Written) → Stands S.Store conn.old db pending → HasCleanDisk (state S.Store conn.new)
-        → IfOk result (λ found. IfNone found ((n : NetworkValue) → IsTold (tables_of db) network n → ⊥)) }
+        → IfOk result (λ found. IfNone found ((n : NetworkValue) → IsStored (tables_of db) network n → ⊥)) }
     ensures survives { Survives (state S.Store conn.old) (state S.Store conn.new) (λ _. ⊥) }
     ensures cause { (db : Database) (pending : List Written) → Stands S.Store conn.old db pending → IsDistinct nat_eq (map (λ w. w.id) (tables_of db).networks) → IfErr result (HasCause (state S.Store conn.old) (state S.Store conn.new)) }
 {
     let Some(row) = network_row(conn, network)? else {
         return Ok(None);
     };
-    let Some(peers) = told_peers(alloc, conn, network)? else {
+    let Some(peers) = peers_if_stored(alloc, conn, network)? else {
         return Ok(None);
     };
-    let Some(routes) = told_routes(alloc, conn, network)? else {
+    let Some(routes) = routes_if_stored(alloc, conn, network)? else {
         return Ok(None);
     };
-    let Some(made) = told(make_network(alloc, &row, peers, routes))? else {
+    let Some(made) = if_stored(make_network(alloc, &row, peers, routes))? else {
         return Ok(None);
     };
-    made.tell_forms();
+    made.forms_hold();
     Ok(Some(made))
 }

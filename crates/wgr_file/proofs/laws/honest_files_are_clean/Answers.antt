@@ -1,5 +1,5 @@
 use Rattle.wgr_file.proofs.HonestLemmas.{clean_if}
-use Rattle.wgr_file.proofs.laws.tell_honest.Goals as goal
+use Rattle.wgr_file.proofs.laws.honest_files_are_clean.Goals as goal
 
 pub returns : goal.returns
 returns g c = clean_if c.args.register.now

@@ -4,11 +4,11 @@ use Rattle.std.proofs.lemmas.List.{take_more}
 use Rattle.std.proofs.lemmas.List.Elements.{All-push}
 use Rattle.wgr_peers.specs.declared.peer.Peer.{Peer}
 use Rattle.wgr_core.specs.Forms.{IsFormed}
-use Rattle.wgr_core.proofs.forms.tell_peers.Goals as goal
+use Rattle.wgr_core.proofs.forms.peers_have_forms.Goals as goal
 
 pub loop-peer-preserved : goal.loop-peer-preserved
 loop-peer-preserved c =
     let xs = c.args.peers.now in
     let i = c.loop-peer.peer-index in
     let peer = c.peer-item.result in
-    subst (All IsFormed) (sym (take_more xs i peer c.loop-peer-test.true ∙ ap (λ (l : Peer). take i xs ++ l ∷ []) (sym c.peer-item.is))) (All-push IsFormed (take i xs) peer c.loop-peer.invariant c.tell_peer.ensures)
+    subst (All IsFormed) (sym (take_more xs i peer c.loop-peer-test.true ∙ ap (λ (l : Peer). take i xs ++ l ∷ []) (sym c.peer-item.is))) (All-push IsFormed (take i xs) peer c.loop-peer.invariant c.peer_has_form.ensures)

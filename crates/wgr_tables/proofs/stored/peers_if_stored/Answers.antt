@@ -5,13 +5,13 @@ use Rattle.wgr_model.specs.Rows.{AllowedRow, PeerRow, address_row, peer_row}
 use Rattle.wgr_sql.specs.declared.fault.Fault.TheVariants.{Store}
 use Rattle.wgr_columns.specs.Decode.{tables_of, peer_in, allowed_in}
 use Rattle.wgr_columns.specs.Stored.{stored_allowed, stored_peer}
-use Rattle.wgr_tables.specs.Told.{IsTold}
+use Rattle.wgr_tables.specs.Stored.{IsStored}
 use Rattle.wgr_tables.proofs.ArrangeLemmas.{arranged_peers, kept_peers, peers_once}
 use Rattle.wgr_tables.proofs.ToldLemmas.{err_as, none_as, told_as}
 use Rattle.sqlite.specs.Held.{state}
 use Rattle.wgr_sql.specs.Causes.{HasCause}
 use Rattle.wgr_sql.proofs.CauseLemmas.{handed, cause_after}
-use Rattle.wgr_tables.proofs.told.told_peers.Goals as goal
+use Rattle.wgr_tables.proofs.stored.peers_if_stored.Goals as goal
 
 pub returns-in_err-addresses-clause-stands : goal.returns-in_err-addresses-clause-stands
 returns-in_err-addresses-clause-stands g c db pending stood = c.address_rows.ensures.stands db pending (c.peer_rows.ensures.stands db pending stood)
@@ -22,16 +22,16 @@ returns-clause-stands g c db pending stood = c.address_rows.ensures.stands db pe
 pub returns-clause-rows : goal.returns-clause-rows
 returns-clause-rows g c db pending stood clean =
     let rows = c.in_ok-rows.ensures.listed db pending stood (c.address_rows.ensures.clean clean) in
-    told_as c.peers_of.result c.told.result (λ peers. IsPermutation (filter (λ p. nat_eq p.network c.args.network) (tables_of db).peers) (map (peer_row c.args.network) peers.items))
+    told_as c.peers_of.result c.if_stored.result (λ peers. IsPermutation (filter (λ p. nat_eq p.network c.args.network) (tables_of db).peers) (map (peer_row c.args.network) peers.items))
     (if_ok c.peers_of.result _ _ (λ peers p. subst (IsPermutation (filter (λ r. nat_eq r.network c.args.network) (tables_of db).peers)) (sym (p ∙ ap (map peer_in) c.as_slice.ensures.value)) rows) c.peers_of.ensures.rows)
-    c.told.ensures.some
+    c.if_stored.ensures.some
 
 pub returns-clause-addresses : goal.returns-clause-addresses
 returns-clause-addresses g c db pending stood clean =
     let addresses = c.in_ok-addresses.ensures.listed db pending (c.peer_rows.ensures.stands db pending stood) clean in
-    told_as c.peers_of.result c.told.result (λ peers. IsPermutation (filter (λ a. nat_eq a.network c.args.network && not a.is_route) (tables_of db).allowed) (map (address_row c.args.network) peers.items))
+    told_as c.peers_of.result c.if_stored.result (λ peers. IsPermutation (filter (λ a. nat_eq a.network c.args.network && not a.is_route) (tables_of db).allowed) (map (address_row c.args.network) peers.items))
     (if_ok c.peers_of.result _ _ (λ peers p. subst (IsPermutation (filter (λ a. nat_eq a.network c.args.network && not a.is_route) (tables_of db).allowed)) (sym (p ∙ ap (map allowed_in) c.as_slice-2.ensures.value)) addresses) c.peers_of.ensures.addresses)
-    c.told.ensures.some
+    c.if_stored.ensures.some
 
 pub returns-clause-own : goal.returns-clause-own
 returns-clause-own g c db pending stood clean =
@@ -39,11 +39,11 @@ returns-clause-own g c db pending stood clean =
     let t = tables_of db in
     let before = c.address_rows.ensures.clean clean in
     let next = c.peer_rows.ensures.stands db pending stood in
-    let typed = λ (n : NetworkValue) (told : IsTold t id n). arranged_peers id n told.rules (peer_row id) (λ (p : PeerRow). p.id) (λ p. refl) (map peer_in c.in_ok-rows.rows.items) (filter (λ p. nat_eq p.network id) t.peers) told.peers (c.in_ok-rows.ensures.listed db pending stood before) (c.in_ok-rows.ensures.rising db pending stood before) in
-    let owned = λ (n : NetworkValue) (told : IsTold t id n). arranged_peers id n told.rules (address_row id) (λ (a : AllowedRow). a.peer) (λ p. refl) (map allowed_in c.in_ok-addresses.addresses.items) (filter (λ a. nat_eq a.network id && not a.is_route) t.allowed) told.addresses (c.in_ok-addresses.ensures.listed db pending next clean) (c.in_ok-addresses.ensures.rising db pending next clean) in
-    told_as c.peers_of.result c.told.result (λ peers. (n : NetworkValue) → IsTold t id n → peers.items ≡ n.peers)
-    (if_both c.peers_of.result _ _ _ (λ peers p a n told. peers_once id peers.items n.peers (p ∙ ap (map peer_in) c.as_slice.ensures.value ∙ typed n told) (a ∙ ap (map allowed_in) c.as_slice-2.ensures.value ∙ owned n told)) c.peers_of.ensures.rows c.peers_of.ensures.addresses)
-    c.told.ensures.some
+    let typed = λ (n : NetworkValue) (if_stored : IsStored t id n). arranged_peers id n if_stored.rules (peer_row id) (λ (p : PeerRow). p.id) (λ p. refl) (map peer_in c.in_ok-rows.rows.items) (filter (λ p. nat_eq p.network id) t.peers) if_stored.peers (c.in_ok-rows.ensures.listed db pending stood before) (c.in_ok-rows.ensures.rising db pending stood before) in
+    let owned = λ (n : NetworkValue) (if_stored : IsStored t id n). arranged_peers id n if_stored.rules (address_row id) (λ (a : AllowedRow). a.peer) (λ p. refl) (map allowed_in c.in_ok-addresses.addresses.items) (filter (λ a. nat_eq a.network id && not a.is_route) t.allowed) if_stored.addresses (c.in_ok-addresses.ensures.listed db pending next clean) (c.in_ok-addresses.ensures.rising db pending next clean) in
+    told_as c.peers_of.result c.if_stored.result (λ peers. (n : NetworkValue) → IsStored t id n → peers.items ≡ n.peers)
+    (if_both c.peers_of.result _ _ _ (λ peers p a n if_stored. peers_once id peers.items n.peers (p ∙ ap (map peer_in) c.as_slice.ensures.value ∙ typed n if_stored) (a ∙ ap (map allowed_in) c.as_slice-2.ensures.value ∙ owned n if_stored)) c.peers_of.ensures.rows c.peers_of.ensures.addresses)
+    c.if_stored.ensures.some
 
 pub returns-clause-none : goal.returns-clause-none
 returns-clause-none g c db pending stood clean =
@@ -51,13 +51,13 @@ returns-clause-none g c db pending stood clean =
     let t = tables_of db in
     let before = c.address_rows.ensures.clean clean in
     let next = c.peer_rows.ensures.stands db pending stood in
-    let typed = λ (n : NetworkValue) (told : IsTold t id n). arranged_peers id n told.rules (peer_row id) (λ (p : PeerRow). p.id) (λ p. refl) (map peer_in c.in_ok-rows.rows.items) (filter (λ p. nat_eq p.network id) t.peers) told.peers (c.in_ok-rows.ensures.listed db pending stood before) (c.in_ok-rows.ensures.rising db pending stood before) in
-    let owned = λ (n : NetworkValue) (told : IsTold t id n). arranged_peers id n told.rules (address_row id) (λ (a : AllowedRow). a.peer) (λ p. refl) (map allowed_in c.in_ok-addresses.addresses.items) (filter (λ a. nat_eq a.network id && not a.is_route) t.allowed) told.addresses (c.in_ok-addresses.ensures.listed db pending next clean) (c.in_ok-addresses.ensures.rising db pending next clean) in
-    none_as c.peers_of.result c.told.result Store ((n : NetworkValue) → IsTold t id n → ⊥)
-    (err_as c.peers_of.result _ _ (λ e only is n told. only is n.peers (kept_peers n told.rules told.forms)
-    (c.as_slice.ensures.value ∙ c.in_ok-rows.ensures.stored db pending stood before ∙ ap (map stored_peer) (typed n told))
-    (c.as_slice-2.ensures.value ∙ c.in_ok-addresses.ensures.stored db pending next clean ∙ ap (map stored_allowed) (owned n told))) c.peers_of.ensures.only)
-    c.told.ensures.none
+    let typed = λ (n : NetworkValue) (if_stored : IsStored t id n). arranged_peers id n if_stored.rules (peer_row id) (λ (p : PeerRow). p.id) (λ p. refl) (map peer_in c.in_ok-rows.rows.items) (filter (λ p. nat_eq p.network id) t.peers) if_stored.peers (c.in_ok-rows.ensures.listed db pending stood before) (c.in_ok-rows.ensures.rising db pending stood before) in
+    let owned = λ (n : NetworkValue) (if_stored : IsStored t id n). arranged_peers id n if_stored.rules (address_row id) (λ (a : AllowedRow). a.peer) (λ p. refl) (map allowed_in c.in_ok-addresses.addresses.items) (filter (λ a. nat_eq a.network id && not a.is_route) t.allowed) if_stored.addresses (c.in_ok-addresses.ensures.listed db pending next clean) (c.in_ok-addresses.ensures.rising db pending next clean) in
+    none_as c.peers_of.result c.if_stored.result Store ((n : NetworkValue) → IsStored t id n → ⊥)
+    (err_as c.peers_of.result _ _ (λ e only is n if_stored. only is n.peers (kept_peers n if_stored.rules if_stored.forms)
+    (c.as_slice.ensures.value ∙ c.in_ok-rows.ensures.stored db pending stood before ∙ ap (map stored_peer) (typed n if_stored))
+    (c.as_slice-2.ensures.value ∙ c.in_ok-addresses.ensures.stored db pending next clean ∙ ap (map stored_allowed) (owned n if_stored))) c.peers_of.ensures.only)
+    c.if_stored.ensures.none
 
 pub returns-in_err-rows-clause-cause : goal.returns-in_err-rows-clause-cause
 returns-in_err-rows-clause-cause g c db pending stood = handed (HasCause (state g.S.Store c.args.conn.now) (state g.S.Store c.peer_rows.new.conn)) c.from_residual.result c.in_err-rows.field-0.0 c.from_residual.ensures.1 (c.in_err-rows.ensures.cause db pending stood)
