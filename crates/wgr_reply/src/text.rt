@@ -8,7 +8,7 @@ ghost use Rattle.wgr_reply.specs.Shown.{endpoint_text};
 use base64::engine::general_purpose::STANDARD;
 use std::alloc::{AllocError, Global};
 use std::str;
-use wgr_text::{Key, Prefix, write_prefix};
+use wgr_text::{Key, Prefix, prefix_text};
 
 // The text of a key.
 pub(crate) fn text_of_key(alloc: Global, key: &Key) -> Result<String, AllocError>
@@ -23,9 +23,7 @@ pub(crate) fn bytes_of_prefix(alloc: Global, prefix: &Prefix) -> Result<Vec<u8>,
     ensures utf8 { IfOk result (λ v. IsUtf8 v.items) }
 {
     prefix.rules_hold();
-    let mut text = Vec::new(alloc);
-    write_prefix(prefix, &mut text)?;
-    Ok(text)
+    prefix_text(alloc, prefix)
 }
 
 // Bytes that are text, as a string.

@@ -16,4 +16,4 @@ pub use addr::{Addr, Family};
 pub use key::{Key, write_key};
 pub use lines::{TextLines, first_line};
 pub use prefix::{Prefix, Span};
-pub use text::{read_loose, write_addr, write_prefix};
+pub use text::{prefix_text, read_loose, write_addr, write_prefix};
