@@ -23,13 +23,22 @@ struct Reply {
     body: Vec<u8>,
 }
 
-/// How many networks stay in memory.
-const MOST_LOADED: usize = 64;
+/// How many networks stay in memory, and how many servers' files.
+const MOST_RECENT: usize = 64;
 
-/// A register, and the networks that were last asked of, the latest at the end.
+/// A server's file, and the moments at which it is current: the first, and the first at which it no longer is.
+struct ServerFile {
+    id: u32,
+    quick: bool,
+    span: (i64, i64),
+    text: Vec<u8>,
+}
+
+/// A register, and the networks and servers' files that were last asked of, the latest at the end.
 pub struct Office {
     db: Connection,
     loaded: Vec<Network>,
+    files: Vec<ServerFile>,
 }
 
 /// The reply of a command, and what it changes.
@@ -220,7 +229,6 @@ fn act(network: &Network, now: i64, request: &Request, rest: &[&str]) -> Outcome
     match (request.method, rest) {
         ("GET", ["peers"]) => Ok((json(pages::list(network)), None)),
         ("GET", ["owner", address]) => Ok((json(pages::owner(network.owner(&prefix_of(address))?)), None)),
-        ("GET", ["server", form]) => Ok((file(pages::server_file(network, *form == "quick")), None)),
         ("GET", ["peers", number, "file", form]) => {
             let text = pages::peer_file(network, network.peer(peer(number))?, *form == "quick");
             Ok((file(text), None))
@@ -245,9 +253,30 @@ fn act(network: &Network, now: i64, request: &Request, rest: &[&str]) -> Outcome
     }
 }
 
+/// Puts it at the end, in place of the one that was not asked of for longest where there are too many.
+fn keep<T>(recent: &mut Vec<T>, latest: T) {
+    if recent.len() == MOST_RECENT {
+        recent.remove(0);
+    }
+    recent.push(latest);
+}
+
+impl ServerFile {
+    fn of(network: &Network, quick: bool, now: i64) -> ServerFile {
+        let ends = || network.peers.iter().map(|peer| peer.until).filter(|end| *end != 0);
+        let first = ends().filter(|end| *end <= now).max().unwrap_or(0);
+        let over = ends().filter(|end| *end > now).min().unwrap_or(i64::MAX);
+        ServerFile { id: network.id, quick, span: (first, over), text: pages::server_file(network, quick) }
+    }
+
+    fn is_current(&self, id: u32, quick: bool, now: i64) -> bool {
+        self.id == id && self.quick == quick && self.span.0 <= now && now < self.span.1
+    }
+}
+
 impl Office {
     pub fn new(db: Connection) -> Office {
-        Office { db, loaded: Vec::new() }
+        Office { db, loaded: Vec::new(), files: Vec::new() }
     }
 
     /// The network of this id: the one in memory, or else what its rows form.
@@ -258,20 +287,31 @@ impl Office {
         }
     }
 
-    fn keep(&mut self, network: Network) {
-        if self.loaded.len() == MOST_LOADED {
-            self.loaded.remove(0);
-        }
-        self.loaded.push(network);
+    /// The server's file of the network of this id: the one in memory, or else a new one.
+    fn server_file(&mut self, id: u32, quick: bool, now: i64) -> Vec<u8> {
+        let place = self.files.iter().position(|file| file.is_current(id, quick, now));
+        let found = place.map(|place| self.files.remove(place)).unwrap_or_else(|| {
+            let network = self.take(id);
+            let made = ServerFile::of(&network, quick, now);
+            keep(&mut self.loaded, network);
+            made
+        });
+        let text = found.text.clone();
+        keep(&mut self.files, found);
+        text
     }
 
     /// What the command answers on the network of this id; what it changes is committed.
     fn ask(&mut self, id: u32, now: i64, request: &Request, rest: &[&str]) -> Reply {
+        if let ("GET", ["server", form]) = (request.method, rest) {
+            return file(self.server_file(id, *form == "quick", now));
+        }
         let mut network = self.take(id);
         assert!(network.peers.iter().all(|peer| peer.is_live(now)), "a lease that is over");
         let reply = match act(&network, now, request, rest) {
             Ok((reply, change)) => {
                 if let Some(change) = change {
+                    self.files.retain(|file| file.id != id);
                     network.commit(&mut self.db, &change);
                     network.apply(change);
                 }
@@ -279,7 +319,7 @@ impl Office {
             }
             Err(why) => refused(why),
         };
-        self.keep(network);
+        keep(&mut self.loaded, network);
         reply
     }
 
