@@ -1,0 +1,69 @@
+//! Times a request on a network that isn't in memory, on one that is, and the first after an order.
+//!
+//! Words: a register of which tenant-1 has a network, a file with a request on it, and how many rounds count,
+//! of which the best is shown. Prints the nanoseconds of the three, a line each.
+//!
+//! This is Rattle, and its name doesn't end in `.rt` since it belongs to none of the repository's
+//! crates: `bench/orders` makes it one in a folder of its own.
+#![tactic(auto)]
+
+use anyhow::{Context, Result, bail};
+use sqlite::{Alter, Unknown};
+use std::alloc::Global;
+use std::env;
+use std::fs;
+use std::time::Instant;
+use wgr_core::Name;
+use wgr_file::{close, open_register};
+use wgr_office::{Answer, Event, Office};
+use wgr_orders::Order;
+
+// The moment of each request; no lease ends before it.
+const NOW: u64 = 1_000_000;
+
+// The nanoseconds of one request.
+fn ask<S: Alter>(rt: &HostRuntime, office: &mut Office<S>, asked: &[u8]) -> Result<u128> {
+    let start = Instant::now(rt)?;
+    let answer = office.answer(rt.alloc(), NOW, asked);
+    let spent = start.elapsed(rt)?.as_nanos();
+    if !answer.reply().starts_with(b"HTTP/1.1 200 ") {
+        bail!("a request is refused");
+    }
+    Ok(spent)
+}
+
+fn add_tenant<S: Alter>(alloc: Global, office: &mut Office<S>, number: u32) -> Result<()> {
+    let text = format!(in alloc; "new-{number}")?;
+    let name = Name::read(alloc, text.as_bytes())?.context("no name")?;
+    let mut events = Vec::new(alloc);
+    events.push(Event::Order(Order::AddTenant { name }))?;
+    match office.run(alloc, events.as_slice())?.as_slice() {
+        [Answer::Order(Ok(_))] => Ok(()),
+        _ => bail!("an order is refused"),
+    }
+}
+
+fn main(rt: HostRuntime) -> Result<()> {
+    let mut words = env::args(&rt)?.skip(1);
+    let path = words.next().context("a register is missing")?;
+    let asked = fs::read(&rt, words.next().context("a request is missing")?.as_str())?;
+    let rounds = words.next().context("a number is missing")?.parse::<u32>()?;
+    let (mut first, mut kept, mut after) = (u128::MAX, u128::MAX, u128::MAX);
+    for round in 0..rounds {
+        let Ok(register) = open_register(&rt, path.as_str(), Unknown) else {
+            bail!("the register can't be opened");
+        };
+        let Ok(mut office) = Office::new(rt.alloc(), register) else {
+            bail!("no memory");
+        };
+        first = first.min(ask(&rt, &mut office, &asked)?);
+        kept = kept.min(ask(&rt, &mut office, &asked)?);
+        add_tenant(rt.alloc(), &mut office, round)?;
+        after = after.min(ask(&rt, &mut office, &asked)?);
+        if close(office.into_register()).is_none() {
+            bail!("the register can't be closed");
+        }
+    }
+    println!(rt; "{first}\n{kept}\n{after}")?;
+    Ok(())
+}
