@@ -155,7 +155,7 @@ fn have_settings(rows: &[Row]) -> bool
 
 // Whether the slots in these rows are valid, and none occurs twice.
 fn are_own_slots(alloc: Global, rows: &[Row]) -> Result<bool, Fault>
-    ensures told { IfOk result (λ is. IsTrue is ↔ HaveOwnSlots rows.now) }
+    ensures answer { IfOk result (λ is. IsTrue is ↔ HaveOwnSlots rows.now) }
     ensures memory { IfErr result (λ why. why ≡ NoMemory) }
 {
     let Some(mut all) = slots_of(alloc, rows)? else {
@@ -167,7 +167,7 @@ fn are_own_slots(alloc: Global, rows: &[Row]) -> Result<bool, Fault>
 
 // Whether the endpoints in these rows are valid, and none occurs twice.
 fn are_own_endpoints(alloc: Global, rows: &[Row]) -> Result<bool, Fault>
-    ensures told { IfOk result (λ is. IsTrue is ↔ HaveOwnEndpoints rows.now) }
+    ensures answer { IfOk result (λ is. IsTrue is ↔ HaveOwnEndpoints rows.now) }
     ensures memory { IfErr result (λ why. why ≡ NoMemory) }
 {
     let Some(mut all) = endpoints_of(alloc, rows)? else {
@@ -179,7 +179,7 @@ fn are_own_endpoints(alloc: Global, rows: &[Row]) -> Result<bool, Fault>
 
 // Whether the pools in these rows are valid, and no two share an address.
 fn are_own_pools(alloc: Global, rows: &[Row]) -> Result<bool, Fault>
-    ensures told { IfOk result (λ is. IsTrue is ↔ HaveOwnPools rows.now) }
+    ensures answer { IfOk result (λ is. IsTrue is ↔ HaveOwnPools rows.now) }
     ensures memory { IfErr result (λ why. why ≡ NoMemory) }
 {
     let Some(mut all) = pools_of(alloc, rows)? else {
@@ -204,7 +204,7 @@ fn are_owned(alloc: Global, rows: &[Row], tenants: &[u32]) -> Result<bool, Fault
 
 // Whether no two of these rows share a slot, an endpoint or an address of their pools.
 fn are_apart(alloc: Global, rows: &[Row]) -> Result<bool, Fault>
-    ensures told { IfOk result (λ is. IsTrue is ↔ AreNetworksApart rows.now) }
+    ensures answer { IfOk result (λ is. IsTrue is ↔ AreNetworksApart rows.now) }
     ensures memory { IfErr result (λ why. why ≡ NoMemory) }
 {
     if !are_own_slots(alloc, rows)? {

@@ -137,7 +137,7 @@ fn are_own_names(alloc: Global, rows: &[Row]) -> Result<bool, Fault>
 fn have_own_names<S: Alter>(alloc: Global, conn: &mut Connection<S>) -> Result<bool, Fault>
     requires idle { conn.old.in_transaction ≡ false }
     ensures idle { conn.new.in_transaction ≡ false }
-    ensures told { HasCleanDisk (state S.Store conn.new) → Laid (state S.Store conn.old) → IfOk result (λ is. IsTrue (state S.Store conn.old).is_open × (IsTrue is ↔ HaveOwnNames ((state S.Store conn.old).now.trees tenant_tree))) }
+    ensures answer { HasCleanDisk (state S.Store conn.new) → Laid (state S.Store conn.old) → IfOk result (λ is. IsTrue (state S.Store conn.old).is_open × (IsTrue is ↔ HaveOwnNames ((state S.Store conn.old).now.trees tenant_tree))) }
     ensures kept { (HasCleanDisk (state S.Store conn.new) → Laid (state S.Store conn.old)) → IsKept (state S.Store conn.old) (state S.Store conn.new) }
     ensures survives { Survives (state S.Store conn.old) (state S.Store conn.new) (λ _. ⊥) }
     ensures cause { (HasCleanDisk (state S.Store conn.new) → Laid (state S.Store conn.old)) → IfErr result (HasCause (state S.Store conn.old) (state S.Store conn.new)) }

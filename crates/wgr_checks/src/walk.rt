@@ -54,7 +54,7 @@ fn passing_rowid(row: &Row, before: Option<i64>, table: Table, networks: &[u32])
 fn all_pass<S: Alter>(rows: &mut Rows<'_, S>, table: Table, networks: &[u32]) -> Result<bool, Fault>
     ensures same_reference { rows.new.conn.ghost_name ≡ rows.old.conn.ghost_name }
     ensures idle { rows.old.conn.now.in_transaction ≡ false → rows.new.conn.now.in_transaction ≡ false }
-    ensures told { HasCleanDisk (state S.Store rows.new.conn.now) → Laid (state S.Store rows.old.conn.now) → IsSorted nat_cmp networks.now → HasGiven S.Store (text_of table) [] rows.old.conn.now []
+    ensures answer { HasCleanDisk (state S.Store rows.new.conn.now) → Laid (state S.Store rows.old.conn.now) → IsSorted nat_cmp networks.now → HasGiven S.Store (text_of table) [] rows.old.conn.now []
         → IfOk result (λ is. IsTrue is ↔ AreOwnRows (IsRowOf table networks.now) ((state S.Store rows.old.conn.now).now.trees (tree_of table))) }
     ensures kept { (IsTrue (state S.Store rows.old.conn.now).is_open → (state S.Store rows.old.conn.now).now ≡ (state S.Store rows.old.conn.now).committed) → IsKept (state S.Store rows.old.conn.now) (state S.Store rows.new.conn.now) }
     ensures survives { Survives (state S.Store rows.old.conn.now) (state S.Store rows.new.conn.now) (λ _. ⊥) }
@@ -87,7 +87,7 @@ pub(crate) fn are_own<S: Alter>(
 ) -> Result<bool, Fault>
     requires idle { conn.old.in_transaction ≡ false }
     ensures idle { conn.new.in_transaction ≡ false }
-    ensures told { HasCleanDisk (state S.Store conn.new) → Laid (state S.Store conn.old) → IsSorted nat_cmp networks.now → IfOk result (λ is. IsTrue (state S.Store conn.old).is_open × (IsTrue is ↔ AreOwnRows (IsRowOf table networks.now) ((state S.Store conn.old).now.trees (tree_of table)))) }
+    ensures answer { HasCleanDisk (state S.Store conn.new) → Laid (state S.Store conn.old) → IsSorted nat_cmp networks.now → IfOk result (λ is. IsTrue (state S.Store conn.old).is_open × (IsTrue is ↔ AreOwnRows (IsRowOf table networks.now) ((state S.Store conn.old).now.trees (tree_of table)))) }
     ensures kept { (HasCleanDisk (state S.Store conn.new) → Laid (state S.Store conn.old)) → IsKept (state S.Store conn.old) (state S.Store conn.new) }
     ensures survives { Survives (state S.Store conn.old) (state S.Store conn.new) (λ _. ⊥) }
     ensures cause { (HasCleanDisk (state S.Store conn.new) → Laid (state S.Store conn.old)) → IfErr result (HasCause (state S.Store conn.old) (state S.Store conn.new)) }

@@ -91,7 +91,7 @@ adoptions_are_counted n now server lines is =
     let long = length-order m.pool lines in
     adopted_if (IsCounted n lines) n now server lines
     (both_if (AddsNext m) (λ s. told_lines s ≡ 0 + length (adoption_order m.pool lines)) (λ s. IsCounted n lines (reply.Adopted s.added s.known, s.network)) (adoption_of m lines)
-    (λ s so told. record { added = s.added; known = s.known; told = refl; in_order = so.in_order; stand = so.stand; next = so.next; lines = omega (arith, told, long) })
+    (λ s so told. record { added = s.added; known = s.known; reported = refl; in_order = so.in_order; stand = so.stand; next = so.next; lines = omega (arith, told, long) })
     (adoption_keeps AnyLine AnyPrefix (AddsNext m) (count_steps m) m lines people (record { in_order = λ k d h. absurd (omega (arith, h)); next = omega arith; stand = λ k d h. absurd (omega (arith, h)) }) (λ k d h. tt))
     (lines_told (start_at m) (adoption_order m.pool lines) people))
 

@@ -56,7 +56,7 @@ UnnamedRoutesStay = (n : NetworkValue) (now : ℕ) (server : Option Key) (lines 
 pub record IsCounted (n : NetworkValue) (seen : List SeenPeer) (done : Reply × NetworkValue) : Type 0 where
   pub added : List ℕ
   pub known : ℕ
-  pub told : done.0 ≡ reply.Adopted added known
+  pub reported : done.0 ≡ reply.Adopted added known
   pub in_order : (k d : ℕ) → k < length added → slice_index_or added k d ≡ n.next + k
   pub stand : All (λ number. is_some (peer_of done.1.peers number) ≡ true) added
   pub next : done.1.next ≡ n.next + length added

@@ -10,7 +10,7 @@ Served = Event × Option Answer
 -- the list of these events with these answers: there is one answer for each event
 pub record AreServed (events : List Event) (answers : List (Option Answer)) (es : List Served) : Type 0 where
   pub asked : map (λ e. e.0) es ≡ events
-  pub told : map (λ e. e.1) es ≡ answers
+  pub reported : map (λ e. e.1) es ≡ answers
 
 abbrev pub with_answer : Event → Option Answer → List (Event × Answer) → List (Event × Answer)
 with_answer event None es = es

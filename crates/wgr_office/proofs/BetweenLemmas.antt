@@ -40,7 +40,7 @@ module _ {S : Type 0} (g : Ghosts S) where
       → AreCalls g old new asked answers → StandsAt g old db late → HasCleanDisk (state g new) → IsAlong old new db late asked answers
   along old new db late [] [] same at clean =
       record {
-        all = record { served = []; told = tt; proper = tt; next = db; left = late; goes = (refl, refl); stands = subst (λ (conn : Held S). StandsAt g conn db late) (sym same) at };
+        all = record { served = []; reported = tt; proper = tt; next = db; left = late; goes = (refl, refl); stands = subst (λ (conn : Held S). StandsAt g conn db late) (sym same) at };
         passes = ap (λ (conn : Held S). place conn db late) same;
       }
   along old new db late [] (a ∷ answers) calls at clean = absurd calls
@@ -52,7 +52,7 @@ module _ {S : Type 0} (g : Ghosts S) where
       record {
         all = record {
           served = (one.e, one.answer) ∷ others.all.served;
-          told = (one.serves, others.all.told);
+          reported = (one.serves, others.all.reported);
           proper = (one.proper, others.all.proper);
           next = others.all.next;
           left = others.all.left;
@@ -72,7 +72,7 @@ module _ {S : Type 0} (g : Ghosts S) where
         run = record {
           all = it.all;
           run = run;
-          apart = record { answered = λ me. agree_given asked answers it.all.served _ it.all.told (isolated.answers me); views = isolated.views; holders = isolated.holders };
+          apart = record { answered = λ me. agree_given asked answers it.all.served _ it.all.reported (isolated.answers me); views = isolated.views; holders = isolated.holders };
         };
         passes = it.passes;
       }

@@ -141,7 +141,7 @@ module _ {S : Type 0} (g : Ghosts S) (db : Database) (late : List Event) (asked 
       let one = serve all.next all.left all.stands clean in
       record {
         served = all.served ++ (one.e, one.answer) ∷ [];
-        told = served_more asked answers all.served event reply one.e one.answer all.told one.serves;
+        reported = served_more asked answers all.served event reply one.e one.answer all.reported one.serves;
         proper = proper_more all.served one.e one.answer all.proper one.proper;
         next = one.next;
         left = one.left;
@@ -156,7 +156,7 @@ module _ {S : Type 0} (g : Ghosts S) (db : Database) (late : List Event) (asked 
       record {
         all = all;
         run = run;
-        apart = record { answered = λ me. agree_given asked answers all.served _ all.told (isolated.answers me); views = isolated.views; holders = isolated.holders };
+        apart = record { answered = λ me. agree_given asked answers all.served _ all.reported (isolated.answers me); views = isolated.views; holders = isolated.holders };
       }
 
 -- a register at rest stands somewhere

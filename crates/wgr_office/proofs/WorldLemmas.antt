@@ -105,8 +105,8 @@ worlds_are_alike me w x is ix same own =
     let left = acknowledged w.served in
     let right = acknowledged x.served in
     let views = two_worlds me v left right (own ∙ ap (λ z. own_events me z right) (sym same)) in (
-      given_own me v w.asked w.answers w.served is.told (is.apart.answered me)
+      given_own me v w.asked w.answers w.served is.reported (is.apart.answered me)
           ∙ ap₂ (λ z es. own_replies me z es) same own
-          ∙ sym (given_own me u x.asked x.answers x.served ix.told (ix.apart.answered me)),
+          ∙ sym (given_own me u x.asked x.answers x.served ix.reported (ix.apart.answered me)),
       sym (is.apart.views me) ∙ views.1 ∙ ap (λ z. (tenant_run me z right).1) same ∙ ix.apart.views me,
     )

@@ -82,7 +82,7 @@ pub record IsServed {S : Type 0} (g : Ghosts S) (conn : Held S) (db : Database) 
 -- these events were served in turn, one answer for each
 pub record HaveBeenServed {S : Type 0} (g : Ghosts S) (conn : Held S) (db : Database) (late : List Event) (asked : List event.Event) (answers : List given.Answer) : Type 0 where
   pub served : List Served
-  pub told : AreServed asked answers served
+  pub reported : AreServed asked answers served
   pub proper : AreProper served
   pub next : Database
   pub left : List Event

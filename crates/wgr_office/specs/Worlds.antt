@@ -52,7 +52,7 @@ pub record World : Type 0 where
   pub after : Tables
 
 pub record IsWorld (w : World) : Type 0 where
-  pub told : AreServed w.asked w.answers w.served
+  pub reported : AreServed w.asked w.answers w.served
   pub apart : AreApart w.rows w.asked w.answers w.served w.after
 
 -- the replies to a tenant in a world

@@ -148,4 +148,4 @@ module _ (db : Database) (good : IsGood db) where
     all_told = all_from (StoresNetwork t) ids (λ id here.
         let listed = has_permutation ids (map (λ r. number_at r 0) (db.trees 5)) id (IsPermutation-sym (map (λ r. number_at r 0) (db.trees 5)) ids are.same) (to_model ids id here) in
         let row = from_map (λ (r : Row). number_at r 0) (db.trees 5) id listed in
-        subst (StoresNetwork t) row.2 (whole.told (network_in row.0) (has_map network_in (db.trees 5) row.0 row.1)))
+        subst (StoresNetwork t) row.2 (whole.stored (network_in row.0) (has_map network_in (db.trees 5) row.0 row.1)))

@@ -166,7 +166,7 @@ module _ (db : Database) (laid : IsLaidOut db.schema) (first : SaysFirst (db.tre
       owners = networks.owners;
       few = networks.few;
     };
-    told = λ w here. at_has (StoresNetwork t) ids w.id told (has_id w here);
+    stored = λ w here. at_has (StoresNetwork t) ids w.id told (has_id w here);
     peers = λ p here. there p.network (at_has (λ owner. list_any (λ id. nat_eq owner id) ids ≡ true) (map (λ (x : PeerRow). x.network) t.peers) p.network peers.2 (has_map (λ (x : PeerRow). x.network) t.peers p here));
     allowed = λ a here. there a.network (at_has (λ owner. list_any (λ id. nat_eq owner id) ids ≡ true) (map (λ (x : AllowedRow). x.network) t.allowed) a.network allowed.2 (has_map (λ (x : AllowedRow). x.network) t.allowed a here));
   }

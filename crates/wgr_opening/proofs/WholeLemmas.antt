@@ -83,7 +83,7 @@ by_network a b other = ap (λ x. x && nat_eq (allowed_key a).1 (allowed_key b).1
 module _ (t : Tables) (whole : AreWhole t) where
   -- what the rows of a network that is there tell
   at : (i : ℕ) → IsThere t i → (n : NetworkValue) × IsStored t i n
-  at i there = let found = whole.told there.0 there.1 in (found.0, subst (λ j. IsStored t j found.0) there.2 found.1)
+  at i there = let found = whole.stored there.0 there.1 in (found.0, subst (λ j. IsStored t j found.0) there.2 found.1)
 
   peer_keys : IsDistinct same_pair (map (λ p. (p.network, number_in p.network p.id)) t.peers)
   peer_keys = by_parts same_pair (λ (p : PeerRow). (p.network, number_in p.network p.id)) (λ a b. nat_eq b.network a.network) (λ a. eqb_self a.network) t.peers
@@ -128,7 +128,7 @@ module _ (t : Tables) (whole : AreWhole t) where
 
   module _ (w : NetworkRow) (here : Has t.networks w) where
     told_at : (n : NetworkValue) × IsStored t w.id n
-    told_at = whole.told w here
+    told_at = whole.stored w here
 
     row_is : told_at.1.row ≡ w
     row_is = elim (one_or_apart (λ (x : NetworkRow). x.id) nat_eq eqb_sym t.networks told_at.1.row w whole.networks.ids told_at.1.there here) [

@@ -48,7 +48,7 @@ pub record AreWhole (t : Tables) : Type 0 where
   pub tenants : AreTenantsApart t
   pub tokens : AreTokensApart t
   pub networks : AreNetworksApart t
-  pub told : (w : NetworkRow) → Has t.networks w → (n : NetworkValue) × IsStored t w.id n
+  pub stored : (w : NetworkRow) → Has t.networks w → (n : NetworkValue) × IsStored t w.id n
   pub peers : (p : PeerRow) → Has t.peers p → IsThere t p.network
   pub allowed : (a : AllowedRow) → Has t.allowed a → IsThere t a.network
 

@@ -91,7 +91,7 @@ fn read_entries<S: Alter>(
 fn are_members_written<S: Alter>(conn: &mut Connection<S>, networks: &[u32]) -> Result<bool, Fault>
     requires idle { conn.old.in_transaction ≡ false }
     ensures idle { conn.new.in_transaction ≡ false }
-    ensures told { HasCleanDisk (state S.Store conn.new) → Laid (state S.Store conn.old) → IsSorted nat_cmp networks.now → IfOk result (λ is. IsTrue (state S.Store conn.old).is_open × (IsTrue is ↔ (AreWrittenPeers networks.now ((state S.Store conn.old).now.trees peer_tree) × AreWrittenAllowed networks.now ((state S.Store conn.old).now.trees allowed_tree)))) }
+    ensures answer { HasCleanDisk (state S.Store conn.new) → Laid (state S.Store conn.old) → IsSorted nat_cmp networks.now → IfOk result (λ is. IsTrue (state S.Store conn.old).is_open × (IsTrue is ↔ (AreWrittenPeers networks.now ((state S.Store conn.old).now.trees peer_tree) × AreWrittenAllowed networks.now ((state S.Store conn.old).now.trees allowed_tree)))) }
     ensures kept { (HasCleanDisk (state S.Store conn.new) → Laid (state S.Store conn.old)) → IsKept (state S.Store conn.old) (state S.Store conn.new) }
     ensures survives { Survives (state S.Store conn.old) (state S.Store conn.new) (λ _. ⊥) }
     ensures cause { (HasCleanDisk (state S.Store conn.new) → Laid (state S.Store conn.old)) → IfErr result (HasCause (state S.Store conn.old) (state S.Store conn.new)) }

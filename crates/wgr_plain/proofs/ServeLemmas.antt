@@ -18,12 +18,12 @@ served (e ∷ es) (a ∷ answers) = (event_of e, option_map answer_of a) ∷ ser
 
 -- where there is one for each, that is the whole list
 pub served_whole : (es : List event.Event) (answers : List (Option answer.Answer)) → length answers ≡ length es → AreAnswered es answers (served es answers)
-served_whole [] [] h = record { asked = refl; told = refl }
+served_whole [] [] h = record { asked = refl; reported = refl }
 served_whole [] (a ∷ answers) h = absurd (omega (arith, h))
 served_whole (e ∷ es) [] h = absurd (omega (arith, h))
 served_whole (e ∷ es) (a ∷ answers) h =
     let rest = served_whole es answers (omega (arith, h)) in
-    record { asked = ap (λ xs. event_of e ∷ xs) rest.asked; told = ap (λ xs. option_map answer_of a ∷ xs) rest.told }
+    record { asked = ap (λ xs. event_of e ∷ xs) rest.asked; reported = ap (λ xs. option_map answer_of a ∷ xs) rest.reported }
 
 -- a run to this very register
 abbrev pub IsExactRun : Register → List Served → Register → Type 0

@@ -56,7 +56,7 @@ pub record TellsPlan (text : Text) (old new : Streams) (status : ℕ) : Type 0 w
   pub answer : Result (Unit {0}) PlanFault
   pub spelled : SpellsPool text pool
   pub answers : Answers pool old new answer
-  pub told : status ≡ plan_status answer
+  pub reported : status ≡ plan_status answer
 
 abbrev pub RunsPlan : Text → Streams → Streams → ℕ → Type 0
 RunsPlan text old new status = RefusesPool text old new status ⊎ TellsPlan text old new status
@@ -85,8 +85,8 @@ abbrev pub TellsEnd : Option (List ℕ) → Option (List ℕ) → Bool → Bool 
 TellsEnd written written' failed failed' (Ok done) status = TellsDone written written' failed failed' status
 TellsEnd written written' failed failed' (Err why) status = (status ≡ failure_status why) × (written' ≡ written) × (failed' ≡ failed)
 
-abbrev pub Told : Streams → Streams → Result Done Failure → ℕ → Type 0
-Told old new answer status = TellsEnd old.written new.written old.write_failed new.write_failed answer status
+abbrev pub Reports : Streams → Streams → Result Done Failure → ℕ → Type 0
+Reports old new answer status = TellsEnd old.written new.written old.write_failed new.write_failed answer status
 
 -- a register is made, or a fault is reported; nothing is read
 pub record RunsInit {D : Type 0} (g : disk.Ghosts D) (start : Image) (closed : Option (Files D)) (old new : Streams) (status : ℕ) : Type 0 where
@@ -94,7 +94,7 @@ pub record RunsInit {D : Type 0} (g : disk.Ghosts D) (start : Image) (closed : O
   pub made : IfOk answer (λ done. IsMade g start closed)
   pub kept : IfErr answer (λ why. Stays g start closed)
   pub fault : IfErr answer (λ why. failure_status why ≡ FAULT)
-  pub told : Told old new answer status
+  pub reported : Reports old new answer status
   pub unread : ReadsNothing old new
 
 abbrev pub input_in : Streams → Input
@@ -104,7 +104,7 @@ input_in s = record { remaining = s.input; failed = s.read_failed }
 pub record RunsOrder {D : Type 0} (g : disk.Ghosts D) (start : Image) (closed : Option (Files D)) (asked : OrderAsked) (old new : Streams) (status : ℕ) : Type 0 where
   pub answer : Result Done Failure
   pub carried : CarriesOut g start closed asked (input_in old) (input_in new) answer
-  pub told : Told old new answer status
+  pub reported : Reports old new answer status
   pub unread : wants_token asked ≡ false → ReadsNothing old new
 
 abbrev pub output_in : Streams → Output
@@ -120,7 +120,7 @@ batch_status (Err why) = failure_status why
 pub record RunsBatch {D : Type 0} (g : disk.Ghosts D) (start : Image) (closed : Option (Files D)) (now : Text) (files : List Text) (old new : Streams) (status : ℕ) : Type 0 where
   pub answer : Result Bool Failure
   pub ends : EndsBatch g start closed now files (output_in old) (output_in new) answer
-  pub told : status ≡ batch_status answer
+  pub reported : status ≡ batch_status answer
   pub unread : ReadsNothing old new
 
 abbrev pub serve_status : Result (Unit {0}) Failure → ℕ
@@ -131,7 +131,7 @@ serve_status (Err why) = failure_status why
 pub record RunsServe {D : Type 0} (g : disk.Ghosts D) (start : Image) (closed : Option (Files D)) (place count : Text) (now : Option Text) (before after : Log) (old new : Streams) (status : ℕ) : Type 0 where
   pub answer : Result (Unit {0}) Failure
   pub ends : EndsServe g start closed place count now before after (output_in old) (output_in new) answer
-  pub told : status ≡ serve_status answer
+  pub reported : status ≡ serve_status answer
   pub unread : ReadsNothing old new
 
 -- ---- the command line
@@ -166,7 +166,7 @@ FailsToWrite old new status = ReadsNothing old new × (new.write_failed ≡ true
 pub record TellsKind (kinds : Kinds) (old new : Streams) (status : ℕ) : Type 0 where
   pub kind : ErrorKind
   pub among : IsAmong kind kinds
-  pub told : status ≡ kind_status kind
+  pub reported : status ≡ kind_status kind
   pub unread : ReadsNothing old new
   pub sound : new.write_failed ≡ old.write_failed
   pub kept : kind_status kind ≢ DONE → new ≡ old
@@ -178,7 +178,7 @@ TellsError kinds old new status = LacksMemory old new status ⊎ FailsToWrite ol
 -- The words ask for something, or for nothing. Only `serve` uses the network.
 pub record Serves {D : Type 0} (g : disk.Ghosts D) (start : Image) (closed : Option (Files D)) (words : List Text) (before after : Log) (old new : Streams) (status : ℕ) : Type 0 where
   pub served : IfSome (asked_by words) (λ asked. ServesAsked g start closed asked before after old new status)
-  pub told : IfNone (asked_by words) ((after ≡ before) × TellsError (wrong_with words) old new status)
+  pub reported : IfNone (asked_by words) ((after ≡ before) × TellsError (wrong_with words) old new status)
 
 -- the arguments are not available: they aren't UTF-8, or there is no memory; nothing is read or printed
 pub record LacksWords (why : io.ErrorKind) (old new : Streams) (status : ℕ) : Type 0 where

@@ -141,7 +141,7 @@ module _ (t : Tables) (good : AreConsistent t) where
 
   settings_at : (w : NetworkRow) → Has t.networks w → AreSettings w
   settings_at w here =
-      let told = (consistent_is_whole t good).told w here in
+      let told = (consistent_is_whole t good).stored w here in
       subst AreSettings (one_network told.1.row w told.1.there here told.1.id_is) (told_settings t w.id told.0 told.1)
 
   holder_low : (ts : List Tenant) (id : ℕ) → AllByRecursion IsTenant ts → has_tenant ts id ≡ true → id < 4294967296
@@ -171,4 +171,4 @@ module _ (t : Tables) (good : AreConsistent t) where
 
   -- the rows of a network that is there tell it
   pub told_at : (w : NetworkRow) → Has t.networks w → (id : ℕ) → w.id ≡ id → (n : NetworkValue) × IsStored t id n
-  told_at w here id is = subst (λ i. (n : NetworkValue) × IsStored t i n) is ((consistent_is_whole t good).told w here)
+  told_at w here id is = subst (λ i. (n : NetworkValue) × IsStored t i n) is ((consistent_is_whole t good).stored w here)

@@ -31,7 +31,7 @@ fn says_first(rows: &[Row]) -> bool
 fn is_first_version<S: Alter>(conn: &mut Connection<S>) -> Result<bool, Fault>
     requires idle { conn.old.in_transaction ≡ false }
     ensures idle { conn.new.in_transaction ≡ false }
-    ensures told { HasCleanDisk (state S.Store conn.new) → IfOk result (λ is. IsTrue is ↔ IsFirstVersion (state S.Store conn.old).now) }
+    ensures answer { HasCleanDisk (state S.Store conn.new) → IfOk result (λ is. IsTrue is ↔ IsFirstVersion (state S.Store conn.old).now) }
     ensures kept { IsKept (state S.Store conn.old) (state S.Store conn.new) }
     ensures survives { Survives (state S.Store conn.old) (state S.Store conn.new) (λ _. ⊥) }
     ensures cause { IfErr result (HasCause (state S.Store conn.old) (state S.Store conn.new)) }

@@ -251,7 +251,7 @@ fn load_row<S: Alter>(
     ensures read { (db : Database) (pending : List Written) → Stands S.Store conn.old db pending → AreKeyed (tables_of db) → HasCleanDisk (state S.Store conn.new) → number_at row.now 0 ≡ network
         → IfOk result (λ n. n ≡ (holding_of (tables_of db) (network_in row.now)).network) }
     ensures survives { Survives (state S.Store conn.old) (state S.Store conn.new) (λ _. ⊥) }
-    ensures cause { (db : Database) (pending : List Written) (n : NetworkValue) → Stands S.Store conn.old db pending → (told : IsStored (tables_of db) network n) → (HasCleanDisk (state S.Store conn.new) → (network_in row.now ≡ told.row) × (row.now ≡ stored_network (network_in row.now))) → IfErr result (HasCause (state S.Store conn.old) (state S.Store conn.new)) }
+    ensures cause { (db : Database) (pending : List Written) (n : NetworkValue) → Stands S.Store conn.old db pending → (stored : IsStored (tables_of db) network n) → (HasCleanDisk (state S.Store conn.new) → (network_in row.now ≡ stored.row) × (row.now ≡ stored_network (network_in row.now))) → IfErr result (HasCause (state S.Store conn.old) (state S.Store conn.new)) }
 {
     let peers = load_peers(alloc, conn, network)?;
     let routes = load_routes(alloc, conn, network)?;

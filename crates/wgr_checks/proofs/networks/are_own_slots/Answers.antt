@@ -8,8 +8,8 @@ use Rattle.wgr_checks.specs.NetworkRows.{slot_at}
 use Rattle.wgr_checks.proofs.NetworkLemmas.{put_apart, apart_put}
 use Rattle.wgr_checks.proofs.networks.are_own_slots.Goals as goal
 
-pub returns-clause-told : goal.returns-clause-told
-returns-clause-told c =
+pub returns-clause-answer : goal.returns-clause-answer
+returns-clause-answer c =
     let some = rw c.in-Some.is at c.in_ok-all.ensures.some in
     let all = c.in-Some.all.items in
     let put = c.sort_slots.new.all.items in

@@ -6,8 +6,8 @@ use Rattle.wgr_sql.proofs.CauseLemmas.{handed}
 use Rattle.wgr_checks.proofs.CauseLemmas.{all_of_memory}
 use Rattle.wgr_checks.proofs.tenants.have_own_names.Goals as goal
 
-pub returns-clause-told : goal.returns-clause-told
-returns-clause-told g c clean laid =
+pub returns-clause-answer : goal.returns-clause-answer
+returns-clause-answer g c clean laid =
     let table = (state g.S.Store c.args.conn.now).now.trees 1 in
     let rows = c.in_ok-rows.rows.items in
     let listed = c.in_ok-rows.ensures.listed clean laid in

@@ -6,8 +6,8 @@ use Rattle.wgr_sql.proofs.CauseLemmas.{handed}
 use Rattle.wgr_checks.proofs.CauseLemmas.{all_of_memory}
 use Rattle.wgr_checks.proofs.tokens.have_owners.Goals as goal
 
-pub returns-clause-told : goal.returns-clause-told
-returns-clause-told g c clean laid rise =
+pub returns-clause-answer : goal.returns-clause-answer
+returns-clause-answer g c clean laid rise =
     let table = (state g.S.Store c.args.conn.now).now.trees 3 in
     let rows = c.in_ok-rows.rows.items in
     let listed = c.in_ok-rows.ensures.listed clean laid in

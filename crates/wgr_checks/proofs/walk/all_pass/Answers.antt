@@ -25,8 +25,8 @@ rows-init g c = (
   tt,
 )
 
-pub returns-in_default-clause-told : goal.returns-in_default-clause-told
-returns-in_default-clause-told g c clean laid up given =
+pub returns-in_default-clause-answer : goal.returns-in_default-clause-answer
+returns-in_default-clause-answer g c clean laid up given =
     let text = text_of c.args.table in
     let mid = c.rows.rows.conn.now in
     let new = c.advance.new.self.conn.now in
@@ -40,8 +40,8 @@ returns-in_default-clause-told g c clean laid up given =
       (λ all. refl),
     )
 
-pub returns-in_default-passing_rowid-clause-told : goal.returns-in_default-passing_rowid-clause-told
-returns-in_default-passing_rowid-clause-told g c clean laid up given =
+pub returns-in_default-passing_rowid-clause-answer : goal.returns-in_default-passing_rowid-clause-answer
+returns-in_default-passing_rowid-clause-answer g c clean laid up given =
     let text = text_of c.args.table in
     let mid = c.rows.rows.conn.now in
     let new = c.advance.new.self.conn.now in

@@ -32,8 +32,8 @@ returns-in-Err-clause-survives g c =
     let kept : Survives old new (CommitsShowing c.text.result.now [] old) = search rules in
     commits_nothing c.args.table [] old new (subst (λ t. Survives old new (CommitsShowing t [] old)) c.text.ensures kept)
 
-pub returns-clause-told : goal.returns-clause-told
-returns-clause-told g c clean laid up =
+pub returns-clause-answer : goal.returns-clause-answer
+returns-clause-answer g c clean laid up =
     let first = c.args.conn.now in
     let mid = c.in-Ok.rows.conn.now in
     let end = c.all_pass.new.rows.conn.now in
@@ -45,7 +45,7 @@ returns-clause-told g c clean laid up =
     if_ok c.all_pass.result _ _ (λ is told. (
       start.1.0.was_open,
       subst (λ (d : Database). IsTrue is ↔ AreOwnRows (IsRowOf c.args.table c.args.networks.now) (d.trees (tree_of c.args.table))) start.1.0.now_is told,
-    )) (c.all_pass.ensures.told late here up start.0)
+    )) (c.all_pass.ensures.answer late here up start.0)
 
 pub returns-clause-kept : goal.returns-clause-kept
 returns-clause-kept g c laid clean live =

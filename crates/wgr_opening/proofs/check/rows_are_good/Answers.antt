@@ -28,7 +28,7 @@ returns-clause-good g c clean first =
       live,
       is_good old.now (first live).0 (first live).1 sound ids found.1 (subst (AllByRecursion (StoresNetwork (tables_of old.now))) c.as_slice.ensures.value (told.0 so)),
       c.networks_are_stored.ensures.stands old.now [] stood,
-    )) (c.networks_are_stored.ensures.told old.now [] stood clean)
+    )) (c.networks_are_stored.ensures.answer old.now [] stood clean)
 
 pub returns-clause-kept : goal.returns-clause-kept
 returns-clause-kept g c version clean shown =
@@ -67,7 +67,7 @@ returns-clause-only g c clean first =
     if_ok c.networks_are_stored.result _ _ (λ is told. (
       live,
       λ good. told.1 (subst (AllByRecursion (StoresNetwork (tables_of old.now))) (sym c.as_slice.ensures.value) (all_told old.now good ids found.1.there.ids)),
-    )) (c.networks_are_stored.ensures.told old.now [] stood clean)
+    )) (c.networks_are_stored.ensures.answer old.now [] stood clean)
 
 pub returns-in_err-networks-clause-cause : goal.returns-in_err-networks-clause-cause
 returns-in_err-networks-clause-cause g c version =

@@ -22,7 +22,7 @@ returns-clause-some g c clean laid =
     let found = subst (λ o. IfSome o (λ x. IsTrue old.is_open × AreGoodTenants (old.now.trees 1) × AreIdsOf (old.now.trees 1) x.items)) c.in-Some.is (c.in_ok-tenants.ensures.some before laid) in
     let kept = c.read_tenants.ensures.kept (λ _. laid) in
     let sorted = subst (IsSorted nat_cmp) (sym c.as_slice.ensures.value) found.2.sorted in
-    let told = c.in_ok-tokens_are_good.ensures.told clean (laid_still old mid before laid kept) sorted in
+    let told = c.in_ok-tokens_are_good.ensures.answer clean (laid_still old mid before laid kept) sorted in
     let tokens = subst (λ l. AreGoodTokens l (mid.now.trees 3)) c.as_slice.ensures.value (told.1.0 c.if-not-branch.false) in (
       found.0,
       record {
@@ -55,7 +55,7 @@ returns-then-not-branch-clause-none g c clean laid =
     let found = subst (λ o. IfSome o (λ x. IsTrue old.is_open × AreGoodTenants (old.now.trees 1) × AreIdsOf (old.now.trees 1) x.items)) c.in-Some.is (c.in_ok-tenants.ensures.some before laid) in
     let kept = c.read_tenants.ensures.kept (λ _. laid) in
     let sorted = subst (IsSorted nat_cmp) (sym c.as_slice.ensures.value) found.2.sorted in
-    let told = c.in_ok-tokens_are_good.ensures.told clean (laid_still old mid before laid kept) sorted in (
+    let told = c.in_ok-tokens_are_good.ensures.answer clean (laid_still old mid before laid kept) sorted in (
       found.0,
       λ good.
           let here = subst (λ (d : Database). AreGoodTokens ids (d.trees 3)) (sym (kept before told.0).1) (good_tokens old.now good ids found.2) in

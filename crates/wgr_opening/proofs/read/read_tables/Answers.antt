@@ -28,7 +28,7 @@ returns-then-not-branch-clause-none g c clean laid =
     let found = subst (λ o. IfSome o (λ x. IsTrue old.is_open × HasNetworks old.now.trees x.items)) c.in-Some.is (c.in_ok-networks.ensures.some before laid) in
     let kept = c.read_holdings.ensures.kept (λ _. laid) in
     let sorted = subst (IsSorted nat_cmp) (sym c.as_slice.ensures.value) found.1.ids.sorted in
-    let told = c.in_ok-are_members_written.ensures.told clean (laid_still old mid before laid kept) sorted in (
+    let told = c.in_ok-are_members_written.ensures.answer clean (laid_still old mid before laid kept) sorted in (
       found.0,
       λ good.
           let here = subst (λ (d : Database). AreWrittenPeers ids (d.trees 8) × AreWrittenAllowed ids (d.trees 10)) (sym (kept before told.0).1) (written_peers old.now good ids found.1.ids, written_allowed old.now good ids found.1.ids) in

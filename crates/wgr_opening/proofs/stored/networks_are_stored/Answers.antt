@@ -33,14 +33,14 @@ loop-network-preserved g c =
       survives_next _ _ _ before.4 c.network_if_stored.ensures.survives,
     )
 
-pub returns-clause-told : goal.returns-clause-told
-returns-clause-told g c db pending stood clean = (
+pub returns-clause-answer : goal.returns-clause-answer
+returns-clause-answer g c db pending stood clean = (
   (λ so. all_places (StoresNetwork (tables_of db)) c.args.networks.now 0 (λ k low. c.loop-network.invariant.3 db pending stood clean k (omega (arith, low, c.loop-network-test.false)))),
   (λ all. refl),
 )
 
-pub returns-in_default-clause-told : goal.returns-in_default-clause-told
-returns-in_default-clause-told g c db pending stood clean =
+pub returns-in_default-clause-answer : goal.returns-in_default-clause-answer
+returns-in_default-clause-answer g c db pending stood clean =
     let at = c.loop-network.network-index in
     let ids = c.args.networks.now in
     let none = subst (λ o. IfNone o ((n : NetworkValue) → IsStored (tables_of db) (slice_index_or ids at 0) n → ⊥)) c.in_default.is (c.in_ok-network_if_stored.ensures.none db pending (c.loop-network.invariant.1 db pending stood) clean) in (

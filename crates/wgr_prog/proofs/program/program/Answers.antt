@@ -48,7 +48,7 @@ tells_error kinds error old new status unread (inl memory) (inr told) kept faile
     tells_fault kinds old new status unread fault (failed fault)
 tells_error kinds error old new status unread (inr among) (inr told) kept failed sound = elim (is_fault status) [
   | inl fault ↦ tells_fault kinds old new status unread fault (failed fault)
-  | inr other ↦ inr (inr (record { kind = kind_of error; among = among; told = told; unread = unread; sound = sound other; kept = kept }))
+  | inr other ↦ inr (inr (record { kind = kind_of error; among = among; reported = told; unread = unread; sound = sound other; kept = kept }))
 ]
 
 if_none : {P : Type 0} (asked : Option Asked) → P → IfNone asked P
@@ -72,7 +72,7 @@ returns-in-Err g c =
     let kept = kept_streams g.R.Read.remaining g.R.Read.failed g.W.Write.contents g.W.Write.failed c.args.input.now _ _ in
     record {
       served = lacks_memory _ _ _ _ _ _ _ _ _ c.in-Err.ensures.err (λ other. kept (c.no_invocation.ensures.kept other)) c.no_invocation.ensures.status;
-      told = if_none _ (untouched (g.N.Network.log c.args.network.now) (tells_error _ c.in-Err.answer _ _ _ (refl, refl) c.in-Err.ensures.kinds c.no_invocation.ensures.status
+      reported = if_none _ (untouched (g.N.Network.log c.args.network.now) (tells_error _ c.in-Err.answer _ _ _ (refl, refl) c.in-Err.ensures.kinds c.no_invocation.ensures.status
           (λ other. kept (c.no_invocation.ensures.kept other))
           (λ fault. left_of kept (c.no_invocation.ensures.fault fault))
           c.no_invocation.ensures.sound));
@@ -81,7 +81,7 @@ returns-in-Err g c =
 -- what is asked for is run
 serves : {D : Type 0} (g : disk.Ghosts D) (start : Image) (closed : Option (Files D)) (words : List Text) (asked : Asked) (before after : Log) (old new : Streams) (status : ℕ) → asked_by words ≡ Some asked
     → Runs g start closed asked before after old new status → Serves g start closed words before after old new status
-serves g start closed words asked before after old new status is runs = record { served = rw is (inr runs); told = rw is tt }
+serves g start closed words asked before after old new status is runs = record { served = rw is (inr runs); reported = rw is tt }
 
 pub returns-in-Ok-Init : goal.returns-in-Ok-Init
 returns-in-Ok-Init g c =

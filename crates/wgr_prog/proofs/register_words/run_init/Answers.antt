@@ -3,8 +3,8 @@ use Rattle.wgr_prog.specs.declared.register_words.Failure.TheVariants as failure
 use Rattle.wgr_prog.proofs.register_words.run_init.Goals as goal
 
 pub returns-in-Ok : goal.returns-in-Ok
-returns-in-Ok g c input failed = record { answer = Ok (record {}); made = c.in-Ok.ensures.made; kept = tt; fault = tt; told = c.done.ensures; unread = (refl, refl) }
+returns-in-Ok g c input failed = record { answer = Ok (record {}); made = c.in-Ok.ensures.made; kept = tt; fault = tt; reported = c.done.ensures; unread = (refl, refl) }
 
 pub returns-in-Err : goal.returns-in-Err
 returns-in-Err g c input failed =
-    record { answer = Err (failure.Register c.in-Err.fault); made = tt; kept = c.in-Err.ensures.kept; fault = refl; told = (c.failure.ensures.status, refl, refl); unread = (refl, refl) }
+    record { answer = Err (failure.Register c.in-Err.fault); made = tt; kept = c.in-Err.ensures.kept; fault = refl; reported = (c.failure.ensures.status, refl, refl); unread = (refl, refl) }

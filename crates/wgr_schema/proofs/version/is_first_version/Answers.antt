@@ -7,8 +7,8 @@ use Rattle.wgr_schema.specs.FirstVersion.{SaysFirst}
 use Rattle.wgr_schema.proofs.VersionLemmas.{version_found, query_is_plain, version_answered}
 use Rattle.wgr_schema.proofs.version.is_first_version.Goals as goal
 
-pub returns-clause-told : goal.returns-clause-told
-returns-clause-told g c clean =
+pub returns-clause-answer : goal.returns-clause-answer
+returns-clause-answer g c clean =
     let laid : IsLaidOut (state g.S.Store c.args.conn.now).now.schema = search rules in
     let answer = c.in_ok-rows.ensures.shown clean in
     let rows = c.in_ok-rows.rows.items in

@@ -6,4 +6,4 @@ use Rattle.wgr_service.proofs.laws.connections_are_apart.Goals as goal
 
 pub returns : goal.returns
 returns c rows after xs served world =
-    (λ tenant. (given_own tenant (rows_view rows tenant) (map asked_of xs) (map answer_of xs) served world.told (world.apart.answered tenant), world.apart.views tenant), world.apart.holders)
+    (λ tenant. (given_own tenant (rows_view rows tenant) (map asked_of xs) (map answer_of xs) served world.reported (world.apart.answered tenant), world.apart.views tenant), world.apart.holders)
