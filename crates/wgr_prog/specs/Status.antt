@@ -136,20 +136,20 @@ pub record RunsServe {D : Type 0} (g : disk.Ghosts D) (start : Image) (closed : 
 
 -- ---- the command line
 
--- there is no memory, and nothing is read or printed
+-- there is no memory; nothing is read or printed
 abbrev pub LacksMemory : Streams → Streams → ℕ → Type 0
 LacksMemory old new status = (new ≡ old) × (status ≡ FAULT)
 
 abbrev pub Runs : {D : Type 0} → disk.Ghosts D → Image → Option (Files D) → Asked → Log → Log → Streams → Streams → ℕ → Type 0
-Runs g start closed (Plan pool) before after old new status = (after ≡ before) × RunsPlan pool old new status
+Runs g start closed (Plan pool) before after old new status = (after ≡ before) × Stays g start closed × RunsPlan pool old new status
 Runs g start closed (Init db) before after old new status = (after ≡ before) × RunsInit g start closed old new status
 Runs g start closed (Operate db order) before after old new status = (after ≡ before) × RunsOrder g start closed order old new status
 Runs g start closed (Batch db now files) before after old new status = (after ≡ before) × RunsBatch g start closed now files old new status
 Runs g start closed (Serve db place count now) before after old new status = RunsServe g start closed place count now before after old new status
 
--- the words ask for something
+-- The words ask for something: it is run, or there is no memory and the files stay as they are.
 abbrev pub ServesAsked : {D : Type 0} → disk.Ghosts D → Image → Option (Files D) → Asked → Log → Log → Streams → Streams → ℕ → Type 0
-ServesAsked g start closed asked before after old new status = ((after ≡ before) × LacksMemory old new status) ⊎ Runs g start closed asked before after old new status
+ServesAsked g start closed asked before after old new status = ((after ≡ before) × Stays g start closed × LacksMemory old new status) ⊎ Runs g start closed asked before after old new status
 
 -- asking for help or the version is not a mistake
 abbrev pub kind_status : ErrorKind → ℕ
@@ -178,7 +178,7 @@ TellsError kinds old new status = LacksMemory old new status ⊎ FailsToWrite ol
 -- The words ask for something, or for nothing. Only `serve` uses the network.
 pub record Serves {D : Type 0} (g : disk.Ghosts D) (start : Image) (closed : Option (Files D)) (words : List Text) (before after : Log) (old new : Streams) (status : ℕ) : Type 0 where
   pub served : IfSome (asked_by words) (λ asked. ServesAsked g start closed asked before after old new status)
-  pub reported : IfNone (asked_by words) ((after ≡ before) × TellsError (wrong_with words) old new status)
+  pub reported : IfNone (asked_by words) ((after ≡ before) × Stays g start closed × TellsError (wrong_with words) old new status)
 
 -- the arguments are not available: they aren't UTF-8, or there is no memory; nothing is read or printed
 pub record LacksWords (why : io.ErrorKind) (old new : Streams) (status : ℕ) : Type 0 where

@@ -4,6 +4,7 @@ ghost use Rattle.std.specs.IoError.{error_kind};
 ghost use Rattle.std.specs.declared.io.ErrorKind.TheVariants.{InvalidData};
 ghost use Rattle.sqlite.specs.WalFiles.{image_at};
 ghost use Rattle.clap.specs.Words.{kind_of};
+ghost use Rattle.wgr_file.specs.OnFiles.{Stays};
 ghost use Rattle.wgr_prog.specs.Status.{LacksWords, RunsPlan, Serves, fault_status, kind_status, streams};
 ghost use Rattle.wgr_prog.specs.declared.messages.TheConstants.{DONE, FAULT, REFUSED};
 
@@ -43,7 +44,7 @@ pub fn run<S: Start, N: Network, R: Read, W: Write, E: Write>(
     err: &mut E,
 ) -> (u8, Closed<S>)
     ensures serves { IfOk arguments.now (λ all. Serves ⟦<FileFrom<S> as Disk>⟧ (image_at S.Start) result.1 (map string_bytes (drop 1 all.items)) (N.log network.old) (N.log network.new) (streams R.remaining R.failed W.contents W.failed input.old out.old) (streams R.remaining R.failed W.contents W.failed input.new out.new) result.0) }
-    ensures lacks { IfErr arguments.now (λ error. (N.log network.new ≡ N.log network.old) × LacksWords (error_kind error) (streams R.remaining R.failed W.contents W.failed input.old out.old) (streams R.remaining R.failed W.contents W.failed input.new out.new) result.0) }
+    ensures lacks { IfErr arguments.now (λ error. (N.log network.new ≡ N.log network.old) × Stays ⟦<FileFrom<S> as Disk>⟧ (image_at S.Start) result.1 × LacksWords (error_kind error) (streams R.remaining R.failed W.contents W.failed input.old out.old) (streams R.remaining R.failed W.contents W.failed input.new out.new) result.0) }
 {
     match arguments {
         Ok(all) => program(rt, start, words_of(all), network, input, out, err),
