@@ -4,4 +4,4 @@ pub mod LawLemmas
 pub mod LineLemmas
 pub mod PartLemmas
 pub mod TakingLemmas
-pub mod ToldLemmas
+pub mod MeantLemmas

@@ -1,10 +1,10 @@
-pub mod AllowedTold
+pub mod MeantPrefixes
 pub mod Dump
 pub mod Fault
 pub mod Fields
 pub mod Laws
-pub mod LinesTold
+pub mod MeantLines
 pub mod PartsLeft
 pub mod Taking
-pub mod Told
+pub mod Meant
 pub mod Unique

@@ -5,7 +5,7 @@ ghost use Rattle.std.specs.Iterator.{YieldsFirst, item_count};
 ghost use Rattle.wgr_text.specs.Prefix.{PrefixValue};
 ghost use Rattle.wgr_dump.specs.Fields.{Each, SpellsMasked, SpellsAllowed};
 ghost use Rattle.wgr_dump.specs.PartsLeft.{left};
-ghost use Rattle.wgr_dump.specs.AllowedTold.{AllowedTold, AllowedTold-prop};
+ghost use Rattle.wgr_dump.specs.MeantPrefixes.{MeantPrefixes, MeantPrefixes-prop};
 
 use crate::remaining_parts::RemainingParts;
 use std::marker::Model;
@@ -15,7 +15,7 @@ use wgr_text::{Prefix, read_loose};
 #[derive(Drop)]
 pub struct Allowed<'a> {
     pub(crate) items: RemainingParts<'a>,
-    ghost known: { AllowedTold (left items) } by { AllowedTold-prop (left items) },
+    ghost known: { MeantPrefixes (left items) } by { MeantPrefixes-prop (left items) },
 }
 
 impl<'a> Model for Allowed<'a> {
@@ -23,11 +23,11 @@ impl<'a> Model for Allowed<'a> {
     ghost use Rattle.wgr_text.specs.Prefix.{PrefixValue};
     ghost use Rattle.wgr_dump.specs.Fields.{SpellsMasked};
     ghost use Rattle.wgr_dump.specs.PartsLeft.{left};
-    ghost use Rattle.wgr_dump.specs.Told.{told};
+    ghost use Rattle.wgr_dump.specs.Meant.{meant};
 
     ghost Value = { List PrefixValue };
 
-    ghost view = { λ a. told SpellsMasked (left a.items) a.known };
+    ghost view = { λ a. meant SpellsMasked (left a.items) a.known };
 }
 
 impl<'a> Iterator for Allowed<'a> {

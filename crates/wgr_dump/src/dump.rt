@@ -4,7 +4,7 @@ ghost use Rattle.wgr_dump.specs.Fields.{Each};
 ghost use Rattle.wgr_dump.specs.Dump.{LineValue, IsPeerLine, IsDump};
 ghost use Rattle.wgr_text.specs.Lines.{lines_of};
 ghost use Rattle.wgr_dump.specs.Fault.{IsBadPeer, IsFirstBad};
-ghost use Rattle.wgr_dump.specs.LinesTold.{LinesTold, LinesTold-prop};
+ghost use Rattle.wgr_dump.specs.MeantLines.{MeantLines, MeantLines-prop};
 
 use crate::interface::InterfaceLine;
 use crate::lines::Lines;
@@ -27,17 +27,17 @@ pub struct BadDump {
 pub struct Dump<'a> {
     interface: InterfaceLine<'a>,
     peers: &'a [u8],
-    ghost known: { LinesTold (lines_of peers.now) } by { LinesTold-prop (lines_of peers.now) },
+    ghost known: { MeantLines (lines_of peers.now) } by { MeantLines-prop (lines_of peers.now) },
 }
 
 impl<'a> Model for Dump<'a> {
     ghost use Rattle.wgr_dump.specs.Dump.{DumpValue, IsPeerLine};
     ghost use Rattle.wgr_text.specs.Lines.{lines_of};
-    ghost use Rattle.wgr_dump.specs.Told.{told};
+    ghost use Rattle.wgr_dump.specs.Meant.{meant};
 
     ghost Value = { DumpValue };
 
-    ghost view = { λ d. record { interface = d.interface; lines = told IsPeerLine (lines_of d.peers.now) d.known } };
+    ghost view = { λ d. record { interface = d.interface; lines = meant IsPeerLine (lines_of d.peers.now) d.known } };
 }
 
 impl<'a> Dump<'a> {

@@ -3,7 +3,7 @@ ghost use Rattle.std.specs.Prelude.{◌≡◌, IfSome, IfNone};
 ghost use Rattle.std.specs.Iterator.{YieldsFirst, item_count};
 ghost use Rattle.wgr_dump.specs.Dump.{LineValue, IsPeerLine};
 ghost use Rattle.wgr_text.specs.Lines.{lines_of};
-ghost use Rattle.wgr_dump.specs.LinesTold.{LinesTold, LinesTold-prop};
+ghost use Rattle.wgr_dump.specs.MeantLines.{MeantLines, MeantLines-prop};
 
 use crate::peer_line::PeerLine;
 use std::marker::Model;
@@ -13,18 +13,18 @@ use wgr_text::first_line;
 #[derive(Drop)]
 pub struct Lines<'a> {
     pub(crate) rest: &'a [u8],
-    ghost known: { LinesTold (lines_of rest.now) } by { LinesTold-prop (lines_of rest.now) },
+    ghost known: { MeantLines (lines_of rest.now) } by { MeantLines-prop (lines_of rest.now) },
 }
 
 impl<'a> Model for Lines<'a> {
     ghost use Rattle.std.specs.Prelude.{List};
     ghost use Rattle.wgr_dump.specs.Dump.{LineValue, IsPeerLine};
     ghost use Rattle.wgr_text.specs.Lines.{lines_of};
-    ghost use Rattle.wgr_dump.specs.Told.{told};
+    ghost use Rattle.wgr_dump.specs.Meant.{meant};
 
     ghost Value = { List LineValue };
 
-    ghost view = { λ l. told IsPeerLine (lines_of l.rest.now) l.known };
+    ghost view = { λ l. meant IsPeerLine (lines_of l.rest.now) l.known };
 }
 
 impl<'a> Iterator for Lines<'a> {

@@ -5,7 +5,7 @@ ghost use Rattle.wgr_dump.specs.Fields.{SpellsKey, fields_of, peer_forms};
 ghost use Rattle.wgr_dump.specs.Dump.{LineValue, IsPeerLine};
 ghost use Rattle.wgr_dump.specs.Fault.{IsBadField};
 ghost use Rattle.wgr_dump.specs.PartsLeft.{left};
-ghost use Rattle.wgr_dump.specs.AllowedTold.{AllowedTold, AllowedTold-prop};
+ghost use Rattle.wgr_dump.specs.MeantPrefixes.{MeantPrefixes, MeantPrefixes-prop};
 
 use crate::allowed::Allowed;
 use crate::remaining_parts::RemainingParts;
@@ -26,18 +26,18 @@ pub struct PeerLine<'a> {
     received: WrittenCount<'a>,
     sent: WrittenCount<'a>,
     keepalive: u16,
-    ghost known: { AllowedTold (left items) } by { AllowedTold-prop (left items) },
+    ghost known: { MeantPrefixes (left items) } by { MeantPrefixes-prop (left items) },
 }
 
 impl<'a> Model for PeerLine<'a> {
     ghost use Rattle.wgr_dump.specs.Fields.{SpellsKey, SpellsMasked};
     ghost use Rattle.wgr_dump.specs.Dump.{LineValue};
     ghost use Rattle.wgr_dump.specs.PartsLeft.{left};
-    ghost use Rattle.wgr_dump.specs.Told.{told};
+    ghost use Rattle.wgr_dump.specs.Meant.{meant};
 
     ghost Value = { LineValue };
 
-    ghost view = { λ p. record { key = p.key; allowed = told SpellsMasked (left p.items) p.known; handshake = p.handshake; received = p.received; sent = p.sent; keepalive = p.keepalive } };
+    ghost view = { λ p. record { key = p.key; allowed = meant SpellsMasked (left p.items) p.known; handshake = p.handshake; received = p.received; sent = p.sent; keepalive = p.keepalive } };
 
     ghost invariant = { λ p. SpellsKey p.key_text.now p.key };
 }

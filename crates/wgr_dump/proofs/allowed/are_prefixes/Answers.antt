@@ -3,7 +3,7 @@ use Rattle.std.specs.Option.{is_some}
 use Rattle.std.proofs.lemmas.Bool.{false≢true}
 use Rattle.wgr_text.specs.Prefix.{PrefixValue}
 use Rattle.wgr_dump.specs.Fields.{Each, SpellsMasked}
-use Rattle.wgr_dump.proofs.ToldLemmas.{each_first, each_rest, each_more}
+use Rattle.wgr_dump.proofs.MeantLemmas.{each_first, each_rest, each_more}
 use Rattle.wgr_dump.proofs.allowed.are_prefixes.Goals as goal
 
 none_read : (r : Option PrefixValue) (P : Type 0) → is_some r ≡ false → IfNone r P → P

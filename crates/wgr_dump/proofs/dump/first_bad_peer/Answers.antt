@@ -5,7 +5,7 @@ use Rattle.wgr_text.specs.Lines.{lines_of}
 use Rattle.wgr_dump.specs.Fault.{IsBadPeer}
 use Rattle.wgr_dump.proofs.LineLemmas.{peer_is_good}
 use Rattle.wgr_text.proofs.LineLemmas.{first_and_others, no_lines, some_bytes}
-use Rattle.wgr_dump.proofs.ToldLemmas.{each_more}
+use Rattle.wgr_dump.proofs.MeantLemmas.{each_more}
 use Rattle.wgr_dump.proofs.dump.first_bad_peer.Goals as goal
 
 pub returns-in-Err : goal.returns-in-Err

@@ -2,8 +2,8 @@ use Rattle.std.proofs.Common.{suc, sym, subst, arith}
 use Rattle.wgr_dump.specs.Dump.{IsPeerLine}
 use Rattle.wgr_text.specs.Lines.{lines_of}
 use Rattle.wgr_dump.specs.Fault.{IsBadLine}
-use Rattle.wgr_dump.specs.LinesTold.{coded_line}
-use Rattle.wgr_dump.specs.Told.{told_said}
+use Rattle.wgr_dump.specs.MeantLines.{coded_line}
+use Rattle.wgr_dump.specs.Meant.{meant_said}
 use Rattle.wgr_dump.specs.Unique.{one_peer_line}
 use Rattle.wgr_dump.proofs.LineLemmas.{interface_is_good}
 use Rattle.wgr_dump.proofs.dump.Dump.open.Goals as goal
@@ -24,5 +24,5 @@ returns-clause-ok c = record {
   others = lines_of c.first_line.result.1.now;
   split = c.first_line.ensures.line;
   interface = c.in-Ok.ensures.ok;
-  peers = told_said IsPeerLine coded_line one_peer_line (lines_of c.first_line.result.1.now) _ c.in_default.ensures.0 c.in_default.ensures.1;
+  peers = meant_said IsPeerLine coded_line one_peer_line (lines_of c.first_line.result.1.now) _ c.in_default.ensures.0 c.in_default.ensures.1;
 }

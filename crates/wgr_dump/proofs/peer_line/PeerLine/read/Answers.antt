@@ -1,8 +1,8 @@
 use Rattle.std.proofs.Common.{drop, refl, sym, subst, ◌∙◌}
-use Rattle.wgr_dump.specs.AllowedTold.{coded_prefix}
+use Rattle.wgr_dump.specs.MeantPrefixes.{coded_prefix}
 use Rattle.wgr_dump.specs.Fields.{SpellsMasked, SpellsAllowed, peer_forms, a_key, a_key_or_none, a_word, prefixes, a_count, a_keepalive}
 use Rattle.wgr_dump.specs.PartsLeft.{left}
-use Rattle.wgr_dump.specs.Told.{told_same}
+use Rattle.wgr_dump.specs.Meant.{meant_same}
 use Rattle.wgr_dump.specs.Unique.{one_masked}
 use Rattle.wgr_dump.proofs.TakingLemmas.{bad_here, bad_later, bad_end, at_end, field_then}
 use Rattle.wgr_dump.proofs.peer_line.PeerLine.read.Goals as goal
@@ -157,7 +157,7 @@ returns-clause-ok c =
       key = key.1;
       preshared_key = (c.in-Some-take_optional_key._preshared_key.1, preshared_key.1);
       endpoint = endpoint.2;
-      allowed = subst (λ ps. SpellsAllowed allowed.2.0 ps) (sym (told_same SpellsMasked coded_prefix one_masked (left c.in-Some-take_allowed.items) _ allowed.0 ∣ allowed.1 ∣₁)) allowed.2.2;
+      allowed = subst (λ ps. SpellsAllowed allowed.2.0 ps) (sym (meant_same SpellsMasked coded_prefix one_masked (left c.in-Some-take_allowed.items) _ allowed.0 ∣ allowed.1 ∣₁)) allowed.2.2;
       handshake = handshake.2;
       received = received.2;
       sent = sent.2;

@@ -5,7 +5,7 @@ use Rattle.wgr_text.specs.declared.addr.Family.{Family}
 use Rattle.wgr_text.specs.declared.addr.Family.TheVariants.{V4, V6}
 use Rattle.wgr_text.specs.Prefix.{PrefixValue}
 use Rattle.wgr_dump.specs.Fields.{SpellsMasked}
-use Rattle.wgr_dump.specs.Told.{Told, Told-prop}
+use Rattle.wgr_dump.specs.Meant.{Meant, Meant-prop}
 use Rattle.wgr_dump.specs.Unique.{one_masked}
 
 abbrev pub is_v4 : Family → Bool
@@ -33,8 +33,8 @@ kept p = λ i. record { address = record { family = same_family p.address.family
 abbrev pub coded_prefix : Coded PrefixValue
 coded_prefix = code_by (Bool × (ℕ × ℕ)) (coded× coded_bool (coded× coded_ℕ coded_ℕ)) code_of prefix_of kept
 
-abbrev pub AllowedTold : List (List ℕ) → Type 0
-AllowedTold items = Told SpellsMasked items
+abbrev pub MeantPrefixes : List (List ℕ) → Type 0
+MeantPrefixes items = Meant SpellsMasked items
 
-pub AllowedTold-prop : (items : List (List ℕ)) → IsProp (AllowedTold items)
-AllowedTold-prop items = Told-prop SpellsMasked coded_prefix one_masked items
+pub MeantPrefixes-prop : (items : List (List ℕ)) → IsProp (MeantPrefixes items)
+MeantPrefixes-prop items = Meant-prop SpellsMasked coded_prefix one_masked items

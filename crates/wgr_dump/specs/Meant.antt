@@ -8,12 +8,12 @@ use mathlib.Core.HLevel.{Σ_prop_path}
 use Rattle.wgr_dump.specs.Fields.{Each}
 use Rattle.wgr_dump.specs.Unique.{one_each}
 
-abbrev pub Told : {A B : Type 0} → (A → B → Type 0) → List A → Type 0
-Told {B = B} R xs = (ys : List B) × ∥ Each R xs ys ∥₁
+abbrev pub Meant : {A B : Type 0} → (A → B → Type 0) → List A → Type 0
+Meant {B = B} R xs = (ys : List B) × ∥ Each R xs ys ∥₁
 
 -- the list that the items say
-unfoldable pub told : {A B : Type 0} (R : A → B → Type 0) (xs : List A) → Told R xs → List B
-told R xs t = t.0
+unfoldable pub meant : {A B : Type 0} (R : A → B → Type 0) (xs : List A) → Meant R xs → List B
+meant R xs t = t.0
 
 -- an item says at most one value
 abbrev pub SaysOne : {A B : Type 0} → (A → B → Type 0) → Type 0
@@ -23,18 +23,18 @@ module _ {A B : Type 0} (R : A → B → Type 0) (code : Coded B) (one : SaysOne
   same_list : (xs : List A) (ys zs : List B) → ∥ Each R xs ys ∥₁ → ∥ Each R xs zs ∥₁ → ys ≡ zs
   same_list xs ys zs a b = ∥∥₁_elim a (Coded-set (coded_list code) _ _) (λ y. ∥∥₁_elim b (Coded-set (coded_list code) _ _) (λ z. one_each R one xs ys zs y z))
 
-  pub Told-prop : (xs : List A) → IsProp (Told R xs)
-  Told-prop xs a b = Σ_prop_path (λ v. ∥∥₁_prop) (same_list xs a.0 b.0 a.1 b.1)
+  pub Meant-prop : (xs : List A) → IsProp (Meant R xs)
+  Meant-prop xs a b = Σ_prop_path (λ v. ∥∥₁_prop) (same_list xs a.0 b.0 a.1 b.1)
 
-  -- the list of `told` is the only one that the items say
-  pub told_same : (xs : List A) (t : Told R xs) (ys : List B) → ∥ Each R xs ys ∥₁ → told R xs t ≡ ys
-  unfolding told
-  told_same xs t ys say = same_list xs t.0 ys t.1 say
+  -- the list of `meant` is the only one that the items say
+  pub meant_same : (xs : List A) (t : Meant R xs) (ys : List B) → ∥ Each R xs ys ∥₁ → meant R xs t ≡ ys
+  unfolding meant
+  meant_same xs t ys say = same_list xs t.0 ys t.1 say
 
-  -- the items say the list of `told`
-  pub told_said : (xs : List A) (t : Told R xs) (ys : List B) → Each R xs ys → Each R xs (told R xs t)
-  told_said xs t ys say = subst (λ v. Each R xs v) (sym (told_same xs t ys ∣ say ∣₁)) say
+  -- the items say the list of `meant`
+  pub meant_said : (xs : List A) (t : Meant R xs) (ys : List B) → Each R xs ys → Each R xs (meant R xs t)
+  meant_said xs t ys say = subst (λ v. Each R xs v) (sym (meant_same xs t ys ∣ say ∣₁)) say
 
   -- and it doesn't depend on the proof
-  pub told_again : (xs : List A) (t u : Told R xs) → told R xs t ≡ told R xs u
-  told_again xs t u = ap (told R xs) (Told-prop xs t u)
+  pub meant_again : (xs : List A) (t u : Meant R xs) → meant R xs t ≡ meant R xs u
+  meant_again xs t u = ap (meant R xs) (Meant-prop xs t u)
