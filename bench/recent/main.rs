@@ -43,6 +43,39 @@ fn add_tenant<S: Alter>(alloc: Global, office: &mut Office<S>, number: u32) -> R
     }
 }
 
+// The nanoseconds of the three requests.
+fn ask_thrice<S: Alter>(
+    rt: &HostRuntime,
+    office: &mut Office<S>,
+    asked: &[u8],
+    round: u32,
+) -> Result<(u128, u128, u128)> {
+    let first = ask(rt, office, asked)?;
+    let kept = ask(rt, office, asked)?;
+    add_tenant(rt.alloc(), office, round)?;
+    let after = ask(rt, office, asked)?;
+    Ok((first, kept, after))
+}
+
+// The same on the register in the file, which is opened for this.
+fn measure(rt: &HostRuntime, path: &str, asked: &[u8], round: u32) -> Result<(u128, u128, u128)> {
+    let Ok(register) = open_register(rt, path, Unknown) else {
+        bail!("the register can't be opened");
+    };
+    match Office::new(rt.alloc(), register) {
+        Ok(office) => {
+            let mut office = office;
+            let spent = ask_thrice(rt, &mut office, asked, round);
+            let _ = close(office.into_register());
+            spent
+        }
+        Err(register) => {
+            let _ = close(register);
+            bail!("no memory")
+        }
+    }
+}
+
 fn main(rt: HostRuntime) -> Result<()> {
     let mut words = env::args(&rt)?.skip(1);
     let path = words.next().context("a register is missing")?;
@@ -50,19 +83,10 @@ fn main(rt: HostRuntime) -> Result<()> {
     let rounds = words.next().context("a number is missing")?.parse::<u32>()?;
     let (mut first, mut kept, mut after) = (u128::MAX, u128::MAX, u128::MAX);
     for round in 0..rounds {
-        let Ok(register) = open_register(&rt, path.as_str(), Unknown) else {
-            bail!("the register can't be opened");
-        };
-        let Ok(mut office) = Office::new(rt.alloc(), register) else {
-            bail!("no memory");
-        };
-        first = first.min(ask(&rt, &mut office, &asked)?);
-        kept = kept.min(ask(&rt, &mut office, &asked)?);
-        add_tenant(rt.alloc(), &mut office, round)?;
-        after = after.min(ask(&rt, &mut office, &asked)?);
-        if close(office.into_register()).is_none() {
-            bail!("the register can't be closed");
-        }
+        let spent = measure(&rt, path.as_str(), &asked, round)?;
+        first = first.min(spent.0);
+        kept = kept.min(spent.1);
+        after = after.min(spent.2);
     }
     println!(rt; "{first}\n{kept}\n{after}")?;
     Ok(())

@@ -9,7 +9,6 @@ use Rattle.sqlite.specs.Recovery.{Image}
 use Rattle.sqlite_disk.specs.declared.Disk as disk
 use Rattle.sqlite_disk.specs.declared.Files.{Files}
 use Rattle.wgr_command_line.specs.Words.{Asked, asked_by}
-use Rattle.wgr_file.specs.OnFiles.{Stays}
 use Rattle.wgr_plan.specs.PlanFault.{Streams}
 use Rattle.wgr_service.specs.Network.{Log}
 use Rattle.wgr_prog.specs.Status.{ReadsNothing, Runs, Serves, ServesAsked, TellsError, kind_status, streams}
@@ -24,13 +23,13 @@ follows_memory kind status memory (inl fault) = fault
 follows_memory kind status memory (inr told) = told ∙ ap kind_status memory
 
 -- an error where a pool is asked for is want of memory
-lacks_memory : {D : Type 0} (g : disk.Ghosts D) (start : Image) (closed : Option (Files D)) (asked : Option Asked) (log : Log) (old new : Streams) (kind : ErrorKind) (status : ℕ)
-    → Stays g start closed → (is_some asked ≡ true → kind ≡ OutOfMemory) → (kind_status kind ≢ DONE → new ≡ old) → Follows kind status
-    → IfSome asked (λ asked. ServesAsked g start closed asked log log old new status)
-lacks_memory g start closed None log old new kind status stays memory kept told = tt
-lacks_memory g start closed (Some asked) log old new kind status stays memory kept told =
+lacks_memory : {D : Type 0} (g : disk.Ghosts D) (start : Image) (asked : Option Asked) (log : Log) (old new : Streams) (kind : ErrorKind) (status : ℕ)
+    → (is_some asked ≡ true → kind ≡ OutOfMemory) → (kind_status kind ≢ DONE → new ≡ old) → Follows kind status
+    → IfSome asked (λ asked. ServesAsked g start None asked log log old new status)
+lacks_memory g start None log old new kind status memory kept told = tt
+lacks_memory g start (Some asked) log old new kind status memory kept told =
     let is : kind_status kind ≡ FAULT = ap kind_status (memory refl) in
-    inl (refl, stays, (kept (λ done. cc (is, done)), follows_memory kind status (memory refl) told))
+    inl (refl, tt, (kept (λ done. cc (is, done)), follows_memory kind status (memory refl) told))
 
 tells_fault : (kinds : Kinds) (old new : Streams) (status : ℕ) → ReadsNothing old new → status ≡ FAULT → (new ≡ old) ⊎ (new.write_failed ≡ true) → TellsError kinds old new status
 tells_fault kinds old new status unread fault (inl kept) = inl (kept, fault)
@@ -57,8 +56,8 @@ if_none None p = p
 if_none (Some pool) p = tt
 
 -- the network isn't met, nor are files
-untouched : {D Q : Type 0} (g : disk.Ghosts D) (start : Image) (log : Log) → Q → (log ≡ log) × Stays g start None × Q
-untouched g start log q = (refl, tt, q)
+untouched : {Q : Type 0} (log : Log) → Q → (log ≡ log) × Unit {0} × Q
+untouched log q = (refl, tt, q)
 
 left_of : {A B C : Type 0} → (A → B) → A ⊎ C → B ⊎ C
 left_of f (inl a) = inl (f a)
@@ -72,8 +71,8 @@ pub returns-in-Err : goal.returns-in-Err
 returns-in-Err g c =
     let kept = kept_streams g.R.Read.remaining g.R.Read.failed g.W.Write.contents g.W.Write.failed c.args.input.now _ _ in
     record {
-      served = lacks_memory _ _ _ _ _ _ _ _ _ tt c.in-Err.ensures.err (λ other. kept (c.no_invocation.ensures.kept other)) c.no_invocation.ensures.status;
-      reported = if_none _ (untouched _ _ (g.N.Network.log c.args.network.now) (tells_error _ c.in-Err.answer _ _ _ (refl, refl) c.in-Err.ensures.kinds c.no_invocation.ensures.status
+      served = lacks_memory _ _ _ _ _ _ _ _ c.in-Err.ensures.err (λ other. kept (c.no_invocation.ensures.kept other)) c.no_invocation.ensures.status;
+      reported = if_none _ (untouched (g.N.Network.log c.args.network.now) (tells_error _ c.in-Err.answer _ _ _ (refl, refl) c.in-Err.ensures.kinds c.no_invocation.ensures.status
           (λ other. kept (c.no_invocation.ensures.kept other))
           (λ fault. left_of kept (c.no_invocation.ensures.fault fault))
           c.no_invocation.ensures.sound));
