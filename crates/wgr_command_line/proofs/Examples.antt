@@ -2,7 +2,8 @@
 use Rattle.std.proofs.Common.{◌≡◌, [], ◌∷◌, Some, None, codes, refl}
 use Rattle.clap.specs.declared.error.kind.ErrorKind.TheVariants as kind
 use Rattle.clap.proofs.OnLiterals.{clap_on_literals}
-use Rattle.wgr_command_line.specs.Words.{asked_by, wrong_with, Batch, Init, NetworkEnd, Operate, Plan, Serve, TenantAdd, TokenEnd, TokenGrant}
+use Rattle.wgr_command_line.specs.Words.{asked_by, wrong_with, Batch, Init, Operate, Orders, Plan, Send, Serve}
+use Rattle.wgr_words.specs.Asked.{DigestEnd, NetworkEnd, TenantAdd, TokenEnd, TokenGrant}
 
 plan : asked_by (codes "plan" ∷ codes "10.8.0.0/24" ∷ []) ≡ Some (Plan (codes "10.8.0.0/24"))
 unfolding clap_on_literals
@@ -52,9 +53,29 @@ token_end : asked_by (codes "token-end" ∷ codes "a.db" ∷ []) ≡ Some (Opera
 unfolding clap_on_literals
 token_end = refl
 
+token_end_by_digest : asked_by (codes "token-end" ∷ codes "a.db" ∷ codes "--digest" ∷ codes "0f" ∷ []) ≡ Some (Operate (codes "a.db") (DigestEnd (codes "0f")))
+unfolding clap_on_literals
+token_end_by_digest = refl
+
+token_end_by_digest_first : asked_by (codes "token-end" ∷ codes "--digest=0f" ∷ codes "a.db" ∷ []) ≡ Some (Operate (codes "a.db") (DigestEnd (codes "0f")))
+unfolding clap_on_literals
+token_end_by_digest_first = refl
+
 network_end : asked_by (codes "network-end" ∷ codes "a.db" ∷ codes "acme" ∷ codes "lab" ∷ []) ≡ Some (Operate (codes "a.db") (NetworkEnd (codes "acme") (codes "lab")))
 unfolding clap_on_literals
 network_end = refl
+
+orders_of_standard_input : asked_by (codes "orders" ∷ codes "a.db" ∷ []) ≡ Some (Orders (codes "a.db") None)
+unfolding clap_on_literals
+orders_of_standard_input = refl
+
+orders_of_a_file : asked_by (codes "orders" ∷ codes "a.db" ∷ codes "day" ∷ []) ≡ Some (Orders (codes "a.db") (Some (codes "day")))
+unfolding clap_on_literals
+orders_of_a_file = refl
+
+orders_of_two_files : asked_by (codes "orders" ∷ codes "a.db" ∷ codes "day" ∷ codes "night" ∷ []) ≡ None
+unfolding clap_on_literals
+orders_of_two_files = refl
 
 batch : asked_by (codes "batch" ∷ codes "a.db" ∷ codes "--now" ∷ codes "7" ∷ codes "b" ∷ codes "c" ∷ []) ≡ Some (Batch (codes "a.db") (codes "7") (codes "b" ∷ codes "c" ∷ []))
 unfolding clap_on_literals
@@ -64,13 +85,37 @@ batch_of_no_file : asked_by (codes "batch" ∷ codes "a.db" ∷ codes "--now" �
 unfolding clap_on_literals
 batch_of_no_file = refl
 
-serve : asked_by (codes "serve" ∷ codes "a.db" ∷ codes "[::1]:80" ∷ codes "--count" ∷ codes "2" ∷ []) ≡ Some (Serve (codes "a.db") (codes "[::1]:80") (codes "2") None)
+serve : asked_by (codes "serve" ∷ codes "a.db" ∷ codes "[::1]:80" ∷ codes "--count" ∷ codes "2" ∷ []) ≡ Some (Serve (codes "a.db") (codes "[::1]:80") (codes "2") None None)
 unfolding clap_on_literals
 serve = refl
 
-serve_at_a_moment : asked_by (codes "serve" ∷ codes "a.db" ∷ codes "[::1]:80" ∷ codes "--now" ∷ codes "7" ∷ codes "--count" ∷ codes "2" ∷ []) ≡ Some (Serve (codes "a.db") (codes "[::1]:80") (codes "2") (Some (codes "7")))
+serve_at_a_moment : asked_by (codes "serve" ∷ codes "a.db" ∷ codes "[::1]:80" ∷ codes "--now" ∷ codes "7" ∷ codes "--count" ∷ codes "2" ∷ []) ≡ Some (Serve (codes "a.db") (codes "[::1]:80") (codes "2") (Some (codes "7")) None)
 unfolding clap_on_literals
 serve_at_a_moment = refl
+
+serve_with_orders : asked_by (codes "serve" ∷ codes "a.db" ∷ codes "[::1]:80" ∷ codes "--count" ∷ codes "2" ∷ codes "--orders" ∷ codes "s" ∷ []) ≡ Some (Serve (codes "a.db") (codes "[::1]:80") (codes "2") None (Some (codes "s")))
+unfolding clap_on_literals
+serve_with_orders = refl
+
+serve_with_orders_at_a_moment : asked_by (codes "serve" ∷ codes "a.db" ∷ codes "--orders" ∷ codes "s" ∷ codes "[::1]:80" ∷ codes "--now" ∷ codes "7" ∷ codes "--count" ∷ codes "2" ∷ []) ≡ Some (Serve (codes "a.db") (codes "[::1]:80") (codes "2") (Some (codes "7")) (Some (codes "s")))
+unfolding clap_on_literals
+serve_with_orders_at_a_moment = refl
+
+send : asked_by (codes "send" ∷ codes "s" ∷ codes "tenant-add" ∷ codes "acme" ∷ []) ≡ Some (Send (codes "s") (codes "tenant-add" ∷ codes "acme" ∷ []) None)
+unfolding clap_on_literals
+send = refl
+
+send_of_a_digest : asked_by (codes "send" ∷ codes "s" ∷ codes "token-end" ∷ codes "--digest" ∷ codes "0f" ∷ []) ≡ Some (Send (codes "s") (codes "token-end" ∷ []) (Some (codes "0f")))
+unfolding clap_on_literals
+send_of_a_digest = refl
+
+send_of_a_digest_first : asked_by (codes "send" ∷ codes "--digest" ∷ codes "0f" ∷ codes "s" ∷ codes "token-end" ∷ []) ≡ Some (Send (codes "s") (codes "token-end" ∷ []) (Some (codes "0f")))
+unfolding clap_on_literals
+send_of_a_digest_first = refl
+
+send_of_no_word : asked_by (codes "send" ∷ codes "s" ∷ []) ≡ None
+unfolding clap_on_literals
+send_of_no_word = refl
 
 -- what is wrong with them
 no_word_wrong : wrong_with [] ≡ kind.MissingSubcommand ∷ []
@@ -96,3 +141,7 @@ version_wanted = refl
 two_pools_wrong : wrong_with (codes "plan" ∷ codes "10.8.0.0/24" ∷ codes "10.9.0.0/24" ∷ []) ≡ kind.UnknownArgument ∷ []
 unfolding clap_on_literals
 two_pools_wrong = refl
+
+send_of_no_word_wrong : wrong_with (codes "send" ∷ codes "s" ∷ []) ≡ kind.MissingRequiredArgument ∷ []
+unfolding clap_on_literals
+send_of_no_word_wrong = refl

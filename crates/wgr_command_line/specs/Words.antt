@@ -1,16 +1,15 @@
 -- The command line: what the words of `wgr` ask for, and what is wrong with them.
 use Rattle.std.specs.Prelude.{◌≡◌, ◌≢◌, true, List, [], ◌∷◌, Option, Some, None, codes, map, option_and_then, option_map, if◌then◌else◌, slice_get}
+use Rattle.std.specs.Borrow.{Bor}
 use Rattle.std.specs.Str.{bytes_eq}
 use Rattle.clap.specs.Kinds.{or_else}
 use Rattle.clap.specs.Lexer.{usize_max}
 use Rattle.clap.specs.Simple.{new_shape}
 use Rattle.clap.specs.Words.{App, Kinds, Row, Rule, Text, fault_of, all_of, first_of, new_app, new_rule, subcommand_of, with_rule, with_subcommand}
 use Rattle.clap.specs.declared.error.kind.ErrorKind.TheVariants.{MissingSubcommand}
-use Rattle.wgr_command_line.specs.declared.invocation.NetworkWords.{NetworkWords}
-use Rattle.wgr_command_line.specs.declared.invocation.OrderWords.{OrderWords}
-use Rattle.wgr_command_line.specs.declared.invocation.OrderWords.TheVariants as order
 use Rattle.wgr_command_line.specs.declared.invocation.Invocation.{Invocation}
 use Rattle.wgr_command_line.specs.declared.invocation.Invocation.TheVariants as invocation
+use Rattle.wgr_words.specs.Asked.{DigestEnd, NetworkAdd, NetworkEnd, OrderAsked, TenantAdd, TokenEnd, TokenGrant, order_asked}
 
 -- ---- the commands
 
@@ -22,9 +21,13 @@ value_rule id = record (new_rule id) { value_names = 1; required = true }
 abbrev pub option_rule : Text → Rule
 option_rule id = record (value_rule id) { long = Some id }
 
+-- a positional value that may be missing
+abbrev pub optional_rule : Text → Rule
+optional_rule id = record (new_rule id) { value_names = 1 }
+
 -- or the value of an option that may be missing
 abbrev pub choice_rule : Text → Rule
-choice_rule id = record (new_rule id) { value_names = 1; long = Some id }
+choice_rule id = record (optional_rule id) { long = Some id }
 
 -- one or more positional values
 abbrev pub values_rule : Text → Rule
@@ -35,6 +38,9 @@ with_value id app = with_rule app (value_rule id)
 
 abbrev pub with_option : Text → App → App
 with_option id app = with_rule app (option_rule id)
+
+abbrev pub with_choice : Text → App → App
+with_choice id app = with_rule app (choice_rule id)
 
 -- `plan POOL`
 abbrev pub plan_app : App
@@ -56,9 +62,9 @@ tenant_add_app = with_value (codes "name") (db_app (codes "tenant-add"))
 abbrev pub token_grant_app : App
 token_grant_app = with_value (codes "tenant") (db_app (codes "token-grant"))
 
--- `token-end DB`
+-- `token-end DB [--digest HEX]`
 abbrev pub token_end_app : App
-token_end_app = db_app (codes "token-end")
+token_end_app = with_choice (codes "digest") (db_app (codes "token-end"))
 
 -- a command on a tenant's network: `DB TENANT NAME`
 abbrev pub network_app : Text → App
@@ -74,13 +80,22 @@ network_add_app =
 abbrev pub network_end_app : App
 network_end_app = network_app (codes "network-end")
 
+-- `orders DB [FILE]`
+abbrev pub orders_app : App
+orders_app = with_rule (db_app (codes "orders")) (optional_rule (codes "file"))
+
 -- `batch DB --now N FILE..`
 abbrev pub batch_app : App
 batch_app = with_rule (with_option (codes "now") (db_app (codes "batch"))) (values_rule (codes "file"))
 
--- `serve DB HOST:PORT --count N [--now N]`
+-- `serve DB HOST:PORT --count N [--now N] [--orders PATH]`
 abbrev pub serve_app : App
-serve_app = with_rule (with_option (codes "count") (with_value (codes "place") (db_app (codes "serve")))) (choice_rule (codes "now"))
+serve_app =
+    with_choice (codes "orders") (with_choice (codes "now") (with_option (codes "count") (with_value (codes "place") (db_app (codes "serve")))))
+
+-- `send PATH [--digest HEX] WORD..`
+abbrev pub send_app : App
+send_app = with_rule (with_choice (codes "digest") (with_value (codes "path") (new_app (codes "send")))) (values_rule (codes "word"))
 
 -- `wgr` has a version and requires a command; its own name is not one of the words
 abbrev pub wgr_alone : App
@@ -94,37 +109,22 @@ with_command command app = with_subcommand app command.top
 
 abbrev pub wgr_app : App
 wgr_app =
-    with_command serve_app (with_command batch_app (with_command network_end_app (with_command network_add_app (with_command token_end_app (with_command token_grant_app
-    (with_command tenant_add_app (with_command init_app (with_command plan_app wgr_alone))))))))
+    with_command send_app (with_command serve_app (with_command batch_app (with_command orders_app (with_command network_end_app (with_command network_add_app
+    (with_command token_end_app (with_command token_grant_app (with_command tenant_add_app (with_command init_app (with_command plan_app wgr_alone))))))))))
 
 -- ---- what is asked for
 
--- the settings that `network-add` gives a new network
-pub record NetworkAsked : Type 0 where
-  pub tenant : Text
-  pub name : Text
-  pub pool : Text
-  pub host : Text
-  pub port : Text
-  pub key : Text
-  pub capacity : Text
-
--- an order on a register
-pub data OrderAsked : Type 0 where
-  TenantAdd : (name : Text) → OrderAsked
-  TokenGrant : (tenant : Text) → OrderAsked
-  TokenEnd : OrderAsked
-  NetworkAdd : (network : NetworkAsked) → OrderAsked
-  NetworkEnd : (tenant name : Text) → OrderAsked
-
--- A plan of a pool; a new register in the file `db`, or an order on the register there; the answers to the
--- requests in files, or to connections, at a moment or by the clock.
+-- A plan of a pool; a new register in the file `db`, an order on the register there, or the orders that are the
+-- lines of a file or of standard input; the answers to the requests in files, or to connections, at a moment or
+-- by the clock, where orders may come over the socket `orders`; or an order by its words, sent to that socket.
 pub data Asked : Type 0 where
   Plan : (pool : Text) → Asked
   Init : (db : Text) → Asked
   Operate : (db : Text) (order : OrderAsked) → Asked
+  Orders : (db : Text) (file : Option Text) → Asked
   Batch : (db now : Text) (files : List Text) → Asked
-  Serve : (db place count : Text) (now : Option Text) → Asked
+  Serve : (db place count : Text) (now orders : Option Text) → Asked
+  Send : (path : Text) (words : List Text) (digest : Option Text) → Asked
 
 -- what is made of the value with this name, which must be present
 abbrev pub with_first : Text → List Row → (Text → Option Asked) → Option Asked
@@ -148,8 +148,13 @@ token_grant_in rows =
     with_first (codes "tenant") rows (λ tenant.
     Some (Operate db (TokenGrant tenant))))
 
+-- the end of a token by its digest, or of the one that is given apart
+abbrev pub end_by : Option Text → OrderAsked
+end_by None = TokenEnd
+end_by (Some digest) = DigestEnd digest
+
 abbrev pub token_end_in : List Row → Option Asked
-token_end_in rows = with_first (codes "db") rows (λ db. Some (Operate db TokenEnd))
+token_end_in rows = with_first (codes "db") rows (λ db. Some (Operate db (end_by (first_of (codes "digest") rows))))
 
 abbrev pub network_add_in : List Row → Option Asked
 network_add_in rows =
@@ -170,6 +175,9 @@ network_end_in rows =
     with_first (codes "name") rows (λ name.
     Some (Operate db (NetworkEnd tenant name)))))
 
+abbrev pub orders_in : List Row → Option Asked
+orders_in rows = with_first (codes "db") rows (λ db. Some (Orders db (first_of (codes "file") rows)))
+
 abbrev pub batch_in : List Row → Option Asked
 batch_in rows =
     with_first (codes "db") rows (λ db.
@@ -181,12 +189,18 @@ serve_in rows =
     with_first (codes "db") rows (λ db.
     with_first (codes "place") rows (λ place.
     with_first (codes "count") rows (λ count.
-    Some (Serve db place count (first_of (codes "now") rows)))))
+    Some (Serve db place count (first_of (codes "now") rows) (first_of (codes "orders") rows)))))
+
+abbrev pub send_in : List Row → Option Asked
+send_in rows =
+    with_first (codes "path") rows (λ path.
+    option_map (λ words. Send path words (first_of (codes "digest") rows)) (all_of (codes "word") rows))
 
 -- what a command asks for by its values
 abbrev pub asked_in : Text × List Row → Option Asked
 asked_in (name, rows) =
     if bytes_eq name (codes "batch") then batch_in rows else
+    if bytes_eq name (codes "send") then send_in rows else
     if bytes_eq name (codes "plan") then plan_in rows else
     if bytes_eq name (codes "init") then init_in rows else
     if bytes_eq name (codes "tenant-add") then tenant_add_in rows else
@@ -194,6 +208,7 @@ asked_in (name, rows) =
     if bytes_eq name (codes "token-end") then token_end_in rows else
     if bytes_eq name (codes "network-add") then network_add_in rows else
     if bytes_eq name (codes "network-end") then network_end_in rows else
+    if bytes_eq name (codes "orders") then orders_in rows else
     if bytes_eq name (codes "serve") then serve_in rows else
     None
 
@@ -219,22 +234,20 @@ wrong_with words = or_else (fault_of wgr_app words) (if_missing (named_by words)
 
 -- ---- what is asked for, in the program's types
 
-abbrev pub network_asked : NetworkWords → NetworkAsked
-network_asked w = record { tenant = w.tenant.now; name = w.name.now; pool = w.pool.now; host = w.host.now; port = w.port.now; key = w.key.now; capacity = w.capacity.now }
+abbrev pub text_of : Option (Bor Text) → Option Text
+text_of = option_map (λ text. text.now)
 
-abbrev pub order_asked : OrderWords → OrderAsked
-order_asked (order.TenantAdd name) = TenantAdd name.now
-order_asked (order.TokenGrant tenant) = TokenGrant tenant.now
-order_asked order.TokenEnd = TokenEnd
-order_asked (order.NetworkAdd network) = NetworkAdd (network_asked network)
-order_asked (order.NetworkEnd tenant name) = NetworkEnd tenant.now name.now
+abbrev pub texts_of : List (Bor Text) → List Text
+texts_of = map (λ text. text.now)
 
 abbrev pub asked_of : Invocation → Asked
 asked_of (invocation.Plan pool) = Plan pool.now
 asked_of (invocation.Init db) = Init db.now
 asked_of (invocation.Operate db order) = Operate db.now (order_asked order)
-asked_of (invocation.Batch db now files) = Batch db.now now.now (map (λ file. file.now) files.items)
-asked_of (invocation.Serve db place count now) = Serve db.now place.now count.now (option_map (λ now. now.now) now)
+asked_of (invocation.Orders db file) = Orders db.now (text_of file)
+asked_of (invocation.Batch db now files) = Batch db.now now.now (texts_of files.items)
+asked_of (invocation.Serve db place count now orders) = Serve db.now place.now count.now (text_of now) (text_of orders)
+asked_of (invocation.Send path words digest) = Send path.now (texts_of words.items) (text_of digest)
 
 -- ---- a law
 

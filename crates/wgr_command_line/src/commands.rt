@@ -1,10 +1,10 @@
 //! The commands and their arguments, as `clap` parses them.
 ghost use Rattle.std.specs.Prelude.{◌≡◌, true, IfErr, IfOk};
 ghost use Rattle.clap.specs.Words.{app_of, kind_of, with_subcommand};
-ghost use Rattle.wgr_command_line.specs.Words.{batch_app, db_app, init_app, network_add_app, network_app, network_end_app, plan_app, serve_app, tenant_add_app, token_end_app, token_grant_app, wgr_alone, wgr_app};
+ghost use Rattle.wgr_command_line.specs.Words.{batch_app, db_app, init_app, network_add_app, network_app, network_end_app, orders_app, plan_app, send_app, serve_app, tenant_add_app, token_end_app, token_grant_app, wgr_alone, wgr_app};
 
 use crate::help;
-use crate::values::{choice, option, value, values};
+use crate::values::{choice, option, optional, value, values};
 use clap::error::ErrorKind;
 use clap::{Command, Error};
 use std::alloc::Global;
@@ -21,8 +21,10 @@ pub(crate) fn wgr_command<'a>(alloc: Global) -> Result<Command<'a>, Error>
     let command = with_command(command, token_end_command(alloc)?)?;
     let command = with_command(command, network_add_command(alloc)?)?;
     let command = with_command(command, network_end_command(alloc)?)?;
+    let command = with_command(command, orders_command(alloc)?)?;
     let command = with_command(command, batch_command(alloc)?)?;
     let command = with_command(command, serve_command(alloc)?)?;
+    let command = with_command(command, send_command(alloc)?)?;
     Ok(command)
 }
 
@@ -32,7 +34,7 @@ fn bare_command<'a>(alloc: Global) -> Result<Command<'a>, Error>
     ensures memory { IfErr result (λ error. kind_of error ≡ ErrorKind.OutOfMemory) }
 {
     let command = Command::new(alloc, "wgr")
-        .version("0.3.1")
+        .version("0.4.0")
         .about("A register of WireGuard peers and their tunnel addresses")
         .no_binary_name(true)
         .subcommand_required(true)
@@ -125,7 +127,14 @@ fn token_end_command<'a>(alloc: Global) -> Result<Command<'a>, Error>
     ensures app { IfOk result (λ command. app_of command ≡ token_end_app) }
     ensures memory { IfErr result (λ error. kind_of error ≡ ErrorKind.OutOfMemory) }
 {
-    db_command(alloc, "token-end", "Ends a token", help::TOKEN_END)
+    let command = db_command(alloc, "token-end", "Ends a token", help::TOKEN_END)?;
+    let digest = choice(
+        alloc,
+        "digest",
+        "HEX",
+        "The token's SHA-256, in place of the token on standard input",
+    );
+    Ok(command.arg(digest)?)
 }
 
 fn network_add_command<'a>(alloc: Global) -> Result<Command<'a>, Error>
@@ -174,6 +183,25 @@ fn network_end_command<'a>(alloc: Global) -> Result<Command<'a>, Error>
     )
 }
 
+fn orders_command<'a>(alloc: Global) -> Result<Command<'a>, Error>
+    ensures app { IfOk result (λ command. app_of command ≡ orders_app) }
+    ensures memory { IfErr result (λ error. kind_of error ≡ ErrorKind.OutOfMemory) }
+{
+    let command = db_command(
+        alloc,
+        "orders",
+        "Does the orders of a file, one a line",
+        help::ORDERS,
+    )?;
+    let file = optional(
+        alloc,
+        "file",
+        "FILE",
+        "The orders; standard input where it is left out",
+    );
+    Ok(command.arg(file)?)
+}
+
 fn batch_command<'a>(alloc: Global) -> Result<Command<'a>, Error>
     ensures app { IfOk result (λ command. app_of command ≡ batch_app) }
     ensures memory { IfErr result (λ error. kind_of error ≡ ErrorKind.OutOfMemory) }
@@ -207,5 +235,40 @@ fn serve_command<'a>(alloc: Global) -> Result<Command<'a>, Error>
         "N",
         "The moment of all requests, in seconds since 1970-01-01; the clock's where it is left out",
     );
-    Ok(command.arg(place)?.arg(count)?.arg(now)?)
+    let orders = choice(
+        alloc,
+        "orders",
+        "PATH",
+        "The Unix socket at which orders are taken from `wgr send`",
+    );
+    let command = command.arg(place)?.arg(count)?;
+    Ok(command.arg(now)?.arg(orders)?)
+}
+
+fn send_command<'a>(alloc: Global) -> Result<Command<'a>, Error>
+    ensures app { IfOk result (λ command. app_of command ≡ send_app) }
+    ensures memory { IfErr result (λ error. kind_of error ≡ ErrorKind.OutOfMemory) }
+{
+    let command = Command::new(alloc, "send")
+        .about("Gives an order to a running service")
+        .after_help(help::SEND);
+    let path = value(
+        alloc,
+        "path",
+        "PATH",
+        "The service's socket, as its option --orders names it",
+    );
+    let digest = choice(
+        alloc,
+        "digest",
+        "HEX",
+        "The token's SHA-256, for `token-end` without the token on standard input",
+    );
+    let word = values(
+        alloc,
+        "word",
+        "WORD",
+        "The order's name, and its fields in turn",
+    );
+    Ok(command.arg(path)?.arg(digest)?.arg(word)?)
 }

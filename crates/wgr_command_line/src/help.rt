@@ -96,20 +96,22 @@ Example:
 
 pub(crate) const TOKEN_END: &str = "\
 Standard input has the token in one line, whose newline may be missing: 1 to 128 printable
-ASCII characters without a blank. Prints `done` once no tenant has the token any more; the
-tenant's other tokens stay.
+ASCII characters without a blank. Where it is lost or leaked, --digest takes its place: HEX
+is the token's SHA-256, in 64 hexadecimal digits, and standard input is not read. Prints
+`done` once no tenant has the token any more; the tenant's other tokens stay.
 
 Messages on standard error, with the exit status, and what to do:
-  wgr: bad_field token  2  standard input is not one line with a token: mend it
-  wgr: no_such_token    2  no tenant has the token: look for the right one
-  wgr: not_a_register   1  DB is missing or has no register: make one with `wgr init`
-  wgr: not_good         1  DB has rows that break the register's rules: take the last good
-                           copy of the file
-  wgr: store            1  DB cannot be read or written, is no database, or another program
-                           has it open: look at the file and its folder
-  wgr: no_memory        1  memory was refused: free some, and try again
-  wgr: device           1  standard input failed; or the token is ended, but `done` could
-                           not be printed
+  wgr: bad_field token   2  standard input is not one line with a token: mend it
+  wgr: bad_field digest  2  HEX is not 64 hexadecimal digits: mend it
+  wgr: no_such_token     2  no tenant has the token: look for the right one
+  wgr: not_a_register    1  DB is missing or has no register: make one with `wgr init`
+  wgr: not_good          1  DB has rows that break the register's rules: take the last good
+                            copy of the file
+  wgr: store             1  DB cannot be read or written, is no database, or another program
+                            has it open: look at the file and its folder
+  wgr: no_memory         1  memory was refused: free some, and try again
+  wgr: device            1  standard input failed; or the token is ended, but `done` could
+                            not be printed
 The status is 0 where `done` is printed, and 2 for a command line that does not read.
 
 Example:
@@ -177,6 +179,37 @@ Example:
   $ wgr network-end register.db acme office
   done";
 
+pub(crate) const ORDERS: &str = "\
+FILE or standard input has one order a line, as `wgr send` takes it: its words with single
+blanks between, and the token as the last word of `token-grant` and of `token-end`:
+  tenant-add NAME
+  token-grant TENANT TOKEN
+  token-end TOKEN
+  token-end --digest HEX
+  network-add TENANT NAME POOL HOST PORT KEY CAPACITY
+  network-end TENANT NAME
+
+All lines are done in turn, and none stops the others. Each is answered on standard output
+by a line with its status and text, such as `0 done` or `2 name_held`. The texts are those of
+the command of the same name: see its --help. A field that is not of its form is answered by
+`2 bad_field FIELD`, and a line that is no order by `2 bad_order`.
+
+Messages on standard error, with the exit status, and what to do:
+  wgr: not_a_register  1  DB is missing or has no register: make one with `wgr init`
+  wgr: not_good        1  DB has rows that break the register's rules: take the last good
+                          copy of the file
+  wgr: store           1  DB cannot be read or written, is no database, or another program
+                          has it open: look at the file and its folder
+  wgr: no_memory       1  memory was refused: free some, and try again
+  wgr: device          1  the orders cannot be read, or an answer could not be printed
+The status is the greatest of the lines', and 2 for a command line that does not read.
+
+Example:
+  $ printf 'tenant-add lab\\ntenant-add branch\\n' >new
+  $ wgr orders register.db new
+  0 done
+  0 done";
+
 pub(crate) const BATCH: &str = "\
 Each FILE is one request, as a client sends it over HTTP. All files are read before DB is
 opened; then the requests are answered in turn, all at the moment N, and the replies are
@@ -204,8 +237,14 @@ other, each with one request. HOST is an IPv4 address, or an IPv6 address in bra
 moment of a request is N, or the clock's. A client that sends nothing holds those behind it:
 put a proxy before it, which also does TLS.
 
+With --orders, it takes orders by `wgr send` too, over a Unix socket at PATH of mode 0600,
+whose folder must be the operator's own. A socket that a stopped service left there is taken
+over; any other file is refused as `device`. Orders that wait are served before requests, and
+are not counted among the connections.
+
 Messages on standard error, with the exit status, and what to do:
   wgr: connection           a connection failed; the next one is answered
+  wgr: order                an order over the socket failed; the service goes on
   wgr: bad_field host:port  2  HOST:PORT is not of the form: mend it
   wgr: bad_field count      2  the count is no whole number up to 9223372036854775807
   wgr: bad_field now        2  the moment is no such number
@@ -215,10 +254,37 @@ Messages on standard error, with the exit status, and what to do:
   wgr: store                1  DB cannot be read or written, is no database, or another
                                program has it open: look at the file and its folder
   wgr: no_memory            1  memory was refused: free some, and try again
-  wgr: device               1  the address cannot be bound, or `listening` not be printed
+  wgr: device               1  the address or PATH cannot be bound, or `listening` not be
+                               printed
 The status is 0 once all connections are answered, and 2 for a command line that does not
 read.
 
 Example:
   $ wgr serve register.db 127.0.0.1:8080 --count 1000000
   listening";
+
+pub(crate) const SEND: &str = "\
+Gives the order to the service that listens at PATH (`wgr serve` with --orders), and prints
+`done` once it is done. The words are the order's name and its fields, by their place:
+  tenant-add NAME
+  token-grant TENANT
+  token-end
+  token-end --digest HEX
+  network-add TENANT NAME POOL HOST PORT KEY CAPACITY
+  network-end TENANT NAME
+
+The fields are those of the command of the same name, which does the order on a file: see its
+--help. As there, the token of `token-grant` and of `token-end` is read from standard input.
+No word may be empty or have a blank. One that begins with `-` is read behind the word `--`.
+
+Messages on standard error beside that command's, with the exit status, and what to do:
+  wgr: bad_order  2  the words are no order: look at their number and spelling
+  wgr: device     1  no service listens at PATH, or the connection broke: whether the order
+                     was done is unknown then, so look before you give it again
+  wgr: no_memory  1  memory was refused: free some, and try again
+  wgr: store      1  the service cannot read or write the register: look at its file
+The status is 0 where `done` is printed, and 2 for a command line that does not read.
+
+Example:
+  $ wgr send /run/wgr/orders tenant-add acme
+  done";

@@ -14,6 +14,7 @@ use clap::error::ErrorKind;
 use clap::{ArgMatches, Error};
 use std::alloc::{AllocError, Global};
 use std::convert::AsStr;
+use wgr_words::OrderWords;
 
 /// What a command line asks for.
 #[derive(Drop)]
@@ -31,41 +32,32 @@ pub enum Invocation<'a> {
         db: &'a str,
         order: OrderWords<'a>,
     },
+    /// Orders on the register in a file: the lines of another file, or of standard input.
+    Orders {
+        db: &'a str,
+        file: Option<&'a str>,
+    },
     /// The answers to the requests in files, at a moment.
     Batch {
         db: &'a str,
         now: &'a str,
         files: Vec<&'a str>,
     },
-    /// The answers to a number of connections, at a moment or by the clock.
+    /// The answers to a number of connections, at a moment or by the clock. Orders are taken at a socket, if
+    /// there is one.
     Serve {
         db: &'a str,
         place: &'a str,
         count: &'a str,
         now: Option<&'a str>,
+        orders: Option<&'a str>,
     },
-}
-
-/// An order on a register. A token is never one of the words.
-#[derive(Clone, Copy)]
-pub enum OrderWords<'a> {
-    TenantAdd { name: &'a str },
-    TokenGrant { tenant: &'a str },
-    TokenEnd,
-    NetworkAdd(NetworkWords<'a>),
-    NetworkEnd { tenant: &'a str, name: &'a str },
-}
-
-/// The settings of a new network.
-#[derive(Clone, Copy)]
-pub struct NetworkWords<'a> {
-    pub tenant: &'a str,
-    pub name: &'a str,
-    pub pool: &'a str,
-    pub host: &'a str,
-    pub port: &'a str,
-    pub key: &'a str,
-    pub capacity: &'a str,
+    /// An order by its words, sent to the service that listens at a socket.
+    Send {
+        path: &'a str,
+        words: Vec<&'a str>,
+        digest: Option<&'a str>,
+    },
 }
 
 fn invocation_of<'a>(
@@ -79,6 +71,7 @@ fn invocation_of<'a>(
     };
     match given {
         ("batch", found) => values::batch(alloc, found),
+        ("send", found) => values::send(alloc, found),
         ("plan", found) => Ok(values::plan(found)),
         ("init", found) => Ok(values::init(found)),
         ("tenant-add", found) => Ok(values::tenant_add(found)),
@@ -86,6 +79,7 @@ fn invocation_of<'a>(
         ("token-end", found) => Ok(values::token_end(found)),
         ("network-add", found) => Ok(values::network_add(found)),
         ("network-end", found) => Ok(values::network_end(found)),
+        ("orders", found) => Ok(values::orders(found)),
         ("serve", found) => Ok(values::serve(found)),
         _ => Ok(None),
     }

@@ -7,4 +7,4 @@ mod invocation;
 mod laws;
 mod values;
 
-pub use invocation::{Invocation, NetworkWords, OrderWords, read_words};
+pub use invocation::{Invocation, read_words};

@@ -1,11 +1,12 @@
 //! The values of a command's arguments, by their names.
 ghost use Rattle.std.specs.Prelude.{◌≡◌, false, IfOk, map, option_map};
 ghost use Rattle.clap.specs.Words.{all_of, first_of, found_of, rows_of, rule_of};
-ghost use Rattle.wgr_command_line.specs.Words.{asked_of, batch_in, choice_rule, init_in, network_add_in, network_end_in, option_rule, plan_in, serve_in, tenant_add_in, token_end_in, token_grant_in, value_rule, values_rule};
+ghost use Rattle.wgr_command_line.specs.Words.{asked_of, batch_in, choice_rule, init_in, network_add_in, network_end_in, option_rule, optional_rule, orders_in, plan_in, send_in, serve_in, tenant_add_in, token_end_in, token_grant_in, value_rule, values_rule};
 
-use crate::invocation::{Invocation, NetworkWords, OrderWords};
+use crate::invocation::Invocation;
 use clap::{Arg, ArgMatches};
 use std::alloc::{AllocError, Global};
+use wgr_words::{NetworkWords, OrderWords};
 
 /// A required positional value.
 pub(crate) fn value<'a>(alloc: Global, id: &'a str, shown: &'a str, help: &'a str) -> Arg<'a>
@@ -26,12 +27,20 @@ pub(crate) fn option<'a>(alloc: Global, id: &'a str, shown: &'a str, help: &'a s
     value(alloc, id, shown, help).long(id)
 }
 
+/// An optional positional value.
+pub(crate) fn optional<'a>(alloc: Global, id: &'a str, shown: &'a str, help: &'a str) -> Arg<'a>
+    ensures rule { rule_of result ≡ optional_rule id.now }
+    ensures local { result.global ≡ false }
+{
+    Arg::new(alloc, id).value_name(shown).help(help)
+}
+
 /// An optional value of an option.
 pub(crate) fn choice<'a>(alloc: Global, id: &'a str, shown: &'a str, help: &'a str) -> Arg<'a>
     ensures rule { rule_of result ≡ choice_rule id.now }
     ensures local { result.global ≡ false }
 {
-    Arg::new(alloc, id).value_name(shown).help(help).long(id)
+    optional(alloc, id, shown, help).long(id)
 }
 
 /// Positional values, of which at least one is required.
@@ -89,10 +98,11 @@ pub(crate) fn token_end<'a>(found: &ArgMatches<'a>) -> Option<Invocation<'a>>
     ensures { option_map asked_of result ≡ token_end_in (rows_of (found_of found.now)) }
 {
     let db = first(found, "db")?;
-    Some(Invocation::Operate {
-        db,
-        order: OrderWords::TokenEnd,
-    })
+    let order = match first(found, "digest") {
+        Some(digest) => OrderWords::DigestEnd { digest },
+        None => OrderWords::TokenEnd,
+    };
+    Some(Invocation::Operate { db, order })
 }
 
 pub(crate) fn network_add<'a>(found: &ArgMatches<'a>) -> Option<Invocation<'a>>
@@ -130,6 +140,14 @@ pub(crate) fn network_end<'a>(found: &ArgMatches<'a>) -> Option<Invocation<'a>>
         db,
         order: OrderWords::NetworkEnd { tenant, name },
     })
+}
+
+pub(crate) fn orders<'a>(found: &ArgMatches<'a>) -> Option<Invocation<'a>>
+    ensures { option_map asked_of result ≡ orders_in (rows_of (found_of found.now)) }
+{
+    let db = first(found, "db")?;
+    let file = first(found, "file");
+    Some(Invocation::Orders { db, file })
 }
 
 // All values under this name.
@@ -173,10 +191,32 @@ pub(crate) fn serve<'a>(found: &ArgMatches<'a>) -> Option<Invocation<'a>>
     let place = first(found, "place")?;
     let count = first(found, "count")?;
     let now = first(found, "now");
+    let orders = first(found, "orders");
     Some(Invocation::Serve {
         db,
         place,
         count,
         now,
+        orders,
     })
+}
+
+pub(crate) fn send<'a>(
+    alloc: Global,
+    found: &ArgMatches<'a>,
+) -> Result<Option<Invocation<'a>>, AllocError>
+    ensures { IfOk result (λ invocation. option_map asked_of invocation ≡ send_in (rows_of (found_of found.now))) }
+{
+    let Some(path) = first(found, "path") else {
+        return Ok(None);
+    };
+    let Some(words) = all(alloc, found, "word")? else {
+        return Ok(None);
+    };
+    let digest = first(found, "digest");
+    Ok(Some(Invocation::Send {
+        path,
+        words,
+        digest,
+    }))
 }

@@ -7,7 +7,7 @@ use Rattle.sqlite.specs.Held.{Held, state}
 use Rattle.wgr_model.specs.RowLaws.{RowsAreIsolated}
 use Rattle.wgr_model.specs.Runs.{Served}
 use Rattle.wgr_model.specs.Steps.{Event}
-use Rattle.wgr_office.specs.Between.{AreCalls, HasPassed, IsCall, IsKept, Passes, PassesAll, Place, StopsKeepAcknowledged, place}
+use Rattle.wgr_office.specs.Between.{AreCalls, HasPassed, IsCall, IsKept, Keeps, PassesAll, Place, StopsKeepAcknowledged, place}
 use Rattle.wgr_office.specs.Events.{GoesAll, HaveBeenServed}
 use Rattle.wgr_office.specs.declared.answer.Answer as given
 use Rattle.wgr_office.specs.declared.run.Event as event
@@ -24,6 +24,24 @@ module _ {S : Type 0} (g : Ghosts S) where
   calls_more old mid new [] (a ∷ answers) event given so_far one = absurd so_far
   calls_more old mid new (e ∷ asked) [] event given so_far one = absurd so_far
   calls_more old mid new (e ∷ asked) (a ∷ answers) event given (next, first, rest) one = (next, first, calls_more next mid new asked answers event given rest one)
+
+  -- a call that serves an event, and then one that serves none
+  pub call_kept : (old mid new : Held S) (event : event.Event) (given : given.Answer) → IsCall g old mid event given → Keeps g mid new → IsCall g old new event given
+  call_kept old mid new event given call keeps = record {
+    clean = λ clean. call.clean (keeps.clean clean);
+    served = λ db late at clean.
+        let one = call.served db late at (keeps.clean clean) in
+        record {
+          e = one.e;
+          answer = one.answer;
+          serves = one.serves;
+          proper = one.proper;
+          next = one.next;
+          left = one.left;
+          goes = one.goes;
+          stands = keeps.stands one.next one.left one.stands;
+        };
+  }
 
   pub calls_clean : (old new : Held S) (asked : List event.Event) (answers : List given.Answer) → AreCalls g old new asked answers → HasCleanDisk (state g new) → HasCleanDisk (state g old)
   calls_clean old new [] [] same clean = subst (λ (conn : Held S). HasCleanDisk (state g conn)) same clean

@@ -1,8 +1,8 @@
 -- Dumps that differ in private and preshared keys alone are answered alike.
-use Rattle.std.proofs.Common.{◌≡◌, ℕ, List, [], ◌∷◌, Option, Some, Ok, refl, sym, ap, subst, ◌∙◌}
+use Rattle.std.proofs.Common.{◌≡◌, ℕ, [], ◌∷◌, Some, Ok, refl, sym, ap, subst, ◌∙◌}
 use Rattle.wgr_http.proofs.Growing.{answers_unique}
 use Rattle.wgr_model.specs.Register.{Bytes}
-use Rattle.wgr_model.specs.RowLaws.{AreConsistent, IsRowStep, rows_view}
+use Rattle.wgr_model.specs.RowLaws.{IsRowStep, rows_view}
 use Rattle.wgr_model.specs.Rows.{Tables}
 use Rattle.wgr_model.specs.Steps.{Answer}
 use Rattle.wgr_model.specs.Tenants.{tenant_run}

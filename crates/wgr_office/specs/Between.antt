@@ -21,6 +21,11 @@ pub record IsCall {S : Type 0} (g : Ghosts S) (old new : Held S) (event : event.
   pub clean : HasCleanDisk (state g new) → HasCleanDisk (state g old)
   pub served : (db : Database) (late : List Event) → StandsAt g old db late → HasCleanDisk (state g new) → IsServed g new db late event given
 
+-- What a call that serves no event promises: the register is at the rows at which it was.
+pub record Keeps {S : Type 0} (g : Ghosts S) (old new : Held S) : Type 0 where
+  pub clean : HasCleanDisk (state g new) → HasCleanDisk (state g old)
+  pub stands : (db : Database) (late : List Event) → StandsAt g old db late → StandsAt g new db late
+
 -- such calls, one for each event, led from one connection to the other
 abbrev pub AreCalls : {S : Type 0} → Ghosts S → Held S → Held S → List event.Event → List given.Answer → Type 0
 AreCalls g old new [] [] = new ≡ old

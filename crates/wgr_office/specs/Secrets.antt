@@ -1,5 +1,5 @@
 -- Replies and views don't depend on the private and preshared keys of a dump.
-use Rattle.std.specs.Prelude.{◌≡◌, ℕ, List, Ok}
+use Rattle.std.specs.Prelude.{◌≡◌, ℕ, Ok}
 use Rattle.wgr_dump.specs.Laws.{DifferInSecrets}
 use Rattle.wgr_http.specs.Message.{Answers, MessageView}
 use Rattle.wgr_model.specs.Register.{Bytes}

@@ -1,5 +1,5 @@
 -- How a connection is served.
-use Rattle.std.specs.Prelude.{◌≡◌, ◌<◌, ℕ, Bool, true, List, [], length, take, Option, IfSome}
+use Rattle.std.specs.Prelude.{◌≡◌, ◌<◌, ℕ, Bool, true, false, List, [], length, take, Option, IfSome}
 use Rattle.std.specs.declared.vec.Vec.{Vec}
 use Rattle.std.specs.declared.alloc.Global.{Global}
 use Rattle.std.specs.Io.KnownBytes.{Appends, Consumes}
@@ -23,6 +23,10 @@ abbrev pub reply_of : given.Answer → Bytes
 reply_of (givens.Bytes bytes) = bytes.items
 reply_of givens.Unavailable = shown_bytes unavailable_shown
 reply_of (givens.Order done) = []
+
+abbrev pub is_available : given.Answer → Bool
+is_available givens.Unavailable = false
+is_available given = true
 
 -- a message was answered at this moment, whatever the rows of the register were
 abbrev pub IsAnsweredAt : {S : Type 0} → Ghosts S → Held S → Held S → ℕ → Bytes → given.Answer → Type 0

@@ -1,7 +1,7 @@
 //! The answers to events.
 ghost use Rattle.std.specs.Prelude.{◌≡◌};
 ghost use Rattle.wgr_office.specs.Pages.{IsEnd, IsMade};
-ghost use Rattle.wgr_office.specs.Serving.{reply_of};
+ghost use Rattle.wgr_office.specs.Serving.{is_available, reply_of};
 
 use std::alloc::{AllocError, Global};
 use wgr_register::{AskFault, Done, OrderRefusal};
@@ -29,6 +29,13 @@ impl Answer {
             Answer::Unavailable => unavailable(),
             Answer::Order(_) => &[],
         }
+    }
+
+    /// Whether neither memory nor the store failed.
+    pub fn is_available(&self) -> bool
+        ensures { result ≡ is_available self.now }
+    {
+        !matches!(self, Answer::Unavailable)
     }
 }
 

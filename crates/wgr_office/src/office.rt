@@ -6,10 +6,10 @@ ghost use Rattle.sqlite.specs.Effect.{Database};
 ghost use Rattle.sqlite.specs.State.{HasCleanDisk};
 ghost use Rattle.sqlite.specs.Held.{state};
 ghost use Rattle.wgr_model.specs.Steps.{Event, IsProper};
-ghost use Rattle.wgr_orders.specs.Orders.{order_event};
-ghost use Rattle.wgr_office.specs.Between.{HasPassed};
-ghost use Rattle.wgr_office.specs.Events.{HasRun};
-ghost use Rattle.wgr_register.specs.Ends.{OrderEnds};
+ghost use Rattle.wgr_office.specs.Between.{HasPassed, IsCall, Keeps};
+ghost use Rattle.wgr_office.specs.Events.{HasRun, IsSettled};
+ghost use Rattle.wgr_office.specs.declared.answer.Answer as given;
+ghost use Rattle.wgr_office.specs.declared.run.Event.TheVariants as events;
 ghost use Rattle.wgr_office.specs.Pages.{IsAnswered, Responds, event_of};
 ghost use Rattle.wgr_register.specs.Standing.{IsAtRest, StandsAt};
 ghost use Rattle.wgr_request.specs.Request.{request_view};
@@ -81,12 +81,20 @@ impl<S: Alter> Office<S> {
         }
     }
 
-    /// Carries out an operator's order, or refuses it.
-    pub(crate) fn operate(&mut self, alloc: Global, order: &Order) -> Result<Done, OrderFault>
-        ensures clean { HasCleanDisk (state S.Store self.new) → HasCleanDisk (state S.Store self.old) }
-        ensures ends { (db : Database) (late : List Event) → StandsAt S.Store self.old db late → OrderEnds S.Store self.new db late (order_event order.now) result }
+    /// Carries out an operator's order, or refuses it, as [`run`](Office::run) does an event.
+    pub fn operate(&mut self, alloc: Global, order: &Order) -> Result<Done, OrderFault>
+        ensures call { (answer : given.Answer) → IsSettled result answer → IsCall S.Store self.old self.new (events.Order order.now) answer }
     {
+        order.forms_hold();
         self.register.operate(alloc, order)
+    }
+
+    /// Whether the store has failed for good, so that all answers are `Unavailable` until the register is
+    /// opened anew. To be asked after such an answer: the networks in memory are loaded anew.
+    pub fn is_shut(&mut self) -> bool
+        ensures { Keeps S.Store self.old self.new }
+    {
+        self.register.is_shut()
     }
 
     /// Answers all events in order. If there is no memory for the answers, no event is

@@ -52,10 +52,7 @@ fn serve<S: Alter>(alloc: Global, office: &mut Office<S>, event: &Event) -> Answ
 {
     match event {
         Event::Ask { now, bytes } => office.answer(alloc, *now, bytes.as_slice()),
-        Event::Order(order) => {
-            order.forms_hold();
-            settled(office.operate(alloc, order))
-        }
+        Event::Order(order) => settled(office.operate(alloc, order)),
     }
 }
 

@@ -14,13 +14,15 @@ use Rattle.wgr_file.specs.OnFiles.{IsClosedTo, IsOpen}
 use Rattle.wgr_file.proofs.FileLemmas.{stays_open}
 use Rattle.wgr_office.specs.declared.answer.Answer as given
 use Rattle.wgr_office.specs.declared.run.Event as event
-use Rattle.wgr_office.specs.Serving.{reply_of}
-use Rattle.wgr_service.specs.Batch.{IsBatch, IsCut, is_available}
+use Rattle.wgr_office.specs.Serving.{is_available, reply_of}
+use Rattle.wgr_service.specs.Batch.{IsBatch, IsCut}
 use Rattle.wgr_service.specs.Network.{Log}
+use Rattle.wgr_service.specs.declared.connections.Ending.{Ending}
+use Rattle.wgr_service.specs.declared.connections.Ending.TheVariants as ending
 use Rattle.wgr_prog.specs.declared.register_words.Failure.{Failure}
 use Rattle.wgr_prog.specs.declared.register_words.Failure.TheVariants as failure
 use Rattle.wgr_prog.specs.declared.request_words.Serving.{Serving}
-use Rattle.wgr_prog.specs.Answering.{Answers, AreSpelled, EndsBatch, EndsServe, HasAnswered, HasBrokenOff, HasReplied, IsServing, Listens, Output, ServesAll}
+use Rattle.wgr_prog.specs.Answering.{Answers, AreSpelled, EndsBatch, EndsServe, HasAnswered, HasBrokenOff, HasReplied, HasServed, IsServing, Listens, Output, ServesAll, ServesFrom}
 
 module _ {D : Type 0} (g : disk.Ghosts D) (start : Image) (closed : Option (Files D)) where
   -- the office is its register
@@ -57,23 +59,29 @@ module _ {D : Type 0} (g : disk.Ghosts D) (start : Image) (closed : Option (File
   ends_batch now files requests asked same spelled old new (Err (failure.Refused why)) answers = absurd answers
   ends_batch now files requests asked same spelled old new (Err (failure.Register why)) answers = (answers.0, answers.1, inr (asked, subst (AreSpelled now files) (sym same) spelled))
   ends_batch now files requests asked same spelled old new (Err failure.Device) answers = inr (asked, subst (AreSpelled now files) (sym same) spelled, answers)
+  ends_batch now files requests asked same spelled old new (Err failure.Shut) answers = absurd answers
 
   -- ---- connections
 
-  pub serves_all : (register left : Held (FileStore D g)) (s : Serving) (before after : Log) (old new : Output) (r : Result (Unit {0}) Failure) → IsOpen start register → IsClosedTo g closed left
-      → Listens register left s before after old new r → ServesAll g start closed s before after old new r
-  serves_all register left s before after old new (Ok done) is_open closed_to listens =
-      (record { register = register; opened = is_open; left = left; closed_to = closed_to; clean = listens.0; outcomes = listens.1.0; served = listens.1.1; listened = listens.1.2 }, listens.2, listens.3)
-  serves_all register left s before after old new (Err (failure.Field f)) is_open closed_to listens = absurd listens
-  serves_all register left s before after old new (Err (failure.Refused why)) is_open closed_to listens = absurd listens
-  serves_all register left s before after old new (Err (failure.Register why)) is_open closed_to listens = absurd listens
-  serves_all register left s before after old new (Err failure.Device) is_open closed_to listens = (listens.1, stays_open register left start closed is_open listens.0 closed_to)
+  module _ (register left : Held (FileStore D g)) (s : Serving) (before after : Log) (old new : Output) (is_open : IsOpen start register) (closed_to : IsClosedTo g closed left) where
+    served_from : (ended : Ending) → ServesFrom register left s ended before after → HasServed g start closed s ended before after
+    served_from ended from =
+        record { register = register; opened = is_open; left = left; closed_to = closed_to; clean = from.0; outcomes = from.1.0; served = from.1.1; listened = from.1.2 }
+
+    pub serves_all : (r : Result (Unit {0}) Failure) → Listens register left s before after old new r → ServesAll g start closed s before after old new r
+    serves_all (Ok done) listens = (served_from ending.Served listens.0, listens.1)
+    serves_all (Err failure.Shut) listens = (served_from ending.Shut listens.0, listens.1)
+    serves_all (Err (failure.Field f)) listens = absurd listens
+    serves_all (Err (failure.Refused why)) listens = absurd listens
+    serves_all (Err (failure.Register why)) listens = absurd listens
+    serves_all (Err failure.Device) listens = (listens.1, stays_open register left start closed is_open listens.0 closed_to)
 
   -- where the words spell what to serve
-  pub ends_serve : (place count : List ℕ) (now : Option (List ℕ)) (s : Serving) → IsServing place count now s → (before after : Log) (old new : Output) (r : Result (Unit {0}) Failure) → ServesAll g start closed s before after old new r
-      → EndsServe g start closed place count now before after old new r
-  ends_serve place count now s spelled before after old new (Ok done) serves = (s, spelled, serves)
-  ends_serve place count now s spelled before after old new (Err (failure.Field f)) serves = absurd serves
-  ends_serve place count now s spelled before after old new (Err (failure.Refused why)) serves = absurd serves
-  ends_serve place count now s spelled before after old new (Err (failure.Register why)) serves = (serves.0, serves.1, serves.2, inr (s, spelled))
-  ends_serve place count now s spelled before after old new (Err failure.Device) serves = (s, spelled, serves)
+  pub ends_serve : (place count : List ℕ) (now orders : Option (List ℕ)) (s : Serving) → IsServing place count now orders s → (before after : Log) (old new : Output) (r : Result (Unit {0}) Failure) → ServesAll g start closed s before after old new r
+      → EndsServe g start closed place count now orders before after old new r
+  ends_serve place count now orders s spelled before after old new (Ok done) serves = (s, spelled, serves)
+  ends_serve place count now orders s spelled before after old new (Err (failure.Field f)) serves = absurd serves
+  ends_serve place count now orders s spelled before after old new (Err (failure.Refused why)) serves = absurd serves
+  ends_serve place count now orders s spelled before after old new (Err (failure.Register why)) serves = (serves.0, serves.1, serves.2, inr (s, spelled))
+  ends_serve place count now orders s spelled before after old new (Err failure.Device) serves = (s, spelled, serves)
+  ends_serve place count now orders s spelled before after old new (Err failure.Shut) serves = (s, spelled, serves)

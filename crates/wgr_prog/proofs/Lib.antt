@@ -1,2 +1,4 @@
 pub mod AnsweringLemmas
 pub mod RegisterLemmas
+pub mod SendLemmas
+pub mod OrderingLemmas

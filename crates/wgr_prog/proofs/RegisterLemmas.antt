@@ -3,7 +3,7 @@ use Rattle.std.proofs.Common.{◌≡◌, ℕ, Bool, true, false, List, Option, R
 use Rattle.sqlite.specs.Recovery.{Image}
 use Rattle.sqlite_disk.specs.declared.Disk as disk
 use Rattle.sqlite_disk.specs.declared.Files.{Files}
-use Rattle.wgr_command_line.specs.Words.{OrderAsked}
+use Rattle.wgr_words.specs.Asked.{OrderAsked}
 use Rattle.wgr_file.specs.OnFiles.{HasEnded}
 use Rattle.wgr_orders.specs.declared.order.Order.{Order}
 use Rattle.wgr_register.specs.declared.fault.Done.{Done}
@@ -36,3 +36,4 @@ module _ {D : Type 0} (g : disk.Ghosts D) (start : Image) (closed : Option (File
   carried asked old new order (Err (failure.Register why)) made (inl stays) = (sound _ old new made.0 made.1, inl (stays, inr (made.0, order, made.1, made.2)))
   carried asked old new order (Err (failure.Register why)) made (inr ended) = (sound _ old new made.0 made.1, inr (ended.0, ended.1, (made.0, order, made.1, made.2, ended.2)))
   carried asked old new order (Err failure.Device) made ended = absurd ended
+  carried asked old new order (Err failure.Shut) made ended = absurd ended

@@ -1,5 +1,5 @@
 -- The effects of the commands that answer tenants' requests.
-use Rattle.std.specs.Prelude.{ℕ, ◌≡◌, ◌⊎◌, Bool, true, List, [], ◌∷◌, length, codes, Option, Some, None, Result, Ok, Err, All, flat_map}
+use Rattle.std.specs.Prelude.{ℕ, ◌≡◌, ◌⊎◌, Bool, true, List, [], ◌∷◌, ◌++◌, length, codes, Option, Some, None, IsSome, option_map, Result, Ok, Err, All, flat_map}
 use Rattle.std.specs.Io.KnownBytes.{Appends}
 use Rattle.std.specs.List.{list_all}
 use Rattle.sqlite.specs.Effect.{Database}
@@ -12,13 +12,15 @@ use Rattle.sqlite_disk.specs.declared.Files.{Files}
 use Rattle.sqlite_store.specs.declared.store.FileStore.{FileStore}
 use Rattle.wgr_file.specs.OnFiles.{IsClosedTo, IsOpen, Stays, StoodIn}
 use Rattle.wgr_office.specs.Between.{HasPassed}
-use Rattle.wgr_office.specs.Serving.{reply_of}
+use Rattle.wgr_office.specs.Serving.{is_available, reply_of}
 use Rattle.wgr_office.specs.declared.answer.Answer as given
 use Rattle.wgr_office.specs.declared.run.Event as event
 use Rattle.wgr_office.specs.declared.run.Event.TheVariants as events
-use Rattle.wgr_service.specs.Batch.{IsCut, is_available}
+use Rattle.wgr_service.specs.Batch.{IsCut}
 use Rattle.wgr_service.specs.Connections.{AreServed, Outcome, contacts_of}
-use Rattle.wgr_service.specs.Network.{Log, Logs, bound}
+use Rattle.wgr_service.specs.Network.{Contact, Log, Logs, bound, bound_orders}
+use Rattle.wgr_service.specs.declared.connections.Ending.{Ending}
+use Rattle.wgr_service.specs.declared.connections.Ending.TheVariants as ending
 use Rattle.wgr_schema.specs.declared.fault.RegisterFault.{RegisterFault}
 use Rattle.wgr_schema.specs.declared.fault.RegisterFault.TheVariants as register_fault
 use Rattle.wgr_words.specs.declared.field.WordField.{WordField}
@@ -106,6 +108,7 @@ abbrev pub EndsBatch : {D : Type 0} → disk.Ghosts D → Image → Option (File
 EndsBatch g start closed now files old new (Ok whole) = (asked : List event.Event) × AreSpelled now files asked × HasReplied g start closed asked old new whole
 EndsBatch g start closed now files old new (Err (failure.Field field)) = (new ≡ old) × Stays g start closed × IsFirst field ((of.Now, now) ∷ [])
 EndsBatch g start closed now files old new (Err (failure.Refused why)) = ⊥
+EndsBatch g start closed now files old new (Err failure.Shut) = ⊥
 EndsBatch g start closed now files old new (Err (failure.Register why)) = (new ≡ old) × Stays g start closed × OnceRead why ((asked : List event.Event) × AreSpelled now files asked)
 EndsBatch g start closed now files old new (Err failure.Device) = ((new ≡ old) × Stays g start closed) ⊎ ((asked : List event.Event) × AreSpelled now files asked × HasBrokenOff g start closed asked old new)
 
@@ -130,50 +133,79 @@ choice_fields (Some now) = (of.Now, now) ∷ []
 abbrev pub serve_fields : List ℕ → List ℕ → Option (List ℕ) → List (WordField × List ℕ)
 serve_fields place count now = (of.HostPort, place) ∷ (of.Count, count) ∷ choice_fields now
 
+-- where orders are taken
+abbrev pub orders_of : Serving → Option (List ℕ)
+orders_of s = option_map (λ path. path.now) s.orders
+
 -- what the words ask to serve
-abbrev pub IsServing : List ℕ → List ℕ → Option (List ℕ) → Serving → Type 0
-IsServing place count now s = SpellsEndpoint place s.endpoint × SpellsWhole count s.count × SpellsMoment now s.moment
+pub record IsServing (place count : List ℕ) (now orders : Option (List ℕ)) (s : Serving) : Type 0 where
+  pub endpoint : SpellsEndpoint place s.endpoint
+  pub count_is : SpellsWhole count s.count
+  pub moment : SpellsMoment now s.moment
+  pub orders_at : orders_of s ≡ orders
 
--- the address was bound, and the connections with these outcomes were accepted
+-- the address that is bound, and the socket for orders
+abbrev pub address_of : Serving → List Contact
+address_of s = bound s.endpoint.0 s.endpoint.1 ∷ []
+
+abbrev pub socket_of : Option (List ℕ) → List Contact
+socket_of None = []
+socket_of (Some path) = bound_orders path ∷ []
+
+abbrev pub places_of : Serving → List Contact
+places_of s = address_of s ++ socket_of (orders_of s)
+
+-- they were bound, and the connections with these outcomes were accepted
 abbrev pub HasListened : Serving → Log → Log → List Outcome → Type 0
-HasListened s before after outcomes = Logs before after (bound s.endpoint.0 s.endpoint.1 ∷ flat_map contacts_of outcomes)
+HasListened s before after outcomes = Logs before after (places_of s ++ flat_map contacts_of outcomes)
 
--- the address can't be bound, and nothing is written; or it was bound, and a write failed before any connection came
+-- The address can't be bound, or it was bound and the socket for orders can't be, and nothing is written; or all were
+-- bound, and a write failed before any connection came.
 abbrev pub IsUnserved : Serving → Log → Log → Output → Output → Type 0
-IsUnserved s before after old new = ((after ≡ before) × (new ≡ old)) ⊎ (HasListened s before after [] × (new.failed ≡ true))
+IsUnserved s before after old new =
+    ((after ≡ before) × (new ≡ old)) ⊎ (Logs before after (address_of s) × IsSome s.orders × (new ≡ old)) ⊎ (HasListened s before after [] × (new.failed ≡ true))
 
--- `count` connections were served, at this address, by the register that was in the files
-pub record HasServed {D : Type 0} (g : disk.Ghosts D) (start : Image) (closed : Option (Files D)) (s : Serving) (before after : Log) : Type 0 where
+-- Connections were served, at this address, by the register that was in the files: as many as asked for, or fewer where
+-- the store failed for good.
+pub record HasServed {D : Type 0} (g : disk.Ghosts D) (start : Image) (closed : Option (Files D)) (s : Serving) (ended : Ending) (before after : Log) : Type 0 where
   pub register : Held (FileStore D g)
   pub opened : IsOpen start register
   pub left : Held (FileStore D g)
   pub closed_to : IsClosedTo g closed left
   pub clean : HasCleanDisk (file_state left) → HasCleanDisk (file_state register)
   pub outcomes : List Outcome
-  pub served : AreServed over_files register left s.moment s.count outcomes
+  pub served : AreServed over_files register left s.moment s.count ended outcomes
   pub listened : HasListened s before after outcomes
 
--- `listening` is written and `count` connections are served; or none is served
+-- `listening` is written, and connections are served
+abbrev pub HasBegun : Output → Output → Type 0
+HasBegun old new = Appends old.written new.written (codes "listening\n") × (new.failed ≡ old.failed)
+
+-- the outcomes of the connections that were served
+abbrev pub ServesFrom : {D : Type 0} {g : disk.Ghosts D} → Held (FileStore D g) → Held (FileStore D g) → Serving → Ending → Log → Log → Type 0
+ServesFrom register left s ended before after =
+    (HasCleanDisk (file_state left) → HasCleanDisk (file_state register)) × ((outcomes : List Outcome) × AreServed over_files register left s.moment s.count ended outcomes × HasListened s before after outcomes)
+
+-- `listening` is written and connections are served; or none is served
 abbrev pub Listens : {D : Type 0} {g : disk.Ghosts D} → Held (FileStore D g) → Held (FileStore D g) → Serving → Log → Log → Output → Output → Result (Unit {0}) Failure → Type 0
-Listens register left s before after old new (Ok done) =
-    (HasCleanDisk (file_state left) → HasCleanDisk (file_state register))
-    × ((outcomes : List Outcome) × AreServed over_files register left s.moment s.count outcomes × HasListened s before after outcomes)
-    × Appends old.written new.written (codes "listening\n") × (new.failed ≡ old.failed)
+Listens register left s before after old new (Ok done) = ServesFrom register left s ending.Served before after × HasBegun old new
+Listens register left s before after old new (Err failure.Shut) = ServesFrom register left s ending.Shut before after × HasBegun old new
 Listens register left s before after old new (Err failure.Device) = (left ≡ register) × IsUnserved s before after old new
 Listens register left s before after old new (Err other) = ⊥
 
--- `listening` is written and `count` connections are served; or the register isn't opened, or none is served
+-- `listening` is written and connections are served; or the register isn't opened, or none is served
 abbrev pub ServesAll : {D : Type 0} → disk.Ghosts D → Image → Option (Files D) → Serving → Log → Log → Output → Output → Result (Unit {0}) Failure → Type 0
-ServesAll g start closed s before after old new (Ok done) = HasServed g start closed s before after × Appends old.written new.written (codes "listening\n") × (new.failed ≡ old.failed)
+ServesAll g start closed s before after old new (Ok done) = HasServed g start closed s ending.Served before after × HasBegun old new
+ServesAll g start closed s before after old new (Err failure.Shut) = HasServed g start closed s ending.Shut before after × HasBegun old new
 ServesAll g start closed s before after old new (Err (failure.Register why)) = (after ≡ before) × (new ≡ old) × Stays g start closed
 ServesAll g start closed s before after old new (Err failure.Device) = IsUnserved s before after old new × Stays g start closed
 ServesAll g start closed s before after old new (Err other) = ⊥
 
--- How serving ends: at the address that the words spell, `listening` is written and `count` connections are served; or
--- none is served.
-abbrev pub EndsServe : {D : Type 0} → disk.Ghosts D → Image → Option (Files D) → List ℕ → List ℕ → Option (List ℕ) → Log → Log → Output → Output → Result (Unit {0}) Failure → Type 0
-EndsServe g start closed place count now before after old new (Ok done) = (s : Serving) × IsServing place count now s × ServesAll g start closed s before after old new (Ok done)
-EndsServe g start closed place count now before after old new (Err (failure.Field field)) = (after ≡ before) × (new ≡ old) × Stays g start closed × IsFirst field (serve_fields place count now)
-EndsServe g start closed place count now before after old new (Err (failure.Refused why)) = ⊥
-EndsServe g start closed place count now before after old new (Err (failure.Register why)) = (after ≡ before) × (new ≡ old) × Stays g start closed × OnceRead why ((s : Serving) × IsServing place count now s)
-EndsServe g start closed place count now before after old new (Err failure.Device) = (s : Serving) × IsServing place count now s × ServesAll g start closed s before after old new (Err failure.Device)
+-- How serving ends: at the places that the words spell, `listening` is written and connections are served; or none is
+-- served.
+abbrev pub EndsServe : {D : Type 0} → disk.Ghosts D → Image → Option (Files D) → List ℕ → List ℕ → Option (List ℕ) → Option (List ℕ) → Log → Log → Output → Output → Result (Unit {0}) Failure → Type 0
+EndsServe g start closed place count now orders before after old new (Err (failure.Field field)) = (after ≡ before) × (new ≡ old) × Stays g start closed × IsFirst field (serve_fields place count now)
+EndsServe g start closed place count now orders before after old new (Err (failure.Refused why)) = ⊥
+EndsServe g start closed place count now orders before after old new (Err (failure.Register why)) =
+    (after ≡ before) × (new ≡ old) × Stays g start closed × OnceRead why ((s : Serving) × IsServing place count now orders s)
+EndsServe g start closed place count now orders before after old new ended = (s : Serving) × IsServing place count now orders s × ServesAll g start closed s before after old new ended

@@ -3,7 +3,7 @@ use Rattle.std.specs.Prelude.{ℕ, ◌≡◌, ◌⊎◌, true, List, Option, Res
 use Rattle.sqlite.specs.Recovery.{Image}
 use Rattle.sqlite_disk.specs.declared.Disk as disk
 use Rattle.sqlite_disk.specs.declared.Files.{Files}
-use Rattle.wgr_command_line.specs.Words.{OrderAsked}
+use Rattle.wgr_words.specs.Asked.{OrderAsked}
 use Rattle.wgr_file.specs.OnFiles.{HasEnded, Stays}
 use Rattle.wgr_orders.specs.declared.order.Order.{Order}
 use Rattle.wgr_register.specs.declared.fault.Done.{Done}
@@ -61,3 +61,4 @@ CarriesOut g start closed asked old new (Err (failure.Field field)) = Stays g st
 CarriesOut g start closed asked old new (Err (failure.Register why)) =
     (new.failed ≡ old.failed) × ((Stays g start closed × OnceRead why (SpellOrder asked old new)) ⊎ ((fault : Fault) × (why ≡ as_register_fault fault) × HasOrdered g start closed asked old new (Err (order_fault.Fault fault))))
 CarriesOut g start closed asked old new (Err failure.Device) = Stays g start closed × (new.failed ≡ true)
+CarriesOut g start closed asked old new (Err failure.Shut) = ⊥

@@ -1,6 +1,5 @@
 -- The effects of a run of `wgr`, and its exit status.
-use Rattle.std.specs.Prelude.{ℕ, ◌≡◌, ◌≢◌, ◌⊎◌, true, false, Bool, List, Option, Result, Ok, Err, IfErr, IfNone, IfOk, IfSome, codes}
-use Rattle.std.specs.Io.KnownBytes.{Appends}
+use Rattle.std.specs.Prelude.{ℕ, ◌≡◌, ◌≢◌, ◌⊎◌, true, false, Bool, List, Option, Result, Ok, Err, IfErr, IfNone, IfOk, IfSome}
 use Rattle.std.specs.declared.io.ErrorKind as io
 use Rattle.std.specs.declared.io.ErrorKind.TheVariants.{InvalidData}
 use Rattle.clap.specs.Words.{IsAmong, Kinds, Text}
@@ -9,7 +8,7 @@ use Rattle.clap.specs.declared.error.kind.ErrorKind.TheVariants.{DisplayHelp, Di
 use Rattle.sqlite.specs.Recovery.{Image}
 use Rattle.sqlite_disk.specs.declared.Disk as disk
 use Rattle.sqlite_disk.specs.declared.Files.{Files}
-use Rattle.wgr_command_line.specs.Words.{Asked, Batch, Init, Operate, OrderAsked, Plan, Serve, asked_by, wrong_with}
+use Rattle.wgr_command_line.specs.Words.{Asked, Batch, Init, Operate, Orders, Plan, Send, Serve, asked_by, wrong_with}
 use Rattle.wgr_register.specs.declared.fault.Done.{Done}
 use Rattle.wgr_text.specs.Prefix.{PrefixValue}
 use Rattle.wgr_text.specs.PrefixText.{Spells}
@@ -21,10 +20,17 @@ use Rattle.wgr_plan.specs.PlanFault.{Answers, Streams}
 use Rattle.wgr_service.specs.Network.{Log}
 use Rattle.wgr_prog.specs.Answering.{EndsBatch, EndsServe, Output}
 use Rattle.wgr_file.specs.OnFiles.{IsMade, Stays}
+use Rattle.wgr_prog.specs.Failures.{failure_status}
+use Rattle.wgr_prog.specs.Messages.{TellsDone}
 use Rattle.wgr_prog.specs.OnRegister.{CarriesOut}
+use Rattle.wgr_prog.specs.Ordering.{EndsOrders, orders_status}
+use Rattle.wgr_prog.specs.Sending.{Sends, TellsSent}
+use Rattle.wgr_words.specs.Asked.{OrderAsked}
 use Rattle.wgr_words.specs.Order.{Input, wants_token}
+use Rattle.std.specs.declared.vec.Vec.{Vec}
+use Rattle.std.specs.declared.alloc.Global.{Global}
+use Rattle.wgr_prog.specs.declared.send.SendFault.{SendFault}
 use Rattle.wgr_prog.specs.declared.register_words.Failure.{Failure}
-use Rattle.wgr_prog.specs.declared.register_words.Failure.TheVariants as failure
 
 -- the streams of a reader and a writer
 abbrev pub streams : {R W : Type 0} → (R → Option (List ℕ)) → (R → Bool) → (W → Option (List ℕ)) → (W → Bool) → R → W → Streams
@@ -66,19 +72,6 @@ RunsPlan text old new status = RefusesPool text old new status ⊎ TellsPlan tex
 -- nothing is read
 abbrev pub ReadsNothing : Streams → Streams → Type 0
 ReadsNothing old new = (new.input ≡ old.input) × (new.read_failed ≡ old.read_failed)
-
--- a malformed field counts as a refusal, as does a refusal by the register
-abbrev pub failure_status : Failure → ℕ
-failure_status (failure.Field field) = REFUSED
-failure_status (failure.Refused why) = REFUSED
-failure_status (failure.Register why) = FAULT
-failure_status failure.Device = FAULT
-
--- `done` and a newline are printed, or the writer fails
-abbrev pub TellsDone : Option (List ℕ) → Option (List ℕ) → Bool → Bool → ℕ → Type 0
-TellsDone written written' failed failed' status =
-    ((status ≡ DONE) × Appends written written' (codes "done\n") × (failed' ≡ failed))
-    ⊎ ((status ≡ FAULT) × (failed' ≡ true))
 
 -- the result is reported; if nothing is done, nothing is printed
 abbrev pub TellsEnd : Option (List ℕ) → Option (List ℕ) → Bool → Bool → Result Done Failure → ℕ → Type 0
@@ -128,11 +121,25 @@ serve_status (Ok done) = DONE
 serve_status (Err why) = failure_status why
 
 -- connections are served
-pub record RunsServe {D : Type 0} (g : disk.Ghosts D) (start : Image) (closed : Option (Files D)) (place count : Text) (now : Option Text) (before after : Log) (old new : Streams) (status : ℕ) : Type 0 where
+pub record RunsServe {D : Type 0} (g : disk.Ghosts D) (start : Image) (closed : Option (Files D)) (place count : Text) (now orders : Option Text) (before after : Log) (old new : Streams) (status : ℕ) : Type 0 where
   pub answer : Result (Unit {0}) Failure
-  pub ends : EndsServe g start closed place count now before after (output_in old) (output_in new) answer
+  pub ends : EndsServe g start closed place count now orders before after (output_in old) (output_in new) answer
   pub reported : status ≡ serve_status answer
   pub unread : ReadsNothing old new
+
+-- the orders in the lines of a text are carried out
+pub record RunsOrders {D : Type 0} (g : disk.Ghosts D) (start : Image) (closed : Option (Files D)) (file : Option Text) (old new : Streams) (status : ℕ) : Type 0 where
+  pub answer : Result ℕ Failure
+  pub ends : EndsOrders g start closed file (input_in old) (input_in new) (output_in old) (output_in new) answer
+  pub reported : status ≡ orders_status answer
+
+-- ---- an order to a running service
+
+-- what the service answers is printed
+pub record RunsSend (path : Text) (words : List Text) (digest : Option Text) (before after : Log) (old new : Streams) (status : ℕ) : Type 0 where
+  pub answer : Result (Vec ℕ Global) SendFault
+  pub sends : Sends path words digest before after (input_in old) (input_in new) answer
+  pub reported : TellsSent old.written new.written old.write_failed new.write_failed answer status
 
 -- ---- the command line
 
@@ -145,7 +152,9 @@ Runs g start closed (Plan pool) before after old new status = (after ≡ before)
 Runs g start closed (Init db) before after old new status = (after ≡ before) × RunsInit g start closed old new status
 Runs g start closed (Operate db order) before after old new status = (after ≡ before) × RunsOrder g start closed order old new status
 Runs g start closed (Batch db now files) before after old new status = (after ≡ before) × RunsBatch g start closed now files old new status
-Runs g start closed (Serve db place count now) before after old new status = RunsServe g start closed place count now before after old new status
+Runs g start closed (Serve db place count now orders) before after old new status = RunsServe g start closed place count now orders before after old new status
+Runs g start closed (Send path words digest) before after old new status = Stays g start closed × RunsSend path words digest before after old new status
+Runs g start closed (Orders db file) before after old new status = (after ≡ before) × RunsOrders g start closed file old new status
 
 -- The words ask for something: it is run, or there is no memory and the files stay as they are.
 abbrev pub ServesAsked : {D : Type 0} → disk.Ghosts D → Image → Option (Files D) → Asked → Log → Log → Streams → Streams → ℕ → Type 0
@@ -175,7 +184,7 @@ pub record TellsKind (kinds : Kinds) (old new : Streams) (status : ℕ) : Type 0
 abbrev pub TellsError : Kinds → Streams → Streams → ℕ → Type 0
 TellsError kinds old new status = LacksMemory old new status ⊎ FailsToWrite old new status ⊎ TellsKind kinds old new status
 
--- The words ask for something, or for nothing. Only `serve` uses the network.
+-- The words ask for something, or for nothing. Only `serve` and `send` use the network.
 pub record Serves {D : Type 0} (g : disk.Ghosts D) (start : Image) (closed : Option (Files D)) (words : List Text) (before after : Log) (old new : Streams) (status : ℕ) : Type 0 where
   pub served : IfSome (asked_by words) (λ asked. ServesAsked g start closed asked before after old new status)
   pub reported : IfNone (asked_by words) ((after ≡ before) × Stays g start closed × TellsError (wrong_with words) old new status)

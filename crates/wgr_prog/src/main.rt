@@ -2,10 +2,12 @@
 #![tactic(auto)]
 
 mod messages;
+mod order_lines;
 mod program;
 mod register_words;
 mod request_words;
 mod requests;
+mod send;
 
 use sqlite::Unknown;
 use std::process::ExitCode;
@@ -22,7 +24,7 @@ fn main(rt: HostRuntime) -> ExitCode {
     let mut input = Device::new(rt.stdin());
     let mut out = Device::new(rt.stdout());
     let mut err = Device::new(rt.stderr());
-    let mut network = Sockets::new(&rt);
+    let mut network = Sockets::new(rt.alloc(), &rt);
     let arguments = arguments(&rt);
     let (status, _files) = program::run(
         &rt,

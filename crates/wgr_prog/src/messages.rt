@@ -2,7 +2,9 @@
 //!
 //! If standard error fails, nothing can be reported, and the status is unchanged.
 ghost use Rattle.std.specs.Prelude.{◌≡◌};
-ghost use Rattle.wgr_prog.specs.Status.{TellsDone, TellsEnd, failure_status};
+ghost use Rattle.wgr_prog.specs.Messages.{TellsDone};
+ghost use Rattle.wgr_prog.specs.Failures.{failure_status};
+ghost use Rattle.wgr_prog.specs.Status.{TellsEnd};
 
 use crate::register_words::Failure;
 use std::fmt;
@@ -82,6 +84,7 @@ pub(crate) fn failure<E: Write>(why: &Failure, err: &mut E) -> u8
         }
         Failure::Register(why) => register_fault(*why, err),
         Failure::Device => device(err),
+        Failure::Shut => register_fault(RegisterFault::Store, err),
     }
 }
 

@@ -9,8 +9,10 @@ ghost use Rattle.wgr_prog.specs.Status.{LacksWords, RunsPlan, Serves, fault_stat
 ghost use Rattle.wgr_prog.specs.declared.messages.TheConstants.{DONE, FAULT, REFUSED};
 
 use crate::messages::{DONE, REFUSED, Text, device, no_memory, refusal};
+use crate::order_lines::run_orders;
 use crate::register_words::{run_init, run_order};
 use crate::request_words::{run_batch, run_serve};
+use crate::send::run_send;
 use clap::error::ErrorKind;
 use sqlite::{FileFrom, Start};
 use sqlite_disk::Disk;
@@ -30,8 +32,8 @@ use wgr_text::read_loose;
 /// exit status; or reports why there are none. A register's files are returned as they were closed.
 ///
 /// `start` is what the files held when they were opened, which no system reports: `main` passes `Unknown`,
-/// and the contract says for each initial content what is in them afterwards. Only `serve` uses the
-/// network.
+/// and the contract says for each initial content what is in them afterwards. Only `serve` and
+/// `send` use the network.
 ///
 /// If standard error fails, nothing can be reported, and the status is unchanged.
 pub fn run<S: Start, N: Network, R: Read, W: Write, E: Write>(
@@ -88,8 +90,20 @@ fn program<S: Start, T: AsStr, N: Network, R: Read, W: Write, E: Write>(
                 place,
                 count,
                 now,
+                orders,
             },
-        ) => run_serve(rt, db, start, place, count, now, network, out, err),
+        ) => run_serve(rt, db, start, place, count, now, orders, network, out, err),
+        Ok(Invocation::Orders { db, file }) => run_orders(rt, db, start, file, input, out, err),
+        Ok(
+            Invocation::Send {
+                path,
+                words,
+                digest,
+            },
+        ) => (
+            run_send(alloc, path, &words, digest, network, input, out, err),
+            None,
+        ),
         Err(answer) => (no_invocation(alloc, &answer, out, err), None),
     }
 }

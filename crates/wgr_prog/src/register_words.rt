@@ -1,7 +1,7 @@
 //! The commands on a register in a file.
 ghost use Rattle.std.specs.Prelude.{◌≡◌, ℕ, Bool, List, Option, false};
 ghost use Rattle.sqlite.specs.WalFiles.{image_at};
-ghost use Rattle.wgr_command_line.specs.Words.{order_asked};
+ghost use Rattle.wgr_words.specs.Asked.{order_asked};
 ghost use Rattle.wgr_words.specs.Order.{input_of, wants_token};
 ghost use Rattle.wgr_prog.specs.OnRegister.{CarriesOut, EndsAs, as_ended};
 ghost use Rattle.wgr_prog.specs.Status.{RunsInit, RunsOrder, streams};
@@ -9,12 +9,11 @@ ghost use Rattle.wgr_prog.specs.Status.{RunsInit, RunsOrder, streams};
 use crate::messages;
 use sqlite::{FileFrom, Start};
 use sqlite_disk::Disk;
-use wgr_command_line::OrderWords;
 use wgr_file::{Closed, Unopened, make_register, operate};
 use wgr_io::{Read, Write};
 use wgr_orders::{Order, OrderRefusal};
 use wgr_register::{Done, OrderFault, RegisterFault, register_fault};
-use wgr_words::{WordFault, WordField, order_of};
+use wgr_words::{OrderWords, WordFault, WordField, order_of};
 
 /// Why a command on a register is not done.
 #[derive(Drop)]
@@ -27,6 +26,8 @@ pub(crate) enum Failure {
     Register(RegisterFault),
     /// Standard input failed.
     Device,
+    /// The store failed for good while connections were served.
+    Shut,
 }
 
 impl From<WordFault> for Failure {

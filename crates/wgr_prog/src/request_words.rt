@@ -1,9 +1,10 @@
 //! The commands that answer tenants' requests from the register in a file.
-ghost use Rattle.std.specs.Prelude.{◌≡◌, ℕ, Bool, IfErr, IfOk, List, Option, map, option_map};
+ghost use Rattle.std.specs.Prelude.{◌≡◌, ℕ, Bool, IfErr, IfOk, IsSome, OnErr, OnOk, List, Option, map, option_map};
 ghost use Rattle.sqlite.specs.WalFiles.{image_at};
 ghost use Rattle.wgr_file.specs.OnFiles.{IsClosedTo, IsOpen, Stays};
-ghost use Rattle.wgr_prog.specs.Answering.{Answers, AreSpelled, EndsBatch, EndsServe, IsBatchFault, IsChoice, IsServing, Listens, ServesAll, output_of, serve_fields};
+ghost use Rattle.wgr_prog.specs.Answering.{Answers, AreSpelled, EndsBatch, EndsServe, IsBatchFault, IsChoice, IsServing, Listens, ServesAll, output_of, serve_fields, socket_of};
 ghost use Rattle.wgr_words.specs.Order.{IsFaultIn};
+ghost use Rattle.wgr_service.specs.Network.{Logs};
 ghost use Rattle.wgr_prog.specs.Status.{RunsBatch, RunsServe, batch_status, serve_status};
 
 use crate::messages::{self, DONE, FAULT};
@@ -15,10 +16,10 @@ use std::alloc::Global;
 use std::net::IpAddr;
 use wgr_core::Port;
 use wgr_file::{Closed, Unopened, close, open_register};
-use wgr_io::{Write, write_all};
+use wgr_io::{DeviceError, Write, write_all};
 use wgr_office::{Event, Office};
 use wgr_register::RegisterFault;
-use wgr_service::{BatchFault, Network, answer_all, serve_connections};
+use wgr_service::{BatchFault, Ending, Network, answer_all, serve_connections};
 use wgr_words::{WordFault, WordField, read_endpoint_field, read_whole_field};
 
 /// Answers the requests in files in order, and returns the exit status.
@@ -103,16 +104,18 @@ fn answer_requests<S: Start, W: Write>(
 
 /// What the words ask to serve.
 #[derive(Clone, Copy)]
-pub(crate) struct Serving {
+pub(crate) struct Serving<'a> {
     /// Where to listen.
     pub(crate) endpoint: (IpAddr, Port),
     /// How many connections are served.
     pub(crate) count: u64,
     /// The moment of all requests, if one is given.
     pub(crate) moment: Option<u64>,
+    /// The path of the socket at which orders are taken, if one is given.
+    pub(crate) orders: Option<&'a str>,
 }
 
-/// Serves this many connections, and returns the exit status.
+/// Serves connections, and returns the exit status.
 pub(crate) fn run_serve<S: Start, N: Network, W: Write, E: Write>(
     rt: &HostRuntime,
     path: &str,
@@ -120,16 +123,19 @@ pub(crate) fn run_serve<S: Start, N: Network, W: Write, E: Write>(
     place: &str,
     count: &str,
     now: Option<&str>,
+    orders: Option<&str>,
     network: &mut N,
     out: &mut W,
     err: &mut E,
 ) -> (u8, Closed<S>)
-    ensures { (input : Option (List ℕ)) (failed : Bool) → RunsServe ⟦<FileFrom<S> as Disk>⟧ (image_at S.Start) result.1 place.now count.now (option_map (λ now. now.now) now.entry) (N.log network.old) (N.log network.new)
+    ensures { (input : Option (List ℕ)) (failed : Bool) → RunsServe ⟦<FileFrom<S> as Disk>⟧ (image_at S.Start) result.1 place.now count.now (option_map (λ now. now.now) now.entry) (option_map (λ path. path.now) orders.entry) (N.log network.old) (N.log network.new)
         (record { input = input; read_failed = failed; written = W.contents out.old; write_failed = W.failed out.old })
         (record { input = input; read_failed = failed; written = W.contents out.new; write_failed = W.failed out.new })
         result.0 }
 {
-    let (served, closed) = serve(rt, path, start, place, count, now, network, out, err);
+    let (served, closed) = serve(
+        rt, path, start, place, count, now, orders, network, out, err,
+    );
     (serve_status(&served, err), closed)
 }
 
@@ -150,21 +156,27 @@ fn serve<S: Start, N: Network, W: Write, E: Write>(
     place: &str,
     count: &str,
     now: Option<&str>,
+    orders: Option<&str>,
     network: &mut N,
     out: &mut W,
     err: &mut E,
 ) -> (Result<(), Failure>, Closed<S>)
-    ensures { EndsServe ⟦<FileFrom<S> as Disk>⟧ (image_at S.Start) result.1 place.now count.now (option_map (λ now. now.now) now.entry) (N.log network.old) (N.log network.new) (output_of W.contents W.failed out.old) (output_of W.contents W.failed out.new) result.0 }
+    ensures { EndsServe ⟦<FileFrom<S> as Disk>⟧ (image_at S.Start) result.1 place.now count.now (option_map (λ now. now.now) now.entry) (option_map (λ path. path.now) orders.entry) (N.log network.old) (N.log network.new) (output_of W.contents W.failed out.old) (output_of W.contents W.failed out.new) result.0 }
 {
-    match read_serving(place, count, now) {
+    match read_serving(place, count, now, orders) {
         Ok(serving) => serve_all(rt, path, start, &serving, network, out, err),
         Err(why) => (Err(Failure::from(why)), None),
     }
 }
 
 // The fields in the order of the words.
-fn read_serving(place: &str, count: &str, now: Option<&str>) -> Result<Serving, WordFault>
-    ensures ok { IfOk result (IsServing place.now count.now (option_map (λ now. now.now) now.entry)) }
+fn read_serving<'a>(
+    place: &str,
+    count: &str,
+    now: Option<&str>,
+    orders: Option<&'a str>,
+) -> Result<Serving<'a>, WordFault>
+    ensures ok { IfOk result (IsServing place.now count.now (option_map (λ now. now.now) now.entry) (option_map (λ path. path.now) orders.entry)) }
     ensures err { IfErr result (IsFaultIn (serve_fields place.now count.now (option_map (λ now. now.now) now.entry))) }
 {
     let endpoint = read_endpoint_field(place)?;
@@ -174,6 +186,7 @@ fn read_serving(place: &str, count: &str, now: Option<&str>) -> Result<Serving, 
         endpoint,
         count,
         moment,
+        orders,
     })
 }
 
@@ -190,12 +203,12 @@ fn read_choice(now: Option<&str>) -> Result<Option<u64>, WordFault>
     }
 }
 
-// Opens the register in the file at this path, and only then binds the address and serves.
+// Opens the register in the file at this path, and only then binds the addresses and serves.
 fn serve_all<S: Start, N: Network, W: Write, E: Write>(
     rt: &HostRuntime,
     path: &str,
     start: S,
-    serving: &Serving,
+    serving: &Serving<'_>,
     network: &mut N,
     out: &mut W,
     err: &mut E,
@@ -210,11 +223,11 @@ fn serve_all<S: Start, N: Network, W: Write, E: Write>(
     (served, close_office(office))
 }
 
-// Listens, prints `listening`, and serves this many connections.
+// Listens, prints `listening`, and serves connections.
 fn listen<S: Start, N: Network, W: Write, E: Write>(
     alloc: Global,
     office: &mut Office<FileStore<FileFrom<S>>>,
-    serving: &Serving,
+    serving: &Serving<'_>,
     network: &mut N,
     out: &mut W,
     err: &mut E,
@@ -225,15 +238,31 @@ fn listen<S: Start, N: Network, W: Write, E: Write>(
     let Ok(()) = network.listen(address, port.number()) else {
         return Err(Failure::Device);
     };
+    let Ok(()) = listen_orders(serving.orders, network) else {
+        return Err(Failure::Device);
+    };
     if write_all(out, b"listening\n").is_err() {
         return Err(Failure::Device);
     }
-    serve_connections(alloc, office, network, serving.count, serving.moment, err);
-    Ok(())
+    match serve_connections(alloc, office, network, serving.count, serving.moment, err) {
+        Ending::Served => Ok(()),
+        Ending::Shut => Err(Failure::Shut),
+    }
 }
 
-// An office over the register in the file at this path.
-fn open_office<S: Start>(
+// Listens for orders, if a path is given.
+fn listen_orders<N: Network>(path: Option<&str>, network: &mut N) -> Result<(), DeviceError>
+    ensures bound { OnOk result (Logs (N.log network.old) (N.log network.new) (socket_of (option_map (λ path. path.now) path.entry))) }
+    ensures kept { OnErr result (IsSome path.entry × (N.log network.new ≡ N.log network.old)) }
+{
+    match path {
+        Some(path) => network.listen_orders(path),
+        None => Ok(()),
+    }
+}
+
+/// An office over the register in the file at this path.
+pub(crate) fn open_office<S: Start>(
     rt: &HostRuntime,
     path: &str,
     start: S,
@@ -251,7 +280,8 @@ fn open_office<S: Start>(
     }
 }
 
-fn close_office<S: Start>(office: Office<FileStore<FileFrom<S>>>) -> Closed<S>
+/// Closes the register of an office.
+pub(crate) fn close_office<S: Start>(office: Office<FileStore<FileFrom<S>>>) -> Closed<S>
     ensures { IsClosedTo ⟦<FileFrom<S> as Disk>⟧ result office }
 {
     close(office.into_register())

@@ -26,7 +26,8 @@ pub(crate) fn read_requests(
     Ok(requests)
 }
 
-fn read_file(rt: &HostRuntime, path: &str) -> Result<Vec<u8>, WordFault>
+/// All bytes of a file.
+pub(crate) fn read_file(rt: &HostRuntime, path: &str) -> Result<Vec<u8>, WordFault>
     ensures err { IfErr result IsNoField }
 {
     let Ok(file) = File::open(rt, path) else {

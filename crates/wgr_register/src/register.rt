@@ -1,5 +1,5 @@
 //! The register.
-ghost use Rattle.std.specs.Prelude.{◌≡◌, ◌↔◌, ◌≤◌, ℕ, List, [], true, false, IfErr, IfOk, OnOk};
+ghost use Rattle.std.specs.Prelude.{◌≡◌, ◌↔◌, ◌≤◌, ℕ, List, [], true, false, Err, IfErr, IfOk, OnOk};
 ghost use Rattle.sqlite.specs.Effect.{Database};
 ghost use Rattle.sqlite.specs.State.{HasCleanDisk, Survives};
 ghost use Rattle.sqlite.specs.Held.{state};
@@ -13,6 +13,7 @@ ghost use Rattle.wgr_register.specs.Recent.{max_recent};
 ghost use Rattle.wgr_register.specs.Standing.{IsAtRest, StandsAt};
 ghost use Rattle.wgr_sql.specs.Calls.{IsKept};
 ghost use Rattle.wgr_sql.specs.Causes.{HasCause, HasCauseOr};
+ghost use Rattle.wgr_sql.specs.declared.fault.Fault.TheVariants.{Store};
 ghost use Rattle.wgr_schema.specs.Faults.{IfStatementFails};
 ghost use Rattle.wgr_schema.specs.Fresh.{IsFresh, LeavesFresh, is_any_taken, no_schema};
 ghost use Rattle.wgr_schema.specs.FirstVersion.{IsFirstVersion};
@@ -29,9 +30,11 @@ use sqlite::{Alter, Connection};
 use std::alloc::Global;
 use std::marker::Model;
 use wgr_core::Command;
+use wgr_entries::tenant_of_token;
 use wgr_opening::check_register;
 use wgr_orders::Order;
 use wgr_schema::make;
+use wgr_tables::Fault;
 
 /// The networks of many tenants, in a database whose rows are consistent at all times.
 ///
@@ -151,6 +154,20 @@ impl<S: Alter> Register<S> {
         files::count(&self.files)
     }
 
+    /// Whether the store has failed for good: a query that reads one token fails for another reason than want
+    /// of memory. A store that a fault has shut, as a failed sync does, fails each query from then on, and only
+    /// a register that is opened anew answers again. What is in memory is loaded anew afterwards.
+    pub fn is_shut(&mut self) -> bool
+        ensures clean { HasCleanDisk (state S.Store self.new) → HasCleanDisk (state S.Store self.old) }
+        ensures stands { (db : Database) (late : List Event) → StandsAt S.Store self.old db late → StandsAt S.Store self.new db late }
+        ensures cause { (db : Database) (late : List Event) → StandsAt S.Store self.old db late → result ≡ true → HasCause (state S.Store self.old) (state S.Store self.new) Store }
+    {
+        self.loaded = None;
+        self.files = None;
+        let found = tenant_of_token(&mut self.conn, &[0; 32]);
+        is_fault_of_store(&found)
+    }
+
     /// The connection, as it is.
     pub fn into_connection(self) -> Connection<S>
         ensures { result ≡ self }
@@ -238,4 +255,10 @@ impl<S: Alter> Register<S> {
         files::drop_after_fault(&mut self.files, &answered);
         answered
     }
+}
+
+fn is_fault_of_store(found: &Result<Option<u32>, Fault>) -> bool
+    ensures { result ≡ true → found.now ≡ Err Store }
+{
+    matches!(found, Err(Fault::Store))
 }

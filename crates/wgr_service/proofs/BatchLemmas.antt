@@ -1,5 +1,5 @@
 -- Replies that are written one after the other.
-use Rattle.std.proofs.Common.{◌≡◌, ◌∙◌, ◌+◌, ℕ, List, [], ◌∷◌, ◌++◌, take, drop, ap, append_assoc, refl, sym, subst}
+use Rattle.std.proofs.Common.{◌≡◌, ◌∙◌, ◌+◌, ℕ, List, [], ◌∷◌, ◌++◌, take, drop, Result, Ok, Err, OnErr, ap, append_assoc, sym, subst}
 use Rattle.std.specs.Prelude.{Option, flat_map}
 use Rattle.std.specs.Io.KnownBytes.{Appends}
 use Rattle.std.proofs.lemmas.List.{flat_map_more, take-append-drop}
@@ -7,6 +7,10 @@ use Rattle.std.proofs.lemmas.List.Concat.{flat_map-append}
 use Rattle.wgr_model.specs.Register.{Bytes}
 use Rattle.wgr_service.specs.Batch.{IsCut}
 use Rattle.wgr_service.proofs.ConnectionLemmas.{appends_more}
+
+pub on_err : {T E P : Type 0} (r : Result T E) → P → OnErr r P
+on_err (Ok x) p = tt
+on_err (Err e) p = p
 
 module _ {X : Type 0} (reply : X → Bytes) (xs : List X) (i : ℕ) (x : X) (next : take (i + 1) xs ≡ take i xs ++ x ∷ []) where
   replies : flat_map reply (take (i + 1) xs) ≡ flat_map reply (take i xs) ++ reply x

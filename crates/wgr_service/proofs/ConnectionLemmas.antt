@@ -1,31 +1,37 @@
 -- Connections that were served, and one more.
-use Rattle.std.proofs.Common.{◌≡◌, ◌+◌, ℕ, Bool, false, List, [], ◌∷◌, ◌++◌, length, map, take, drop, Option, Some, None, Result, Ok, Err, inl, inr, refl, sym, ap, ◌∙◌, subst, rules}
-use Rattle.std.specs.Prelude.{All, flat_map}
+use Rattle.std.proofs.Common.{◌≡◌, ◌+◌, ℕ, Bool, true, false, List, [], ◌∷◌, ◌++◌, length, map, take, drop, Option, Some, None, inl, inr, refl, sym, ap, ◌∙◌, subst, rules}
+use Rattle.std.specs.Prelude.{All, MatchBool, cond, flat_map}
 use Rattle.std.specs.Io.KnownBytes.{Appends}
-use Rattle.std.specs.List.{cons_option}
+use Rattle.std.specs.List.{cons_option, filter}
 use Rattle.std.proofs.lemmas.List.{append-nil, append_assoc, flat_map_more, length-append, map-append, take-append-drop}
-use Rattle.std.proofs.lemmas.List.Elements.{All-append, filter_map-append}
-use Rattle.sqlite.specs.Effect.{Database}
+use Rattle.std.proofs.lemmas.List.Elements.{All-append, filter-append, filter_map-append}
 use Rattle.sqlite.specs.State.{HasCleanDisk}
 use Rattle.sqlite.specs.Store.{Ghosts}
 use Rattle.sqlite.specs.Held.{Held, state}
 use Rattle.wgr_model.specs.Register.{Bytes}
 use Rattle.wgr_model.specs.RowLaws.{RowsAreIsolated}
-use Rattle.wgr_model.specs.Steps.{Event}
-use Rattle.wgr_office.specs.Between.{AreCalls}
-use Rattle.wgr_office.specs.Serving.{Ends, IsAnsweredAt, IsServeFault, Takes, reply_of}
+use Rattle.wgr_office.specs.Between.{AreCalls, IsCall, Keeps}
+use Rattle.wgr_office.specs.Serving.{Ends, IsServeFault, Takes, is_available, reply_of}
 use Rattle.wgr_office.specs.declared.run.Event as event
 use Rattle.wgr_office.specs.declared.answer.Answer as given
+use Rattle.wgr_office.specs.declared.answer.Answer.TheVariants as givens
+use Rattle.wgr_office.specs.declared.run.Event.TheVariants as events
 use Rattle.wgr_office.specs.declared.serve.ServeFault.{ServeFault}
 use Rattle.wgr_office.specs.declared.serve.ServeFault.TheVariants as serve_fault
-use Rattle.wgr_office.proofs.BetweenLemmas.{calls_more, passed}
+use Rattle.wgr_office.proofs.BetweenLemmas.{call_kept, calls_more, passed}
 use Rattle.wgr_office.proofs.RunLemmas.{ask_served}
-use Rattle.wgr_register.specs.Standing.{StandsAt}
 use Rattle.wgr_service.specs.Batch.{IsCut}
-use Rattle.wgr_service.specs.Connections.{AreServed, AreWritten, Exchange, HasOutcome, IsServed, Meeting, Outcome, Suits, Tells, answer_of, answered, asked_of, contacts_of, cut, exchange_of, exchanges, failed, line_of, met, missed, moment_of}
+use Rattle.wgr_service.specs.Connections.{AreServed, AreSound, AreWritten, Asked, Exchange, HasCounted, HasMet, HasOutcome, IsServed, Meeting, Ordered, Outcome, Reports, answer_of, answered, asked_of, contacts_of, cut, door_of, exchange_of, exchanges, failed, failure_line, is_request_at, line_of, meeting_of, missed, moment_of, requests_in, unavailable_line, unspelled, weight}
+use Rattle.wgr_service.specs.Lines.{TakesLine, end_text, fault_text, is_end_available, settled}
 use Rattle.wgr_service.specs.Network.{Contact, Log, Logs}
-use Rattle.wgr_service.specs.declared.connections.ConnectionFault.{ConnectionFault}
-use Rattle.wgr_service.specs.declared.connections.ConnectionFault.TheVariants as fault
+use Rattle.wgr_service.specs.Reports.{IsReport, report_line}
+use Rattle.wgr_service.specs.declared.connections.Ending.{Ending}
+use Rattle.wgr_service.specs.declared.lines.LineEnd.{LineEnd}
+use Rattle.wgr_service.specs.declared.lines.LineEnd.TheVariants as line_end
+use Rattle.wgr_service.specs.declared.network.Door.{Door}
+use Rattle.wgr_service.specs.declared.network.Door.TheVariants as door
+use Rattle.wgr_service.specs.declared.report.Report.{Report}
+use Rattle.wgr_service.specs.declared.report.Report.TheVariants as report
 
 -- ---- what is written
 
@@ -62,41 +68,92 @@ logged_more old mid new outcomes outcome first next = subst (Logs old new) (flat
 
 -- ---- one connection
 
--- a beginning of the reply
+-- a beginning of the answer
 cut_at : (sent : ℕ) (before after : Option Bytes) (reply : Bytes) → Appends before after (take sent reply) → IsCut before after reply
 cut_at sent before after reply written = (take sent reply, drop sent reply, sym (take-append-drop sent reply), written)
 
--- a connection that came when the clock gave this, with a sound reader and a sound writer
-abbrev pub meeting_of : Option ℕ → Ends → Ends → Meeting
-meeting_of clock before after = record { clock = clock; input = before.input; before = before.written; after = after.written; read_failed = after.read_failed; write_failed = after.write_failed }
+-- what is reported of an answer
+reported : (m : Meeting) (x : Exchange) (r : Report) → IsReport (is_available (answer_of x)) r → Reports r (answered m x)
+reported m x r told = by (answer_of x) refl told
+  where
+    by : (answer : given.Answer) → answer_of x ≡ answer → IsReport (is_available answer) r → Reports r (answered m x)
+    by (givens.Bytes bytes) is fine = subst (λ (k : Report). Reports k (answered m x)) (sym fine) (ap is_available is)
+    by (givens.Order done) is fine = subst (λ (k : Report). Reports k (answered m x)) (sym fine) (ap is_available is)
+    by givens.Unavailable is (inl same) = subst (λ (k : Report). Reports k (answered m x)) (sym same) is
+    by givens.Unavailable is (inr same) = subst (λ (k : Report). Reports k (answered m x)) (sym same) is
 
-abbrev pub IsOutcome : {S : Type 0} → Ghosts S → Held S → Held S → Option ℕ → Meeting → Result (Unit {0}) ConnectionFault → Type 0
-IsOutcome g old new now m result = (outcome : Outcome) × Tells now result outcome × HasOutcome g old new now outcome × (contacts_of outcome ≡ met m)
+-- a tenant's message
+module _ {S : Type 0} (g : Ghosts S) (now clock : Option ℕ) (before after : Ends) (sound : AreSound before) where
+  abbrev pub request : Meeting
+  request = meeting_of door.Requests clock before after
 
-module _ {S : Type 0} (g : Ghosts S) (old new : Held S) (now clock : Option ℕ) (before after : Ends) (readable : before.read_failed ≡ false) (writable : before.write_failed ≡ false) where
-  abbrev pub m : Meeting
-  m = meeting_of clock before after
+  pub no_moment : (old : Held S) → after ≡ before → moment_of now clock ≡ None → HasMet g old old now request report.Failed
+  no_moment old kept none = (failed request, ((ap (λ (e : Ends). e.written) kept, ap (λ (e : Ends). e.write_failed) kept ∙ sound.1, inr (refl, none)), refl), refl, tt, refl)
 
-  module _ (moment : ℕ) (is : moment_of now clock ≡ Some moment) where
-    held : (answer : given.Answer) → Takes g old new moment before.input answer → (x : Exchange) × Suits now m x × IsAnsweredAt g old new x.now x.message.items x.answer × (x.answer ≡ answer)
-    held answer takes = (record { now = moment; message = takes.message; answer = answer }, record { moment = is; asks = takes.asks }, takes.held, refl)
+  module _ (old mid : Held S) (cleans : HasCleanDisk (state g mid) → HasCleanDisk (state g old)) (moment : ℕ) (is : moment_of now clock ≡ Some moment) where
+    called : (answer : given.Answer) (takes : Takes g old mid moment before.input answer) → IsCall g old mid (events.Ask moment takes.message) answer
+    called answer takes = record { clean = cleans; served = λ db late at clean. ask_served g mid db late moment takes.message answer (takes.held db late at) clean }
 
-    pub one_answered : (answer : given.Answer) → Takes g old new moment before.input answer → Appends before.written after.written (reply_of answer) → after.read_failed ≡ before.read_failed → after.write_failed ≡ before.write_failed
-        → IsOutcome g old new now m (Ok tt)
-    unfolding held
-    one_answered answer takes written read wrote =
-        let one = held answer takes in
-        (answered m one.0, tt, ((one.1, written, read ∙ readable, wrote ∙ writable), one.2), refl)
+    pub request_answered : (new : Held S) (answer : given.Answer) (available : Bool) (r : Report) → Takes g old mid moment before.input answer → Appends before.written after.written (reply_of answer) → available ≡ is_available answer
+        → after.read_failed ≡ before.read_failed → after.write_failed ≡ before.write_failed → IsReport available r → Keeps g mid new → HasMet g old new now request r
+    request_answered new answer available r takes written whether read wrote told keeps =
+        let x = Asked moment takes.message answer in
+        (answered request x, (((refl, is, takes.asks), written, read ∙ sound.0, wrote ∙ sound.1), call_kept g old mid new (asked_of x) answer (called answer takes) keeps), refl, reported request x r (subst (λ a. IsReport a r) whether told), refl)
 
-    pub one_broken : (why : ServeFault) → IsServeFault g old new moment before after why → IsOutcome g old new now m (Err (fault.Serve why))
-    unfolding held
-    one_broken serve_fault.Read fails = (failed m, fails.0, ((fails.2, fails.3 ∙ writable, inl fails.0), fails.1), refl)
-    one_broken (serve_fault.Write sent) fails =
-        let one = held fails.2.0 fails.2.1 in
-        (cut m one.0, tt, ((one.1, cut_at sent before.written after.written (reply_of fails.2.0) fails.2.3, fails.1 ∙ readable, fails.0), one.2), refl)
+    pub request_broken : (why : ServeFault) → IsServeFault g old mid moment before after why → HasMet g old mid now request report.Failed
+    request_broken serve_fault.Read fails = (failed request, ((fails.2, fails.3 ∙ sound.1, inl fails.0), fails.1), refl, tt, refl)
+    request_broken (serve_fault.Write sent) fails =
+        let answer = fails.2.0 in
+        let takes = fails.2.1 in
+        (cut request (Asked moment takes.message answer), (((refl, is, takes.asks), cut_at sent before.written after.written (reply_of answer) fails.2.3, fails.1 ∙ sound.0, fails.0), called answer takes), refl, tt, refl)
 
-  pub none_at : new ≡ old → after ≡ before → moment_of now clock ≡ None → IsOutcome g old new now m (Err fault.Clock)
-  none_at same kept none = (failed m, none, ((ap (λ (e : Ends). e.written) kept, ap (λ (e : Ends). e.write_failed) kept ∙ writable, inr none), same), refl)
+-- an operator's order
+module _ {S : Type 0} (g : Ghosts S) (now clock : Option ℕ) (before after : Ends) (sound : AreSound before) where
+  abbrev pub order : Meeting
+  order = meeting_of door.Orders clock before after
+
+  pub line_answered : (old mid new : Held S) (end : LineEnd) (r : Report) → TakesLine g old mid before.input end → Appends before.written after.written (end_text end)
+      → after.read_failed ≡ before.read_failed → after.write_failed ≡ before.write_failed → IsReport (is_end_available end) r → Keeps g mid new → (is_end_available end ≡ true → new ≡ mid) → HasMet g old new now order r
+  line_answered old mid new (line_end.Ended ended) r takes written read wrote told keeps same =
+      let x = Ordered takes.0 ended in
+      (answered order x, (((refl, takes.1), written, read ∙ sound.0, wrote ∙ sound.1), call_kept g old mid new (asked_of x) (settled ended) takes.2 keeps), refl, reported order x r told, refl)
+  line_answered old mid new (line_end.Unspelled why) r takes written read wrote told keeps same =
+      let whole = wrote ∙ sound.1 in
+      (unspelled order why, ((refl, takes.1, subst (λ b. MatchBool b (IsCut before.written after.written (fault_text why)) (Appends before.written after.written (fault_text why))) (sym whole) written, read ∙ sound.0), same refl ∙ takes.0), refl, subst (λ (k : Report). Reports k (unspelled order why)) (sym told) whole, refl)
+
+  pub line_broken : (old new : Held S) (end : LineEnd) → TakesLine g old new before.input end → IsCut before.written after.written (end_text end) → after.read_failed ≡ before.read_failed → after.write_failed ≡ true → HasMet g old new now order report.Failed
+  line_broken old new (line_end.Ended ended) takes cut_off read broken = (cut order (Ordered takes.0 ended), (((refl, takes.1), cut_off, read ∙ sound.0, broken), takes.2), refl, tt, refl)
+  line_broken old new (line_end.Unspelled why) takes cut_off read broken =
+      (unspelled order why, ((refl, takes.1, subst (λ b. MatchBool b (IsCut before.written after.written (fault_text why)) (Appends before.written after.written (fault_text why))) (sym broken) cut_off, read ∙ sound.0), takes.0), refl, broken, refl)
+
+  pub line_unread : (old new : Held S) → new ≡ old → after.written ≡ before.written → after.write_failed ≡ before.write_failed → after.read_failed ≡ true → HasMet g old new now order report.Failed
+  line_unread old new same written wrote broken = (failed order, ((written, wrote ∙ sound.1, inl broken), same), refl, tt, refl)
+
+-- the line of the report is that of the outcome
+line_is : (r : Report) (outcome : Outcome) → Reports r outcome → report_line (door_of outcome) r ≡ line_of outcome
+line_is report.Fine (answered m x) is = ap (λ b. cond b [] unavailable_line) (sym is)
+line_is report.Fine (cut m x) is = absurd is
+line_is report.Fine (unspelled m why) is = ap (λ b. cond b (failure_line m.door) []) (sym is)
+line_is report.Fine (failed m) is = absurd is
+line_is report.Fine missed is = absurd is
+line_is report.Unavailable (answered m x) is = ap (λ a. cond (is_available a) [] unavailable_line) (sym is)
+line_is report.Unavailable (cut m x) is = absurd is
+line_is report.Unavailable (unspelled m why) is = absurd is
+line_is report.Unavailable (failed m) is = absurd is
+line_is report.Unavailable missed is = absurd is
+line_is report.Shut (answered m x) is = ap (λ a. cond (is_available a) [] unavailable_line) (sym is)
+line_is report.Shut (cut m x) is = absurd is
+line_is report.Shut (unspelled m why) is = absurd is
+line_is report.Shut (failed m) is = absurd is
+line_is report.Shut missed is = absurd is
+line_is report.Failed (answered m x) is = absurd is
+line_is report.Failed (cut m x) is = refl
+line_is report.Failed (unspelled m why) is = ap (λ b. cond b (failure_line m.door) []) (sym is)
+line_is report.Failed (failed m) is = refl
+line_is report.Failed missed is = refl
+
+pub report_is : (at : Door) (r : Report) (outcome : Outcome) → door_of outcome ≡ at → Reports r outcome → report_line at r ≡ line_of outcome
+report_is at r outcome door reports = ap (λ d. report_line d r) (sym door) ∙ line_is r outcome reports
 
 -- ---- all of them
 
@@ -106,11 +163,21 @@ asked outcomes = map asked_of (exchanges outcomes)
 abbrev pub given_to : List Outcome → List given.Answer
 given_to outcomes = map answer_of (exchanges outcomes)
 
--- so many connections were served so far
+-- so many of the connections that were served so far were requests'
 pub record AreServedSoFar {S : Type 0} (g : Ghosts S) (old new : Held S) (now : Option ℕ) (count : ℕ) (outcomes : List Outcome) : Type 0 where
-  pub each : length outcomes ≡ count
+  pub each : requests_in outcomes ≡ count
   pub served : All (IsServed now) outcomes
   pub calls : AreCalls g old new (asked outcomes) (given_to outcomes)
+
+-- one more
+counted : (outcomes : List Outcome) (outcome : Outcome) → requests_in (outcomes ++ outcome ∷ []) ≡ requests_in outcomes + weight (door_of outcome)
+counted outcomes outcome =
+    let is_request : Outcome → Bool = λ (o : Outcome). is_request_at (door_of o) in
+    ap length (filter-append is_request outcomes (outcome ∷ [])) ∙ length-append (filter is_request outcomes) (filter is_request (outcome ∷ [])) ∙ ap (λ n. requests_in outcomes + n) (by (door_of outcome) refl)
+  where
+    by : (at : Door) → door_of outcome ≡ at → requests_in (outcome ∷ []) ≡ weight (door_of outcome)
+    by door.Requests is = rw is refl
+    by door.Orders is = rw is refl
 
 module _ {S : Type 0} (g : Ghosts S) (old : Held S) (now : Option ℕ) where
   pub none_served : AreServedSoFar g old old now 0 []
@@ -120,42 +187,45 @@ module _ {S : Type 0} (g : Ghosts S) (old : Held S) (now : Option ℕ) where
     calls = refl;
   }
 
-  module _ (mid new : Held S) (count : ℕ) (outcomes : List Outcome) (cleans : HasCleanDisk (state g new) → HasCleanDisk (state g mid)) (so_far : AreServedSoFar g old mid now count outcomes) where
-    with_one : (outcome : Outcome) (x : Exchange) → exchange_of outcome ≡ Some x → IsServed now outcome → IsAnsweredAt g mid new x.now x.message.items x.answer → AreServedSoFar g old new now (count + 1) (outcomes ++ outcome ∷ [])
+  module _ (mid new : Held S) (count : ℕ) (outcomes : List Outcome) (so_far : AreServedSoFar g old mid now count outcomes) where
+    one_more : (outcome : Outcome) → requests_in (outcomes ++ outcome ∷ []) ≡ count + weight (door_of outcome)
+    one_more outcome = counted outcomes outcome ∙ ap (λ n. n + weight (door_of outcome)) so_far.each
+
+    with_one : (outcome : Outcome) (x : Exchange) → exchange_of outcome ≡ Some x → IsServed now outcome → IsCall g mid new (asked_of x) (answer_of x) → AreServedSoFar g old new now (count + weight (door_of outcome)) (outcomes ++ outcome ∷ [])
     with_one outcome x is served one =
         let xs = exchanges outcomes in
         let more : exchanges (outcomes ++ outcome ∷ []) ≡ xs ++ x ∷ [] = filter_map-append exchange_of outcomes (outcome ∷ []) ∙ ap (λ o. xs ++ cons_option o []) is in
         record {
-          each = length-append outcomes (outcome ∷ []) ∙ ap (λ n. n + 1) so_far.each;
+          each = one_more outcome;
           served = All-append (IsServed now) outcomes (outcome ∷ []) so_far.served (search rules);
           calls =
               subst (λ ys. AreCalls g old new (map asked_of ys) (map answer_of ys)) (sym more)
               (subst (λ es. AreCalls g old new es (map answer_of (xs ++ x ∷ []))) (sym (map-append asked_of xs (x ∷ [])))
               (subst (AreCalls g old new (asked outcomes ++ asked_of x ∷ [])) (sym (map-append answer_of xs (x ∷ [])))
-              (calls_more g old mid new (asked outcomes) (given_to outcomes) (asked_of x) x.answer so_far.calls
-              (record { clean = cleans; served = λ db late at clean. ask_served g new db late x.now x.message x.answer (one db late at) clean }))));
+              (calls_more g old mid new (asked outcomes) (given_to outcomes) (asked_of x) (answer_of x) so_far.calls one)));
         }
 
-    with_none : (outcome : Outcome) → exchange_of outcome ≡ None → IsServed now outcome → new ≡ mid → AreServedSoFar g old new now (count + 1) (outcomes ++ outcome ∷ [])
+    with_none : (outcome : Outcome) → exchange_of outcome ≡ None → IsServed now outcome → new ≡ mid → AreServedSoFar g old new now (count + weight (door_of outcome)) (outcomes ++ outcome ∷ [])
     with_none outcome is served same =
         let more : exchanges (outcomes ++ outcome ∷ []) ≡ exchanges outcomes = filter_map-append exchange_of outcomes (outcome ∷ []) ∙ ap (λ o. exchanges outcomes ++ cons_option o []) is ∙ append-nil (exchanges outcomes) in
         record {
-          each = length-append outcomes (outcome ∷ []) ∙ ap (λ n. n + 1) so_far.each;
+          each = one_more outcome;
           served = All-append (IsServed now) outcomes (outcome ∷ []) so_far.served (search rules);
           calls =
               subst (λ ys. AreCalls g old new (map asked_of ys) (map answer_of ys)) (sym more)
               (subst (λ conn. AreCalls g old conn (asked outcomes) (given_to outcomes)) (sym same) so_far.calls);
         }
 
-    pub served_more : (outcome : Outcome) → HasOutcome g mid new now outcome → AreServedSoFar g old new now (count + 1) (outcomes ++ outcome ∷ [])
+    pub served_more : (outcome : Outcome) → HasOutcome g mid new now outcome → AreServedSoFar g old new now (count + weight (door_of outcome)) (outcomes ++ outcome ∷ [])
     served_more (answered m x) one = with_one (answered m x) x refl one.0 one.1
     served_more (cut m x) one = with_one (cut m x) x refl one.0 one.1
+    served_more (unspelled m why) one = with_none (unspelled m why) refl one.0 one.1
     served_more (failed m) one = with_none (failed m) refl one.0 one.1
     served_more missed one = with_none missed refl one.0 one.1
 
-  pub all_served : (new : Held S) (count : ℕ) (outcomes : List Outcome) → RowsAreIsolated → AreServedSoFar g old new now count outcomes → AreServed g old new now count outcomes
-  all_served new count outcomes law so_far = record {
-    each = so_far.each;
+  pub all_served : (new : Held S) (asked_for count : ℕ) (ended : Ending) (outcomes : List Outcome) → RowsAreIsolated → AreServedSoFar g old new now count outcomes → HasCounted ended asked_for outcomes → AreServed g old new now asked_for ended outcomes
+  all_served new asked_for count ended outcomes law so_far counted = record {
+    each = counted;
     served = so_far.served;
     run = λ db late at clean. (passed g old new db late (asked outcomes) (given_to outcomes) law so_far.calls at clean).run;
     between = λ db late at clean. passed g old new db late (asked outcomes) (given_to outcomes) law so_far.calls at clean;

@@ -1,2 +1,5 @@
 pub mod BatchLemmas
 pub mod ConnectionLemmas
+pub mod Examples
+pub mod LineLemmas
+pub mod TextLemmas

@@ -1,5 +1,5 @@
 -- The answers to a list of requests, and what is written of them.
-use Rattle.std.specs.Prelude.{◌≡◌, ◌++◌, Bool, true, false, List, length, Option}
+use Rattle.std.specs.Prelude.{◌≡◌, ◌++◌, List, length, Option}
 use Rattle.std.specs.Io.KnownBytes.{Appends}
 use Rattle.sqlite.specs.Effect.{Database}
 use Rattle.sqlite.specs.State.{HasCleanDisk}
@@ -9,14 +9,8 @@ use Rattle.wgr_model.specs.Register.{Bytes}
 use Rattle.wgr_model.specs.Steps.{Event}
 use Rattle.wgr_office.specs.Between.{HasPassed}
 use Rattle.wgr_office.specs.declared.answer.Answer as given
-use Rattle.wgr_office.specs.declared.answer.Answer.TheVariants as givens
 use Rattle.wgr_office.specs.declared.run.Event as event
 use Rattle.wgr_register.specs.Standing.{StandsAt}
-
-abbrev pub is_available : given.Answer → Bool
-is_available (givens.Bytes bytes) = true
-is_available (givens.Order done) = true
-is_available givens.Unavailable = false
 
 -- one answer for each request, and a run from whatever rows the register was at, with the places between the requests
 abbrev pub IsBatch : {S : Type 0} → Ghosts S → Held S → Held S → List event.Event → List given.Answer → Type 0

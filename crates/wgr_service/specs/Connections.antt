@@ -1,5 +1,6 @@
 -- The results of serving connections one after the other.
-use Rattle.std.specs.Prelude.{◌≡◌, ◌⊎◌, ℕ, List, [], ◌∷◌, length, map, filter_map, codes, true, false, Bool, Option, Some, None, Result, Ok, Err, All}
+use Rattle.std.specs.Prelude.{◌≡◌, ◌⊎◌, ◌≤◌, ◌++◌, ℕ, List, [], ◌∷◌, length, map, filter_map, codes, true, false, cond, Bool, MatchBool, Option, Some, None, IfSome, Result, All}
+use Rattle.std.specs.List.{filter}
 use Rattle.std.specs.declared.vec.Vec.{Vec}
 use Rattle.std.specs.declared.alloc.Global.{Global}
 use Rattle.std.specs.Io.KnownBytes.{Appends}
@@ -9,30 +10,53 @@ use Rattle.sqlite.specs.Store.{Ghosts}
 use Rattle.sqlite.specs.Held.{Held, state}
 use Rattle.wgr_model.specs.Register.{Bytes}
 use Rattle.wgr_model.specs.Steps.{Event}
-use Rattle.wgr_office.specs.Between.{HasPassed}
+use Rattle.wgr_office.specs.Between.{HasPassed, IsCall}
 use Rattle.wgr_office.specs.Events.{HasRun}
-use Rattle.wgr_office.specs.Serving.{AsksAll, IsAnsweredAt, reply_of}
+use Rattle.wgr_office.specs.Serving.{AsksAll, Ends, is_available, reply_of}
 use Rattle.wgr_office.specs.declared.answer.Answer as given
+use Rattle.wgr_office.specs.declared.answer.Answer.TheVariants as givens
 use Rattle.wgr_office.specs.declared.run.Event as event
 use Rattle.wgr_office.specs.declared.run.Event.TheVariants as events
-use Rattle.wgr_office.specs.declared.serve.ServeFault.TheVariants as serve_fault
+use Rattle.wgr_orders.specs.declared.order.Order.{Order}
 use Rattle.wgr_register.specs.Standing.{StandsAt}
+use Rattle.wgr_register.specs.declared.fault.Done.{Done}
+use Rattle.wgr_register.specs.declared.fault.OrderFault.{OrderFault}
+use Rattle.wgr_words.specs.declared.line.LineFault.{LineFault}
 use Rattle.wgr_service.specs.Batch.{IsCut}
+use Rattle.wgr_service.specs.Lines.{SpellsFirst, SpellsNone, ended_text, fault_text, settled}
 use Rattle.wgr_service.specs.Network as network
-use Rattle.wgr_service.specs.declared.connections.ConnectionFault.{ConnectionFault}
-use Rattle.wgr_service.specs.declared.connections.ConnectionFault.TheVariants as fault
+use Rattle.wgr_service.specs.declared.connections.Ending.{Ending}
+use Rattle.wgr_service.specs.declared.connections.Ending.TheVariants as ending
+use Rattle.wgr_service.specs.declared.network.Door.{Door}
+use Rattle.wgr_service.specs.declared.network.Door.TheVariants as door
+use Rattle.wgr_service.specs.declared.report.Report.{Report}
+use Rattle.wgr_service.specs.declared.report.Report.TheVariants as report
 
 -- ---- one connection
 
--- a message, the moment at which it arrived (seconds since 1970-01-01), and its answer
-pub record Exchange : Type 0 where
-  pub now : ℕ
-  pub message : Vec ℕ Global
-  pub answer : given.Answer
+-- a message, the moment at which it arrived (seconds since 1970-01-01), and its answer; or an order, and its result
+pub data Exchange : Type 0 where
+  Asked : (now : ℕ) (message : Vec ℕ Global) (answer : given.Answer) → Exchange
+  Ordered : (order : Order) (ended : Result Done OrderFault) → Exchange
 
--- An accepted connection: the clock's time then, what was still to be read from it, what had been written to it when it
--- was accepted and when it was ended, and whether a read and a write had failed by then. Bytes are given where known.
+abbrev pub asked_of : Exchange → event.Event
+asked_of (Asked now message answer) = events.Ask now message
+asked_of (Ordered order ended) = events.Order order
+
+abbrev pub answer_of : Exchange → given.Answer
+answer_of (Asked now message answer) = answer
+answer_of (Ordered order ended) = settled ended
+
+-- the bytes that answer it
+abbrev pub written_of : Exchange → Bytes
+written_of (Asked now message answer) = reply_of answer
+written_of (Ordered order ended) = ended_text ended
+
+-- An accepted connection: where it came, the clock's time then, what was still to be read from it, what had been written
+-- to it when it was accepted and when it was ended, and whether a read and a write had failed by then. Bytes are given
+-- where known.
 pub record Meeting : Type 0 where
+  pub door : Door
   pub clock : Option ℕ
   pub input : Option Bytes
   pub before : Option Bytes
@@ -40,34 +64,53 @@ pub record Meeting : Type 0 where
   pub read_failed : Bool
   pub write_failed : Bool
 
--- a message was answered and its reply written; it was answered, but writing the reply failed; nothing
--- was done; or no connection could be accepted
+-- a message or an order was answered and its answer written; it was answered, but writing that failed; a line spelled no
+-- order, and nothing was done; nothing was done or written; or no connection could be accepted
 pub data Outcome : Type 0 where
   answered : Meeting → Exchange → Outcome
   cut : Meeting → Exchange → Outcome
+  unspelled : Meeting → LineFault → Outcome
   failed : Meeting → Outcome
   missed : Outcome
 
 abbrev pub exchange_of : Outcome → Option Exchange
 exchange_of (answered m x) = Some x
 exchange_of (cut m x) = Some x
-exchange_of (failed m) = None
-exchange_of missed = None
+exchange_of other = None
+
+-- where the connection came; one that could not be accepted counts as a request's
+abbrev pub door_of : Outcome → Door
+door_of (answered m x) = m.door
+door_of (cut m x) = m.door
+door_of (unspelled m why) = m.door
+door_of (failed m) = m.door
+door_of missed = door.Requests
+
+-- what is written to standard error for a connection that failed
+abbrev pub failure_line : Door → Bytes
+failure_line door.Requests = codes "wgr: connection\n"
+failure_line door.Orders = codes "wgr: order\n"
+
+-- or for one that was answered Unavailable
+abbrev pub unavailable_line : Bytes
+unavailable_line = codes "wgr: unavailable\n"
 
 -- what is written to standard error for it
 abbrev pub line_of : Outcome → Bytes
-line_of (answered m x) = []
-line_of (cut m x) = codes "wgr: connection\n"
-line_of (failed m) = codes "wgr: connection\n"
-line_of missed = codes "wgr: connection\n"
+line_of (answered m x) = cond (is_available (answer_of x)) [] unavailable_line
+line_of (cut m x) = failure_line m.door
+line_of (unspelled m why) = cond m.write_failed (failure_line m.door) []
+line_of (failed m) = failure_line m.door
+line_of missed = failure_line door.Requests
 
 -- what is added to the network's log
 abbrev pub met : Meeting → List network.Contact
-met m = network.came m.clock m.input m.before ∷ network.ended m.after m.read_failed m.write_failed ∷ []
+met m = network.came m.door m.clock m.input m.before ∷ network.ended m.after m.read_failed m.write_failed ∷ []
 
 abbrev pub contacts_of : Outcome → List network.Contact
 contacts_of (answered m x) = met m
 contacts_of (cut m x) = met m
+contacts_of (unspelled m why) = met m
 contacts_of (failed m) = met m
 contacts_of missed = network.missed ∷ []
 
@@ -76,58 +119,98 @@ abbrev pub moment_of : Option ℕ → Option ℕ → Option ℕ
 moment_of None clock = clock
 moment_of (Some now) clock = Some now
 
--- the message was answered at the connection's moment, and asks what all bytes received ask, unless Unavailable
-pub record Suits (now : Option ℕ) (m : Meeting) (x : Exchange) : Type 0 where
-  pub moment : moment_of now m.clock ≡ Some x.now
-  pub asks : AsksAll x.message.items m.input x.answer
+-- The message was answered at the connection's moment, and asks what all bytes received ask, unless Unavailable. The order
+-- is that of the first line received.
+abbrev pub Suits : Option ℕ → Meeting → Exchange → Type 0
+Suits now m (Asked moment message answer) = (m.door ≡ door.Requests) × (moment_of now m.clock ≡ Some moment) × AsksAll message.items m.input answer
+Suits now m (Ordered order ended) = (m.door ≡ door.Orders) × IfSome m.input (λ all. SpellsFirst all order)
 
--- The reply was written, or only its first bytes if a write failed. A connection `failed` with nothing written only if
--- a read failed or there was no moment.
+-- The answer was written, or only its first bytes if a write failed. A connection `failed` with nothing written only if
+-- a read failed or, for a request, there was no moment.
 abbrev pub IsServed : Option ℕ → Outcome → Type 0
-IsServed now (answered m x) = Suits now m x × Appends m.before m.after (reply_of x.answer) × (m.read_failed ≡ false) × (m.write_failed ≡ false)
-IsServed now (cut m x) = Suits now m x × IsCut m.before m.after (reply_of x.answer) × (m.read_failed ≡ false) × (m.write_failed ≡ true)
-IsServed now (failed m) = (m.after ≡ m.before) × (m.write_failed ≡ false) × ((m.read_failed ≡ true) ⊎ (moment_of now m.clock ≡ None))
+IsServed now (answered m x) = Suits now m x × Appends m.before m.after (written_of x) × (m.read_failed ≡ false) × (m.write_failed ≡ false)
+IsServed now (cut m x) = Suits now m x × IsCut m.before m.after (written_of x) × (m.read_failed ≡ false) × (m.write_failed ≡ true)
+IsServed now (unspelled m why) =
+    (m.door ≡ door.Orders) × IfSome m.input (λ all. SpellsNone all why) × MatchBool m.write_failed (IsCut m.before m.after (fault_text why)) (Appends m.before m.after (fault_text why)) × (m.read_failed ≡ false)
+IsServed now (failed m) = (m.after ≡ m.before) × (m.write_failed ≡ false) × ((m.read_failed ≡ true) ⊎ ((m.door ≡ door.Requests) × (moment_of now m.clock ≡ None)))
 IsServed now missed = Unit {0}
 
--- one message was answered, whatever the rows of the register were, or nothing was done
+-- one message or order was answered, whatever the rows of the register were, or nothing was done
 abbrev pub Moves : {S : Type 0} → Ghosts S → Held S → Held S → Outcome → Type 0
-Moves g old new (answered m x) = IsAnsweredAt g old new x.now x.message.items x.answer
-Moves g old new (cut m x) = IsAnsweredAt g old new x.now x.message.items x.answer
-Moves g old new (failed m) = new ≡ old
-Moves g old new missed = new ≡ old
+Moves g old new (answered m x) = IsCall g old new (asked_of x) (answer_of x)
+Moves g old new (cut m x) = IsCall g old new (asked_of x) (answer_of x)
+Moves g old new other = new ≡ old
 
 abbrev pub HasOutcome : {S : Type 0} → Ghosts S → Held S → Held S → Option ℕ → Outcome → Type 0
 HasOutcome g old new now outcome = IsServed now outcome × Moves g old new outcome
 
--- which outcome a result reports, and why nothing was done
-abbrev pub Tells : Option ℕ → Result (Unit {0}) ConnectionFault → Outcome → Type 0
-Tells now (Ok done) (answered m x) = Unit {0}
-Tells now (Err (fault.Serve (serve_fault.Write sent))) (cut m x) = Unit {0}
-Tells now (Err fault.Accept) missed = Unit {0}
-Tells now (Err fault.Clock) (failed m) = moment_of now m.clock ≡ None
-Tells now (Err (fault.Serve serve_fault.Read)) (failed m) = m.read_failed ≡ true
-Tells now result outcome = ⊥
+-- it was answered Unavailable
+abbrev pub IsUnavailable : Outcome → Type 0
+IsUnavailable (answered m x) = answer_of x ≡ givens.Unavailable
+IsUnavailable other = ⊥
+
+-- which outcome is reported as
+abbrev pub Reports : Report → Outcome → Type 0
+Reports report.Fine (answered m x) = is_available (answer_of x) ≡ true
+Reports report.Fine (unspelled m why) = m.write_failed ≡ false
+Reports report.Failed (cut m x) = Unit {0}
+Reports report.Failed (unspelled m why) = m.write_failed ≡ true
+Reports report.Failed (failed m) = Unit {0}
+Reports report.Failed missed = Unit {0}
+Reports report.Unavailable outcome = IsUnavailable outcome
+Reports report.Shut outcome = IsUnavailable outcome
+Reports other outcome = ⊥
+
+-- ---- one connection, by its reader and its writer
+
+-- the states of a reader and a writer
+abbrev pub ends_of : {R W : Type 0} → (R → Option Bytes) → (R → Bool) → (W → Option Bytes) → (W → Bool) → R → W → Ends
+ends_of remaining read_failed contents write_failed input out = record { input = remaining input; read_failed = read_failed input; written = contents out; write_failed = write_failed out }
+
+-- the connection that came here, when the clock gave this, with these states before and after it was served
+abbrev pub meeting_of : Door → Option ℕ → Ends → Ends → Meeting
+meeting_of door clock before after =
+    record { door = door; clock = clock; input = before.input; before = before.written; after = after.written; read_failed = after.read_failed; write_failed = after.write_failed }
+
+-- it had an outcome, and this report
+abbrev pub HasMet : {S : Type 0} → Ghosts S → Held S → Held S → Option ℕ → Meeting → Report → Type 0
+HasMet g old new now m report = (outcome : Outcome) × HasOutcome g old new now outcome × (door_of outcome ≡ m.door) × Reports report outcome × (contacts_of outcome ≡ met m)
+
+-- neither the reader nor the writer had failed
+abbrev pub AreSound : Ends → Type 0
+AreSound ends = (ends.read_failed ≡ false) × (ends.write_failed ≡ false)
 
 -- ---- all of them
 
--- those in which a message was answered
+-- those in which a message or an order was answered
 abbrev pub exchanges : List Outcome → List Exchange
 exchanges outcomes = filter_map exchange_of outcomes
 
-abbrev pub asked_of : Exchange → event.Event
-asked_of x = events.Ask x.now x.message
+abbrev pub is_request_at : Door → Bool
+is_request_at door.Requests = true
+is_request_at door.Orders = false
 
-abbrev pub answer_of : Exchange → given.Answer
-answer_of x = x.answer
+-- how many of them are no orders' connections
+abbrev pub requests_in : List Outcome → ℕ
+requests_in outcomes = length (filter (λ outcome. is_request_at (door_of outcome)) outcomes)
 
--- the list of these messages, each at its moment, was run, with these answers
+-- how much a connection adds to that
+abbrev pub weight : Door → ℕ
+weight at = cond (is_request_at at) 1 0
+
+-- the list of these messages and orders, each message at its moment, was run, with these answers
 abbrev pub HasServed : {S : Type 0} → Ghosts S → Held S → Database → List Event → List Exchange → Type 0
 HasServed g conn db late xs = HasRun g conn db late (map asked_of xs) (map answer_of xs)
 
--- `count` connections were served, each with one outcome: the register handled the answered messages
--- like a list of events, and between any two of them it was at some rows.
-pub record AreServed {S : Type 0} (g : Ghosts S) (old new : Held S) (now : Option ℕ) (count : ℕ) (outcomes : List Outcome) : Type 0 where
-  pub each : length outcomes ≡ count
+-- `count` of the connections were requests'; or it ended earlier, after an answer that was Unavailable
+abbrev pub HasCounted : Ending → ℕ → List Outcome → Type 0
+HasCounted ending.Served count outcomes = requests_in outcomes ≡ count
+HasCounted ending.Shut count outcomes = (requests_in outcomes ≤ count) × ((earlier : List Outcome) × (last : Outcome) × (outcomes ≡ earlier ++ last ∷ []) × IsUnavailable last)
+
+-- `count` requests' connections were served, and the orders' that came, each with one outcome: the register handled the
+-- answered messages and orders like a list of events, and between any two of them it was at some rows.
+pub record AreServed {S : Type 0} (g : Ghosts S) (old new : Held S) (now : Option ℕ) (count : ℕ) (ended : Ending) (outcomes : List Outcome) : Type 0 where
+  pub each : HasCounted ended count outcomes
   pub served : All (IsServed now) outcomes
   pub run : (db : Database) (late : List Event) → StandsAt g old db late → HasCleanDisk (state g new) → HasServed g new db late (exchanges outcomes)
   pub between : (db : Database) (late : List Event) → StandsAt g old db late → HasCleanDisk (state g new) → HasPassed g old new db late (map asked_of (exchanges outcomes)) (map answer_of (exchanges outcomes))

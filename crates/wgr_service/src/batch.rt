@@ -4,9 +4,9 @@ ghost use Rattle.std.specs.Io.KnownBytes.{Appends};
 ghost use Rattle.std.specs.List.{list_all};
 ghost use Rattle.sqlite.specs.Held.{state};
 ghost use Rattle.sqlite.specs.State.{HasCleanDisk};
-ghost use Rattle.wgr_office.specs.Serving.{reply_of};
+ghost use Rattle.wgr_office.specs.Serving.{is_available, reply_of};
 ghost use Rattle.wgr_office.specs.declared.answer.Answer as given;
-ghost use Rattle.wgr_service.specs.Batch.{IsBatch, IsCut, is_available};
+ghost use Rattle.wgr_service.specs.Batch.{IsBatch, IsCut};
 ghost use Rattle.wgr_service.specs.declared.batch.BatchFault.TheVariants as fault;
 
 use sqlite::Alter;
@@ -51,13 +51,7 @@ pub fn answer_all<S: Alter, W: Write>(
 fn are_available(answers: &[Answer]) -> bool
     ensures { result ≡ list_all is_available answers.now }
 {
-    answers.iter().all(|answer| is_available(answer))
-}
-
-fn is_available(answer: &Answer) -> bool
-    ensures { result ≡ is_available answer.now }
-{
-    !matches!(answer, Answer::Unavailable)
+    answers.iter().all(|answer| answer.is_available())
 }
 
 // Writes the replies, or only their first bytes if a write fails.

@@ -1,39 +1,43 @@
-//! Serves connections one after the other: reads one message of each, answers it and writes the reply.
-ghost use Rattle.std.specs.Prelude.{◌≡◌, false, List, Option, flat_map};
+//! Serves connections one after the other: reads a message or an order from each, and writes the answer.
+ghost use Rattle.std.specs.Prelude.{◌≡◌, ◌<◌, ◌+◌, ℕ, false, List, Option, flat_map};
 ghost use Rattle.sqlite.specs.Effect.{Database};
 ghost use Rattle.sqlite.specs.Held.{state};
 ghost use Rattle.sqlite.specs.State.{HasCleanDisk};
 ghost use Rattle.wgr_model.specs.Steps.{Event};
 ghost use Rattle.wgr_register.specs.Standing.{StandsAt};
-ghost use Rattle.wgr_service.specs.Connections.{AreServed, AreWritten, HasOutcome, Outcome, Tells, contacts_of, line_of, met, moment_of};
+ghost use Rattle.wgr_service.specs.Connections.{AreServed, AreSound, AreWritten, HasMet, HasOutcome, Outcome, Reports, contacts_of, door_of, ends_of, line_of, meeting_of, moment_of, weight};
 ghost use Rattle.wgr_service.specs.Network.{Logs};
+ghost use Rattle.wgr_service.specs.declared.network.Door.TheVariants as door;
 
-use crate::network::{Arrival, Network};
+use crate::lines::{take_line, write_line_end};
+use crate::network::{Arrival, Door, Network};
+use crate::report::{Report, report_of, write_report};
 use sqlite::Alter;
 use std::alloc::Global;
-use wgr_io::{Read, Write, write_all};
+use wgr_io::{Read, Write};
 use wgr_model::laws::rows_are_isolated;
-use wgr_office::{Office, ServeFault};
+use wgr_office::Office;
 
-/// Why a connection failed.
-#[derive(Clone, Copy, Debug)]
-pub(crate) enum ConnectionFault {
-    /// No connection could be accepted.
-    Accept,
-    /// The clock returned no time.
-    Clock,
-    /// The message could not be read, or its reply could not be fully written.
-    Serve(ServeFault),
+/// How serving ended.
+#[derive(Clone, Copy, Debug, PartialEq, Eq)]
+pub enum Ending {
+    /// All connections were served.
+    Served,
+    /// The store failed for good: every later answer would be Unavailable.
+    Shut,
 }
 
-/// Serves `count` connections: reads and answers one message of each, and writes the reply.
+/// Serves `count` connections of requests, and the orders that come meanwhile: reads a message or an
+/// order's line from each, answers it, and writes the answer. It ends earlier if the store fails for good.
 ///
 /// A message's moment is `now`, or else the clock's time after its connection was accepted (seconds
-/// since 1970-01-01). For a connection that fails, `wgr: connection` is written to `err`; it counts too.
+/// since 1970-01-01). For a connection that fails, `wgr: connection` or `wgr: order` is written to `err`; it
+/// counts too, if it isn't an order's. For an answer that is Unavailable, `wgr: unavailable` is written.
 ///
-/// The register handles the answered messages like a list of events, so each tenant's replies and rows are
-/// those that its own requests give on its own rows alone. Where the network's log is known, a message asks what
-/// its connection's bytes ask, unless answered Unavailable, and the reply is what was written to that connection.
+/// The register handles the answered messages and orders like a list of events, so each tenant's replies and
+/// rows are those that its own requests and the accepted orders about it give on its own rows alone. Where the
+/// network's log is known, a message asks what its connection's bytes ask, unless answered Unavailable, an order is
+/// that of its connection's first line, and the answer is what was written to that connection.
 pub fn serve_connections<S: Alter, N: Network, E: Write>(
     alloc: Global,
     office: &mut Office<S>,
@@ -41,39 +45,55 @@ pub fn serve_connections<S: Alter, N: Network, E: Write>(
     count: u64,
     now: Option<u64>,
     err: &mut E,
-)
+) -> Ending
     ensures clean { HasCleanDisk (state S.Store office.new) → HasCleanDisk (state S.Store office.old) }
     // The register was at some rows.
     ensures stood { HasCleanDisk (state S.Store office.new) → (db : Database) × (late : List Event) × StandsAt S.Store office.old db late }
-    ensures served { (outcomes : List Outcome) × AreServed S.Store office.old office.new now count outcomes
+    ensures served { (outcomes : List Outcome) × AreServed S.Store office.old office.new now count result outcomes
         × AreWritten (E.failed err.new) (E.contents err.old) (E.contents err.new) (flat_map line_of outcomes)
         × Logs (N.log network.old) (N.log network.new) (flat_map contacts_of outcomes) }
 {
     office.rules_hold();
-    for _ in 0..count {
-        serve_next(alloc, office, network, now, err);
-    }
     rows_are_isolated();
+    let mut served = 0;
+    while served < count {
+        let (door, report) = serve_next(alloc, office, network, now, err);
+        if let Report::Shut = report {
+            return Ending::Shut;
+        }
+        served += weight(door);
+    }
+    Ending::Served
 }
 
-// Serves the next connection, and reports a failure on `err`.
+// How much a connection adds to the number of those that are served.
+fn weight(door: Door) -> u64
+    ensures { result ≡ weight door }
+{
+    match door {
+        Door::Requests => 1,
+        Door::Orders => 0,
+    }
+}
+
+// Serves the next connection, and reports it on `err`.
 fn serve_next<S: Alter, N: Network, E: Write>(
     alloc: Global,
     office: &mut Office<S>,
     network: &mut N,
     now: Option<u64>,
     err: &mut E,
-)
+) -> (Door, Report)
     ensures clean { HasCleanDisk (state S.Store office.new) → HasCleanDisk (state S.Store office.old) }
     ensures sound { E.failed err.new ≡ false → E.failed err.old ≡ false }
-    ensures served { (outcome : Outcome) × HasOutcome S.Store office.old office.new now outcome
+    ensures fewer { N.orders network.new < N.orders network.old + weight result.0 }
+    ensures served { (outcome : Outcome) × HasOutcome S.Store office.old office.new now outcome × (door_of outcome ≡ result.0) × Reports result.1 outcome
         × AreWritten (E.failed err.new) (E.contents err.old) (E.contents err.new) (line_of outcome)
         × Logs (N.log network.old) (N.log network.new) (contacts_of outcome) }
 {
-    if serve_one(alloc, office, network, now).is_err() {
-        // If standard error fails, the failure can't be reported.
-        let _ = write_all(err, b"wgr: connection\n");
-    }
+    let (door, report) = serve_one(alloc, office, network, now);
+    write_report(door, report, err);
+    (door, report)
 }
 
 // Waits for a connection, serves it, and ends it.
@@ -82,24 +102,26 @@ fn serve_one<S: Alter, N: Network>(
     office: &mut Office<S>,
     network: &mut N,
     now: Option<u64>,
-) -> Result<(), ConnectionFault>
+) -> (Door, Report)
     ensures clean { HasCleanDisk (state S.Store office.new) → HasCleanDisk (state S.Store office.old) }
-    ensures outcome { (outcome : Outcome) × Tells now result outcome × HasOutcome S.Store office.old office.new now outcome
+    ensures fewer { N.orders network.new < N.orders network.old + weight result.0 }
+    ensures outcome { (outcome : Outcome) × HasOutcome S.Store office.old office.new now outcome × (door_of outcome ≡ result.0) × Reports result.1 outcome
         × Logs (N.log network.old) (N.log network.new) (contacts_of outcome) }
 {
     let Ok(
         Arrival {
+            door,
             mut reader,
             mut writer,
             clock,
         },
     ) = network.next()
     else {
-        return Err(ConnectionFault::Accept);
+        return (Door::Requests, Report::Failed);
     };
-    let served = serve_arrival(alloc, office, now, clock, &mut reader, &mut writer);
+    let report = serve_arrival(alloc, office, now, door, clock, &mut reader, &mut writer);
     network.end(reader, writer);
-    served
+    (door, report)
 }
 
 // Serves a connection that was accepted at this time of the clock.
@@ -107,20 +129,38 @@ fn serve_arrival<S: Alter, R: Read, W: Write>(
     alloc: Global,
     office: &mut Office<S>,
     now: Option<u64>,
+    door: Door,
     clock: Option<u64>,
     input: &mut R,
     out: &mut W,
-) -> Result<(), ConnectionFault>
+) -> Report
     ensures clean { HasCleanDisk (state S.Store office.new) → HasCleanDisk (state S.Store office.old) }
-    ensures outcome { R.failed input.old ≡ false → W.failed out.old ≡ false → (outcome : Outcome) × Tells now result outcome × HasOutcome S.Store office.old office.new now outcome
-        × (contacts_of outcome ≡ met (record { clock = clock; input = R.remaining input.old; before = W.contents out.old; after = W.contents out.new; read_failed = R.failed input.new; write_failed = W.failed out.new })) }
+    ensures outcome { AreSound (ends_of R.remaining R.failed W.contents W.failed input.old out.old) → HasMet S.Store office.old office.new now (meeting_of door clock (ends_of R.remaining R.failed W.contents W.failed input.old out.old) (ends_of R.remaining R.failed W.contents W.failed input.new out.new)) result }
+{
+    match door {
+        Door::Requests => serve_request(alloc, office, now, clock, input, out),
+        Door::Orders => serve_order(alloc, office, input, out),
+    }
+}
+
+// Answers a tenant's message, at the given moment or the clock's.
+fn serve_request<S: Alter, R: Read, W: Write>(
+    alloc: Global,
+    office: &mut Office<S>,
+    now: Option<u64>,
+    clock: Option<u64>,
+    input: &mut R,
+    out: &mut W,
+) -> Report
+    ensures clean { HasCleanDisk (state S.Store office.new) → HasCleanDisk (state S.Store office.old) }
+    ensures outcome { AreSound (ends_of R.remaining R.failed W.contents W.failed input.old out.old) → HasMet S.Store office.old office.new now (meeting_of door.Requests clock (ends_of R.remaining R.failed W.contents W.failed input.old out.old) (ends_of R.remaining R.failed W.contents W.failed input.new out.new)) result }
 {
     let Some(moment) = moment_of(now, clock) else {
-        return Err(ConnectionFault::Clock);
+        return Report::Failed;
     };
     match office.serve_one(alloc, moment, input, out) {
-        Ok(()) => Ok(()),
-        Err(fault) => Err(ConnectionFault::Serve(fault)),
+        Ok(is_available) => report_of(office, is_available),
+        Err(_) => Report::Failed,
     }
 }
 
@@ -131,5 +171,25 @@ fn moment_of(now: Option<u64>, clock: Option<u64>) -> Option<u64>
     match now {
         Some(now) => Some(now),
         None => clock,
+    }
+}
+
+// Carries out an operator's order.
+fn serve_order<S: Alter, R: Read, W: Write>(
+    alloc: Global,
+    office: &mut Office<S>,
+    input: &mut R,
+    out: &mut W,
+) -> Report
+    ensures clean { HasCleanDisk (state S.Store office.new) → HasCleanDisk (state S.Store office.old) }
+    ensures outcome { (now clock : Option ℕ) → AreSound (ends_of R.remaining R.failed W.contents W.failed input.old out.old) → HasMet S.Store office.old office.new now (meeting_of door.Orders clock (ends_of R.remaining R.failed W.contents W.failed input.old out.old) (ends_of R.remaining R.failed W.contents W.failed input.new out.new)) result }
+{
+    let end = match take_line(alloc, office, input) {
+        Ok(end) => end,
+        Err(_) => return Report::Failed,
+    };
+    match write_line_end(&end, out) {
+        Ok(()) => report_of(office, end.is_available()),
+        Err(_) => Report::Failed,
     }
 }

@@ -1,5 +1,5 @@
 //! Clients and the service in one thread, over a register in memory.
-use super::{Network, Sockets, answer_all, serve_connections};
+use super::{Ending, Network, Sockets, answer_all, carry_out_text, serve_connections};
 use sqlite::{Connection, MemStore};
 use std::alloc::AllocGlobal;
 use std::io;
@@ -72,7 +72,7 @@ fn free_address<H: Net>(host: &H) -> io::Result<SocketAddr> {
 #[test]
 fn clients_are_served_in_turn(rt: HostRuntime) -> io::Result<()> {
     let address = free_address(&rt)?;
-    let mut network = Sockets::new(&rt);
+    let mut network = Sockets::new(rt.alloc(), &rt);
     assert!(rt; network.listen(address.ip(), address.port()).is_ok());
     let mut first = TcpStream::connect(&rt, address)?;
     let mut second = TcpStream::connect(&rt, address)?;
@@ -81,9 +81,10 @@ fn clients_are_served_in_turn(rt: HostRuntime) -> io::Result<()> {
     let mut office = office(&rt);
     add_acme(&rt, &mut office);
     let mut err = Device::new(Vec::new(rt.alloc()));
-    serve_connections(rt.alloc(), &mut office, &mut network, 0, Some(7), &mut err);
-    serve_connections(rt.alloc(), &mut office, &mut network, 1, None, &mut err);
-    serve_connections(rt.alloc(), &mut office, &mut network, 1, Some(7), &mut err);
+    for (count, now) in [(0, Some(7)), (1, None), (1, Some(7))] {
+        let ended = serve_connections(rt.alloc(), &mut office, &mut network, count, now, &mut err);
+        assert_eq!(rt; ended, Ending::Served);
+    }
     let _conn = office.into_register().into_connection();
     assert!(rt; err.inner.is_empty());
     let mut reply = Vec::new(rt.alloc());
@@ -113,4 +114,19 @@ fn requests_are_answered_in_turn(rt: HostRuntime) {
     let (first, second) = out.inner.split_at(NETWORKS.len().min(out.inner.len()));
     assert_eq!(rt; first, NETWORKS);
     assert_eq!(rt; second, TRUNCATED);
+}
+
+#[test]
+fn orders_of_a_text_are_carried_out_in_turn(rt: HostRuntime) {
+    let mut office = office(&rt);
+    let mut out = Device::new(Vec::new(rt.alloc()));
+    let text = b"tenant-add acme\ntenant-add acme\n\ntenant-add bolt";
+    let status = carry_out_text(rt.alloc(), &mut office, text, &mut out);
+    assert!(rt; !office.is_shut());
+    let _conn = office.into_register().into_connection();
+    assert!(rt; status == Ok(2));
+    assert_eq!(rt;
+        out.inner.as_slice(),
+        b"0 done\n2 name_held\n2 bad_order\n2 bad_order\n".as_slice()
+    );
 }

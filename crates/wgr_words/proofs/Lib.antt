@@ -1,2 +1,4 @@
 pub mod EndpointLemmas
+pub mod Examples
+pub mod LineLemmas
 pub mod OrderLemmas

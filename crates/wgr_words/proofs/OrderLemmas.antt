@@ -1,7 +1,7 @@
 -- Which fault is told of the fields of an order.
-use Rattle.std.proofs.Common.{◌≡◌, ℕ, List, [], ◌∷◌, Result, Ok, Err, IfErr, inl, inr, refl, subst, sym}
+use Rattle.std.proofs.Common.{◌≡◌, ℕ, List, [], ◌∷◌, Result, Ok, Err, IfErr, inl, inr, subst, sym}
 use Rattle.std.specs.Prelude.{IsErrAnd}
-use Rattle.wgr_command_line.specs.Words.{NetworkAsked, OrderAsked, NetworkAdd, NetworkEnd, TenantAdd, TokenEnd, TokenGrant}
+use Rattle.wgr_words.specs.Asked.{NetworkAsked, OrderAsked, DigestEnd, NetworkAdd, NetworkEnd, TenantAdd, TokenEnd, TokenGrant}
 use Rattle.wgr_orders.specs.declared.order.Order.{Order}
 use Rattle.wgr_words.specs.declared.field.WordField.{WordField}
 use Rattle.wgr_words.specs.declared.field.WordField.TheVariants as of
@@ -9,7 +9,7 @@ use Rattle.wgr_words.specs.declared.field.WordFault.{WordFault}
 use Rattle.wgr_words.specs.declared.field.WordFault.TheVariants as fault
 use Rattle.wgr_words.specs.declared.order.OrderDraft.TheVariants as draft
 use Rattle.wgr_words.specs.Words.{IsOf, IsRead}
-use Rattle.wgr_words.specs.Order.{Input, IsDraftFault, IsDraftOf, IsFaultIn, IsFirst, OrdersBy, TakesDigest, fields_of}
+use Rattle.wgr_words.specs.Order.{Input, IsDraftFault, IsDraftOf, IsFaultIn, OrdersBy, TakesDigest, fields_of}
 
 -- what `?` hands on is what it was given
 pub passed : {T E : Type 0} (r : Result T E) (why : E) (P : E → Type 0) → IsErrAnd r (λ (e : E). e ≡ why) → P why → IfErr r P
@@ -67,5 +67,6 @@ grant_fault asked tenant old new why (Err e) is drafted took =
     by_fault (TokenGrant text) fault.Device drafted took = took
     by_fault (TenantAdd name) why drafted took = absurd drafted
     by_fault TokenEnd why drafted took = absurd drafted
+    by_fault (DigestEnd text) why drafted took = absurd drafted
     by_fault (NetworkAdd network) why drafted took = absurd drafted
     by_fault (NetworkEnd first second) why drafted took = absurd drafted

@@ -1,2 +1,4 @@
+pub mod Asked
+pub mod Line
 pub mod Order
 pub mod Words

@@ -7,14 +7,14 @@ use Rattle.wgr_dump.specs.Fields.{SpellsKey}
 use Rattle.wgr_model.specs.Steps.{Settings}
 use Rattle.wgr_orders.specs.declared.order.Order.{Order}
 use Rattle.wgr_orders.specs.declared.order.Order.TheVariants as order
-use Rattle.wgr_command_line.specs.Words.{NetworkAsked, OrderAsked, NetworkAdd, NetworkEnd, TenantAdd, TokenEnd, TokenGrant}
+use Rattle.wgr_words.specs.Asked.{NetworkAsked, OrderAsked, DigestEnd, NetworkAdd, NetworkEnd, TenantAdd, TokenEnd, TokenGrant}
 use Rattle.wgr_words.specs.declared.field.WordField.{WordField}
 use Rattle.wgr_words.specs.declared.field.WordField.TheVariants as of
 use Rattle.wgr_words.specs.declared.field.WordFault.{WordFault}
 use Rattle.wgr_words.specs.declared.field.WordFault.TheVariants as fault
 use Rattle.wgr_words.specs.declared.order.OrderDraft.{OrderDraft}
 use Rattle.wgr_words.specs.declared.order.OrderDraft.TheVariants as draft
-use Rattle.wgr_words.specs.Words.{IsOf, SpellsCapacity, SpellsName, SpellsPort, SpellsToken}
+use Rattle.wgr_words.specs.Words.{IsOf, SpellsCapacity, SpellsDigest, SpellsName, SpellsPort, SpellsToken}
 
 -- ---- the order
 
@@ -33,6 +33,7 @@ abbrev pub MakesOrder : OrderAsked → List ℕ → Order → Type 0
 MakesOrder (TenantAdd text) token (order.AddTenant name) = SpellsName text name
 MakesOrder (TokenGrant text) token (order.Grant tenant digest) = SpellsName text tenant × SpellsToken token digest
 MakesOrder TokenEnd token (order.EndToken digest) = SpellsToken token digest
+MakesOrder (DigestEnd text) token (order.EndToken digest) = SpellsDigest text digest
 MakesOrder (NetworkAdd w) token (order.AddNetwork tenant name settings) = SpellsNetwork w tenant name settings
 MakesOrder (NetworkEnd first second) token (order.EndNetwork tenant name) = SpellsName first tenant × SpellsName second name
 MakesOrder asked token other = ⊥
@@ -44,6 +45,7 @@ abbrev pub fields_of : OrderAsked → List ℕ → List (WordField × List ℕ)
 fields_of (TenantAdd name) token = (of.Name, name) ∷ []
 fields_of (TokenGrant tenant) token = (of.Tenant, tenant) ∷ (of.Token, token) ∷ []
 fields_of TokenEnd token = (of.Token, token) ∷ []
+fields_of (DigestEnd digest) token = (of.Digest, digest) ∷ []
 fields_of (NetworkAdd w) token =
     (of.Tenant, w.tenant) ∷ (of.Name, w.name) ∷ (of.Pool, w.pool) ∷ (of.Host, w.host) ∷ (of.Port, w.port) ∷ (of.Key, w.key) ∷ (of.Capacity, w.capacity) ∷ []
 fields_of (NetworkEnd tenant name) token = (of.Tenant, tenant) ∷ (of.Name, name) ∷ []

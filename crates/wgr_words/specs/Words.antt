@@ -1,5 +1,6 @@
 -- The fields of the words: what their texts spell.
-use Rattle.std.specs.Prelude.{ℕ, ◌≡◌, ◌-◌, true, List, [], ◌∷◌, cond, nat_eq, length, drop, take, ◌++◌, codes, Some, Result, Ok, Err}
+use Rattle.std.specs.Prelude.{ℕ, ◌≡◌, ◌-◌, true, List, cond, nat_eq, length, drop, take, ◌++◌, codes, Some, Result, Ok, Err}
+use Rattle.hex.specs.Hex.{decode_sized}
 use Rattle.std.specs.Cmp.Lexicographic.{pointwise}
 use Rattle.std.specs.Net.Grammar.{IsIpv4Text, IsIpv6Text}
 use Rattle.std.specs.declared.net.ip_addr.IpAddr.{IpAddr}
@@ -56,6 +57,25 @@ line_of text = cond (pointwise nat_eq (drop (length text - 1) text) (codes "\n")
 abbrev pub SpellsToken : List ℕ → List ℕ → Type 0
 SpellsToken text digest = digest_of (line_of text) ≡ Some digest
 
+-- 64 hexadecimal digits, in either case, and their 32 bytes
+abbrev pub SpellsDigest : List ℕ → List ℕ → Type 0
+SpellsDigest text digest = decode_sized text 32 ≡ Ok digest
+
+-- the field's name, as messages have it
+abbrev pub field_name : WordField → List ℕ
+field_name of.Tenant = codes "tenant"
+field_name of.Name = codes "name"
+field_name of.Pool = codes "pool"
+field_name of.Host = codes "host"
+field_name of.Port = codes "port"
+field_name of.Key = codes "key"
+field_name of.Capacity = codes "capacity"
+field_name of.HostPort = codes "host:port"
+field_name of.Count = codes "count"
+field_name of.Now = codes "now"
+field_name of.Digest = codes "digest"
+field_name of.Token = codes "token"
+
 -- the text has the field's form
 abbrev pub IsOf : WordField → List ℕ → Type 0
 IsOf of.Tenant text = (name : List ℕ) × SpellsName text name
@@ -68,6 +88,7 @@ IsOf of.Capacity text = (n : ℕ) × SpellsCapacity text n
 IsOf of.HostPort text = (endpoint : IpAddr × ℕ) × SpellsEndpoint text endpoint
 IsOf of.Count text = (n : ℕ) × SpellsWhole text n
 IsOf of.Now text = (n : ℕ) × SpellsWhole text n
+IsOf of.Digest text = (digest : List ℕ) × SpellsDigest text digest
 IsOf of.Token text = (digest : List ℕ) × SpellsToken text digest
 
 -- the value that a field's text spells, or the field if it spells none; on lack of memory nothing is known

@@ -1,12 +1,13 @@
 //! The fields of the words, each parsed by its form.
-ghost use Rattle.std.specs.Prelude.{ℕ, ◌<◌, slice_index};
+ghost use Rattle.std.specs.Prelude.{◌≡◌, ℕ, ◌<◌, slice_index};
 ghost use Rattle.wgr_dump.specs.Fields.{SpellsKey};
 ghost use Rattle.wgr_peers.specs.Host.{IsHostText};
-ghost use Rattle.wgr_words.specs.Words.{IsRead, SpellsCapacity, SpellsEndpoint, SpellsName, SpellsPlace, SpellsPort, SpellsToken, SpellsWhole};
+ghost use Rattle.wgr_words.specs.Words.{IsRead, SpellsCapacity, SpellsDigest, SpellsEndpoint, SpellsName, SpellsPlace, SpellsPort, SpellsToken, SpellsWhole, field_name};
 ghost use Rattle.wgr_words.specs.declared.field.WordField.TheVariants as of;
 
 use crate::endpoint::read_endpoint;
 use crate::numbers::{read_capacity, read_port, read_whole};
+use hex::FromHex;
 use std::alloc::{AllocError, Global};
 use std::fmt;
 use std::net::IpAddr;
@@ -27,13 +28,16 @@ pub enum WordField {
     HostPort,
     Count,
     Now,
+    Digest,
     Token,
 }
 
-impl fmt::Display for WordField {
+impl WordField {
     /// The field's name in lower case.
-    fn fmt<W: fmt::Write>(&self, f: &mut fmt::Formatter<W>) -> fmt::Result {
-        f.write_str(match self {
+    pub fn name(self) -> &'static str
+        ensures { result.now ≡ field_name self }
+    {
+        match self {
             WordField::Tenant => "tenant",
             WordField::Name => "name",
             WordField::Pool => "pool",
@@ -44,8 +48,15 @@ impl fmt::Display for WordField {
             WordField::HostPort => "host:port",
             WordField::Count => "count",
             WordField::Now => "now",
+            WordField::Digest => "digest",
             WordField::Token => "token",
-        })
+        }
+    }
+}
+
+impl fmt::Display for WordField {
+    fn fmt<W: fmt::Write>(&self, f: &mut fmt::Formatter<W>) -> fmt::Result {
+        f.write_str(self.name())
     }
 }
 
@@ -154,6 +165,16 @@ pub fn read_whole_field(field: WordField, text: &str) -> Result<u64, WordFault>
     match read_whole(text) {
         Some(number) => Ok(number),
         None => Err(WordFault::Field(field)),
+    }
+}
+
+/// The 32 bytes that 64 hexadecimal digits spell, in either case.
+pub(crate) fn read_digest(text: &str) -> Result<[u8; 32], WordFault>
+    ensures { IsRead (SpellsDigest text.now) of.Digest result }
+{
+    match <[u8; 32] as FromHex>::from_hex(text) {
+        Ok(digest) => Ok(digest),
+        Err(_) => Err(WordFault::Field(WordField::Digest)),
     }
 }
 

@@ -1,14 +1,16 @@
 //! The order that a command's words and a token spell.
 ghost use Rattle.std.specs.Prelude.{◌≡◌, ℕ, List, IfErr, IfOk, false};
-ghost use Rattle.wgr_command_line.specs.Words.{NetworkAdd, network_asked, order_asked};
-ghost use Rattle.wgr_words.specs.Order.{IsDraftFault, IsDraftOf, MakesOrder, OrdersBy, TakesDigest, input_of, wants_token};
+ghost use Rattle.wgr_words.specs.Asked.{NetworkAdd, network_asked, order_asked};
+ghost use Rattle.wgr_words.specs.Line.{line_asked};
+ghost use Rattle.wgr_words.specs.Order.{IsDraftFault, IsDraftOf, IsFaultIn, MakesOrder, OrdersBy, TakesDigest, fields_of, input_of, wants_token};
 
 use crate::field::{
-    WordFault, WordField, read_capacity_field, read_host, read_key, read_name, read_pool,
-    read_port_field, read_token,
+    WordFault, WordField, read_capacity_field, read_digest, read_host, read_key, read_name,
+    read_pool, read_port_field, read_token,
 };
+use crate::line::OrderLine;
+use crate::words::{NetworkWords, OrderWords};
 use std::alloc::Global;
-use wgr_command_line::{NetworkWords, OrderWords};
 use wgr_core::Name;
 use wgr_io::{Read, ReadFault, read_to_end};
 use wgr_orders::{Order, Settings};
@@ -46,6 +48,24 @@ pub fn order_of<R: Read>(
     }
 }
 
+/// The order that a line's words spell. A fault names the first malformed field, with the token last.
+pub(crate) fn order_of_line(alloc: Global, line: &OrderLine<'_>) -> Result<Order, WordFault>
+    ensures ok { IfOk result (MakesOrder (line_asked line.now).asked (line_asked line.now).token) }
+    ensures err { IfErr result (IsFaultIn (fields_of (line_asked line.now).asked (line_asked line.now).token)) }
+{
+    match draft_of(alloc, &line.words)? {
+        OrderDraft::Whole(order) => Ok(order),
+        OrderDraft::Grant { tenant } => {
+            let digest = read_token(line.token.as_bytes())?;
+            Ok(Order::Grant { tenant, digest })
+        }
+        OrderDraft::EndToken => {
+            let digest = read_token(line.token.as_bytes())?;
+            Ok(Order::EndToken { digest })
+        }
+    }
+}
+
 // The digest of the token that is all of the input.
 fn take_token<R: Read>(alloc: Global, input: &mut R) -> Result<[u8; 32], WordFault>
     ensures { TakesDigest (input_of R.remaining R.failed input.old) (input_of R.remaining R.failed input.new) result }
@@ -72,6 +92,10 @@ fn draft_of(alloc: Global, words: &OrderWords<'_>) -> Result<OrderDraft, WordFau
             Ok(OrderDraft::Grant { tenant })
         }
         OrderWords::TokenEnd => Ok(OrderDraft::EndToken),
+        OrderWords::DigestEnd { digest } => {
+            let digest = read_digest(digest)?;
+            Ok(OrderDraft::Whole(Order::EndToken { digest }))
+        }
         OrderWords::NetworkAdd(words) => Ok(OrderDraft::Whole(new_network(alloc, words)?)),
         OrderWords::NetworkEnd { tenant, name } => {
             let tenant = read_name(alloc, WordField::Tenant, tenant)?;

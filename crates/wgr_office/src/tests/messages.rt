@@ -129,7 +129,7 @@ fn serve(
     let bytes = text_of(rt, message);
     let mut input = Device::new(bytes.as_slice());
     let mut out = Device::new(Vec::new(rt.alloc()));
-    assert!(rt; office.serve_one(rt.alloc(), 7, &mut input, &mut out) == Ok(()));
+    assert!(rt; office.serve_one(rt.alloc(), 7, &mut input, &mut out) == Ok(true));
     assert_eq!(rt; out.inner.as_slice(), text_of(rt, wanted).as_slice());
 }
 
@@ -139,5 +139,6 @@ fn connections_are_served(rt: HostRuntime) {
     for &(message, wanted) in CONNECTIONS {
         serve(&rt, &mut office, message, wanted);
     }
+    assert!(rt; !office.is_shut());
     end(office);
 }

@@ -100,7 +100,7 @@ fn a_read_that_fails_does_nothing(rt: HostRuntime) {
         fails_at: message.len() + 1,
     });
     let mut out = Device::new(Vec::new(rt.alloc()));
-    assert!(rt; office.serve_one(rt.alloc(), 7, &mut input, &mut out) == Ok(()));
+    assert!(rt; office.serve_one(rt.alloc(), 7, &mut input, &mut out) == Ok(true));
     end(office);
 }
 
@@ -111,7 +111,7 @@ fn renewed(
     lease: usize,
     fails_at: usize,
     takes_none: bool,
-) -> (Result<(), ServeFault>, Vec<u8>) {
+) -> (Result<bool, ServeFault>, Vec<u8>) {
     let body = format!(in rt.alloc(); "{{\"end\":{lease}}}").expect(rt, "memory");
     let target = "/networks/office/peers/1/lease";
     let bytes = message(rt, "POST", "abc", target, body.as_bytes());

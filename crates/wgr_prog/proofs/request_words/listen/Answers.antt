@@ -1,21 +1,62 @@
-use Rattle.std.proofs.Common.{[], ◌∷◌, rules, subst}
+use Rattle.std.proofs.Common.{[], ◌∷◌, inl, inr, refl, rules, subst, sym}
 use Rattle.std.specs.Prelude.{flat_map}
-use Rattle.wgr_service.specs.Connections.{contacts_of}
-use Rattle.wgr_service.specs.Network.{Logs, bound}
-use Rattle.wgr_service.proofs.ConnectionLemmas.{logs_more}
+use Rattle.sqlite.specs.Files.{over_files}
+use Rattle.wgr_service.specs.Connections.{AreServed, contacts_of}
+use Rattle.wgr_service.specs.Network.{Log, Logs, bound}
+use Rattle.wgr_service.proofs.ConnectionLemmas.{logs_more, logs_none}
+use Rattle.wgr_service.specs.declared.connections.Ending.{Ending}
+use Rattle.wgr_prog.specs.Answering.{address_of, orders_of, places_of, socket_of}
 use Rattle.wgr_prog.proofs.request_words.listen.Goals as goal
 
-pub returns : goal.returns
-returns g c =
+pub returns-in-Served : goal.returns-in-Served
+returns-in-Served g c =
     let (outcomes, served, written, logged) = c.serve_connections.ensures.served in
-    let place = c.args.serving.now.endpoint in
-    let listened = subst (λ port. Logs (g.N.Network.log c.args.network.now) (g.N.Network.log c.listen.new.self) (bound place.0 port ∷ [])) c.number.ensures.value c.in-Ok.ensures.bound in (
-      c.serve_connections.ensures.clean,
+    let s = c.args.serving.now in
+    let before = g.N.Network.log c.args.network.now in
+    let first = subst (λ port. Logs before (g.N.Network.log c.listen.new.self) (bound s.endpoint.0 port ∷ [])) c.number.ensures.value c.in-Ok.ensures.bound in
+    let places = logs_more before (g.N.Network.log c.listen.new.self) (g.N.Network.log c.listen_orders.new.network) (address_of s) (socket_of (orders_of s)) first c.in-Ok-listen_orders.ensures.bound in (
       (
-        outcomes,
-        served,
-        logs_more (g.N.Network.log c.args.network.now) (g.N.Network.log c.listen.new.self) (g.N.Network.log c.serve_connections.new.network) (bound place.0 place.1 ∷ []) (flat_map contacts_of outcomes) listened logged,
+        c.serve_connections.ensures.clean,
+        (
+          outcomes,
+          subst (λ (e : Ending). AreServed over_files c.args.office.now c.serve_connections.new.office s.moment s.count e outcomes) c.in-Served.is served,
+          logs_more before (g.N.Network.log c.listen_orders.new.network) (g.N.Network.log c.serve_connections.new.network) (places_of s) (flat_map contacts_of outcomes) places logged,
+        ),
       ),
-      search rules,
-      search rules,
+      (search rules, search rules),
     )
+
+pub returns-in-Shut : goal.returns-in-Shut
+returns-in-Shut g c =
+    let (outcomes, served, written, logged) = c.serve_connections.ensures.served in
+    let s = c.args.serving.now in
+    let before = g.N.Network.log c.args.network.now in
+    let first = subst (λ port. Logs before (g.N.Network.log c.listen.new.self) (bound s.endpoint.0 port ∷ [])) c.number.ensures.value c.in-Ok.ensures.bound in
+    let places = logs_more before (g.N.Network.log c.listen.new.self) (g.N.Network.log c.listen_orders.new.network) (address_of s) (socket_of (orders_of s)) first c.in-Ok-listen_orders.ensures.bound in (
+      (
+        c.serve_connections.ensures.clean,
+        (
+          outcomes,
+          subst (λ (e : Ending). AreServed over_files c.args.office.now c.serve_connections.new.office s.moment s.count e outcomes) c.in-Shut.is served,
+          logs_more before (g.N.Network.log c.listen_orders.new.network) (g.N.Network.log c.serve_connections.new.network) (places_of s) (flat_map contacts_of outcomes) places logged,
+        ),
+      ),
+      (search rules, search rules),
+    )
+
+pub returns-in_default-listen_orders : goal.returns-in_default-listen_orders
+returns-in_default-listen_orders g c =
+    let s = c.args.serving.now in
+    let before = g.N.Network.log c.args.network.now in
+    let first = subst (λ port. Logs before (g.N.Network.log c.listen.new.self) (bound s.endpoint.0 port ∷ [])) c.number.ensures.value c.in-Ok.ensures.bound in
+    let kept = c.in_default-listen_orders.ensures.kept in
+    (refl, inr (inl (subst (λ (log : Log). Logs before log (address_of s)) (sym kept.1) first, kept.0, refl)))
+
+pub returns-then-is_err : goal.returns-then-is_err
+returns-then-is_err g c =
+    let s = c.args.serving.now in
+    let before = g.N.Network.log c.args.network.now in
+    let after = g.N.Network.log c.listen_orders.new.network in
+    let first = subst (λ port. Logs before (g.N.Network.log c.listen.new.self) (bound s.endpoint.0 port ∷ [])) c.number.ensures.value c.in-Ok.ensures.bound in
+    let places = logs_more before (g.N.Network.log c.listen.new.self) after (address_of s) (socket_of (orders_of s)) first c.in-Ok-listen_orders.ensures.bound in
+    (refl, inr (inr (logs_more before after after (places_of s) [] places (logs_none after), search rules)))

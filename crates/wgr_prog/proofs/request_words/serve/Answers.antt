@@ -7,4 +7,5 @@ pub returns-in-Ok : goal.returns-in-Ok
 returns-in-Ok g c =
     let output = output_of g.W.Write.contents g.W.Write.failed in
     let now = option_map (λ (text : Bor (List ℕ)). text.now) c.args.now in
-    ends_serve _ _ _ c.args.place.now c.args.count.now now c.in-Ok.serving c.in-Ok.ensures.ok (g.N.Network.log c.args.network.now) (g.N.Network.log c.serve_all.new.network) (output c.args.out.now) (output c.serve_all.new.out) c.serve_all.result.0 c.serve_all.ensures
+    let orders = option_map (λ (text : Bor (List ℕ)). text.now) c.args.orders in
+    ends_serve _ _ _ c.args.place.now c.args.count.now now orders c.in-Ok.serving c.in-Ok.ensures.ok (g.N.Network.log c.args.network.now) (g.N.Network.log c.serve_all.new.network) (output c.args.out.now) (output c.serve_all.new.out) c.serve_all.result.0 c.serve_all.ensures

@@ -1,15 +1,10 @@
-use Rattle.std.proofs.Common.{◌≡◌, ◌∙◌, ◌+◌, [], ◌∷◌, ◌++◌, take, Result, Ok, Err, OnErr, ap, refl, subst, sym}
-use Rattle.std.specs.Prelude.{flat_map}
+use Rattle.std.proofs.Common.{◌∙◌, [], ◌∷◌, ◌++◌, take, ap, refl, subst, sym}
 use Rattle.std.specs.Io.KnownBytes.{Appends}
 use Rattle.std.proofs.lemmas.List.{take_more}
 use Rattle.wgr_office.specs.Serving.{reply_of}
-use Rattle.wgr_service.proofs.BatchLemmas.{cut_within, one_more}
+use Rattle.wgr_service.proofs.BatchLemmas.{cut_within, on_err, one_more}
 use Rattle.wgr_service.proofs.ConnectionLemmas.{appends_none}
 use Rattle.wgr_service.proofs.batch.write_replies.Goals as goal
-
-on_err : {T E P : Type 0} (r : Result T E) → P → OnErr r P
-on_err (Ok x) p = tt
-on_err (Err e) p = p
 
 pub loop-answer-init : goal.loop-answer-init
 loop-answer-init g c = record { sound = refl; written = appends_none (g.W.Write.contents c.args.out.now) }

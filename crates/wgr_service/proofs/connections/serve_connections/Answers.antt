@@ -1,34 +1,63 @@
-use Rattle.std.proofs.Common.{◌≡◌, [], ◌∷◌, ◌++◌, subst, rules}
-use Rattle.wgr_service.specs.Connections.{AreServed}
-use Rattle.wgr_service.proofs.ConnectionLemmas.{all_served, logged_more, logs_none, none_served, served_more, written_more, written_none}
+use Rattle.std.proofs.Common.{◌≡◌, ◌+◌, ◌≤◌, [], ◌∷◌, ◌++◌, ap, refl, sym, subst, ◌∙◌, arith}
+use Rattle.wgr_service.specs.Connections.{Reports, requests_in, weight}
+use Rattle.wgr_service.specs.declared.connections.Ending.TheVariants as ending
+use Rattle.wgr_service.specs.declared.network.Door.{Door}
+use Rattle.wgr_service.specs.declared.network.Door.TheVariants as door
+use Rattle.wgr_service.specs.declared.report.Report.{Report}
+use Rattle.wgr_service.proofs.ConnectionLemmas.{AreServedSoFar, all_served, logged_more, logs_none, none_served, served_more, written_more, written_none}
 use Rattle.wgr_service.proofs.connections.serve_connections.Goals as goal
 
-pub loop-init : goal.loop-init
-loop-init g c = record {
+pub loop-served-init : goal.loop-served-init
+loop-served-init g c = record {
   clean = λ clean. clean;
-  served = ([], none_served g.S.Store c.args.office.now c.args.now, written_none (g.E.Write.failed c.args.err.now) (g.E.Write.contents c.args.err.now), logs_none (g.N.Network.log c.args.network.now));
+  within = omega arith;
+  so_far = ([], none_served g.S.Store c.args.office.now c.args.now, written_none (g.E.Write.failed c.args.err.now) (g.E.Write.contents c.args.err.now), logs_none (g.N.Network.log c.args.network.now));
 }
 
-pub loop-preserved : goal.loop-preserved
-loop-preserved g c =
-    let (outcomes, so_far, written, logged) = c.loop.invariant.served in
-    let (outcome, one, line, contacts) = c.serve_next.ensures.served in
+at_most_one : (at : Door) → weight at ≤ 1
+at_most_one door.Requests = omega arith
+at_most_one door.Orders = omega arith
+
+pub loop-served-preserved : goal.loop-served-preserved
+loop-served-preserved g c =
+    let (outcomes, so_far, written, logged) = c.loop-served.invariant.so_far in
+    let (outcome, one, door, reports, line, contacts) = c.serve_next-door.ensures.served in
+    let count = c.loop-served.served in
+    let added = ap (λ n. count + n) (ap weight door ∙ sym c.weight-served.ensures) in
     record {
-      clean = λ clean. c.loop.invariant.clean (c.serve_next.ensures.clean clean);
-      served = (
+      clean = λ clean. c.loop-served.invariant.clean (c.serve_next-door.ensures.clean clean);
+      within = omega (arith, c.loop-served-test.true, at_most_one c.serve_next-door.result.0, c.weight-served.ensures);
+      so_far = (
         outcomes ++ outcome ∷ [],
-        served_more g.S.Store c.args.office.now c.args.now c.loop.office c.serve_next.new.office c.loop.counter outcomes c.serve_next.ensures.clean so_far outcome one,
-        written_more (g.E.Write.failed c.loop.err) (g.E.Write.failed c.serve_next.new.err) (g.E.Write.contents c.args.err.now) (g.E.Write.contents c.loop.err) (g.E.Write.contents c.serve_next.new.err) outcomes outcome c.serve_next.ensures.sound written line,
-        logged_more (g.N.Network.log c.args.network.now) (g.N.Network.log c.loop.network) (g.N.Network.log c.serve_next.new.network) outcomes outcome logged contacts,
+        subst (λ n. AreServedSoFar g.S.Store c.args.office.now c.serve_next-door.new.office c.args.now n (outcomes ++ outcome ∷ [])) added
+            (served_more g.S.Store c.args.office.now c.args.now c.loop-served.office c.serve_next-door.new.office count outcomes so_far outcome one),
+        written_more (g.E.Write.failed c.loop-served.err) (g.E.Write.failed c.serve_next-door.new.err) (g.E.Write.contents c.args.err.now) (g.E.Write.contents c.loop-served.err) (g.E.Write.contents c.serve_next-door.new.err) outcomes outcome
+            c.serve_next-door.ensures.sound written line,
+        logged_more (g.N.Network.log c.args.network.now) (g.N.Network.log c.loop-served.network) (g.N.Network.log c.serve_next-door.new.network) outcomes outcome logged contacts,
       );
     }
 
+pub returns-in-Shut-clause-served : goal.returns-in-Shut-clause-served
+returns-in-Shut-clause-served g c =
+    let (outcomes, so_far, written, logged) = c.loop-served.invariant.so_far in
+    let (outcome, one, door, reports, line, contacts) = c.serve_next-door.ensures.served in
+    let count = c.loop-served.served in
+    let all = served_more g.S.Store c.args.office.now c.args.now c.loop-served.office c.serve_next-door.new.office count outcomes so_far outcome one in
+    let within : requests_in (outcomes ++ outcome ∷ []) ≤ c.args.count = omega (arith, all.each, c.loop-served-test.true, ap weight door, at_most_one c.serve_next-door.result.0) in (
+      outcomes ++ outcome ∷ [],
+      all_served g.S.Store c.args.office.now c.args.now c.serve_next-door.new.office c.args.count (count + weight _) ending.Shut (outcomes ++ outcome ∷ []) c.rows_are_isolated.ensures all
+          (within, (outcomes, outcome, refl, subst (λ (r : Report). Reports r outcome) c.in-Shut.is reports)),
+      written_more (g.E.Write.failed c.loop-served.err) (g.E.Write.failed c.serve_next-door.new.err) (g.E.Write.contents c.args.err.now) (g.E.Write.contents c.loop-served.err) (g.E.Write.contents c.serve_next-door.new.err) outcomes outcome
+          c.serve_next-door.ensures.sound written line,
+      logged_more (g.N.Network.log c.args.network.now) (g.N.Network.log c.loop-served.network) (g.N.Network.log c.serve_next-door.new.network) outcomes outcome logged contacts,
+    )
+
 pub returns-clause-served : goal.returns-clause-served
 returns-clause-served g c =
-    let (outcomes, so_far, written, logged) = c.loop.invariant.served in
-    let all : c.loop.counter ≡ c.args.count = search rules in (
+    let (outcomes, so_far, written, logged) = c.loop-served.invariant.so_far in
+    let all : c.loop-served.served ≡ c.args.count = omega (arith, c.loop-served-test.false, c.loop-served.invariant.within) in (
       outcomes,
-      subst (λ n. AreServed g.S.Store c.args.office.now c.loop.office c.args.now n outcomes) all (all_served g.S.Store c.args.office.now c.args.now c.loop.office c.loop.counter outcomes c.rows_are_isolated.ensures so_far),
+      all_served g.S.Store c.args.office.now c.args.now c.loop-served.office c.args.count c.loop-served.served ending.Served outcomes c.rows_are_isolated.ensures so_far (so_far.each ∙ all),
       written,
       logged,
     )

@@ -1,4 +1,4 @@
-use Rattle.std.proofs.Common.{List}
+use Rattle.std.proofs.Common.{◌+◌, ◌-◌, ◌≤◌, List}
 use Rattle.std.specs.Prelude.{flat_map}
 use Rattle.sqlite.specs.Held.{state}
 use Rattle.sqlite.specs.State.{HasCleanDisk}
@@ -7,11 +7,16 @@ use Rattle.wgr_service.specs.Network.{Logs}
 use Rattle.wgr_service.proofs.ConnectionLemmas.{AreServedSoFar}
 use Rattle.wgr_service.proofs.connections.serve_connections.Given as goal
 
--- the connections so far were served, those of them that failed were told, and all came to the log
-abbrev pub invariant-loop : goal.invariant-loop
-invariant-loop g l = record {
+-- the connections so far were served and reported, and all came to the log
+abbrev pub invariant-loop-served : goal.invariant-loop-served
+invariant-loop-served g l = record {
   clean : HasCleanDisk (state g.S.Store l.office) → HasCleanDisk (state g.S.Store l.fn.office);
-  served : (outcomes : List Outcome) × AreServedSoFar g.S.Store l.fn.office l.office l.now l.counter outcomes
+  within : l.served ≤ l.count;
+  so_far : (outcomes : List Outcome) × AreServedSoFar g.S.Store l.fn.office l.office l.now l.served outcomes
       × AreWritten (g.E.Write.failed l.err) (g.E.Write.contents l.fn.err) (g.E.Write.contents l.err) (flat_map line_of outcomes)
       × Logs (g.N.Network.log l.fn.network) (g.N.Network.log l.network) (flat_map contacts_of outcomes);
 }
+
+-- each connection is one of the requests that are left to serve, or one of the orders that may still come
+abbrev pub decreases-loop-served : goal.decreases-loop-served
+decreases-loop-served g l = (l.count - l.served) + g.N.Network.orders l.network

@@ -1,5 +1,5 @@
 use Rattle.std.proofs.Common.{refl}
-use Rattle.wgr_command_line.specs.Words.{NetworkAdd, network_asked}
+use Rattle.wgr_words.specs.Asked.{NetworkAdd, network_asked}
 use Rattle.wgr_words.specs.Order.{IsDraftFault}
 use Rattle.wgr_words.proofs.OrderLemmas.{passed}
 use Rattle.wgr_words.proofs.order.draft_of.Goals as goal

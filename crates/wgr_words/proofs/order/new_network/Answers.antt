@@ -1,5 +1,5 @@
 use Rattle.std.proofs.Common.{[]}
-use Rattle.wgr_command_line.specs.Words.{NetworkAdd, network_asked}
+use Rattle.wgr_words.specs.Asked.{NetworkAdd, network_asked}
 use Rattle.wgr_dump.specs.Fields.{SpellsKey}
 use Rattle.wgr_peers.specs.Host.{IsHostText}
 use Rattle.wgr_words.specs.declared.field.WordField.TheVariants as of

@@ -1,5 +1,5 @@
 use Rattle.std.proofs.Common.{subst}
-use Rattle.wgr_command_line.specs.Words.{order_asked}
+use Rattle.wgr_words.specs.Asked.{order_asked}
 use Rattle.wgr_words.specs.declared.order.OrderDraft.{OrderDraft}
 use Rattle.wgr_words.specs.declared.order.OrderDraft.TheVariants as draft
 use Rattle.wgr_words.specs.Order.{IsDraftOf}

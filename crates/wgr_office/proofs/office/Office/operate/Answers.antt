@@ -1,6 +1,16 @@
 use Rattle.std.proofs.Common.{sym, subst}
+use Rattle.sqlite.specs.Held.{state}
+use Rattle.sqlite.specs.State.{HasCleanDisk}
 use Rattle.wgr_register.specs.Standing.{StandsAt}
+use Rattle.wgr_office.proofs.RunLemmas.{order_served}
 use Rattle.wgr_office.proofs.office.Office.operate.Goals as goal
 
-pub returns-clause-ends : goal.returns-clause-ends
-returns-clause-ends g c db late at = c.operate.ensures.ends db late (subst (λ h. StandsAt g.S.Store h db late) (sym c.self.view_is) at)
+pub returns : goal.returns
+returns g c = record {
+  call = λ answer settled. record {
+    clean = λ is. subst (λ h. HasCleanDisk (state g.S.Store h)) c.self.view_is (c.operate.ensures.clean is);
+    served = λ db late at clean.
+        order_served g.S.Store c.operate.new.self db late c.args.order.now c.operate.result answer
+        (c.operate.ensures.ends db late (subst (λ h. StandsAt g.S.Store h db late) (sym c.self.view_is) at)) settled c.forms_hold.ensures clean;
+  };
+}

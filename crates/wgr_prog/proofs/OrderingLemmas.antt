@@ -1,0 +1,20 @@
+-- How the orders of a text end.
+use Rattle.std.proofs.Common.{ℕ, List, Option, Result, Ok, Err, inr}
+use Rattle.sqlite.specs.Recovery.{Image}
+use Rattle.sqlite_disk.specs.declared.Disk as disk
+use Rattle.sqlite_disk.specs.declared.Files.{Files}
+use Rattle.wgr_words.specs.Order.{Input}
+use Rattle.wgr_prog.specs.Answering.{Output}
+use Rattle.wgr_prog.specs.Ordering.{CarriesOutText, EndsOrders, IsText}
+use Rattle.wgr_prog.specs.declared.register_words.Failure.{Failure}
+use Rattle.wgr_prog.specs.declared.register_words.Failure.TheVariants as failure
+
+-- those of the text that was read
+pub ends_orders : {D : Type 0} (g : disk.Ghosts D) (start : Image) (closed : Option (Files D)) (file : Option (List ℕ)) (was is : Input) (text : List ℕ) (old new : Output) (r : Result ℕ Failure) → IsText file was is text → CarriesOutText g start closed text old new r
+    → EndsOrders g start closed file was is old new r
+ends_orders g start closed file was is text old new (Ok status) read carries = (text, read, carries)
+ends_orders g start closed file was is text old new (Err (failure.Field f)) read carries = absurd carries
+ends_orders g start closed file was is text old new (Err (failure.Refused why)) read carries = absurd carries
+ends_orders g start closed file was is text old new (Err (failure.Register why)) read carries = carries
+ends_orders g start closed file was is text old new (Err failure.Device) read carries = inr (text, read, carries)
+ends_orders g start closed file was is text old new (Err failure.Shut) read carries = absurd carries

@@ -1,0 +1,69 @@
+-- Orders in the lines of a text.
+use Rattle.std.specs.Prelude.{ℕ, ◌≡◌, ◌⊎◌, ◌++◌, true, List, Option, Some, None, Result, Ok, Err, flat_map}
+use Rattle.std.specs.Io.KnownBytes.{Appends}
+use Rattle.sqlite.specs.Files.{file_state, over_files}
+use Rattle.sqlite.specs.Held.{Held}
+use Rattle.sqlite.specs.Recovery.{Image}
+use Rattle.sqlite.specs.State.{HasCleanDisk}
+use Rattle.sqlite_disk.specs.declared.Disk as disk
+use Rattle.sqlite_disk.specs.declared.Files.{Files}
+use Rattle.sqlite_store.specs.declared.store.FileStore.{FileStore}
+use Rattle.wgr_file.specs.OnFiles.{IsClosedTo, IsOpen, Stays}
+use Rattle.wgr_service.specs.Lines.{end_text}
+use Rattle.wgr_service.specs.Texts.{HasCarriedOut, IsCutAtLast, greatest, lines_in}
+use Rattle.wgr_service.specs.declared.lines.LineEnd.{LineEnd}
+use Rattle.wgr_words.specs.Order.{Input, IsTaken}
+use Rattle.wgr_prog.specs.Answering.{Output}
+use Rattle.wgr_prog.specs.Failures.{failure_status}
+use Rattle.wgr_prog.specs.declared.register_words.Failure.{Failure}
+use Rattle.wgr_prog.specs.declared.register_words.Failure.TheVariants as failure
+
+-- all of standard input, or the text of a file, of which std says nothing
+abbrev pub IsText : Option (List ℕ) → Input → Input → List ℕ → Type 0
+IsText None old new text = IsTaken old new text
+IsText (Some file) old new text = new ≡ old
+
+-- these lines were carried out on the register that was in the files, and nothing else
+pub record HasCarried {D : Type 0} (g : disk.Ghosts D) (start : Image) (closed : Option (Files D)) (lines : List (Option (List ℕ))) (ends : List LineEnd) : Type 0 where
+  pub register : Held (FileStore D g)
+  pub opened : IsOpen start register
+  pub left : Held (FileStore D g)
+  pub closed_to : IsClosedTo g closed left
+  pub clean : HasCleanDisk (file_state left) → HasCleanDisk (file_state register)
+  pub carried : HasCarriedOut over_files register left lines ends
+
+-- all lines were carried out, and how each ended was written
+pub record HasTold {D : Type 0} (g : disk.Ghosts D) (start : Image) (closed : Option (Files D)) (text : List ℕ) (old new : Output) (status : ℕ) : Type 0 where
+  pub ends : List LineEnd
+  pub carried : HasCarried g start closed (lines_in text) ends
+  pub written : Appends old.written new.written (flat_map end_text ends)
+  pub status_is : status ≡ greatest ends
+  pub sound : new.failed ≡ old.failed
+
+-- the first lines were carried out, until a write failed
+pub record HasStopped {D : Type 0} (g : disk.Ghosts D) (start : Image) (closed : Option (Files D)) (text : List ℕ) (old new : Output) : Type 0 where
+  pub taken : List (Option (List ℕ))
+  pub rest : List (Option (List ℕ))
+  pub ends : List LineEnd
+  pub parted : lines_in text ≡ taken ++ rest
+  pub carried : HasCarried g start closed taken ends
+  pub cut : IsCutAtLast old.written new.written ends
+  pub failed : new.failed ≡ true
+
+-- the lines are carried out, or the register isn't opened
+abbrev pub CarriesOutText : {D : Type 0} → disk.Ghosts D → Image → Option (Files D) → List ℕ → Output → Output → Result ℕ Failure → Type 0
+CarriesOutText g start closed text old new (Ok status) = HasTold g start closed text old new status
+CarriesOutText g start closed text old new (Err (failure.Register why)) = (new ≡ old) × Stays g start closed
+CarriesOutText g start closed text old new (Err failure.Device) = HasStopped g start closed text old new
+CarriesOutText g start closed text old new (Err other) = ⊥
+
+-- and those of the text that was read
+abbrev pub EndsOrders : {D : Type 0} → disk.Ghosts D → Image → Option (Files D) → Option (List ℕ) → Input → Input → Output → Output → Result ℕ Failure → Type 0
+EndsOrders g start closed file was is old new (Ok status) = (text : List ℕ) × IsText file was is text × HasTold g start closed text old new status
+EndsOrders g start closed file was is old new (Err (failure.Register why)) = (new ≡ old) × Stays g start closed
+EndsOrders g start closed file was is old new (Err failure.Device) = ((new ≡ old) × Stays g start closed) ⊎ ((text : List ℕ) × IsText file was is text × HasStopped g start closed text old new)
+EndsOrders g start closed file was is old new (Err other) = ⊥
+
+abbrev pub orders_status : Result ℕ Failure → ℕ
+orders_status (Ok status) = status
+orders_status (Err why) = failure_status why

@@ -1,0 +1,256 @@
+//! `send`: an order to a running service.
+ghost use Rattle.std.specs.Prelude.{◌≡◌, ◌⊎◌, ◌∷◌, ◌++◌, ℕ, [], Result, Some, map, option_map, IfErr, IfOk, IfSome};
+ghost use Rattle.std.specs.declared.vec.Vec.{Vec};
+ghost use Rattle.std.specs.declared.alloc.Global.{Global};
+ghost use Rattle.std.specs.Io.KnownBytes.{Appends};
+ghost use Rattle.wgr_prog.specs.Sending.{Sends, SendsLine, SendsToken, TellsReply, TellsSent, asks_token, line_words, reply_status, send_status};
+ghost use Rattle.wgr_prog.specs.declared.send.SendFault.{SendFault as Failed};
+ghost use Rattle.wgr_words.specs.Line.{first_line, line_text};
+ghost use Rattle.wgr_words.specs.Order.{input_of};
+ghost use Rattle.wgr_words.specs.Words.{line_of};
+
+use crate::messages::{self, FAULT, REFUSED, device, no_memory, refusal};
+use std::alloc::{AllocError, Global};
+use std::str;
+use wgr_io::{Read, ReadFault, Write, read_to_end, write_all};
+use wgr_service::Network;
+use wgr_words::{is_line, read_first_line, write_line};
+
+/// Why no answer came to an order.
+#[derive(Clone, Copy, Debug, PartialEq, Eq)]
+pub(crate) enum SendFault {
+    /// The words make no line.
+    BadOrder,
+    /// The token makes no word of a line.
+    BadToken,
+    /// Memory was refused.
+    NoMemory,
+    /// Standard input failed, no service takes orders at the path, or the connection broke.
+    Device,
+}
+
+impl From<AllocError> for SendFault {
+    ghost use Rattle.std.specs.Prelude.{◌≡◌};
+    ghost use Rattle.wgr_prog.specs.declared.send.SendFault.TheVariants.{NoMemory};
+
+    ghost from_gives = { λ _ r. r ≡ NoMemory };
+
+    fn from(_: AllocError) -> SendFault {
+        SendFault::NoMemory
+    }
+}
+
+/// Sends an order to the service that takes orders at this path, and returns the exit status.
+pub(crate) fn run_send<N: Network, R: Read, W: Write, E: Write>(
+    alloc: Global,
+    path: &str,
+    words: &[&str],
+    digest: Option<&str>,
+    network: &mut N,
+    input: &mut R,
+    out: &mut W,
+    err: &mut E,
+) -> u8
+    ensures { (answer : Result (Vec ℕ Global) Failed) × Sends path.now (map (λ word. word.now) words.now) (option_map (λ text. text.now) digest.entry) (N.log network.old) (N.log network.new) (input_of R.remaining R.failed input.old) (input_of R.remaining R.failed input.new) answer
+        × TellsSent (W.contents out.old) (W.contents out.new) (W.failed out.old) (W.failed out.new) answer result }
+{
+    let answer = send(alloc, path, words, digest, network, input);
+    tell(&answer, out, err)
+}
+
+// Prints what the service answered, or why it didn't.
+fn tell<W: Write, E: Write>(answer: &Result<Vec<u8>, SendFault>, out: &mut W, err: &mut E) -> u8
+    ensures { TellsSent (W.contents out.old) (W.contents out.new) (W.failed out.old) (W.failed out.new) answer.now result }
+{
+    match answer {
+        Ok(reply) => tell_reply(reply, out, err),
+        Err(why) => send_fault(*why, err),
+    }
+}
+
+fn send_fault<E: Write>(why: SendFault, err: &mut E) -> u8
+    ensures { result ≡ send_status why }
+{
+    match why {
+        SendFault::BadOrder => refusal(err, b"wgr: bad_order\n"),
+        SendFault::BadToken => refusal(err, b"wgr: bad_field token\n"),
+        SendFault::NoMemory => no_memory(err),
+        SendFault::Device => device(err),
+    }
+}
+
+// Prints the text of an answer, and returns its status.
+fn tell_reply<W: Write, E: Write>(reply: &[u8], out: &mut W, err: &mut E) -> u8
+    ensures { TellsReply (W.contents out.old) (W.contents out.new) (W.failed out.old) (W.failed out.new) reply.now result }
+{
+    if reply == b"0 done".as_slice() {
+        return messages::done(out, err);
+    }
+    match reply {
+        [b'1' | b'2', b' ', text @ ..] => tell_text(text, err),
+        _ => {
+            let _ = device(err);
+        }
+    }
+    reply_status(reply)
+}
+
+// The status at the front of an answer that isn't `0 done`.
+fn reply_status(reply: &[u8]) -> u8
+    ensures { result ≡ reply_status reply.now }
+{
+    if !reply.is_empty() && reply[0] == b'2' {
+        REFUSED
+    } else {
+        FAULT
+    }
+}
+
+fn tell_text<E: Write>(text: &[u8], err: &mut E) {
+    for part in [b"wgr: ".as_slice(), text, b"\n"] {
+        if write_all(err, part).is_err() {
+            return;
+        }
+    }
+}
+
+// Sends the line of these words, and returns the line that answers it.
+fn send<N: Network, R: Read>(
+    alloc: Global,
+    path: &str,
+    words: &[&str],
+    digest: Option<&str>,
+    network: &mut N,
+    input: &mut R,
+) -> Result<Vec<u8>, SendFault>
+    ensures { Sends path.now (map (λ word. word.now) words.now) (option_map (λ text. text.now) digest.entry) (N.log network.old) (N.log network.new) (input_of R.remaining R.failed input.old) (input_of R.remaining R.failed input.new) result }
+{
+    if asks_token(words, digest) {
+        send_with_token(alloc, path, words, network, input)
+    } else {
+        send_words(alloc, path, words, digest, network)
+    }
+}
+
+// Whether the order has a token that isn't among the words.
+fn asks_token(words: &[&str], digest: Option<&str>) -> bool
+    ensures { result ≡ asks_token (map (λ word. word.now) words.now) (option_map (λ text. text.now) digest.entry) }
+{
+    if digest.is_some() {
+        return false;
+    }
+    match words {
+        [word] => *word == "token-end",
+        [word, _] => *word == "token-grant",
+        _ => false,
+    }
+}
+
+// Sends the words, with the digest after them.
+fn send_words<N: Network>(
+    alloc: Global,
+    path: &str,
+    words: &[&str],
+    digest: Option<&str>,
+    network: &mut N,
+) -> Result<Vec<u8>, SendFault>
+    ensures { SendsLine path.now (line_words (map (λ word. word.now) words.now) (option_map (λ text. text.now) digest.entry)) (N.log network.old) (N.log network.new) result }
+{
+    let mut line = Vec::new(alloc);
+    line.extend_from_slice(words)?;
+    if let Some(digest) = digest {
+        line.extend_from_slice(&["--digest", digest])?;
+    }
+    exchange(alloc, path, &line, network)
+}
+
+// Sends the words, with the token after them that is all of the input.
+fn send_with_token<N: Network, R: Read>(
+    alloc: Global,
+    path: &str,
+    words: &[&str],
+    network: &mut N,
+    input: &mut R,
+) -> Result<Vec<u8>, SendFault>
+    ensures { SendsToken path.now (map (λ word. word.now) words.now) (N.log network.old) (N.log network.new) (input_of R.remaining R.failed input.old) (input_of R.remaining R.failed input.new) result }
+{
+    let typed = match read_to_end(alloc, input) {
+        Ok(typed) => typed,
+        Err(ReadFault::NoMemory) => return Err(SendFault::NoMemory),
+        Err(ReadFault::Device) => return Err(SendFault::Device),
+    };
+    let Some(token) = token_word(&typed) else {
+        return Err(SendFault::BadToken);
+    };
+    send_token(alloc, path, words, token, network)
+}
+
+// Sends the words, with this token after them.
+fn send_token<N: Network>(
+    alloc: Global,
+    path: &str,
+    words: &[&str],
+    token: &str,
+    network: &mut N,
+) -> Result<Vec<u8>, SendFault>
+    ensures { SendsLine path.now (map (λ word. word.now) words.now ++ token.now ∷ []) (N.log network.old) (N.log network.new) result }
+{
+    let mut line = Vec::new(alloc);
+    line.extend_from_slice(words)?;
+    line.extend_from_slice(&[token])?;
+    exchange(alloc, path, &line, network)
+}
+
+// The text without a newline at its end, if that makes a word of a line.
+fn token_word(typed: &[u8]) -> Option<&str>
+    ensures { IfSome result (λ token. token.now ≡ line_of typed.now) }
+{
+    let line = match typed.strip_suffix(b"\n".as_slice()) {
+        Some(line) => line,
+        None => typed,
+    };
+    let text = str::from_utf8(line).ok()?;
+    if !is_line(&[text]) {
+        return None;
+    }
+    Some(text)
+}
+
+// Writes the line of these words to the service, and reads the line that answers it.
+fn exchange<N: Network>(
+    alloc: Global,
+    path: &str,
+    line: &[&str],
+    network: &mut N,
+) -> Result<Vec<u8>, SendFault>
+    ensures { SendsLine path.now (map (λ word. word.now) line.now) (N.log network.old) (N.log network.new) result }
+{
+    if !is_line(line) {
+        return Err(SendFault::BadOrder);
+    }
+    let Ok((mut reader, mut writer)) = network.call(path) else {
+        return Err(SendFault::Device);
+    };
+    let reply = ask(alloc, line, &mut reader, &mut writer);
+    network.end(reader, writer);
+    reply
+}
+
+fn ask<R: Read, W: Write>(
+    alloc: Global,
+    line: &[&str],
+    input: &mut R,
+    out: &mut W,
+) -> Result<Vec<u8>, SendFault>
+    ensures ok { IfOk result (λ reply. Appends (W.contents out.old) (W.contents out.new) (line_text (map (λ word. word.now) line.now)) × IfSome (R.remaining input.old) (λ all. first_line all ≡ Some reply.items)) }
+    ensures err { IfErr result (λ why. (why ≡ SendFault.NoMemory) ⊎ (why ≡ SendFault.Device)) }
+{
+    if write_line(out, line).is_err() {
+        return Err(SendFault::Device);
+    }
+    match read_first_line(alloc, input) {
+        Ok(Some(reply)) => Ok(reply),
+        Err(ReadFault::NoMemory) => Err(SendFault::NoMemory),
+        Ok(None) | Err(ReadFault::Device) => Err(SendFault::Device),
+    }
+}

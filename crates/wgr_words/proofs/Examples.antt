@@ -1,0 +1,110 @@
+-- What lines of orders are, by computation.
+use Rattle.std.proofs.Common.{◌≡◌, List, ℕ, [], ◌∷◌, ◌++◌, Option, Some, None, codes, false, refl, true}
+use Rattle.std.specs.List.{repeat}
+use Rattle.wgr_words.specs.Asked.{OrderAsked, DigestEnd, NetworkAdd, NetworkEnd, TenantAdd, TokenEnd, TokenGrant}
+use Rattle.wgr_words.specs.Line.{LineAsked, first_line, is_line, line_in, line_text, words_in}
+
+-- the order of a line, and its token
+abbrev read : List ℕ → Option LineAsked
+read line = line_in (words_in line)
+
+abbrev is : OrderAsked → List ℕ → Option LineAsked
+is asked token = Some (record { asked = asked; token = token })
+
+pub tenant_add : read (codes "tenant-add acme") ≡ is (TenantAdd (codes "acme")) []
+tenant_add = refl
+
+pub token_grant : read (codes "token-grant acme abc") ≡ is (TokenGrant (codes "acme")) (codes "abc")
+token_grant = refl
+
+pub token_end : read (codes "token-end abc") ≡ is TokenEnd (codes "abc")
+token_end = refl
+
+pub digest_end : read (codes "token-end --digest 00ff") ≡ is (DigestEnd (codes "00ff")) []
+digest_end = refl
+
+pub network_add : read (codes "network-add acme office 10.8.0.0/24 vpn.acme.example 51820 key 250")
+    ≡ is (NetworkAdd (record { tenant = codes "acme"; name = codes "office"; pool = codes "10.8.0.0/24"; host = codes "vpn.acme.example"; port = codes "51820"; key = codes "key"; capacity = codes "250" })) []
+network_add = refl
+
+pub network_end : read (codes "network-end acme office") ≡ is (NetworkEnd (codes "acme") (codes "office")) []
+network_end = refl
+
+-- a second blank makes a word more
+pub two_blanks : read (codes "tenant-add  acme") ≡ None
+two_blanks = refl
+
+-- or an empty field
+pub blank_at_the_end : read (codes "tenant-add ") ≡ is (TenantAdd []) []
+blank_at_the_end = refl
+
+pub blank_before : read (codes " tenant-add acme") ≡ None
+blank_before = refl
+
+pub empty_line : read [] ≡ None
+empty_line = refl
+
+pub unknown_word : read (codes "tenant-end acme") ≡ None
+unknown_word = refl
+
+pub other_case : read (codes "Tenant-Add acme") ≡ None
+other_case = refl
+
+pub field_more : read (codes "tenant-add acme office") ≡ None
+field_more = refl
+
+pub field_less : read (codes "network-end acme") ≡ None
+field_less = refl
+
+pub other_option : read (codes "token-end --token abc") ≡ None
+other_option = refl
+
+-- ---- the first line
+
+pub up_to_the_newline : first_line (codes "tenant-add acme\ntenant-add other\n") ≡ Some (codes "tenant-add acme")
+up_to_the_newline = refl
+
+pub empty_first_line : first_line (codes "\ntenant-add acme\n") ≡ Some []
+empty_first_line = refl
+
+pub return_stays : first_line (codes "tenant-add acme\r\n") ≡ Some (codes "tenant-add acme\r")
+return_stays = refl
+
+pub no_newline : first_line (codes "tenant-add acme") ≡ None
+no_newline = refl
+
+pub nothing : first_line [] ≡ None
+nothing = refl
+
+-- 4,096 bytes with the newline, and one more
+pub longest : first_line (repeat 4095 (codes "a") ++ codes "\n") ≡ Some (repeat 4095 (codes "a"))
+longest = refl
+
+pub too_long : first_line (repeat 4096 (codes "a") ++ codes "\n") ≡ None
+too_long = refl
+
+-- ---- writing
+
+pub one_blank_between : line_text (codes "token-end" ∷ codes "abc" ∷ []) ≡ codes "token-end abc\n"
+one_blank_between = refl
+
+pub words_are_a_line : is_line (codes "token-end" ∷ codes "abc" ∷ []) ≡ true
+words_are_a_line = refl
+
+pub no_words : is_line [] ≡ false
+no_words = refl
+
+pub empty_word : is_line (codes "token-end" ∷ [] ∷ []) ≡ false
+empty_word = refl
+
+pub word_with_a_blank : is_line (codes "tenant-add" ∷ codes "a b" ∷ []) ≡ false
+word_with_a_blank = refl
+
+pub word_with_a_newline : is_line (codes "tenant-add" ∷ codes "a\nb" ∷ []) ≡ false
+word_with_a_newline = refl
+
+pub longest_is_a_line : is_line (repeat 4095 (codes "a") ∷ []) ≡ true
+longest_is_a_line = refl
+
+pub longer_is_none : is_line (repeat 4096 (codes "a") ∷ []) ≡ false
+longer_is_none = refl
