@@ -119,6 +119,10 @@ class System:
         done = self.run("/usr/local/bin/wgr", words[0], register, *words[1:], text=text, user="wgr")
         assert done.stdout == "done\n", done
 
+    def send(self, *words, service="wgr", text=None, **more):
+        """An order to a running service, as root or as another user."""
+        return self.run("/usr/local/bin/wgr", "send", f"/run/{service}/orders", *words, text=text, **more)
+
     def make_register(self, token, register="/var/lib/wgr/register.db"):
         self.order("init", register=register)
         self.order("tenant-add", "acme", register=register)

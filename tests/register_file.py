@@ -96,9 +96,9 @@ class Files(unittest.TestCase):
     def grant(self, tenant, token=TOKEN):
         self.assertEqual(self.order("token-grant", tenant, text=token), DONE)
 
-    def query(self, sql):
+    def query(self, sql, database=None):
         """The rows that Python's own SQLite reads."""
-        with closing(sqlite3.connect(self.db)) as conn:
+        with closing(sqlite3.connect(database or self.db)) as conn:
             return conn.execute(sql).fetchall()
 
     def change(self, *statements):
@@ -109,7 +109,7 @@ class Files(unittest.TestCase):
             conn.commit()
             conn.execute("PRAGMA wal_checkpoint(TRUNCATE)")
 
-    def rows(self):
+    def rows(self, database=None):
         """All rows of all tables."""
         names = ["meta", "tenant", "token", "network", "peer", "allowed"]
-        return {name: sorted(self.query(f"SELECT * FROM {name}"), key=repr) for name in names}
+        return {name: sorted(self.query(f"SELECT * FROM {name}", database), key=repr) for name in names}

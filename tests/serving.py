@@ -88,12 +88,14 @@ class Server:
     # The variables of its environment, where they are others than those of the tests.
     environment = None
 
-    def __init__(self, database, count=100_000, now=None, host="127.0.0.1"):
+    def __init__(self, database, count=100_000, now=None, host="127.0.0.1", orders=None):
         self.host, self.port = host, free_port(host)
         place = f"[{host}]:{self.port}" if ":" in host else f"{host}:{self.port}"
         self.words = ["serve", database, place, "--count", str(count)]
         if now is not None:
             self.words += ["--now", str(now)]
+        if orders is not None:
+            self.words += ["--orders", str(orders)]
 
     def __enter__(self):
         self.process = subprocess.Popen(

@@ -72,9 +72,8 @@ class Story(unittest.TestCase):
         return left.out
 
     def order(self, *orders):
-        """Orders of the operator, with the service stopped meanwhile."""
-        given = [f"sudo -u wgr wgr {order}" for order in orders]
-        self.do("systemctl stop wgr", *given, "systemctl start wgr")
+        """Orders of the operator to the running service."""
+        self.do(*(f"wgr send /run/wgr/orders {order}" for order in orders))
 
     def ask(self, path, body=None, method="", header="acme.header"):
         """The status of a reply, and its JSON. The request goes through the proxy."""

@@ -24,8 +24,10 @@ HELP = [
     ("token-end --help", ["token-end", "--help"], "token_end_help.txt"),
     ("network-add --help", ["network-add", "--help"], "network_add_help.txt"),
     ("network-end --help", ["network-end", "--help"], "network_end_help.txt"),
+    ("orders --help", ["orders", "--help"], "orders_help.txt"),
     ("batch --help", ["batch", "--help"], "batch_help.txt"),
     ("serve --help", ["serve", "--help"], "serve_help.txt"),
+    ("send --help", ["send", "--help"], "send_help.txt"),
     ("help network-add", ["help", "network-add"], "network_add_help.txt"),
 ]
 
@@ -44,6 +46,9 @@ MISTAKES = [
     ("two databases", ["init", "a.db", "b.db"], b"unexpected argument 'b.db' found"),
     ("no tenant", ["tenant-add", "a.db"], b"  <NAME>\n\nUsage: wgr tenant-add <DB> <NAME>\n"),
     ("a token among the words", ["token-end", "a.db", "abc"], b"unexpected argument 'abc' found"),
+    ("a digest without a value", ["token-end", "a.db", "--digest"], b"a value is required for '--digest <HEX>'"),
+    ("two files of orders", ["orders", "a.db", "b", "c"], b"unexpected argument 'c' found"),
+    ("no word of an order", ["send", "s"], b"  <WORD>...\n\nUsage: wgr send <PATH> <WORD>...\n"),
     ("no pool of a network", NETWORK[:4] + NETWORK[6:], b"  --pool <P>\n"),
     ("a pool twice", [*NETWORK, "--pool", "10.9.0.0/24"], b"'--pool <P>' cannot be used multiple times"),
     ("an option without a value", NETWORK[:-1], b"a value is required for '--capacity <N>'"),

@@ -6,7 +6,6 @@ import os
 import re
 import shutil
 import sqlite3
-import unittest
 from contextlib import closing
 from pathlib import Path
 
@@ -52,6 +51,7 @@ REFUSED = [
     ("nothing to do", [], 2, "one of --digest, --tenant and --list is needed"),
     ("a digest and a tenant", ["--digest", DIGESTS[TOKEN], "--tenant", "acme"], 2, "--digest takes neither --tenant nor --list"),
     ("a digest and a list", ["--digest", DIGESTS[TOKEN], "--list"], 2, "--digest takes neither --tenant nor --list"),
+    ("a service and a list", ["--orders", "orders", "--list"], 2, "--orders doesn't take --list"),
 ]
 
 
@@ -61,7 +61,9 @@ def dump(path):
         return list(link.iterdump())
 
 
-class EndToken(Shipped):
+class Tokens(Shipped):
+    """A register with these tokens and two peers."""
+
     def setUp(self):
         super().setUp()
         for tenant, tokens in TOKENS.items():
@@ -76,6 +78,15 @@ class EndToken(Shipped):
         # What each case begins with.
         self.before = Path(self.database).read_bytes()
 
+    def opening(self, server):
+        """The tokens that open the service, at their next request."""
+        replies = {token: server.ask("GET", "/networks", token=token) for token in DIGESTS}
+        unknown = refused(401, "unknown_token")
+        self.assertTrue(all(reply == unknown or b" 200 OK" in reply for reply in replies.values()), replies)
+        return [token for token, reply in replies.items() if reply != unknown]
+
+
+class EndToken(Tokens):
     def end(self, *words):
         return self.run_script("wgr-end-token", self.database, *words)
 
@@ -87,14 +98,12 @@ class EndToken(Shipped):
         return found[1]
 
     def are_good(self):
-        """The tokens that a service on the register knows, at their next request."""
+        """The tokens that open a service on the register."""
         server = self.serve()
-        replies = {token: server.ask("GET", "/networks", token=token) for token in DIGESTS}
+        found = self.opening(server)
         server.process.kill()
         server.process.wait()
-        unknown = refused(401, "unknown_token")
-        self.assertTrue(all(reply == unknown or b" 200 OK" in reply for reply in replies.values()), replies)
-        return [token for token, reply in replies.items() if reply != unknown]
+        return found
 
     def test_endings(self):
         """The token ends, the others go on, all other rows are the same, and the register as it was is kept."""
@@ -193,5 +202,48 @@ class EndToken(Shipped):
             self.assertEqual(self.run_script("wgr-end-token", "none.db", "--list"), Left(1, b"", b"wgr-end-token: there is no file none.db\n"))
 
 
-if __name__ == "__main__":
-    unittest.main()
+class ByTheService(Tokens):
+    """With --orders the running service ends the tokens, which a copy lists."""
+
+    def setUp(self):
+        super().setUp()
+        shutil.copy(self.database, self.folder / "copy.db")
+        self.copied = self.copy()
+        self.server = self.serve(orders=self.folder / "orders")
+
+    def copy(self):
+        return (self.folder / "copy.db").read_bytes()
+
+    def end(self, *words):
+        return self.run_script("wgr-end-token", "copy.db", "--orders", "orders", *words)
+
+    def test_endings(self):
+        """The tokens close at once, the others stay open, and the copy is only read."""
+        for name, words, tokens in ENDINGS:
+            with self.subTest(name):
+                self.assertEqual(self.opening(self.server), list(DIGESTS))
+                self.assertEqual(self.end(*words), Left(0, b"done\n"))
+                self.assertEqual(self.opening(self.server), [token for token in DIGESTS if token not in tokens])
+                for token in tokens:
+                    tenant = next(tenant for tenant, of in TOKENS.items() if token in of)
+                    self.assertEqual(self.run_script("wgr", "send", "orders", "token-grant", tenant, text=token), Left(0, b"done\n"))
+        self.assertEqual(self.copy(), self.copied)
+
+    def test_one_that_has_ended_since(self):
+        self.assertEqual(self.run_script("wgr", "send", "orders", "token-end", text=TOKEN), Left(0, b"done\n"))
+        self.assertEqual(self.end("--tenant", "acme"), Left(0, b"done\n"))
+        self.assertEqual(self.opening(self.server), ["bolt-1"])
+        told = f"wgr-end-token: {DIGESTS[TOKEN]} isn't ended: wgr: no_such_token\n"
+        self.assertEqual(self.end("--digest", DIGESTS[TOKEN]), Left(1, b"", told.encode()))
+
+    def test_refusals(self):
+        rows = [
+            ("a tenant that isn't there", ["--tenant", "dune"], "there is no tenant dune"),
+            ("a tenant without a token", ["--tenant", "corp"], "corp has no token in copy.db"),
+            ("a digest that none has", ["--digest", NOBODYS], f"{NOBODYS} isn't ended: wgr: no_such_token"),
+            ("no service", ["--orders", "none", "--tenant", "bolt"], f"{DIGESTS['bolt-1']} isn't ended: wgr: device"),
+        ]
+        for name, words, told in rows:
+            with self.subTest(name):
+                self.assertEqual(self.end(*words), Left(1, b"", f"wgr-end-token: {told}\n".encode()))
+        self.assertEqual(self.opening(self.server), list(DIGESTS))

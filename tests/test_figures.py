@@ -172,13 +172,14 @@ class Probe(Shipped):
 
     @needs_faults()
     def test_a_sync_that_failed(self):
-        """The service answers 503 from then on, and a restart mends it."""
+        """The service answers 503 and ends, and a new start mends it."""
         with Faulty() as faulty:
             with faulty.serve(self.database) as server:
                 faulty.arm(call=5, how=ONCE)
                 self.assertIn(b" 503 ", server.send(request("POST", PEERS, {"key": key(1)})))
                 faulty.disarm()
-                self.assertEqual(self.probe(self.place(server)), (3, "the answer is 503", 503))
+                self.assertEqual(server.ended().status, 1)
+                self.assertEqual(self.probe(self.place(server)), (1, "no answer: Connection refused", 0))
             self.assertEqual(self.probe(self.place(self.serve())), (0, "the answer is 401", 401))
 
     def test_no_answer(self):
@@ -231,7 +232,7 @@ class Probe(Shipped):
         """
         (self.folder / "disk").mkdir()
         left = self.run_script("unshare", "-m", "bash", "-c", script, "bash", free_port(), key(1))
-        self.assertEqual((left.status, left.err), (0, b""))
+        self.assertEqual((left.status, left.err), (0, b"wgr: unavailable\n"))
         refused, ill, status, well, again, added = re.sub(rb"at .* s: ", b"", left.out.replace(b"}", b"}\n", 1)).decode().splitlines()
         self.assertEqual([refused, status, well, again], ['{"error":"unavailable"}', "status 1", "well the answer is 401", "status 0"])
         self.assertEqual(json.loads(added)["key"], key(1))

@@ -22,6 +22,7 @@ FOLLOWED = {
     ("TLS and slow clients", 1): "by hand",
     ("TLS and slow clients", 2): "by hand",
     ("Several registers on one host", 0): "by hand",
+    ("Orders", 0): "package",
     ("A customer gets a token", 0): "package",
     ("A customer gets a network", 0): "package",
     ("Another token without a gap", 0): "package",
@@ -114,7 +115,11 @@ class ByPackage(Story):
         self.follow("TLS and slow clients", 0, "/root/wgr")
 
     def give_a_token(self):
+        """The service runs on."""
+        before = self.main_process()
+        self.follow("Orders")
         self.follow("A customer gets a token")
+        self.assertEqual(self.main_process(), before)
         self.follow("Keeping tokens out of process lists")
 
     def take_over_a_server(self):
@@ -195,13 +200,16 @@ class ByPackage(Story):
         """The second token is the one whose SHA-256 the page has."""
         self.do("mv acme.token acme.token.old", "mv acme.header old.header")
         self.do("printf abc > acme.token", "printf 'Authorization: Bearer abc\\n' > acme.header")
-        self.order("token-grant /var/lib/wgr/register.db acme < acme.token")
+        self.order("token-grant acme < acme.token")
         self.follow("Another token without a gap")
         self.assertEqual([self.ask("/networks", header=header)[0] for header in ["old.header", "acme.header"]], [401, 200])
         self.assertEqual(self.do("tr -d '\\n' < acme.token | sha256sum").split()[0], hashlib.sha256(b"abc").hexdigest())
         self.follow("A lost or leaked token")
         self.assertEqual(self.ask("/networks"), (401, {"error": "unknown_token"}))
-        self.order("token-grant /var/lib/wgr/register.db acme < acme.token.old")
+        self.order("token-grant acme < acme.token.old", "token-grant acme < acme.token")
+        self.do("wgr-backup copies", "wgr-end-token copies/*.db --tenant acme --orders /run/wgr/orders")
+        self.assertEqual([self.ask("/networks", header=header)[0] for header in ["old.header", "acme.header"]], [401, 401])
+        self.order("token-grant acme < acme.token.old")
         self.do("mv old.header acme.header")
 
     def lose_the_host(self):
@@ -273,7 +281,7 @@ class ByHand(Story):
     def give_a_token(self):
         self.do("printf abc > acme.token", "printf 'Authorization: Bearer abc\\n' > acme.header")
         self.do("printf def > acme-sync.token")
-        self.order("tenant-add /var/lib/wgr/register.db acme", "token-grant /var/lib/wgr/register.db acme < acme.token", "token-grant /var/lib/wgr/register.db acme < acme-sync.token")
+        self.order("tenant-add acme", "token-grant acme < acme.token", "token-grant acme < acme-sync.token")
         self.assertEqual(self.ask("/networks"), (200, {"networks": []}))
         self.do("wgr-backup copies", "cp copies/*.db copy.db")
         self.follow("TLS and slow clients", 2)
@@ -281,9 +289,7 @@ class ByHand(Story):
     def follow_a_network(self):
         self.follow("A server that follows its network")
         public = self.do("wg pubkey < /etc/wgr/acme-office/key").strip()
-        self.order(
-            f"network-add /var/lib/wgr/register.db acme office --pool 10.8.0.0/24 --host vpn.example.net --port 51820 --key {public} --capacity 250"
-        )
+        self.order(f"network-add acme office 10.8.0.0/24 vpn.example.net 51820 {public} 250")
         self.assertEqual(self.ask("/networks/office/peers", {"key": key(1), "label": "laptop"})[0], 200)
         self.do("systemctl start wgr-sync@acme-office")
         self.assertEqual(self.do("ip netns exec acme-office wg show acme-office peers").split(), [key(1)])

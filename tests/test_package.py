@@ -60,7 +60,7 @@ FIELDS = [("Package", "wgr"), ("Architecture", "amd64"), ("Section", "net"), ("P
 FILES = ["register.db", "request"]
 COMPLETED = [
     ("part of a word", ["token"], ["token-grant", "token-end"]),
-    ("a word's help", ["help", "se"], ["serve"]),
+    ("a word's help", ["help", "se"], ["serve", "send"]),
     ("no word behind a word's help", ["help", "serve", ""], []),
     ("the register", ["init", ""], FILES),
     ("part of a file", ["serve", "reg"], ["register.db"]),
@@ -73,6 +73,10 @@ COMPLETED = [
     ("no value behind =", ["serve", "--now", "=", ""], []),
     ("an option's part", ["network-add", "register.db", "acme", "office", "--po"], ["--pool", "--port"]),
     ("an option behind an address", ["serve", "register.db", "[::1]", ":", "8080", "--c"], ["--count"]),
+    ("the file of orders", ["orders", "register.db", ""], FILES),
+    ("the socket of send", ["send", ""], FILES),
+    ("the order of send", ["send", "orders", "network"], ["network-add", "network-end"]),
+    ("no field of an order", ["send", "orders", "tenant-add", ""], []),
     ("no file of plan", ["plan", ""], []),
     ("a word that there isn't", ["peer-add", ""], []),
 ]

@@ -1,5 +1,5 @@
 """Twenty requests a second while the service is started anew, stopped for an order, and killed: a real systemd, with nginx
-or HAProxy before the service as dist/ has them. And what only a new start mends."""
+or HAProxy before the service as dist/ has them."""
 
 import fcntl
 import json
@@ -14,10 +14,9 @@ from contextlib import contextmanager
 from pathlib import Path
 
 import program
-from faulty import ONCE, Faulty, needs_faults
 from first_process import DIST, System, needs_systemd
 from fronts import make_certificate
-from serving import LIST, PEERS, SERVER_KEY, TOKEN, Serving, done, key, peer, refused, request
+from serving import SERVER_KEY, TOKEN
 from tools import needs
 
 # A few seconds, or with WGR_ALL=1 a minute with twenty orders.
@@ -72,6 +71,12 @@ class Restarts(unittest.TestCase):
         self.system.order("tenant-add", f"tenant{number}")
         self.system.run("systemctl", "start", "wgr")
 
+    def send_an_order(self):
+        """To the running service, which goes on."""
+        before = self.system.processes("wgr.service")
+        self.assertEqual(self.system.send("tenant-add", "sent").stdout, "done\n")
+        self.assertEqual(self.system.processes("wgr.service"), before)
+
     def wait_until_active(self):
         end = time.monotonic() + program.LIMIT
         while self.system.show("wgr", "ActiveState") != ("active",) or not self.system.processes("wgr.service"):
@@ -107,7 +112,7 @@ class ByNginx(Restarts):
         system.run("cp", self.folder / "wgr.crt", self.folder / "wgr.key", "/etc/nginx/")
         system.run("systemctl", "start", "wgr-http.socket", "wgr")
         system.run("sh", "-c", f"nginx -c {self.folder}/nginx.conf >/dev/null 2>&1")
-        self.check([self.restart, self.restart, *self.orders()])
+        self.check([self.restart, self.send_an_order, self.restart, *self.orders()])
 
 
 @needs_systemd
@@ -118,27 +123,4 @@ class ByHAProxy(Restarts):
         make_certificate(self.folder)
         self.system.run("sh", "-c", f"cat {self.folder}/wgr.crt {self.folder}/wgr.key >/etc/wgr/certificate.pem; cp {DIST}/haproxy.cfg /etc/wgr/")
         self.system.run("systemctl", "start", "wgr-haproxy.socket", "wgr-haproxy", "wgr")
-        self.check([self.restart, self.kill, self.restart, *self.orders()])
-
-
-@needs_faults()
-class FailedSync(Serving):
-    def test_it_is_answered_until_the_next_start(self):
-        """After a sync that failed every request is answered 503, though the disk is well again."""
-        with Faulty() as faulty, faulty.serve(self.database) as server:
-
-            def add(number):
-                return server.send(request("POST", PEERS, {"key": key(number)}))
-
-            # The first change makes the log.
-            self.assertEqual(add(1), done(peer(1, 1, "10.8.0.2/32")))
-            faulty.arm()
-            self.assertEqual(add(2), done(peer(2, 2, "10.8.0.3/32")))
-            # The last call of a change on a file is its sync.
-            faulty.arm(call=faulty.calls - 1, how=ONCE)
-            self.assertEqual(add(3), refused(503, "unavailable"))
-            faulty.disarm()
-            self.assertEqual([add(4), server.send(LIST), add(5)], 3 * [refused(503, "unavailable")])
-        listed = json.loads(self.serve().send(LIST).partition(b"\r\n\r\n")[2])["peers"]
-        # The change whose sync failed may be found done.
-        self.assertIn([found["key"] for found in listed], [[key(1), key(2)], [key(1), key(2), key(3)]])
+        self.check([self.restart, self.kill, self.send_an_order, self.restart, *self.orders()])

@@ -20,7 +20,7 @@ COPY = re.compile(r"\d{8}T\d{6}\.\d{3}Z\.db")
 # In the systemctl of SYSTEMCTL: the service of the folder $HOST.
 START = """
 : >"$ROOM/told"
-wgr serve "$HOST/lib/register.db" "127.0.0.1:$PORT" --count 1000 >"$ROOM/told" 2>&1 </dev/null &
+wgr serve "$HOST/lib/register.db" "127.0.0.1:$PORT" --count 1000 --orders "$HOST/orders" >"$ROOM/told" 2>&1 </dev/null &
 echo $! >"$ROOM/main"
 until [[ -s $ROOM/told ]]; do sleep 0.01; done
 """
@@ -66,6 +66,7 @@ class Page(Shipped):
             ("/var/lib/wgr", f"{room}/lib"),
             ("/var/backups/wgr", f"{room}/copies"),
             ("/var/log", f"{room}"),
+            ("/run/wgr/orders", f"{room}/orders"),
             ("unix:/run/wgr-http.sock", f"http://127.0.0.1:{self.port}"),
             (" -o wgr -g wgr", ""),
             ("sudo -u wgr ", ""),

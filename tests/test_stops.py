@@ -187,8 +187,11 @@ class Serve(Batch):
             return {()} if end in [failed("store"), Left(KILLED)] else set()
         if end == Left(KILLED):
             return self.answered(given) | self.under_way(given)
-        # It had its count of connections.
-        return self.answered(given) if len(given) == self.count and end == Left(0) else set()
+        # It had its count of connections, or ended behind an answer after which the store was shut.
+        noted = given.count(UNAVAILABLE) * b"wgr: unavailable\n"
+        is_whole = len(given) == self.count and end == Left(0, b"", noted)
+        is_shut = given[-1:] == [UNAVAILABLE] and end == Left(1, b"", noted + b"wgr: store\n")
+        return self.answered(given) if is_whole or is_shut else set()
 
     def under_way(self, given):
         done = tuple(place for place, reply in enumerate(given) if reply != UNAVAILABLE)

@@ -113,8 +113,35 @@ class Running(unittest.TestCase):
             self.assertEqual(self.through("/run/wgr-http.sock", user="mail"), " 000")
         with self.subTest("nobody holds its port"):
             self.assertEqual(self.curl("http://127.0.0.1:8080/networks"), " 000")
+        with self.subTest("orders come by a socket, from root and its own user"):
+            for user, name in [(None, "bolt"), ("wgr", "cato")]:
+                self.assertEqual(system.send("tenant-add", name, user=user).stdout, "done\n")
+            self.assertEqual(system.send("token-grant", "bolt", text="second").stdout, "done\n")
+            self.assertEqual(self.through("/run/wgr-http.sock", token="second"), '{"networks":[]} 200')
+        with self.subTest("from nobody else"):
+            for user in ["www-data", "mail"]:
+                left = system.send("tenant-add", "dune", user=user, allowed=[1])
+                self.assertEqual((left.stdout, left.stderr), ("", "wgr: device\n"))
+            modes = system.run("stat", "-c", "%a %U %G", "/run/wgr", "/run/wgr/orders").stdout
+            self.assertEqual(modes, "700 wgr wgr\n600 wgr wgr\n")
         with self.subTest("the proxy runs on"):
             self.assertEqual(system.show("wgr-http.service", "ActiveState", "SubState"), ("active", "running"))
+
+    def test_orders_behind_a_kill(self):
+        """The next start takes orders at the same path."""
+        system = self.system
+        system.make_register(TOKEN)
+        system.run("systemctl", "start", "wgr")
+        self.assertEqual(system.send("tenant-add", "bolt").stdout, "done\n")
+        [process] = system.processes("wgr.service")
+        os.kill(process, 9)
+        end = time.monotonic() + 30
+        while system.processes("wgr.service") in ([], [process]) or system.show("wgr", "ActiveState") != ("active",):
+            self.assertLess(time.monotonic(), end)
+            time.sleep(0.05)
+        self.assertEqual(system.send("tenant-add", "bolt", allowed=[2]).stderr, "wgr: name_held\n")
+        system.run("systemctl", "stop", "wgr")
+        self.assertEqual(system.send("tenant-add", "cato", allowed=[1]).stderr, "wgr: device\n")
 
     def test_a_crash_loop_counts_as_failed(self):
         self.system.make_register(TOKEN)
@@ -140,9 +167,14 @@ class Running(unittest.TestCase):
         for name, token, status in [("eu1", "first", 200), ("eu1", "second", 401), ("eu2", "second", 200), ("eu2", "first", 401)]:
             with self.subTest(name, token=token):
                 self.assertTrue(self.through(f"/run/wgr-http-{name}.sock", token=token).endswith(f" {status}"))
+        with self.subTest("each takes its own orders"):
+            self.assertEqual(self.system.send("token-grant", "acme", service="wgr-eu1", text="third").stdout, "done\n")
+            told = [self.through(f"/run/wgr-http-{name}.sock", token="third")[-3:] for name in ["eu1", "eu2"]]
+            self.assertEqual(told, ["200", "401"])
         with self.subTest("one ends without the other"):
             os.kill(self.system.processes("system-wgr.slice/wgr@eu1.service")[0], 9)
             self.assertTrue(self.through("/run/wgr-http-eu2.sock", token="second").endswith(" 200"))
+            self.assertEqual(self.system.send("token-end", service="wgr-eu2", text="second").stdout, "done\n")
 
 
 @needs_systemd

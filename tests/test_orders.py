@@ -1,0 +1,346 @@
+"""Orders on a running service by `wgr send`: what they leave, what they refuse, and what the next request finds."""
+
+import hashlib
+import os
+import shutil
+import signal
+
+from keys import K0
+from program import Left, run
+from register_file import DIGEST, DONE, OFFICE, S, address_bytes, failed, options, refused
+from sending import Sending, command, connect, line, send, tell_line
+from serving import LIST, NOBODY, PEERS, Server, done, key, peer, read_all, request
+from serving import refused as refused_request
+from test_batch import batch
+from test_register import ILL_FORMED, NOT_NAMES, NOT_TOKENS, REFUSALS
+
+ACME, GRANT = ("tenant-add", "acme"), ("token-grant", "acme", "abc")
+NETWORK = ("network-add", "acme", "office", *OFFICE.values())
+SECOND = hashlib.sha256(b"second").hexdigest()
+LISTED = request("GET", "/networks")
+
+# Each is done on what those before it leave.
+IN_TURN = [
+    ACME,
+    ("tenant-add", "b-0"),
+    ("tenant-add", "-x"),
+    GRANT,
+    ("token-grant", "acme", "second"),
+    ("token-grant", "-x", 128 * "~"),
+    ("token-grant", "b-0", "--digest"),
+    NETWORK,
+    ("network-add", "b-0", "v6", "FD00:0::/64", "2001:DB8:0:0:0:0:0:1", "0000000000000065535", K0, "0001"),
+    ("network-add", "-x", "-n", "10.9.0.0/30", "-H", "1", S, "4096"),
+    ("token-end", "second"),
+    ("token-end", "--digest"),
+    ("token-end", "--digest", DIGEST.hex()),
+    ("network-end", "-x", "-n"),
+    ("tenant-add", 32 * "a"),
+]
+
+
+class Done(Sending):
+    """The rows are those that the same commands on a file leave, as Python's own SQLite reads them."""
+
+    def test_each_order(self):
+        self.init()
+        sent = self.path("sent.db")
+        shutil.copy(self.db, sent)
+        for order in IN_TURN:
+            with self.subTest(" ".join(order)):
+                self.do(order)
+                server = self.serve(sent, count=1)
+                self.assertEqual(send(self.socket, order), DONE)
+                server.send(LIST)
+                self.assertEqual(server.ended(), Left(0))
+                self.assertEqual(self.rows(sent), self.rows())
+
+    def test_orders_of_one_service(self):
+        self.init()
+        sent = self.path("sent.db")
+        shutil.copy(self.db, sent)
+        self.do(*IN_TURN)
+        server = self.serve(sent, count=1)
+        self.assertEqual([send(self.socket, order) for order in IN_TURN], [DONE] * len(IN_TURN))
+        server.send(LIST)
+        self.assertEqual(server.ended(), Left(0))
+        self.assertEqual(self.rows(sent), self.rows())
+
+    def test_the_rows_of_a_network(self):
+        self.init(ACME)
+        server = self.serve(count=1)
+        self.assertEqual(send(self.socket, NETWORK), DONE)
+        server.send(LIST)
+        self.assertEqual(server.ended(), Left(0))
+        columns = "name, family, lo, length, host, port, server, capacity, next"
+        due = ("office", 4, address_bytes("10.8.0.0"), 24, "vpn.example.net", 51820, bytes([200]) * 32, 4096, 1)
+        self.assertEqual(self.query(f"SELECT {columns} FROM network"), [due])
+
+    def test_the_end_of_a_network_with_peers(self):
+        self.init(ACME)
+        self.do(GRANT, NETWORK, ("network-add", "acme", "lab", "10.9.0.0/24", "h", "1", S, "9"))
+        asked = [("POST", PEERS, {"key": key(1)}), ("POST", f"{PEERS}/1/routes", {"prefix": "192.168.4.0/24"})]
+        asked.append(("POST", "/networks/lab/peers", {"key": key(2)}))
+        self.assertEqual(batch(self.db, 0, [request(*each) for each in asked]).out.count(b" 200 OK"), 3)
+        sent = self.path("sent.db")
+        shutil.copy(self.db, sent)
+        self.do(("network-end", "acme", "office"))
+        server = self.serve(sent, count=2)
+        # The network is in memory by then.
+        server.send(LIST)
+        self.assertEqual(send(self.socket, ("network-end", "acme", "office")), DONE)
+        self.assertEqual(server.send(LIST), refused_request(404, "no_such_network"))
+        self.assertEqual(server.ended(), Left(0))
+        self.assertEqual(self.rows(sent), self.rows())
+        self.assertEqual(len(self.query("SELECT * FROM peer", sent)), 1)
+
+
+def order_of(words, text):
+    """An order in the form of a line, of the words of the command and standard input."""
+    return *(word for word in words if not word.startswith("--")), *([text.decode()] if text else [])
+
+
+class Refused(Sending):
+    """Each refusal leaves all rows, and has the message and the status of the command."""
+
+    def test_refusals_of_the_register(self):
+        for name, orders, words, text, why in REFUSALS:
+            with self.subTest(name):
+                self.setUp()
+                self.init(*orders)
+                before = self.rows()
+                server = self.serve(count=1)
+                self.assertEqual(send(self.socket, order_of(words, text)), refused(why))
+                server.send(LIST)
+                self.assertEqual(server.ended(), Left(0))
+                self.assertEqual(self.rows(), before)
+
+    def test_a_token_twice(self):
+        self.init(ACME, ("tenant-add", "bolt"))
+        self.do(GRANT)
+        self.serve()
+        for tenant in ["acme", "bolt"]:
+            with self.subTest(tenant):
+                self.assertEqual(send(self.socket, ("token-grant", tenant, "abc")), refused("digest_held"))
+
+    def test_a_digest_that_nobody_has(self):
+        self.init(ACME)
+        self.do(GRANT)
+        self.serve()
+        self.assertEqual(send(self.socket, ("token-end", "--digest", SECOND)), refused("no_such_token"))
+
+    def test_ill_formed_fields(self):
+        self.init(ACME)
+        before = self.rows()
+        rows = [(("tenant-add", text), "name", text) for text in NOT_NAMES]
+        rows += [(("token-grant", text, "abc"), "tenant", text) for text in NOT_NAMES]
+        rows += [(("network-end", text, "office"), "tenant", text) for text in NOT_NAMES]
+        rows += [(("network-end", "acme", text), "name", text) for text in NOT_NAMES]
+        for field, texts in {"tenant": NOT_NAMES, "name": NOT_NAMES, **ILL_FORMED}.items():
+            for text in texts:
+                fields = {"tenant": "acme", "name": "office", **OFFICE, field: text}
+                rows.append((("network-add", *fields.values()), field, text))
+        digests = ["", "ab", SECOND[1:], f"{SECOND}0", f"{SECOND[1:]}g", f"{SECOND}\n", f"0x{SECOND[2:]}"]
+        rows += [(("token-end", "--digest", text), "digest", text) for text in digests]
+        server = self.serve(count=1)
+        for order, field, text in rows:
+            with self.subTest(f"{order}"):
+                # Some words make no line.
+                whole = text and not set(text) & {" ", "\n"}
+                self.assertEqual(send(self.socket, order), refused(f"bad_field {field}" if whole else "bad_order"))
+        server.send(LIST)
+        self.assertEqual(server.ended(), Left(0))
+        self.assertEqual(self.rows(), before)
+
+    def test_the_first_ill_formed_field_is_told(self):
+        # Each field in turn is mended, in the order of the line.
+        self.init()
+        self.serve()
+        good = {"tenant": "acme", "name": "office", **OFFICE}
+        for count, field in enumerate(good):
+            values = [good[name] if place < count else "_" for place, name in enumerate(good)]
+            with self.subTest(field):
+                self.assertEqual(send(self.socket, ("network-add", *values)), refused(f"bad_field {field}"))
+        for order, field in [(("network-end", "_", "_"), "tenant"), (("token-grant", "_", 129 * "a"), "tenant")]:
+            with self.subTest(order=order):
+                self.assertEqual(send(self.socket, order), refused(f"bad_field {field}"))
+
+    def test_ill_formed_tokens(self):
+        self.init(ACME)
+        server = self.serve(count=1)
+        for name, text in NOT_TOKENS:
+            # Of these, some make no line either.
+            whole = text.strip(b"\n") and not set(text) & set(b" \n")
+            due = [refused("bad_field token")] + ([] if whole else [refused("bad_order")])
+            for order in [("token-grant", "acme"), ("token-end",)]:
+                with self.subTest(name, order=order):
+                    self.assertIn(send(self.socket, (*order, text.decode())), due)
+        server.send(LIST)
+        self.assertEqual(server.ended(), Left(0))
+        self.assertEqual(self.query("SELECT * FROM token"), [])
+
+    def test_words_that_make_no_order(self):
+        self.init()
+        self.serve()
+        rows = [
+            ("an unknown word", ("peer-add", "acme")),
+            ("a word of another command", ("batch", "acme")),
+            ("no field", ("tenant-add",)),
+            ("a field too many", ("tenant-add", "acme", "bolt")),
+            ("a field too few", NETWORK[:-1]),
+            ("a network with options", ("network-add", "acme", "office", *options())),
+            ("a word in capitals", ("TENANT-ADD", "acme")),
+            ("an empty word", ("", "acme")),
+            ("an empty field", ("tenant-add", "")),
+            ("a field with a blank", ("tenant-add", "ac me")),
+            ("a field that is a blank", ("tenant-add", " ")),
+            ("a field with a line's end", ("tenant-add", "acme\n")),
+            ("4,097 bytes in all", ("tenant-add", 4_085 * "x")),
+        ]
+        for name, order in rows:
+            with self.subTest(name):
+                self.assertEqual(send(self.socket, order), refused("bad_order"))
+        with self.subTest("4,096 bytes in all"):
+            self.assertEqual(send(self.socket, ("tenant-add", 4_084 * "x")), refused("bad_field name"))
+
+    def test_nobody_serves(self):
+        self.init(ACME)
+        gone = self.path("gone")
+        with Server(self.db, orders=gone) as server:
+            server.process.kill()
+            server.process.wait()
+        rows = [("no socket", self.path("none")), ("a socket that a killed service left", gone), ("a file", self.db), ("a folder", str(self.folder))]
+        for name, path in [*rows, ("no path", ""), ("a long path", self.path(200 * "x"))]:
+            with self.subTest(name):
+                self.assertEqual(send(path, ("tenant-add", "bolt")), failed("device"))
+        self.assertEqual(self.query("SELECT name FROM tenant"), [("acme",)])
+
+    def test_standard_input(self):
+        self.init(ACME)
+        self.serve()
+        # A folder as standard input fails to be read.
+        folder = os.open(self.folder, os.O_RDONLY)
+        try:
+            self.assertEqual(send(self.socket, ("tenant-add", "bolt"), stdin=folder), DONE)
+            self.assertEqual(send(self.socket, ("token-grant", "acme", ""), stdin=folder), failed("device"))
+            self.assertEqual(send(self.socket, ("token-end", "--digest", SECOND), stdin=folder), refused("no_such_token"))
+        finally:
+            os.close(folder)
+
+
+class Between(Sending):
+    """Orders and requests of one service."""
+
+    def setUp(self):
+        super().setUp()
+        self.init(ACME)
+
+    def asks(self, server, token):
+        """Whether the token opens the service."""
+        reply = server.send(request("GET", "/networks", token=token))
+        self.assertIn(reply, [done({"networks": []}), refused_request(401, "unknown_token")])
+        return reply == done({"networks": []})
+
+    def test_a_token_opens_and_closes_at_once(self):
+        self.do(("token-grant", "acme", "own"))
+        server = self.serve()
+        for name, end in [("its text", ("token-end", "second")), ("its digest", ("token-end", "--digest", SECOND)), ("in capitals", ("token-end", "--digest", SECOND.upper()))]:
+            with self.subTest(name):
+                self.assertFalse(self.asks(server, "second"))
+                self.assertEqual(send(self.socket, ("token-grant", "acme", "second")), DONE)
+                self.assertTrue(self.asks(server, "second"))
+                self.assertEqual(send(self.socket, end), DONE)
+                self.assertFalse(self.asks(server, "second"))
+                self.assertTrue(self.asks(server, "own"))
+
+    def test_an_order_between_two_requests(self):
+        self.do(GRANT)
+        server = self.serve()
+        for _ in range(2):
+            self.assertEqual(server.send(LIST), refused_request(404, "no_such_network"))
+            self.assertEqual(send(self.socket, NETWORK), DONE)
+            self.assertEqual(server.send(LIST), NOBODY)
+            self.assertEqual(server.send(request("POST", PEERS, {"key": key(1)})), done(peer(1, 1, "10.8.0.2/32")))
+            self.assertEqual(send(self.socket, ("tenant-add", "acme")), refused("name_held"))
+            self.assertEqual(server.send(LIST), done({"peers": [peer(1, 1, "10.8.0.2/32")]}))
+            self.assertEqual(send(self.socket, ("network-end", "acme", "office")), DONE)
+
+    def test_orders_are_not_counted(self):
+        self.do(GRANT)
+        server = self.serve(count=2)
+        for place in range(3):
+            self.assertEqual(send(self.socket, ("tenant-add", f"a{place}")), DONE)
+        self.assertEqual(server.send(LISTED), done({"networks": []}))
+        for place in range(3):
+            self.assertEqual(send(self.socket, ("tenant-add", f"b{place}")), DONE)
+        self.assertEqual(server.send(LISTED), done({"networks": []}))
+        self.assertEqual(server.ended(), Left(0))
+        with self.subTest("none"):
+            self.assertEqual(self.serve(count=0, orders=self.path("none")).ended(), Left(0))
+
+    def test_orders_that_wait_are_served_first(self):
+        self.do(GRANT, NETWORK)
+        server = self.serve(count=2)
+        server.process.send_signal(signal.SIGSTOP)
+        links, orders = [], [("tenant-add", "bolt"), ("token-end", "abc"), ("tenant-add", "bolt")]
+        for _ in range(2):
+            links.append(server.connect())
+            links[-1].sendall(LIST)
+        waiting = [connect(self.socket) for _ in orders]
+        for link, order in zip(waiting, orders):
+            link.sendall(line(order))
+        server.process.send_signal(signal.SIGCONT)
+        self.assertEqual([read_all(link) for link in waiting], [b"0 done\n", b"0 done\n", b"2 name_held\n"])
+        self.assertEqual([read_all(link) for link in links], 2 * [refused_request(401, "unknown_token")])
+        for link in links + waiting:
+            link.close()
+        self.assertEqual(server.ended(), Left(0))
+
+    def test_the_answer_is_that_of_the_command(self):
+        """Raw, the status and the text that the same command prints."""
+        self.serve(count=1, orders=self.socket)
+        rows = [
+            (GRANT, (0, "done")),
+            (NETWORK, (0, "done")),
+            (ACME, (2, "name_held")),
+            (("network-add", "acme", "lab", *OFFICE.values()), (2, "pool_overlaps acme office")),
+            (("tenant-add", "Acme"), (2, "bad_field name")),
+            (("token-end", "--digest", "ab"), (2, "bad_field digest")),
+            (("tenant-add",), (2, "bad_order")),
+        ]
+        for order, due in rows:
+            with self.subTest(order=order):
+                self.assertEqual(tell_line(self.socket, order), due)
+
+
+class ByDigest(Sending):
+    """`wgr token-end DB --digest HEX`."""
+
+    def setUp(self):
+        super().setUp()
+        self.init(ACME)
+        self.do(GRANT, ("token-grant", "acme", "second"))
+
+    def test_it_ends_one_token(self):
+        for name, text in [("in small letters", SECOND), ("in capitals", SECOND.upper())]:
+            with self.subTest(name):
+                self.assertEqual(command(self.db, ("token-end", "--digest", text)), DONE)
+                self.assertEqual(self.query("SELECT digest FROM token"), [(DIGEST,)])
+                self.assertEqual(command(self.db, ("token-end", "--digest", text)), refused("no_such_token"))
+                self.grant("acme", b"second")
+
+    def test_other_texts(self):
+        before = self.rows()
+        for text in ["", " ", "ab", SECOND[1:], f"{SECOND}0", f"{SECOND[1:]}g", f"{SECOND}\n", f" {SECOND}", f"0x{SECOND[2:]}", 64 * "é", "second"]:
+            for database in [self.db, self.path("none.db")]:
+                with self.subTest(text=text, database=database):
+                    self.assertEqual(command(database, ("token-end", "--digest", text)), refused("bad_field digest"))
+        self.assertEqual(self.rows(), before)
+
+    def test_standard_input_is_not_read(self):
+        folder = os.open(self.folder, os.O_RDONLY)
+        try:
+            for due in [DONE, refused("no_such_token")]:
+                self.assertEqual(run(["token-end", self.db, "--digest", SECOND], stdin=folder), due)
+        finally:
+            os.close(folder)
