@@ -1,5 +1,5 @@
 -- How a connection is served.
-use Rattle.std.specs.Prelude.{◌≡◌, ◌<◌, ℕ, Bool, true, false, List, [], length, take, Option, IfSome}
+use Rattle.std.specs.Prelude.{◌≡◌, ◌<◌, ℕ, Bool, true, false, List, [], length, take, Option, IfSome, ◌++◌, Some, None}
 use Rattle.std.specs.declared.vec.Vec.{Vec}
 use Rattle.std.specs.declared.alloc.Global.{Global}
 use Rattle.std.specs.Io.KnownBytes.{Appends, Consumes}
@@ -32,11 +32,17 @@ is_available given = true
 abbrev pub IsAnsweredAt : {S : Type 0} → Ghosts S → Held S → Held S → ℕ → Bytes → given.Answer → Type 0
 IsAnsweredAt g old new now message answer = (db : Database) (late : List Event) → StandsAt g old db late → IsAnswered g new db late now message answer
 
--- a message asks what all bytes of the reader ask, where they are known, unless it is answered Unavailable
+-- the message is what all bytes of the reader begin with, where they are known
+abbrev pub IsFront : Bytes → Option Bytes → Type 0
+IsFront message None = Unit {0}
+IsFront message (Some all) = (rest : Bytes) × (all ≡ message ++ rest)
+
+-- A message is what all bytes of the reader begin with, where they are known; and it asks what they ask, unless it is
+-- answered Unavailable: memory may have been refused before all of it was read.
 abbrev pub AsksAll : Bytes → Option Bytes → given.Answer → Type 0
-AsksAll message input (givens.Bytes bytes) = RequestsAs message input
-AsksAll message input (givens.Order done) = RequestsAs message input
-AsksAll message input givens.Unavailable = Unit {0}
+AsksAll message input (givens.Bytes bytes) = IsFront message input × RequestsAs message input
+AsksAll message input (givens.Order done) = IsFront message input × RequestsAs message input
+AsksAll message input givens.Unavailable = IsFront message input
 
 -- A message held in memory was answered; and the answer is also one to all bytes of the reader, where they are
 -- known.

@@ -1,13 +1,25 @@
 -- How the orders of a text end.
 use Rattle.std.proofs.Common.{ℕ, List, Option, Result, Ok, Err, inr}
+use Rattle.sqlite.specs.Files.{file_state, over_files}
+use Rattle.sqlite.specs.Held.{Held}
 use Rattle.sqlite.specs.Recovery.{Image}
+use Rattle.sqlite.specs.State.{HasCleanDisk}
 use Rattle.sqlite_disk.specs.declared.Disk as disk
 use Rattle.sqlite_disk.specs.declared.Files.{Files}
+use Rattle.sqlite_store.specs.declared.store.FileStore.{FileStore}
+use Rattle.wgr_file.specs.OnFiles.{IsClosedTo, IsOpen}
+use Rattle.wgr_service.specs.Texts.{HasCarriedOut}
+use Rattle.wgr_service.specs.declared.lines.LineEnd.{LineEnd}
 use Rattle.wgr_words.specs.Order.{Input}
 use Rattle.wgr_prog.specs.Answering.{Output}
-use Rattle.wgr_prog.specs.Ordering.{CarriesOutText, EndsOrders, IsText}
+use Rattle.wgr_prog.specs.Ordering.{CarriesOutText, EndsOrders, HasCarried, IsText}
 use Rattle.wgr_prog.specs.declared.register_words.Failure.{Failure}
 use Rattle.wgr_prog.specs.declared.register_words.Failure.TheVariants as failure
+
+-- on the register that was opened, and closed after it
+pub has_carried : {D : Type 0} (g : disk.Ghosts D) (start : Image) (closed : Option (Files D)) (register left : Held (FileStore D g)) (lines : List (Option (List ℕ))) (ends : List LineEnd) → IsOpen start register → IsClosedTo g closed left
+    → (HasCleanDisk (file_state left) → HasCleanDisk (file_state register)) → HasCarriedOut over_files register left lines ends → HasCarried g start closed lines ends
+has_carried g start closed register left lines ends opened closed_to clean carried = record { register = register; opened = opened; left = left; closed_to = closed_to; clean = clean; carried = carried }
 
 -- those of the text that was read
 pub ends_orders : {D : Type 0} (g : disk.Ghosts D) (start : Image) (closed : Option (Files D)) (file : Option (List ℕ)) (was is : Input) (text : List ℕ) (old new : Output) (r : Result ℕ Failure) → IsText file was is text → CarriesOutText g start closed text old new r

@@ -119,8 +119,8 @@ abbrev pub moment_of : Option ℕ → Option ℕ → Option ℕ
 moment_of None clock = clock
 moment_of (Some now) clock = Some now
 
--- The message was answered at the connection's moment, and asks what all bytes received ask, unless Unavailable. The order
--- is that of the first line received.
+-- The message was answered at the connection's moment. It is what the bytes received begin with, and asks what all of them
+-- ask, unless it is answered Unavailable. The order is that of the first line received.
 abbrev pub Suits : Option ℕ → Meeting → Exchange → Type 0
 Suits now m (Asked moment message answer) = (m.door ≡ door.Requests) × (moment_of now m.clock ≡ Some moment) × AsksAll message.items m.input answer
 Suits now m (Ordered order ended) = (m.door ≡ door.Orders) × IfSome m.input (λ all. SpellsFirst all order)

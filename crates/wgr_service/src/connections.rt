@@ -36,8 +36,9 @@ pub enum Ending {
 ///
 /// The register handles the answered messages and orders like a list of events, so each tenant's replies and
 /// rows are those that its own requests and the accepted orders about it give on its own rows alone. Where the
-/// network's log is known, a message asks what its connection's bytes ask, unless answered Unavailable, an order is
-/// that of its connection's first line, and the answer is what was written to that connection.
+/// network's log is known, a message asks what its connection's bytes ask (one that is answered Unavailable is
+/// what they begin with), an order is that of its connection's first line, and the answer is what was written to
+/// that connection.
 pub fn serve_connections<S: Alter, N: Network, E: Write>(
     alloc: Global,
     office: &mut Office<S>,
