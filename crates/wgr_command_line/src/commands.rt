@@ -61,7 +61,7 @@ fn plan_command<'a>(alloc: Global) -> Result<Command<'a>, Error>
         "The network's addresses, such as 10.8.0.0/24 or fd00::/64",
     );
     let command = Command::new(alloc, "plan")
-        .about("Gives each public key an address of a pool")
+        .about("Assigns each public key an address from a pool")
         .after_help(help::PLAN);
     Ok(command.arg(pool)?)
 }
@@ -99,7 +99,7 @@ fn init_command<'a>(alloc: Global) -> Result<Command<'a>, Error>
     ensures app { IfOk result (λ command. app_of command ≡ init_app) }
     ensures memory { IfErr result (λ error. kind_of error ≡ ErrorKind.OutOfMemory) }
 {
-    db_command(alloc, "init", "Makes a register in a file", help::INIT)
+    db_command(alloc, "init", "Creates a register in a file", help::INIT)
 }
 
 fn tenant_add_command<'a>(alloc: Global) -> Result<Command<'a>, Error>
@@ -132,7 +132,7 @@ fn token_end_command<'a>(alloc: Global) -> Result<Command<'a>, Error>
         alloc,
         "digest",
         "HEX",
-        "The token's SHA-256, in place of the token on standard input",
+        "The token's SHA-256, instead of the token on standard input",
     );
     Ok(command.arg(digest)?)
 }
@@ -144,7 +144,7 @@ fn network_add_command<'a>(alloc: Global) -> Result<Command<'a>, Error>
     let command = network_command(
         alloc,
         "network-add",
-        "Adds a network of a tenant",
+        "Adds a network to a tenant",
         help::NETWORK_ADD,
     )?;
     let pool = option(
@@ -178,7 +178,7 @@ fn network_end_command<'a>(alloc: Global) -> Result<Command<'a>, Error>
     network_command(
         alloc,
         "network-end",
-        "Ends a network, and its peers and routes with it",
+        "Ends a network, with its peers and routes",
         help::NETWORK_END,
     )
 }
@@ -190,14 +190,14 @@ fn orders_command<'a>(alloc: Global) -> Result<Command<'a>, Error>
     let command = db_command(
         alloc,
         "orders",
-        "Does the orders of a file, one a line",
+        "Carries out the orders in a file, one per line",
         help::ORDERS,
     )?;
     let file = optional(
         alloc,
         "file",
         "FILE",
-        "The orders; standard input where it is left out",
+        "The orders; standard input by default",
     );
     Ok(command.arg(file)?)
 }
@@ -211,7 +211,7 @@ fn batch_command<'a>(alloc: Global) -> Result<Command<'a>, Error>
         alloc,
         "now",
         "N",
-        "The moment of all requests, in seconds since 1970-01-01",
+        "The time of all requests, in seconds since 1970-01-01",
     );
     let file = values(alloc, "file", "FILE", "A request, as a client sends it");
     Ok(command.arg(now)?.arg(file)?)
@@ -228,18 +228,18 @@ fn serve_command<'a>(alloc: Global) -> Result<Command<'a>, Error>
         "HOST:PORT",
         "The address to listen on, such as 127.0.0.1:8080 or [::1]:8080",
     );
-    let count = option(alloc, "count", "N", "How many connections are answered");
+    let count = option(alloc, "count", "N", "How many connections to answer");
     let now = choice(
         alloc,
         "now",
         "N",
-        "The moment of all requests, in seconds since 1970-01-01; the clock's where it is left out",
+        "The time of requests, in seconds since 1970-01-01; by default the clock's",
     );
     let orders = choice(
         alloc,
         "orders",
         "PATH",
-        "The Unix socket at which orders are taken from `wgr send`",
+        "The Unix socket for orders from `wgr send`",
     );
     let command = command.arg(place)?.arg(count)?;
     Ok(command.arg(now)?.arg(orders)?)
@@ -250,13 +250,13 @@ fn send_command<'a>(alloc: Global) -> Result<Command<'a>, Error>
     ensures memory { IfErr result (λ error. kind_of error ≡ ErrorKind.OutOfMemory) }
 {
     let command = Command::new(alloc, "send")
-        .about("Gives an order to a running service")
+        .about("Sends an order to a running service")
         .after_help(help::SEND);
     let path = value(
         alloc,
         "path",
         "PATH",
-        "The service's socket, as its option --orders names it",
+        "The service's socket, the PATH of its option --orders",
     );
     let digest = choice(
         alloc,
@@ -264,11 +264,6 @@ fn send_command<'a>(alloc: Global) -> Result<Command<'a>, Error>
         "HEX",
         "The token's SHA-256, for `token-end` without the token on standard input",
     );
-    let word = values(
-        alloc,
-        "word",
-        "WORD",
-        "The order's name, and its fields in turn",
-    );
+    let word = values(alloc, "word", "WORD", "The order's name, then its fields");
     Ok(command.arg(path)?.arg(digest)?.arg(word)?)
 }
