@@ -1,5 +1,5 @@
 //! Tenants' requests, from their bytes to the bytes of the replies.
-ghost use Rattle.std.specs.Prelude.{◌≡◌, ℕ, List, length, IfErr, IfOk, OnErr, OnOk};
+ghost use Rattle.std.specs.Prelude.{◌≡◌, ℕ, List, length, true, IfErr, IfOk, OnErr, OnOk};
 ghost use Rattle.std.specs.declared.vec.Vec.{Vec};
 ghost use Rattle.std.specs.declared.alloc.Global.{Global};
 ghost use Rattle.sqlite.specs.Effect.{Database};
@@ -13,6 +13,8 @@ ghost use Rattle.wgr_office.specs.declared.run.Event.TheVariants as events;
 ghost use Rattle.wgr_office.specs.Pages.{IsAnswered, Responds, event_of};
 ghost use Rattle.wgr_register.specs.Standing.{IsAtRest, StandsAt};
 ghost use Rattle.wgr_request.specs.Request.{request_view};
+ghost use Rattle.wgr_sql.specs.Causes.{HasCause};
+ghost use Rattle.wgr_sql.specs.declared.fault.Fault.TheVariants.{Store};
 
 use crate::answer::{Answer, ended, made};
 use crate::pages::Pages;
@@ -92,7 +94,8 @@ impl<S: Alter> Office<S> {
     /// Whether the store has failed for good, so that all answers are `Unavailable` until the register is
     /// opened anew. To be asked after such an answer: the networks in memory are loaded anew.
     pub fn is_shut(&mut self) -> bool
-        ensures { Keeps S.Store self.old self.new }
+        ensures keeps { Keeps S.Store self.old self.new }
+        ensures cause { (db : Database) (late : List Event) → StandsAt S.Store self.old db late → result ≡ true → HasCause (state S.Store self.old) (state S.Store self.new) Store }
     {
         self.register.is_shut()
     }
