@@ -1,8 +1,8 @@
 -- What command lines ask for, by computation.
-use Rattle.std.proofs.Common.{◌≡◌, [], ◌∷◌, Some, None, codes, refl}
+use Rattle.std.proofs.Common.{◌≡◌, true, false, [], ◌∷◌, Some, None, codes, refl}
 use Rattle.clap.specs.declared.error.kind.ErrorKind.TheVariants as kind
 use Rattle.clap.proofs.OnLiterals.{clap_on_literals}
-use Rattle.wgr_command_line.specs.Words.{asked_by, wrong_with, Batch, Init, Operate, Orders, Plan, Send, Serve}
+use Rattle.wgr_command_line.specs.Words.{asked_by, wrong_with, Batch, Init, Operate, Orders, Plan, Send, Serve, Show}
 use Rattle.wgr_words.specs.Asked.{DigestEnd, NetworkEnd, TenantAdd, TokenEnd, TokenGrant}
 
 plan : asked_by (codes "plan" ∷ codes "10.8.0.0/24" ∷ []) ≡ Some (Plan (codes "10.8.0.0/24"))
@@ -77,6 +77,38 @@ orders_of_two_files : asked_by (codes "orders" ∷ codes "a.db" ∷ codes "day" 
 unfolding clap_on_literals
 orders_of_two_files = refl
 
+show : asked_by (codes "show" ∷ codes "a.db" ∷ []) ≡ Some (Show (codes "a.db") None false)
+unfolding clap_on_literals
+show = refl
+
+show_as_json : asked_by (codes "show" ∷ codes "a.db" ∷ codes "--json" ∷ []) ≡ Some (Show (codes "a.db") None true)
+unfolding clap_on_literals
+show_as_json = refl
+
+show_of_a_tenant : asked_by (codes "show" ∷ codes "a.db" ∷ codes "acme" ∷ []) ≡ Some (Show (codes "a.db") (Some (codes "acme")) false)
+unfolding clap_on_literals
+show_of_a_tenant = refl
+
+show_of_a_tenant_as_json : asked_by (codes "show" ∷ codes "a.db" ∷ codes "acme" ∷ codes "--json" ∷ []) ≡ Some (Show (codes "a.db") (Some (codes "acme")) true)
+unfolding clap_on_literals
+show_of_a_tenant_as_json = refl
+
+show_as_json_first : asked_by (codes "show" ∷ codes "--json" ∷ codes "a.db" ∷ codes "acme" ∷ []) ≡ Some (Show (codes "a.db") (Some (codes "acme")) true)
+unfolding clap_on_literals
+show_as_json_first = refl
+
+show_of_a_name_like_the_option : asked_by (codes "show" ∷ codes "a.db" ∷ codes "--" ∷ codes "--json" ∷ []) ≡ Some (Show (codes "a.db") (Some (codes "--json")) false)
+unfolding clap_on_literals
+show_of_a_name_like_the_option = refl
+
+show_of_two_tenants : asked_by (codes "show" ∷ codes "a.db" ∷ codes "acme" ∷ codes "globex" ∷ []) ≡ None
+unfolding clap_on_literals
+show_of_two_tenants = refl
+
+show_with_a_value : asked_by (codes "show" ∷ codes "a.db" ∷ codes "--json=acme" ∷ []) ≡ None
+unfolding clap_on_literals
+show_with_a_value = refl
+
 batch : asked_by (codes "batch" ∷ codes "a.db" ∷ codes "--now" ∷ codes "7" ∷ codes "b" ∷ codes "c" ∷ []) ≡ Some (Batch (codes "a.db") (codes "7") (codes "b" ∷ codes "c" ∷ []))
 unfolding clap_on_literals
 batch = refl
@@ -101,17 +133,25 @@ serve_with_orders_at_a_moment : asked_by (codes "serve" ∷ codes "a.db" ∷ cod
 unfolding clap_on_literals
 serve_with_orders_at_a_moment = refl
 
-send : asked_by (codes "send" ∷ codes "s" ∷ codes "tenant-add" ∷ codes "acme" ∷ []) ≡ Some (Send (codes "s") (codes "tenant-add" ∷ codes "acme" ∷ []) None)
+send : asked_by (codes "send" ∷ codes "s" ∷ codes "tenant-add" ∷ codes "acme" ∷ []) ≡ Some (Send (codes "s") (codes "tenant-add" ∷ codes "acme" ∷ []) None false)
 unfolding clap_on_literals
 send = refl
 
-send_of_a_digest : asked_by (codes "send" ∷ codes "s" ∷ codes "token-end" ∷ codes "--digest" ∷ codes "0f" ∷ []) ≡ Some (Send (codes "s") (codes "token-end" ∷ []) (Some (codes "0f")))
+send_of_a_digest : asked_by (codes "send" ∷ codes "s" ∷ codes "token-end" ∷ codes "--digest" ∷ codes "0f" ∷ []) ≡ Some (Send (codes "s") (codes "token-end" ∷ []) (Some (codes "0f")) false)
 unfolding clap_on_literals
 send_of_a_digest = refl
 
-send_of_a_digest_first : asked_by (codes "send" ∷ codes "--digest" ∷ codes "0f" ∷ codes "s" ∷ codes "token-end" ∷ []) ≡ Some (Send (codes "s") (codes "token-end" ∷ []) (Some (codes "0f")))
+send_of_a_digest_first : asked_by (codes "send" ∷ codes "--digest" ∷ codes "0f" ∷ codes "s" ∷ codes "token-end" ∷ []) ≡ Some (Send (codes "s") (codes "token-end" ∷ []) (Some (codes "0f")) false)
 unfolding clap_on_literals
 send_of_a_digest_first = refl
+
+send_of_a_reading : asked_by (codes "send" ∷ codes "s" ∷ codes "show" ∷ codes "acme" ∷ codes "--json" ∷ []) ≡ Some (Send (codes "s") (codes "show" ∷ codes "acme" ∷ []) None true)
+unfolding clap_on_literals
+send_of_a_reading = refl
+
+send_of_a_reading_behind_dashes : asked_by (codes "send" ∷ codes "s" ∷ codes "--" ∷ codes "show" ∷ codes "--json" ∷ []) ≡ Some (Send (codes "s") (codes "show" ∷ codes "--json" ∷ []) None false)
+unfolding clap_on_literals
+send_of_a_reading_behind_dashes = refl
 
 send_of_no_word : asked_by (codes "send" ∷ codes "s" ∷ []) ≡ None
 unfolding clap_on_literals

@@ -1,11 +1,13 @@
 -- The command line: what the words of `wgr` ask for, and what is wrong with them.
-use Rattle.std.specs.Prelude.{◌≡◌, ◌≢◌, true, List, [], ◌∷◌, Option, Some, None, codes, map, option_and_then, option_map, if◌then◌else◌, slice_get}
+use Rattle.std.specs.Prelude.{◌≡◌, ◌≢◌, Bool, true, false, List, [], ◌∷◌, Option, Some, None, codes, map, option_and_then, option_map, if◌then◌else◌, slice_get}
 use Rattle.std.specs.Borrow.{Bor}
+use Rattle.std.specs.Option.{option_map_or}
 use Rattle.std.specs.Str.{bytes_eq}
 use Rattle.clap.specs.Kinds.{or_else}
 use Rattle.clap.specs.Lexer.{usize_max}
 use Rattle.clap.specs.Simple.{new_shape}
 use Rattle.clap.specs.Words.{App, Kinds, Row, Rule, Text, fault_of, all_of, first_of, new_app, new_rule, subcommand_of, with_rule, with_subcommand}
+use Rattle.clap.specs.declared.builder.action.ArgAction.TheVariants.{SetTrue}
 use Rattle.clap.specs.declared.error.kind.ErrorKind.TheVariants.{MissingSubcommand}
 use Rattle.wgr_command_line.specs.declared.invocation.Invocation.{Invocation}
 use Rattle.wgr_command_line.specs.declared.invocation.Invocation.TheVariants as invocation
@@ -29,6 +31,10 @@ optional_rule id = record (new_rule id) { value_names = 1 }
 abbrev pub choice_rule : Text → Rule
 choice_rule id = record (optional_rule id) { long = Some id }
 
+-- an option without a value
+abbrev pub flag_rule : Text → Rule
+flag_rule id = record (new_rule id) { long = Some id; action = Some SetTrue }
+
 -- one or more positional values
 abbrev pub values_rule : Text → Rule
 values_rule id = record (value_rule id) { range = Some (record { start_inclusive = 1; end_inclusive = usize_max }) }
@@ -41,6 +47,9 @@ with_option id app = with_rule app (option_rule id)
 
 abbrev pub with_choice : Text → App → App
 with_choice id app = with_rule app (choice_rule id)
+
+abbrev pub with_flag : Text → App → App
+with_flag id app = with_rule app (flag_rule id)
 
 -- `plan POOL`
 abbrev pub plan_app : App
@@ -84,6 +93,10 @@ network_end_app = network_app (codes "network-end")
 abbrev pub orders_app : App
 orders_app = with_rule (db_app (codes "orders")) (optional_rule (codes "file"))
 
+-- `show DB [TENANT] [--json]`
+abbrev pub show_app : App
+show_app = with_flag (codes "json") (with_rule (db_app (codes "show")) (optional_rule (codes "tenant")))
+
 -- `batch DB --now N FILE..`
 abbrev pub batch_app : App
 batch_app = with_rule (with_option (codes "now") (db_app (codes "batch"))) (values_rule (codes "file"))
@@ -93,9 +106,13 @@ abbrev pub serve_app : App
 serve_app =
     with_choice (codes "orders") (with_choice (codes "now") (with_option (codes "count") (with_value (codes "place") (db_app (codes "serve")))))
 
--- `send PATH [--digest HEX] WORD..`
+-- `send PATH`
+abbrev pub socket_app : App
+socket_app = with_value (codes "path") (new_app (codes "send"))
+
+-- `send PATH [--digest HEX] [--json] WORD..`
 abbrev pub send_app : App
-send_app = with_rule (with_choice (codes "digest") (with_value (codes "path") (new_app (codes "send")))) (values_rule (codes "word"))
+send_app = with_rule (with_flag (codes "json") (with_choice (codes "digest") socket_app)) (values_rule (codes "word"))
 
 -- `wgr` has a version and requires a command; its own name is not one of the words
 abbrev pub wgr_alone : App
@@ -109,26 +126,32 @@ with_command command app = with_subcommand app command.top
 
 abbrev pub wgr_app : App
 wgr_app =
-    with_command send_app (with_command serve_app (with_command batch_app (with_command orders_app (with_command network_end_app (with_command network_add_app
-    (with_command token_end_app (with_command token_grant_app (with_command tenant_add_app (with_command init_app (with_command plan_app wgr_alone))))))))))
+    with_command send_app (with_command serve_app (with_command batch_app (with_command show_app (with_command orders_app (with_command network_end_app
+    (with_command network_add_app (with_command token_end_app (with_command token_grant_app (with_command tenant_add_app (with_command init_app (with_command plan_app wgr_alone)))))))))))
 
 -- ---- what is asked for
 
--- A plan of a pool; a new register in the file `db`, an order on the register there, or the orders that are the
--- lines of a file or of standard input; the answers to the requests in files, or to connections, at a moment or
--- by the clock, where orders may come over the socket `orders`; or an order by its words, sent to that socket.
+-- A plan of a pool; a new register in the file `db`, an order on the register there, the orders that are the lines of
+-- a file or of standard input, or what the register has; the answers to the requests in files, or to connections, at a
+-- moment or by the clock, where orders and readings may come over the socket `orders`; or one of these by its words,
+-- sent to that socket.
 pub data Asked : Type 0 where
   Plan : (pool : Text) → Asked
   Init : (db : Text) → Asked
   Operate : (db : Text) (order : OrderAsked) → Asked
   Orders : (db : Text) (file : Option Text) → Asked
+  Show : (db : Text) (tenant : Option Text) (is_json : Bool) → Asked
   Batch : (db now : Text) (files : List Text) → Asked
   Serve : (db place count : Text) (now orders : Option Text) → Asked
-  Send : (path : Text) (words : List Text) (digest : Option Text) → Asked
+  Send : (path : Text) (words : List Text) (digest : Option Text) (is_json : Bool) → Asked
 
 -- what is made of the value with this name, which must be present
 abbrev pub with_first : Text → List Row → (Text → Option Asked) → Option Asked
 with_first id rows made = option_and_then made (first_of id rows)
+
+-- whether the option without a value is given
+abbrev pub is_set : Text → List Row → Bool
+is_set id rows = option_map_or (λ text. bytes_eq text (codes "true")) (first_of id rows) false
 
 abbrev pub plan_in : List Row → Option Asked
 plan_in rows = with_first (codes "pool") rows (λ pool. Some (Plan pool))
@@ -178,6 +201,9 @@ network_end_in rows =
 abbrev pub orders_in : List Row → Option Asked
 orders_in rows = with_first (codes "db") rows (λ db. Some (Orders db (first_of (codes "file") rows)))
 
+abbrev pub show_in : List Row → Option Asked
+show_in rows = with_first (codes "db") rows (λ db. Some (Show db (first_of (codes "tenant") rows) (is_set (codes "json") rows)))
+
 abbrev pub batch_in : List Row → Option Asked
 batch_in rows =
     with_first (codes "db") rows (λ db.
@@ -194,7 +220,7 @@ serve_in rows =
 abbrev pub send_in : List Row → Option Asked
 send_in rows =
     with_first (codes "path") rows (λ path.
-    option_map (λ words. Send path words (first_of (codes "digest") rows)) (all_of (codes "word") rows))
+    option_map (λ words. Send path words (first_of (codes "digest") rows) (is_set (codes "json") rows)) (all_of (codes "word") rows))
 
 -- what a command asks for by its values
 abbrev pub asked_in : Text × List Row → Option Asked
@@ -209,6 +235,7 @@ asked_in (name, rows) =
     if bytes_eq name (codes "network-add") then network_add_in rows else
     if bytes_eq name (codes "network-end") then network_end_in rows else
     if bytes_eq name (codes "orders") then orders_in rows else
+    if bytes_eq name (codes "show") then show_in rows else
     if bytes_eq name (codes "serve") then serve_in rows else
     None
 
@@ -245,9 +272,10 @@ asked_of (invocation.Plan pool) = Plan pool.now
 asked_of (invocation.Init db) = Init db.now
 asked_of (invocation.Operate db order) = Operate db.now (order_asked order)
 asked_of (invocation.Orders db file) = Orders db.now (text_of file)
+asked_of (invocation.Show db tenant is_json) = Show db.now (text_of tenant) is_json
 asked_of (invocation.Batch db now files) = Batch db.now now.now (texts_of files.items)
 asked_of (invocation.Serve db place count now orders) = Serve db.now place.now count.now (text_of now) (text_of orders)
-asked_of (invocation.Send path words digest) = Send path.now (texts_of words.items) (text_of digest)
+asked_of (invocation.Send path words digest is_json) = Send path.now (texts_of words.items) (text_of digest) is_json
 
 -- ---- a law
 

@@ -1,10 +1,10 @@
 //! The commands and their arguments, as `clap` parses them.
 ghost use Rattle.std.specs.Prelude.{◌≡◌, true, IfErr, IfOk};
 ghost use Rattle.clap.specs.Words.{app_of, kind_of, with_subcommand};
-ghost use Rattle.wgr_command_line.specs.Words.{batch_app, db_app, init_app, network_add_app, network_app, network_end_app, orders_app, plan_app, send_app, serve_app, tenant_add_app, token_end_app, token_grant_app, wgr_alone, wgr_app};
+ghost use Rattle.wgr_command_line.specs.Words.{batch_app, db_app, init_app, network_add_app, network_app, network_end_app, orders_app, plan_app, send_app, serve_app, show_app, socket_app, tenant_add_app, token_end_app, token_grant_app, wgr_alone, wgr_app};
 
 use crate::help;
-use crate::values::{choice, option, optional, value, values};
+use crate::values::{choice, flag, option, optional, value, values};
 use clap::error::ErrorKind;
 use clap::{Command, Error};
 use std::alloc::Global;
@@ -22,6 +22,7 @@ pub(crate) fn wgr_command<'a>(alloc: Global) -> Result<Command<'a>, Error>
     let command = with_command(command, network_add_command(alloc)?)?;
     let command = with_command(command, network_end_command(alloc)?)?;
     let command = with_command(command, orders_command(alloc)?)?;
+    let command = with_command(command, show_command(alloc)?)?;
     let command = with_command(command, batch_command(alloc)?)?;
     let command = with_command(command, serve_command(alloc)?)?;
     let command = with_command(command, send_command(alloc)?)?;
@@ -34,7 +35,7 @@ fn bare_command<'a>(alloc: Global) -> Result<Command<'a>, Error>
     ensures memory { IfErr result (λ error. kind_of error ≡ ErrorKind.OutOfMemory) }
 {
     let command = Command::new(alloc, "wgr")
-        .version("0.4.0")
+        .version("0.5.0")
         .about("A register of WireGuard peers and their tunnel addresses")
         .no_binary_name(true)
         .subcommand_required(true)
@@ -202,6 +203,21 @@ fn orders_command<'a>(alloc: Global) -> Result<Command<'a>, Error>
     Ok(command.arg(file)?)
 }
 
+fn show_command<'a>(alloc: Global) -> Result<Command<'a>, Error>
+    ensures app { IfOk result (λ command. app_of command ≡ show_app) }
+    ensures memory { IfErr result (λ error. kind_of error ≡ ErrorKind.OutOfMemory) }
+{
+    let command = db_command(
+        alloc,
+        "show",
+        "Shows tenants, networks and digests of tokens",
+        help::SHOW,
+    )?;
+    let tenant = optional(alloc, "tenant", "TENANT", "This tenant alone");
+    let json = flag(alloc, "json", "Prints JSON instead of a table");
+    Ok(command.arg(tenant)?.arg(json)?)
+}
+
 fn batch_command<'a>(alloc: Global) -> Result<Command<'a>, Error>
     ensures app { IfOk result (λ command. app_of command ≡ batch_app) }
     ensures memory { IfErr result (λ error. kind_of error ≡ ErrorKind.OutOfMemory) }
@@ -245,25 +261,40 @@ fn serve_command<'a>(alloc: Global) -> Result<Command<'a>, Error>
     Ok(command.arg(now)?.arg(orders)?)
 }
 
-fn send_command<'a>(alloc: Global) -> Result<Command<'a>, Error>
-    ensures app { IfOk result (λ command. app_of command ≡ send_app) }
+// `send` to the service at a socket, without what is sent.
+fn socket_command<'a>(alloc: Global) -> Result<Command<'a>, Error>
+    ensures app { IfOk result (λ command. app_of command ≡ socket_app) }
     ensures memory { IfErr result (λ error. kind_of error ≡ ErrorKind.OutOfMemory) }
 {
-    let command = Command::new(alloc, "send")
-        .about("Sends an order to a running service")
-        .after_help(help::SEND);
     let path = value(
         alloc,
         "path",
         "PATH",
         "The service's socket, the PATH of its option --orders",
     );
+    let command = Command::new(alloc, "send")
+        .about("Sends an order to a running service, or asks it for a reading")
+        .after_help(help::SEND);
+    Ok(command.arg(path)?)
+}
+
+fn send_command<'a>(alloc: Global) -> Result<Command<'a>, Error>
+    ensures app { IfOk result (λ command. app_of command ≡ send_app) }
+    ensures memory { IfErr result (λ error. kind_of error ≡ ErrorKind.OutOfMemory) }
+{
+    let command = socket_command(alloc)?;
     let digest = choice(
         alloc,
         "digest",
         "HEX",
         "The token's SHA-256, for `token-end` without the token on standard input",
     );
-    let word = values(alloc, "word", "WORD", "The order's name, then its fields");
-    Ok(command.arg(path)?.arg(digest)?.arg(word)?)
+    let json = flag(alloc, "json", "For `show`: JSON instead of a table");
+    let word = values(
+        alloc,
+        "word",
+        "WORD",
+        "The order's or reading's name, then its fields",
+    );
+    Ok(command.arg(digest)?.arg(json)?.arg(word)?)
 }

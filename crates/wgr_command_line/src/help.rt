@@ -212,6 +212,35 @@ Example:
   0 done
   0 done";
 
+pub(crate) const SHOW: &str = "\
+Prints what the register in DB has, of all tenants or of TENANT alone: a table of networks, with
+how many peers and routes each has, and a table of tokens. With --json it is one line of JSON.
+No entry is changed. Of a token only the digest is known, its SHA-256, as
+`wgr token-end --digest` takes it.
+
+No other program may have DB open. A running service shows the same: use `wgr send PATH show`.
+
+Messages on standard error, with the exit status, and what to do:
+  wgr: bad_field tenant  2  TENANT does not have the form of a name: correct it
+  wgr: no_such_tenant    2  no tenant has the name: correct it
+  wgr: not_a_register    1  DB is missing or has no register: create one with `wgr init`
+  wgr: not_good          1  DB has rows that break the register's rules: use the last good
+                            copy of the file
+  wgr: store             1  DB cannot be read or written, is not a database, or another
+                            program has it open: check the file and its folder
+  wgr: no_memory         1  out of memory: free some, and try again
+  wgr: device            1  the text could not be printed, or only a part of it
+The status is 0 if all is printed, and 2 for a wrong command line. A name that begins with `-`
+must come after `--`.
+
+Example:
+  $ wgr show register.db acme
+  TENANT  NETWORK  POOL         ENDPOINT               CAPACITY  PEERS  ROUTES
+  acme    office   10.8.0.0/24  vpn.example.net:51820  250       12     3
+
+  TENANT  TOKEN
+  acme    9f86d081884c7d659a2feaa0c55ad015a3bf4f1b2b0b822cd15d6c15b0f00a08";
+
 pub(crate) const BATCH: &str = "\
 Each FILE is one request, as a client sends it over HTTP. All files are read before DB is
 opened; then the requests are answered in turn, all at the time N, and the replies are printed
@@ -240,14 +269,14 @@ brackets. The time of all requests is that of --now; without it, the clock gives
 each. A client that sends nothing keeps the next clients waiting: put a proxy in front, which
 also does TLS.
 
-With --orders, it also takes orders from `wgr send`, over a Unix socket at PATH with mode 0600,
-whose folder must be the operator's own. A socket that a stopped service left there is
-replaced; any other file there is refused with `device`. Waiting orders are carried out before
+With --orders, it also takes orders and readings from `wgr send`, over a Unix socket at PATH with
+mode 0600, whose folder must be the operator's own. A socket that a stopped service left there is
+replaced; any other file there is refused with `device`. Waiting orders and readings come before
 requests, and do not count as connections.
 
 Messages on standard error, with the exit status, and what to do:
   wgr: connection           a connection failed; the next one is answered
-  wgr: order                an order over the socket failed; the service continues
+  wgr: order                an order or reading over the socket failed; the service continues
   wgr: bad_field host:port  2  HOST:PORT has the wrong form: correct it
   wgr: bad_field count      2  --count is not a whole number up to 9223372036854775807
   wgr: bad_field now        2  --now is not a whole number up to 9223372036854775807
@@ -266,7 +295,7 @@ Example:
   listening";
 
 pub(crate) const SEND: &str = "\
-Sends the order to the service that listens at PATH (`wgr serve` with --orders), and prints
+Sends an order to the service that listens at PATH (`wgr serve` with --orders), and prints
 `done` once it is carried out. The words are the order's name and its fields, by position:
   tenant-add NAME
   token-grant TENANT
@@ -279,13 +308,22 @@ The fields are those of the command of the same name, which does the same on a f
 --help. As there, the token of `token-grant` and of `token-end` is read from standard input.
 No word may be empty or contain a space. One that begins with `-` must come after `--`.
 
+Or asks the service for a reading, which changes nothing:
+  status                    prints its figures, lines `name value` for Prometheus
+  show [TENANT] [--json]    prints what `wgr show` prints of a file
+  backup FILE               copies the register to FILE and FILE-wal, and prints `done`; FILE
+                            begins with `/`, and its folder is one that the service can write
+
 Messages on standard error besides that command's, with the exit status, and what to do:
-  wgr: bad_order  2  the words are not an order: check their number and spelling
-  wgr: device     1  no service listens at PATH, or the connection broke: it is then unknown
-                     whether the order was carried out, so check before you send it again
-  wgr: no_memory  1  out of memory: free some, and try again
-  wgr: store      1  the service cannot read or write the register: check its file
-The status is 0 if `done` is printed, and 2 for a wrong command line.
+  wgr: bad_order       2  the words are no order and no reading: check number and spelling
+  wgr: bad_field file  2  FILE does not begin with `/`: give its whole path
+  wgr: file_exists     2  FILE is there already, and stays as it is: take another name
+  wgr: device          1  no service listens at PATH, or the connection broke: it is then unknown
+                          whether an order was carried out, so check before you send it again;
+                          or the copy cannot be made, and there is no FILE: check its folder
+  wgr: no_memory       1  out of memory: free some, and try again
+  wgr: store           1  the service cannot read or write the register: check its file
+The status is 0 if `done` or all of a reading is printed, and 2 for a wrong command line.
 
 Example:
   $ wgr send /run/wgr/orders tenant-add acme

@@ -37,6 +37,12 @@ pub enum Invocation<'a> {
         db: &'a str,
         file: Option<&'a str>,
     },
+    /// What the register in a file has, of all tenants or of one, as a table or as JSON.
+    Show {
+        db: &'a str,
+        tenant: Option<&'a str>,
+        is_json: bool,
+    },
     /// The answers to the requests in files, at a moment.
     Batch {
         db: &'a str,
@@ -52,11 +58,12 @@ pub enum Invocation<'a> {
         now: Option<&'a str>,
         orders: Option<&'a str>,
     },
-    /// An order by its words, sent to the service that listens at a socket.
+    /// An order or a reading by its words, sent to the service that listens at a socket.
     Send {
         path: &'a str,
         words: Vec<&'a str>,
         digest: Option<&'a str>,
+        is_json: bool,
     },
 }
 
@@ -80,6 +87,7 @@ fn invocation_of<'a>(
         ("network-add", found) => Ok(values::network_add(found)),
         ("network-end", found) => Ok(values::network_end(found)),
         ("orders", found) => Ok(values::orders(found)),
+        ("show", found) => Ok(values::show(found)),
         ("serve", found) => Ok(values::serve(found)),
         _ => Ok(None),
     }

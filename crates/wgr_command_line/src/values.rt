@@ -1,10 +1,10 @@
 //! The values of a command's arguments, by their names.
 ghost use Rattle.std.specs.Prelude.{◌≡◌, false, IfOk, map, option_map};
 ghost use Rattle.clap.specs.Words.{all_of, first_of, found_of, rows_of, rule_of};
-ghost use Rattle.wgr_command_line.specs.Words.{asked_of, batch_in, choice_rule, init_in, network_add_in, network_end_in, option_rule, optional_rule, orders_in, plan_in, send_in, serve_in, tenant_add_in, token_end_in, token_grant_in, value_rule, values_rule};
+ghost use Rattle.wgr_command_line.specs.Words.{asked_of, batch_in, choice_rule, flag_rule, init_in, is_set, network_add_in, network_end_in, option_rule, optional_rule, orders_in, plan_in, send_in, serve_in, show_in, tenant_add_in, token_end_in, token_grant_in, value_rule, values_rule};
 
 use crate::invocation::Invocation;
-use clap::{Arg, ArgMatches};
+use clap::{Arg, ArgAction, ArgMatches};
 use std::alloc::{AllocError, Global};
 use wgr_words::{NetworkWords, OrderWords};
 
@@ -43,6 +43,17 @@ pub(crate) fn choice<'a>(alloc: Global, id: &'a str, shown: &'a str, help: &'a s
     optional(alloc, id, shown, help).long(id)
 }
 
+/// An option without a value.
+pub(crate) fn flag<'a>(alloc: Global, id: &'a str, help: &'a str) -> Arg<'a>
+    ensures rule { rule_of result ≡ flag_rule id.now }
+    ensures local { result.global ≡ false }
+{
+    Arg::new(alloc, id)
+        .long(id)
+        .action(ArgAction::SetTrue)
+        .help(help)
+}
+
 /// Positional values, of which at least one is required.
 pub(crate) fn values<'a>(alloc: Global, id: &'a str, shown: &'a str, help: &'a str) -> Arg<'a>
     ensures rule { rule_of result ≡ values_rule id.now }
@@ -56,6 +67,16 @@ fn first<'a>(found: &ArgMatches<'a>, id: &str) -> Option<&'a str>
     ensures { option_map (λ text. text.now) result ≡ first_of id.now (rows_of (found_of found.now)) }
 {
     found.get_str(id)
+}
+
+// Whether the option without a value under this name is given.
+fn is_set(found: &ArgMatches<'_>, id: &str) -> bool
+    ensures { result ≡ is_set id.now (rows_of (found_of found.now)) }
+{
+    match first(found, id) {
+        Some(text) => text == "true",
+        None => false,
+    }
 }
 
 pub(crate) fn plan<'a>(found: &ArgMatches<'a>) -> Option<Invocation<'a>>
@@ -150,6 +171,19 @@ pub(crate) fn orders<'a>(found: &ArgMatches<'a>) -> Option<Invocation<'a>>
     Some(Invocation::Orders { db, file })
 }
 
+pub(crate) fn show<'a>(found: &ArgMatches<'a>) -> Option<Invocation<'a>>
+    ensures { option_map asked_of result ≡ show_in (rows_of (found_of found.now)) }
+{
+    let db = first(found, "db")?;
+    let tenant = first(found, "tenant");
+    let is_json = is_set(found, "json");
+    Some(Invocation::Show {
+        db,
+        tenant,
+        is_json,
+    })
+}
+
 // All values under this name.
 fn all<'a>(
     alloc: Global,
@@ -214,9 +248,11 @@ pub(crate) fn send<'a>(
         return Ok(None);
     };
     let digest = first(found, "digest");
+    let is_json = is_set(found, "json");
     Ok(Some(Invocation::Send {
         path,
         words,
         digest,
+        is_json,
     }))
 }

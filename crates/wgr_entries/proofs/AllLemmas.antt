@@ -1,8 +1,8 @@
 -- What the queries of whole tables show.
-use Rattle.std.proofs.Common.{◌≡◌, ℕ, List, [], ◌∷◌, map, filter, length, true, codes, pos, IsPermutation, inl, inr, refl, sym, ap, subst, ◌∙◌, arith}
+use Rattle.std.proofs.Common.{◌≡◌, ℕ, List, [], ◌∷◌, map, filter, length, true, codes, IsPermutation, inl, inr, refl, sym, ap, subst, ◌∙◌, arith}
 use Rattle.std.proofs.lemmas.List.{length-map}
 use Rattle.std.proofs.lemmas.List.Sorted.{IsPermutation-map, length_permutation}
-use Rattle.sqlite.specs.declared.types.Value.TheVariants.{Null, Int, Text}
+use Rattle.sqlite.specs.declared.types.Value.TheVariants.{Null, Text, Blob}
 use Rattle.sqlite.specs.Order.{Row}
 use Rattle.sqlite_value.specs.Order.{column}
 use Rattle.sqlite.specs.Term.{eval_all}
@@ -13,13 +13,14 @@ use Rattle.sqlite.specs.State.{State, Shown}
 use Rattle.sqlite_rules.specs.Lists.{Has}
 use Rattle.sqlite_tied.specs.Compute.{everything}
 use Rattle.wgr_sql.proofs.TextLemmas.{text_at}
+use Rattle.wgr_sql.proofs.Values.{blob_at}
 use Rattle.wgr_sql.specs.Effects.{plain_query}
 use Rattle.wgr_model.specs.Register.{Holding, Tenant, Token}
 use Rattle.wgr_model.specs.Rows.{NetworkRow, Tables}
 use Rattle.wgr_model.proofs.GatherLemmas.{map_map}
 use Rattle.wgr_columns.specs.Decode.{IsRegister, bytes_at, network_in, number_at, tables_of, tenant_in, token_in}
 use Rattle.wgr_sql.specs.Causes.{IsAnswered}
-use Rattle.wgr_columns.specs.Layout.{Others, schema_with, tenant_at}
+use Rattle.wgr_columns.specs.Layout.{Others, schema_with, tenant_at, token_at}
 use Rattle.wgr_columns.specs.Stored.{AreStored, stored_network, stored_tenant}
 use Rattle.wgr_columns.proofs.Statements.{never_refused}
 use Rattle.wgr_tables.proofs.StoredLemmas.{network_is, stored_rows}
@@ -27,6 +28,7 @@ use Rattle.wgr_tables.proofs.ListedLemmas.{listed}
 use Rattle.wgr_tables.proofs.Meanings.{network_places}
 use Rattle.wgr_entries.proofs.LookupTexts.{tenant_places, token_places}
 use Rattle.wgr_columns.proofs.Statements.{Asks}
+use Rattle.wgr_entries.specs.Kept.{stored_token}
 use Rattle.wgr_entries.specs.Lookups.{settled}
 
 abbrev pub tokens_text : List ℕ
@@ -102,6 +104,15 @@ module _ (old new : State) (register : IsRegister old.now) (rows : List Row) whe
       let name : column r 2 ≡ Text (bytes_at r 2) = text_at (schema_with register.others) old.now.trees sound (tenant_at 1) (inr (inl refl)) r here 1 _ refl refl refl refl refl in
       λ k. id k ∷ Null ∷ name k ∷ []
 
+  token_is : (r : Row) → Has (old.now.trees 3) r → eval_all token_places ([] ∷ r ∷ []) ≡ stored_token (token_in r)
+  token_is r here =
+      let tenant = register.written.tokens.numbers_are r here 2 (inl refl) in
+      let digest : column r 1 ≡ Blob (bytes_at r 1) = blob_at (schema_with register.others) old.now.trees sound (token_at 3) (inr (inr (inl refl))) r here 0 _ refl refl refl refl refl in
+      λ k. Null ∷ digest k ∷ tenant k ∷ []
+
+  pub tokens_stored : Shown tokens_text [] old new rows → AreStored stored_token token_in rows
+  tokens_stored shown = stored_rows old new register tokens_text [] 3 [] token_places [] _ (tokens_asks register.others) rows shown token_in (λ r. refl) stored_token token_is
+
   pub tenants_stored : Shown tenants_text [] old new rows → AreStored stored_tenant tenant_in rows
   tenants_stored shown = stored_rows old new register tenants_text [] 1 [] tenant_places [] _ (tenants_asks register.others) rows shown tenant_in (λ r. refl) stored_tenant tenant_is
 
@@ -116,6 +127,9 @@ ids_listed t rows ids is same = subst (IsPermutation (map (λ x. x.id) t.tenants
 
 pub tenants_read : (t : Tables) (rows : List Row) (tenants : List Tenant) → ShowTenants t rows → tenants ≡ map tenant_in rows → IsPermutation t.tenants tenants
 tenants_read t rows tenants is same = subst (IsPermutation t.tenants) (sym same) is
+
+pub tokens_read : (t : Tables) (rows : List Row) (tokens : List Token) → ShowTokens t rows → tokens ≡ map token_in rows → IsPermutation t.tokens tokens
+tokens_read t rows tokens is same = subst (IsPermutation t.tokens) (sym same) is
 
 pub networks_read : (t : Tables) (rows : List Row) (networks : List Holding) → ShowNetworks t rows → networks ≡ map (λ r. settled (network_in r)) rows
     → (read : List NetworkRow) × IsPermutation t.networks read × (networks ≡ map settled read)

@@ -3,6 +3,7 @@ pub mod LookupTexts
 pub mod LookupLemmas
 pub mod WordLemmas
 pub mod AllLemmas
+pub mod CountLemmas
 -- What comes and goes.
 pub mod Meanings
 pub mod KeptLemmas

@@ -1,5 +1,5 @@
--- What queries by a key return.
-use Rattle.std.specs.Prelude.{◌≡◌, ℕ, ⊤, List, [], ◌∷◌, filter, map, nat_eq, Option, Some, None}
+-- What queries by a key return, and what is counted.
+use Rattle.std.specs.Prelude.{◌≡◌, ℕ, ⊤, ◌&&◌, List, [], ◌∷◌, filter, length, map, nat_eq, Option, Some, None}
 use Rattle.std.specs.List.Sorted.{IsPermutation}
 use Rattle.sqlite_value.specs.Order.{Row}
 use Rattle.wgr_model.specs.Consistent.{same_slot}
@@ -22,6 +22,13 @@ ShowSlot slot t rows = IsPermutation (filter (λ w. same_slot slot (w.tenant, w.
 -- the rows are those of the networks of the tenant of this id
 abbrev pub ShowNetworksOf : ℕ → Tables → List Row → Type 0
 ShowNetworksOf tenant t rows = IsPermutation (filter (λ w. nat_eq w.tenant tenant) t.networks) (map network_in rows)
+
+-- how many peers and how many routes the rows of the network of this id have
+abbrev pub peer_count : Tables → ℕ → ℕ
+peer_count t network = length (filter (λ p. nat_eq p.network network) t.peers)
+
+abbrev pub route_count : Tables → ℕ → ℕ
+route_count t network = length (filter (λ a. a.is_route && nat_eq a.network network) t.allowed)
 
 -- the number at this place of the one row, or none where there is no row
 abbrev pub IsIn : List Row → ℕ → Option ℕ → Type 0

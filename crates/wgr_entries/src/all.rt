@@ -1,13 +1,13 @@
 //! What an order needs of every entry: all rows of a table, in any order.
-ghost use Rattle.std.specs.Prelude.{◌≡◌, ◌++◌, ◌∷◌, [], List, length, map, false, IfErr, IfOk, OnOk, IsPermutation};
+ghost use Rattle.std.specs.Prelude.{◌≡◌, ◌++◌, ◌∷◌, [], List, length, map, false, IfErr, IfOk, OnOk, IsPermutation, IsTrue};
 ghost use Rattle.sqlite.specs.Effect.{Database};
 ghost use Rattle.sqlite.specs.State.{HasCleanDisk, Survives};
 ghost use Rattle.sqlite.specs.Held.{state};
 ghost use Rattle.wgr_model.specs.Consistent.{IsTenant};
 ghost use Rattle.wgr_model.specs.Laws.{Has};
-ghost use Rattle.wgr_model.specs.Register.{Tenant};
+ghost use Rattle.wgr_model.specs.Register.{Tenant, Token};
 ghost use Rattle.wgr_model.specs.Rows.{NetworkRow};
-ghost use Rattle.wgr_entries.specs.Kept.{AreOf};
+ghost use Rattle.wgr_entries.specs.Kept.{AreOf, IsKeptToken, stored_token};
 ghost use Rattle.wgr_sql.specs.Causes.{HasCause};
 ghost use Rattle.wgr_sql.specs.declared.fault.Fault.TheVariants.{NoMemory, Store};
 ghost use Rattle.wgr_columns.specs.Decode.{network_in, number_at, tables_of, tenant_in, token_in};
@@ -16,11 +16,11 @@ ghost use Rattle.wgr_tables.specs.Standing.{Stands};
 ghost use Rattle.wgr_columns.specs.Stored.{AreStored, IsKeptNetwork, stored_network, stored_tenant};
 ghost use Rattle.wgr_tables.specs.Writes.{Written};
 
-use crate::settled::{read_settled, read_tenant};
+use crate::settled::{read_settled, read_tenant, read_token};
 use sqlite::{Alter, Connection, Row};
 use std::alloc::Global;
 use wgr_columns::{tenant, word_at};
-use wgr_orders::{Holding, Tenant};
+use wgr_orders::{Holding, Tenant, Token};
 use wgr_sql::{Fault, query};
 
 // The rows of all tokens.
@@ -33,6 +33,7 @@ fn token_rows<S: Alter>(conn: &mut Connection<S>) -> Result<Vec<Row>, Fault>
         → IfOk result (λ rows. IsPermutation (tables_of db).tokens (map token_in rows.items)) }
     ensures survives { Survives (state S.Store conn.old) (state S.Store conn.new) (λ _. ⊥) }
     ensures cause { (db : Database) (pending : List Written) → Stands S.Store conn.old db pending → IfErr result (HasCause (state S.Store conn.old) (state S.Store conn.new)) }
+    ensures stored { (db : Database) (pending : List Written) → Stands S.Store conn.old db pending → HasCleanDisk (state S.Store conn.new) → IfOk result (λ rows. AreStored stored_token token_in rows.items) }
 {
     query(conn, "SELECT NULL, digest, tenant FROM token", &[])
 }
@@ -45,6 +46,7 @@ fn tenant_rows<S: Alter>(conn: &mut Connection<S>) -> Result<Vec<Row>, Fault>
     ensures clean { HasCleanDisk (state S.Store conn.new) → HasCleanDisk (state S.Store conn.old) }
     ensures listed { (db : Database) (pending : List Written) → Stands S.Store conn.old db pending → HasCleanDisk (state S.Store conn.new)
         → IfOk result (λ rows. IsPermutation (tables_of db).tenants (map tenant_in rows.items)) }
+    ensures open { HasCleanDisk (state S.Store conn.new) → OnOk result (IsTrue (state S.Store conn.old).is_open) }
     ensures survives { Survives (state S.Store conn.old) (state S.Store conn.new) (λ _. ⊥) }
     ensures cause { (db : Database) (pending : List Written) → Stands S.Store conn.old db pending → IfErr result (HasCause (state S.Store conn.old) (state S.Store conn.new)) }
     ensures stored { (db : Database) (pending : List Written) → Stands S.Store conn.old db pending → HasCleanDisk (state S.Store conn.new) → IfOk result (λ rows. AreStored stored_tenant tenant_in rows.items) }
@@ -134,6 +136,21 @@ fn tenants_in(alloc: Global, rows: &[Row]) -> Result<Vec<Tenant>, Fault>
     Ok(tenants)
 }
 
+// The tokens of these rows.
+fn tokens_in(alloc: Global, rows: &[Row]) -> Result<Vec<Token>, Fault>
+    ensures read { IfOk result (λ tokens. tokens.items ≡ map token_in rows.now) }
+    ensures only { IfErr result (λ why. why ≡ Store → AreOf IsKeptToken stored_token rows.now → ⊥) }
+{
+    let mut tokens = Vec::new(alloc);
+    for row in rows {
+        let token = read_token(row)?;
+        if tokens.push(token).is_err() {
+            return Err(Fault::NoMemory);
+        }
+    }
+    Ok(tokens)
+}
+
 // Appends a network.
 fn keep(networks: &mut Vec<Holding>, network: Holding) -> Result<(), Fault>
     ensures kept { OnOk result (networks.new.items ≡ networks.old.items ++ network ∷ []) }
@@ -158,7 +175,7 @@ fn settled_in(alloc: Global, rows: &[Row]) -> Result<Vec<Holding>, Fault>
     Ok(networks)
 }
 
-/// All tenants.
+/// All tenants. A result also says that the store was open.
 pub fn tenants<S: Alter>(alloc: Global, conn: &mut Connection<S>) -> Result<Vec<Tenant>, Fault>
     requires idle { conn.old.in_transaction ≡ false }
     ensures idle { conn.new.in_transaction ≡ false }
@@ -166,11 +183,27 @@ pub fn tenants<S: Alter>(alloc: Global, conn: &mut Connection<S>) -> Result<Vec<
     ensures clean { HasCleanDisk (state S.Store conn.new) → HasCleanDisk (state S.Store conn.old) }
     ensures listed { (db : Database) (pending : List Written) → Stands S.Store conn.old db pending → HasCleanDisk (state S.Store conn.new)
         → IfOk result (λ tenants. IsPermutation (tables_of db).tenants tenants.items) }
+    ensures open { HasCleanDisk (state S.Store conn.new) → OnOk result (IsTrue (state S.Store conn.old).is_open) }
     ensures survives { Survives (state S.Store conn.old) (state S.Store conn.new) (λ _. ⊥) }
     ensures cause { (db : Database) (pending : List Written) → Stands S.Store conn.old db pending → ((x : Tenant) → Has (tables_of db).tenants x → IsTenant x) → IfErr result (HasCause (state S.Store conn.old) (state S.Store conn.new)) }
 {
     let rows = tenant_rows(conn)?;
     tenants_in(alloc, rows.as_slice())
+}
+
+/// All tokens.
+pub fn tokens<S: Alter>(alloc: Global, conn: &mut Connection<S>) -> Result<Vec<Token>, Fault>
+    requires idle { conn.old.in_transaction ≡ false }
+    ensures idle { conn.new.in_transaction ≡ false }
+    ensures stands { (db : Database) (pending : List Written) → Stands S.Store conn.old db pending → Stands S.Store conn.new db pending }
+    ensures clean { HasCleanDisk (state S.Store conn.new) → HasCleanDisk (state S.Store conn.old) }
+    ensures listed { (db : Database) (pending : List Written) → Stands S.Store conn.old db pending → HasCleanDisk (state S.Store conn.new)
+        → IfOk result (λ tokens. IsPermutation (tables_of db).tokens tokens.items) }
+    ensures survives { Survives (state S.Store conn.old) (state S.Store conn.new) (λ _. ⊥) }
+    ensures cause { (db : Database) (pending : List Written) → Stands S.Store conn.old db pending → ((x : Token) → Has (tables_of db).tokens x → IsKeptToken x) → IfErr result (HasCause (state S.Store conn.old) (state S.Store conn.new)) }
+{
+    let rows = token_rows(conn)?;
+    tokens_in(alloc, rows.as_slice())
 }
 
 /// All networks, as they were added: without peers, and with the first number as next.

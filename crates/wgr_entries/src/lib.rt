@@ -1,19 +1,21 @@
 //! The entries of the register in its tables: tenants, their tokens and their networks. They are
-//! found by a key (`lookup`), listed (`all`), read from their rows (`settled`), and added and deleted,
-//! each in one commit (`tenant`, `token`, `network`).
+//! found by a key (`lookup`), listed (`all`), counted (`counts`), read from their rows (`settled`), and
+//! added and deleted, each in one commit (`tenant`, `token`, `network`).
 //!
 //! Whether an operator's order is refused is not decided here: the crate only reads what the decision
 //! needs of every entry. A key that a row has already is a fault of the store.
 #![tactic(auto)]
 
 mod all;
+mod counts;
 mod lookup;
 mod network;
 mod settled;
 mod tenant;
 mod token;
 
-pub use all::{count_tokens, settled_networks, tenant_ids, tenants};
+pub use all::{count_tokens, settled_networks, tenant_ids, tenants, tokens};
+pub use counts::{count_peers, count_routes};
 pub use lookup::{network_id, networks_of_tenant, tenant_id, tenant_of_token};
 pub use network::{add_network, end_network};
 pub use settled::read_settled;

@@ -1,20 +1,22 @@
-//! Tenants, and networks as they were added, read from their rows.
-ghost use Rattle.std.specs.Prelude.{◌≡◌, IfErr, IfOk};
+//! Tenants, tokens, and networks as they were added, read from their rows.
+ghost use Rattle.std.specs.Prelude.{◌≡◌, IfErr, IfOk, OnErr};
 ghost use Rattle.wgr_model.specs.Consistent.{IsTenant};
-ghost use Rattle.wgr_model.specs.Register.{Tenant};
+ghost use Rattle.wgr_model.specs.Register.{Tenant, Token};
 ghost use Rattle.wgr_model.specs.Rows.{NetworkRow};
 ghost use Rattle.wgr_sql.specs.declared.fault.Fault.TheVariants.{Store};
-ghost use Rattle.wgr_columns.specs.Decode.{network_in, tenant_in};
+ghost use Rattle.wgr_columns.specs.Decode.{network_in, tenant_in, token_in};
+ghost use Rattle.wgr_entries.specs.Kept.{IsKeptToken, stored_token};
 ghost use Rattle.wgr_entries.specs.Lookups.{settled};
 ghost use Rattle.wgr_columns.specs.Stored.{AreSettings, IsKeptNetwork, stored_network, stored_tenant};
 
 use sqlite::Row;
 use std::alloc::Global;
 use wgr_columns::{
-    capacity_at, host_at, key_at, name_at, network, pool_in, port_at, tenant, word_at,
+    capacity_at, digest_at, host_at, key_at, name_at, network, pool_in, port_at, tenant, token,
+    word_at,
 };
 use wgr_core::Network;
-use wgr_orders::{Holding, Tenant};
+use wgr_orders::{Holding, Tenant, Token};
 use wgr_sql::Fault;
 
 /// The tenant whose row this is.
@@ -25,6 +27,16 @@ pub fn read_tenant(alloc: Global, row: &Row) -> Result<Tenant, Fault>
     let id = word_at(row, tenant::ID).ok_or(Fault::Store)?;
     let name = name_at(alloc, row, tenant::NAME)?.ok_or(Fault::Store)?;
     Ok(Tenant { id, name })
+}
+
+/// The token whose row this is.
+pub fn read_token(row: &Row) -> Result<Token, Fault>
+    ensures value { IfOk result (λ token. token ≡ token_in row.now) }
+    ensures only { OnErr result ((x : Token) → IsKeptToken x → row.now ≡ stored_token x → ⊥) }
+{
+    let digest = digest_at(row, token::DIGEST).ok_or(Fault::Store)?;
+    let tenant = word_at(row, token::TENANT).ok_or(Fault::Store)?;
+    Ok(Token { digest, tenant })
 }
 
 /// The network whose row this is, as it was added: without peers, and with the first number as next.

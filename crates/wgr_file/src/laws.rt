@@ -35,7 +35,7 @@ pub fn made_is_in_files<D: Disk>(files: &Files<D>)
 }
 
 /// The register that a contract names is the one that the files held.
-pub fn found_is_told()
+pub fn found_is_reported()
     ensures { FoundIsStored }
 {}
 

@@ -13,8 +13,8 @@ mod order;
 
 pub use database::Closed;
 pub use laws::{
-    closed_is_in_files, copies_have_all, found_is_told, honest_files_are_clean, made_is_in_files,
-    next_finds_the_last, orders_end_in_files, unknown_is_empty,
+    closed_is_in_files, copies_have_all, found_is_reported, honest_files_are_clean,
+    made_is_in_files, next_finds_the_last, orders_end_in_files, unknown_is_empty,
 };
 pub use opening::{Unopened, close, make_register, open_register};
 pub use order::operate;

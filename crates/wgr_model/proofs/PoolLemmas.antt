@@ -16,7 +16,7 @@ use Rattle.wgr_pool.proofs.PrefixLemmas.{has_in, is_in, nat_eq_is, nat_eq_self, 
 use Rattle.wgr_pool.specs.Pool.{IsPool, IsPoolLength}
 use Rattle.wgr_pool.specs.PrefixTests.{covers, has, same_family}
 use Rattle.wgr_model.specs.Consistent.{is_pool, is_pool_length, overlaps}
-use Rattle.wgr_model.specs.Laws.{FirstIsNamed, Has, IsFirst, OverlapsAreTold, PoolsAreTold}
+use Rattle.wgr_model.specs.Laws.{FirstIsNamed, Has, IsFirst, OverlapsAreDecided, PoolsAreDecided}
 use Rattle.wgr_model.specs.Register.{Bytes}
 use Rattle.wgr_model.specs.Steps.{OrderRefusal, PoolOverlaps, comes_before, first_of, overlapping, pool_refusal}
 use Rattle.wgr_model.proofs.HolderLemmas.{in_both}
@@ -36,8 +36,8 @@ pool_told p is =
     let masked : nat_eq (p.address.number % block p.address.family p.length) 0 ≡ true = ap (λ n. nat_eq n 0) is.1.1 in
     ap₂ (λ x y. x && y) (ap₂ (λ x y. x && y) fits masked) (length_told p.address.family p.length is.2)
 
-pub pools_are_told : PoolsAreTold
-pools_are_told p = (is_pool_sound p, pool_told p)
+pub pools_are_decided : PoolsAreDecided
+pools_are_decided p = (is_pool_sound p, pool_told p)
 
 -- ---- overlap
 
@@ -55,8 +55,8 @@ not_disjoint p q pp pq apart h = elim (or_cases (covers p q) (covers q p) h) [
   | inr e ↦ apart p.address pp.0 (own_start p) (covered q p e)
 ]
 
-pub overlaps_are_told : OverlapsAreTold
-overlaps_are_told p q pp pq = (
+pub overlaps_are_decided : OverlapsAreDecided
+overlaps_are_decided p q pp pq = (
   (λ none a fits in_p in_q. true≢false (sym (in_both p q a (has_in p a in_p) (has_in q a in_q)) ∙ none)),
   (λ apart. elim (decide (overlaps p q)) [ inl e ↦ absurd (not_disjoint p q pp pq apart e) | inr e ↦ e ]),
 )

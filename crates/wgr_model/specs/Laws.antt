@@ -69,12 +69,12 @@ AnIdIsUnused = (ids : List ℕ) → length ids < max_entries → (id : ℕ) × I
 -- ---- pools
 
 -- an address and a length pass the test exactly where they make a pool
-abbrev pub PoolsAreTold : Type 0
-PoolsAreTold = (p : PrefixValue) → (is_pool p ≡ true) ↔ IsPool p
+abbrev pub PoolsAreDecided : Type 0
+PoolsAreDecided = (p : PrefixValue) → (is_pool p ≡ true) ↔ IsPool p
 
 -- two pools overlap exactly where they aren't disjoint
-abbrev pub OverlapsAreTold : Type 0
-OverlapsAreTold = (p q : PrefixValue) → IsPool p → IsPool q → (overlaps p q ≡ false) ↔ AreDisjoint p q
+abbrev pub OverlapsAreDecided : Type 0
+OverlapsAreDecided = (p q : PrefixValue) → IsPool p → IsPool q → (overlaps p q ≡ false) ↔ AreDisjoint p q
 
 -- `pool_overlaps` names a network whose pool overlaps, and no such network comes before it
 pub record IsFirst (ps : List (Bytes × Bytes)) (first : Bytes × Bytes) : Type 0 where

@@ -1,5 +1,5 @@
 //! What follows from the model. Each function does nothing: its contract is the law.
-ghost use Rattle.wgr_model.specs.Laws.{AnIdIsUnused, EmptyIsConsistent, EveryEventHasAStep, FirstIsNamed, NetworksAreAsAsked, OrderIsNoAccount, OverlapsAreTold, PoolsAreTold, RunsAreIsolated, StepsAreIsolated, TwoWorlds};
+ghost use Rattle.wgr_model.specs.Laws.{AnIdIsUnused, EmptyIsConsistent, EveryEventHasAStep, FirstIsNamed, NetworksAreAsAsked, OrderIsNoAccount, OverlapsAreDecided, PoolsAreDecided, RunsAreIsolated, StepsAreIsolated, TwoWorlds};
 ghost use Rattle.wgr_model.specs.RowAsks.{ChangesReplaceRows, NetworksAreFound, ReadingsLeaveRows, RefusalsLeaveRows};
 ghost use Rattle.wgr_model.specs.RowLaws.{CommitsReplace, NoRowsAreConsistent, OrderIsUnseen, RowsAreIsolated, RowsAreRead, RowsOfTwoWorlds, RowsStayConsistent};
 ghost use Rattle.wgr_model.specs.RowRules.{ConsistentRowsKeepRules, NetworksGain, NetworksLose, TenantsGain, TokensGain, TokensLose};
@@ -83,9 +83,9 @@ pub fn every_event_has_a_step()
 
 /// The tests of pools are correct, and `pool_overlaps` names the first network in
 /// byte order of tenants' names, then of networks'.
-pub fn pools_are_told()
-    ensures pool { PoolsAreTold }
-    ensures overlap { OverlapsAreTold }
+pub fn pools_are_decided()
+    ensures pool { PoolsAreDecided }
+    ensures overlap { OverlapsAreDecided }
     ensures first { FirstIsNamed }
 {}
 

@@ -15,7 +15,7 @@ use Rattle.wgr_model.specs.Runs.{Served, acknowledged}
 use Rattle.wgr_model.specs.Steps.{Answer, Event, IsProper, Refused}
 use Rattle.wgr_model.specs.Tenants.{Agree, Fits}
 use Rattle.wgr_model.proofs.RunLemmas.{proper_more}
-use Rattle.wgr_office.specs.Events.{AgreeAsGiven, AreServed, Goes, GoesAll, HasRun, HaveBeenServed, IsAnswerTo, IsServed, IsSettled, Serves, Settles, Tells, unread}
+use Rattle.wgr_office.specs.Events.{AgreeAsGiven, AreServed, Goes, GoesAll, HasRun, HaveBeenServed, IsAnswerTo, IsServed, IsSettled, Serves, Settles, IsAnswerIfAny, unread}
 use Rattle.wgr_office.specs.Pages.{IsAnswered, event_of}
 use Rattle.wgr_office.specs.declared.answer.Answer as given
 use Rattle.wgr_office.specs.declared.answer.Answer.TheVariants as givens
@@ -105,7 +105,7 @@ given_to (events.Order order) (givens.Bytes b) e answer serves = serves.1
 given_to (events.Order order) givens.Unavailable e answer serves = serves.1
 given_to (events.Order order) (givens.Order done) e answer serves = serves.1
 
-tells : (event : event.Event) (reply : given.Answer) (alone : Option Answer) (answer : Answer) → IsAnswerTo event reply answer → Fits alone answer → Tells event reply alone
+tells : (event : event.Event) (reply : given.Answer) (alone : Option Answer) (answer : Answer) → IsAnswerTo event reply answer → Fits alone answer → IsAnswerIfAny event reply alone
 tells event reply None answer is fits = tt
 tells event reply (Some a) answer is fits = subst (IsAnswerTo event reply) (sym fits) is
 

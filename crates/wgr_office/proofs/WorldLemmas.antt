@@ -13,7 +13,7 @@ use Rattle.wgr_model.specs.Tenants.{is_own, own_events, tenant_after, tenant_ans
 use Rattle.wgr_orders.specs.declared.order.Order.{Order}
 use Rattle.wgr_orders.specs.declared.order.Order.TheVariants as ordered
 use Rattle.wgr_model.proofs.WorldLemmas.{not_own, two_worlds}
-use Rattle.wgr_office.specs.Events.{AgreeAsGiven, AreServed, Tells}
+use Rattle.wgr_office.specs.Events.{AgreeAsGiven, AreServed, IsAnswerIfAny}
 use Rattle.wgr_office.specs.Pages.{answer_bytes, event_of, fault_page}
 use Rattle.wgr_office.specs.Worlds.{WorldsAreAlike, in_front, moment_of, own_replies, replies_to}
 use Rattle.wgr_office.specs.declared.answer.Answer as given
@@ -44,7 +44,7 @@ no_answer v (ordered.EndNetwork tenant name) = refl
 -- ---- one event
 
 asked_front : (now : ℕ) (bytes b : Vec ℕ Global) (answers : List given.Answer) (e : Event) (o : Option Answer) (rest : List (Option Answer)) (ys : List Bytes)
-    → Tells (events.Ask now bytes) (givens.Bytes b) o → ((a : Answer) → o ≡ Some a → answer_bytes now a ≡ answer_bytes (moment_of e) a) → replies_to answers rest ≡ ys
+    → IsAnswerIfAny (events.Ask now bytes) (givens.Bytes b) o → ((a : Answer) → o ≡ Some a → answer_bytes now a ≡ answer_bytes (moment_of e) a) → replies_to answers rest ≡ ys
     → replies_to (givens.Bytes b ∷ answers) (o ∷ rest) ≡ in_front (moment_of e) o ys
 asked_front now bytes b answers e None rest ys tells moment same = same
 asked_front now bytes b answers e (Some a) rest ys tells moment same = ap₂ (λ x xs. x ∷ xs) (tells ∙ moment a refl) same

@@ -92,15 +92,15 @@ pub record HaveBeenServed {S : Type 0} (g : Ghosts S) (conn : Held S) (db : Data
 -- ---- the main theorem
 
 -- the answer on a tenant's own rows alone is the one that was returned: for a request, byte for byte
-abbrev pub Tells : event.Event → given.Answer → Option Answer → Type 0
-Tells event given None = ⊤
-Tells event given (Some answer) = IsAnswerTo event given answer
+abbrev pub IsAnswerIfAny : event.Event → given.Answer → Option Answer → Type 0
+IsAnswerIfAny event given None = ⊤
+IsAnswerIfAny event given (Some answer) = IsAnswerTo event given answer
 
 -- the same at each place of the list, except those answered Unavailable
 abbrev pub AgreeAsGiven : List event.Event → List given.Answer → List (Option Answer) → Type 0
 AgreeAsGiven [] [] [] = ⊤
 AgreeAsGiven (event ∷ events) (givens.Unavailable ∷ answers) alone = AgreeAsGiven events answers alone
-AgreeAsGiven (event ∷ events) (given ∷ answers) (a ∷ alone) = Tells event given a × AgreeAsGiven events answers alone
+AgreeAsGiven (event ∷ events) (given ∷ answers) (a ∷ alone) = IsAnswerIfAny event given a × AgreeAsGiven events answers alone
 AgreeAsGiven events answers alone = ⊥
 
 -- For every tenant, the answers to its requests and its rows at the end are those that its own

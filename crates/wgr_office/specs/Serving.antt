@@ -1,5 +1,5 @@
 -- How a connection is served.
-use Rattle.std.specs.Prelude.{◌≡◌, ◌<◌, ℕ, Bool, true, false, List, [], length, take, Option, IfSome, ◌++◌, Some, None}
+use Rattle.std.specs.Prelude.{◌≡◌, ◌<◌, ℕ, Bool, true, false, List, [], drop, length, take, Option, IfSome, ◌++◌, Some, None}
 use Rattle.std.specs.declared.vec.Vec.{Vec}
 use Rattle.std.specs.declared.alloc.Global.{Global}
 use Rattle.std.specs.Io.KnownBytes.{Appends, Consumes}
@@ -23,6 +23,10 @@ abbrev pub reply_of : given.Answer → Bytes
 reply_of (givens.Bytes bytes) = bytes.items
 reply_of givens.Unavailable = shown_bytes unavailable_shown
 reply_of (givens.Order done) = []
+
+-- the three digits of the status, behind `HTTP/1.1 ` in the first line of the reply (RFC 9112 section 4)
+abbrev pub status_of : given.Answer → Bytes
+status_of answer = take 3 (drop 9 (reply_of answer))
 
 abbrev pub is_available : given.Answer → Bool
 is_available givens.Unavailable = false

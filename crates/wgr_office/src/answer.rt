@@ -1,7 +1,7 @@
 //! The answers to events.
 ghost use Rattle.std.specs.Prelude.{◌≡◌};
 ghost use Rattle.wgr_office.specs.Pages.{IsEnd, IsMade};
-ghost use Rattle.wgr_office.specs.Serving.{is_available, reply_of};
+ghost use Rattle.wgr_office.specs.Serving.{is_available, reply_of, status_of};
 
 use std::alloc::{AllocError, Global};
 use wgr_register::{AskFault, Done, OrderRefusal};
@@ -29,6 +29,15 @@ impl Answer {
             Answer::Unavailable => unavailable(),
             Answer::Order(_) => &[],
         }
+    }
+
+    /// The three digits of the reply's status, such as `503`. An order has none.
+    pub fn status(&self) -> &[u8]
+        ensures { result.now ≡ status_of self.now }
+    {
+        let reply = self.reply();
+        let rest = &reply[reply.len().min(9)..];
+        &rest[..rest.len().min(3)]
     }
 
     /// Whether neither memory nor the store failed.

@@ -1,5 +1,5 @@
 //! Tenants' requests, from their bytes to the bytes of the replies.
-ghost use Rattle.std.specs.Prelude.{◌≡◌, ℕ, List, length, true, IfErr, IfOk, OnErr, OnOk};
+ghost use Rattle.std.specs.Prelude.{◌≡◌, ◌≤◌, ℕ, List, length, true, IfErr, IfOk, OnErr, OnOk};
 ghost use Rattle.std.specs.declared.vec.Vec.{Vec};
 ghost use Rattle.std.specs.declared.alloc.Global.{Global};
 ghost use Rattle.sqlite.specs.Effect.{Database};
@@ -11,6 +11,9 @@ ghost use Rattle.wgr_office.specs.Events.{HasRun, IsSettled};
 ghost use Rattle.wgr_office.specs.declared.answer.Answer as given;
 ghost use Rattle.wgr_office.specs.declared.run.Event.TheVariants as events;
 ghost use Rattle.wgr_office.specs.Pages.{IsAnswered, Responds, event_of};
+ghost use Rattle.wgr_columns.specs.Decode.{tables_of};
+ghost use Rattle.wgr_register.specs.Census.{IsCensus};
+ghost use Rattle.wgr_register.specs.Recent.{max_recent};
 ghost use Rattle.wgr_register.specs.Standing.{IsAtRest, StandsAt};
 ghost use Rattle.wgr_request.specs.Request.{request_view};
 ghost use Rattle.wgr_sql.specs.Causes.{HasCause};
@@ -22,7 +25,7 @@ use crate::run;
 use sqlite::Alter;
 use std::alloc::{AllocError, Global};
 use std::marker::Model;
-use wgr_register::{Done, Order, OrderFault, Register};
+use wgr_register::{Census, Done, Fault, Order, OrderFault, Register};
 use wgr_reply::{Response, write_response};
 use wgr_request::{Paths, Request, request_of};
 
@@ -98,6 +101,30 @@ impl<S: Alter> Office<S> {
         ensures cause { (db : Database) (late : List Event) → StandsAt S.Store self.old db late → result ≡ true → HasCause (state S.Store self.old) (state S.Store self.new) Store }
     {
         self.register.is_shut()
+    }
+
+    /// All tenants, tokens and networks, each in any order, and how many peers and routes each network has.
+    /// A fault is lack of memory, or it has a cause.
+    pub fn census(&mut self, alloc: Global) -> Result<Census, Fault>
+        ensures keeps { Keeps S.Store self.old self.new }
+        ensures listed { (db : Database) (late : List Event) → StandsAt S.Store self.old db late → HasCleanDisk (state S.Store self.new) → IfOk result (IsCensus (tables_of db)) }
+        ensures cause { IfErr result (HasCause (state S.Store self.old) (state S.Store self.new)) }
+    {
+        self.register.census(alloc)
+    }
+
+    /// How many networks stay in memory now.
+    pub fn loaded(&self) -> usize
+        ensures at_most { result ≤ max_recent }
+    {
+        self.register.loaded()
+    }
+
+    /// How many servers' files stay in memory now.
+    pub fn cached(&self) -> usize
+        ensures at_most { result ≤ max_recent }
+    {
+        self.register.cached()
     }
 
     /// Answers all events in order. If there is no memory for the answers, no event is

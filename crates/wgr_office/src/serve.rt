@@ -5,8 +5,7 @@ ghost use Rattle.sqlite.specs.State.{HasCleanDisk};
 ghost use Rattle.sqlite.specs.Held.{state};
 ghost use Rattle.std.specs.declared.vec.Vec.{Vec};
 ghost use Rattle.std.specs.declared.alloc.Global.{Global};
-ghost use Rattle.wgr_office.specs.Serving.{IsAnsweredAt, IsReplied, IsServeFault, IsTaken, Takes, is_available, reply_of};
-ghost use Rattle.wgr_office.specs.declared.answer.Answer as given;
+ghost use Rattle.wgr_office.specs.Serving.{IsAnsweredAt, IsReplied, IsServeFault, IsTaken, Takes, reply_of};
 
 use crate::answer::Answer;
 use crate::office::Office;
@@ -26,8 +25,8 @@ pub enum ServeFault {
 }
 
 impl<S: Alter> Office<S> {
-    /// Reads a message, answers it at this moment (seconds since 1970-01-01), and writes the reply. Returns
-    /// whether it was available, that is, not answered with the bytes of `unavailable`.
+    /// Reads a message, answers it at this moment (seconds since 1970-01-01), writes the reply, and returns
+    /// the answer.
     ///
     /// If there is no memory to read it, the reply is [`unavailable`](wgr_reply::unavailable).
     /// Which request such a message holds is unknown. In a list of events it counts as one that asks
@@ -38,9 +37,9 @@ impl<S: Alter> Office<S> {
         now: u64,
         input: &mut R,
         out: &mut W,
-    ) -> Result<bool, ServeFault>
+    ) -> Result<Answer, ServeFault>
         ensures clean { HasCleanDisk (state S.Store self.new) → HasCleanDisk (state S.Store self.old) }
-        ensures ok { IfOk result (λ available. (answer : given.Answer) × Takes S.Store self.old self.new now (R.remaining input.old) answer × Appends (W.contents out.old) (W.contents out.new) (reply_of answer) × (available ≡ is_available answer)) }
+        ensures ok { IfOk result (λ answer. Takes S.Store self.old self.new now (R.remaining input.old) answer × Appends (W.contents out.old) (W.contents out.new) (reply_of answer)) }
         // No read is made once the answer is decided: a client may keep its side open.
         ensures taken { (message : Vec ℕ Global)
             × IsTaken (R.remaining input.old) (R.remaining input.new) (R.pieces input.old) (R.pieces input.new) message.items
@@ -56,7 +55,7 @@ impl<S: Alter> Office<S> {
             Err(_) => return Err(ServeFault::Read),
         };
         match write_all(out, answer.reply()) {
-            Ok(()) => Ok(answer.is_available()),
+            Ok(()) => Ok(answer),
             Err(WriteFault { sent }) => Err(ServeFault::Write { sent }),
         }
     }

@@ -2,6 +2,7 @@
 use std::alloc::AllocGlobal;
 use std::process::Abort;
 
+mod census;
 mod events;
 mod lines;
 mod many;

@@ -1,4 +1,4 @@
-//! Tenants and networks, as the checks of an order see them.
+//! The entries of a register: tenants, tokens and networks.
 use std::marker::Model;
 use wgr_core::{Name, Network};
 
@@ -15,6 +15,21 @@ impl Model for Tenant {
     ghost Value = { Tenant };
 
     ghost view = { λ t. record { id = t.id; name = t.name } };
+}
+
+/// A token, as the SHA-256 by which it is known, and its tenant's id.
+#[derive(Drop)]
+pub struct Token {
+    pub digest: [u8; 32],
+    pub tenant: u32,
+}
+
+impl Model for Token {
+    ghost use Rattle.wgr_model.specs.Register.{Token};
+
+    ghost Value = { Token };
+
+    ghost view = { λ t. record { digest = t.digest; tenant = t.tenant } };
 }
 
 /// A network, with its own id, its tenant's id and its name.

@@ -2,6 +2,7 @@
 #![tactic(auto)]
 
 mod admit;
+mod census;
 mod forms;
 mod holding;
 mod listing;
@@ -11,8 +12,9 @@ mod overlap;
 mod refusal;
 
 pub use admit::{admit_network, checked_pool, is_full, new_id};
+pub use census::{Census, Counted};
 pub use forms::{digest_has_form, name_has_form, settings_have_forms};
-pub use holding::{Holding, Tenant};
+pub use holding::{Holding, Tenant, Token};
 pub use listing::put_entry;
 pub use look::{is_same, place_of, unused_id};
 pub use order::{Order, Settings};

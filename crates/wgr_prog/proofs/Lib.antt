@@ -1,4 +1,9 @@
 pub mod AnsweringLemmas
 pub mod RegisterLemmas
+pub mod ReplyExamples
+pub mod ReplyLaws
+pub mod ReplyLemmas
+pub mod ReplyRoundTrips
 pub mod SendLemmas
 pub mod OrderingLemmas
+pub mod ShowingLemmas

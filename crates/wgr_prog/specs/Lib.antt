@@ -1,7 +1,10 @@
 pub mod Answering
 pub mod Failures
+pub mod Laws
 pub mod Messages
 pub mod OnRegister
 pub mod Ordering
+pub mod Reply
 pub mod Sending
+pub mod Showing
 pub mod Status

@@ -16,7 +16,7 @@ use Rattle.wgr_words.specs.declared.field.WordFault.{WordFault}
 use Rattle.wgr_words.specs.declared.field.WordFault.TheVariants as word_fault
 use Rattle.wgr_prog.specs.declared.register_words.Failure.{Failure}
 use Rattle.wgr_prog.specs.declared.register_words.Failure.TheVariants as failure
-use Rattle.wgr_words.specs.Order.{Input, MakesOrder, TakesToken, TellsField}
+use Rattle.wgr_words.specs.Order.{Input, MakesOrder, TakesToken, ReportsField}
 use Rattle.wgr_prog.specs.Answering.{OnceRead}
 
 -- ---- faults as failures
@@ -57,7 +57,7 @@ SpellOrder asked old new = (token : List ℕ) × (order : Order) × TakesToken a
 abbrev pub CarriesOut : {D : Type 0} → disk.Ghosts D → Image → Option (Files D) → OrderAsked → Input → Input → Result Done Failure → Type 0
 CarriesOut g start closed asked old new (Ok done) = HasOrdered g start closed asked old new (Ok done)
 CarriesOut g start closed asked old new (Err (failure.Refused why)) = HasOrdered g start closed asked old new (Err (order_fault.Refused why))
-CarriesOut g start closed asked old new (Err (failure.Field field)) = Stays g start closed × TellsField asked old new field
+CarriesOut g start closed asked old new (Err (failure.Field field)) = Stays g start closed × ReportsField asked old new field
 CarriesOut g start closed asked old new (Err (failure.Register why)) =
     (new.failed ≡ old.failed) × ((Stays g start closed × OnceRead why (SpellOrder asked old new)) ⊎ ((fault : Fault) × (why ≡ as_register_fault fault) × HasOrdered g start closed asked old new (Err (order_fault.Fault fault))))
 CarriesOut g start closed asked old new (Err failure.Device) = Stays g start closed × (new.failed ≡ true)

@@ -33,7 +33,7 @@ pub record HasCarried {D : Type 0} (g : disk.Ghosts D) (start : Image) (closed :
   pub carried : HasCarriedOut over_files register left lines ends
 
 -- all lines were carried out, and how each ended was written
-pub record HasTold {D : Type 0} (g : disk.Ghosts D) (start : Image) (closed : Option (Files D)) (text : List ℕ) (old new : Output) (status : ℕ) : Type 0 where
+pub record HasReported {D : Type 0} (g : disk.Ghosts D) (start : Image) (closed : Option (Files D)) (text : List ℕ) (old new : Output) (status : ℕ) : Type 0 where
   pub ends : List LineEnd
   pub carried : HasCarried g start closed (lines_in text) ends
   pub written : Appends old.written new.written (flat_map end_text ends)
@@ -52,14 +52,14 @@ pub record HasStopped {D : Type 0} (g : disk.Ghosts D) (start : Image) (closed :
 
 -- the lines are carried out, or the register isn't opened
 abbrev pub CarriesOutText : {D : Type 0} → disk.Ghosts D → Image → Option (Files D) → List ℕ → Output → Output → Result ℕ Failure → Type 0
-CarriesOutText g start closed text old new (Ok status) = HasTold g start closed text old new status
+CarriesOutText g start closed text old new (Ok status) = HasReported g start closed text old new status
 CarriesOutText g start closed text old new (Err (failure.Register why)) = (new ≡ old) × Stays g start closed
 CarriesOutText g start closed text old new (Err failure.Device) = HasStopped g start closed text old new
 CarriesOutText g start closed text old new (Err other) = ⊥
 
 -- and those of the text that was read
 abbrev pub EndsOrders : {D : Type 0} → disk.Ghosts D → Image → Option (Files D) → Option (List ℕ) → Input → Input → Output → Output → Result ℕ Failure → Type 0
-EndsOrders g start closed file was is old new (Ok status) = (text : List ℕ) × IsText file was is text × HasTold g start closed text old new status
+EndsOrders g start closed file was is old new (Ok status) = (text : List ℕ) × IsText file was is text × HasReported g start closed text old new status
 EndsOrders g start closed file was is old new (Err (failure.Register why)) = (new ≡ old) × Stays g start closed
 EndsOrders g start closed file was is old new (Err failure.Device) = ((new ≡ old) × Stays g start closed) ⊎ ((text : List ℕ) × IsText file was is text × HasStopped g start closed text old new)
 EndsOrders g start closed file was is old new (Err other) = ⊥

@@ -1,15 +1,15 @@
--- An order that is sent to a running service.
-use Rattle.std.specs.Prelude.{ℕ, ◌≡◌, ◌⊎◌, ◌++◌, Bool, true, false, List, [], ◌∷◌, Option, Some, None, IfSome, MatchBool, Result, Ok, Err, ◌==◌, cond, codes, nat_eq, slice_index_or}
-use Rattle.std.specs.Cmp.Lexicographic.{pointwise}
+-- An order or a reading that is sent to a running service.
+use Rattle.std.specs.Prelude.{ℕ, ◌≡◌, ◌⊎◌, ◌++◌, Bool, true, false, List, [], ◌∷◌, Option, Some, None, IfSome, MatchBool, Result, Ok, Err, codes, if◌then◌else◌}
 use Rattle.std.specs.Str.{bytes_eq}
 use Rattle.std.specs.declared.vec.Vec.{Vec}
 use Rattle.std.specs.declared.alloc.Global.{Global}
 use Rattle.std.specs.Io.KnownBytes.{Appends}
 use Rattle.wgr_service.specs.Network.{Contact, Log, Logs, called, ended}
-use Rattle.wgr_words.specs.Line.{first_line, is_line, line_text}
+use Rattle.wgr_words.specs.Line.{is_line, line_text}
 use Rattle.wgr_words.specs.Order.{Input, IsTaken}
 use Rattle.wgr_words.specs.Words.{line_of}
-use Rattle.wgr_prog.specs.Messages.{TellsDone}
+use Rattle.wgr_prog.specs.Messages.{ReportsDone, ReportsText}
+use Rattle.wgr_prog.specs.Reply.{Reply, Done, Shown, Undone, reply_in}
 use Rattle.wgr_prog.specs.declared.messages.TheConstants.{FAULT, REFUSED}
 use Rattle.wgr_prog.specs.declared.send.SendFault.{SendFault}
 use Rattle.wgr_prog.specs.declared.send.SendFault.TheVariants as fault
@@ -23,10 +23,14 @@ asks_token (word ∷ []) None = bytes_eq word (codes "token-end")
 asks_token (word ∷ field ∷ []) None = bytes_eq word (codes "token-grant")
 asks_token words None = false
 
--- the words of its line, where it has none
-abbrev pub line_words : List (List ℕ) → Option (List ℕ) → List (List ℕ)
-line_words words None = words
-line_words words (Some digest) = words ++ codes "--digest" ∷ digest ∷ []
+-- the option that is a line's last word, if it is given
+abbrev pub option_words : Bool → List (List ℕ)
+option_words is_json = if is_json then codes "--json" ∷ [] else []
+
+-- the words of a line that has no such token
+abbrev pub line_words : List (List ℕ) → Option (List ℕ) → Bool → List (List ℕ)
+line_words words None is_json = words ++ option_words is_json
+line_words words (Some digest) is_json = words ++ codes "--digest" ∷ digest ∷ option_words is_json
 
 -- ---- the connection
 
@@ -42,15 +46,15 @@ pub record Call : Type 0 where
 abbrev pub met_in : List ℕ → Call → List Contact
 met_in path c = called path c.input c.before ∷ ended c.after c.read_failed c.write_failed ∷ []
 
--- the line was written to the service at the path, and its answer is the first line of what came back
+-- the line was written to the service at the path, and its reply is all that came back
 pub record IsAnswered (path : List ℕ) (line : List (List ℕ)) (before after : Log) (reply : List ℕ) : Type 0 where
   pub call : Call
   pub logged : Logs before after (met_in path call)
   pub whole : is_line line ≡ true
   pub written : Appends call.before call.after (line_text line)
-  pub read : IfSome call.input (λ all. first_line all ≡ Some reply)
+  pub read : IfSome call.input (λ all. reply ≡ all)
 
--- no connection was made, or one was, and whether the order was done isn't known
+-- no connection was made, or one was, and whether an order was done isn't known
 abbrev pub IsUnanswered : List ℕ → Log → Log → Type 0
 IsUnanswered path before after = (after ≡ before) ⊎ ((call : Call) × Logs before after (met_in path call))
 
@@ -60,16 +64,16 @@ SendsLine path line before after (Err fault.BadOrder) = after ≡ before
 SendsLine path line before after (Err fault.BadToken) = ⊥
 SendsLine path line before after (Err why) = IsUnanswered path before after
 
--- all of the input is the token, which is the line's last word
-abbrev pub SendsToken : List ℕ → List (List ℕ) → Log → Log → Input → Input → Result (Vec ℕ Global) SendFault → Type 0
-SendsToken path words before after old new (Err fault.BadToken) = after ≡ before
-SendsToken path words before after old new (Err fault.Device) = IsUnanswered path before after
-SendsToken path words before after old new (Err fault.NoMemory) = IsUnanswered path before after
-SendsToken path words before after old new answer = (text : List ℕ) × IsTaken old new text × SendsLine path (words ++ line_of text ∷ []) before after answer
+-- all of the input is the token, which comes after the words
+abbrev pub SendsToken : List ℕ → List (List ℕ) → Bool → Log → Log → Input → Input → Result (Vec ℕ Global) SendFault → Type 0
+SendsToken path words is_json before after old new (Err fault.BadToken) = after ≡ before
+SendsToken path words is_json before after old new (Err fault.Device) = IsUnanswered path before after
+SendsToken path words is_json before after old new (Err fault.NoMemory) = IsUnanswered path before after
+SendsToken path words is_json before after old new answer = (text : List ℕ) × IsTaken old new text × SendsLine path (words ++ line_of text ∷ option_words is_json) before after answer
 
-abbrev pub Sends : List ℕ → List (List ℕ) → Option (List ℕ) → Log → Log → Input → Input → Result (Vec ℕ Global) SendFault → Type 0
-Sends path words digest before after old new answer =
-    MatchBool (asks_token words digest) (SendsToken path words before after old new answer) ((new ≡ old) × SendsLine path (line_words words digest) before after answer)
+abbrev pub Sends : List ℕ → List (List ℕ) → Option (List ℕ) → Bool → Log → Log → Input → Input → Result (Vec ℕ Global) SendFault → Type 0
+Sends path words digest is_json before after old new answer =
+    MatchBool (asks_token words digest) (SendsToken path words is_json before after old new answer) ((new ≡ old) × SendsLine path (line_words words digest is_json) before after answer)
 
 -- ---- what is printed
 
@@ -79,15 +83,12 @@ send_status fault.BadToken = REFUSED
 send_status fault.NoMemory = FAULT
 send_status fault.Device = FAULT
 
--- the status of an answer that isn't `0 done`
-abbrev pub reply_status : List ℕ → ℕ
-reply_status reply = cond (slice_index_or reply 0 0 == 50) REFUSED FAULT
+-- `done` or the text is printed, if that is the reply; else nothing is
+abbrev pub ReportsReply : Option (List ℕ) → Option (List ℕ) → Bool → Bool → Reply → ℕ → Type 0
+ReportsReply written written' failed failed' Done status = ReportsDone written written' failed failed' status
+ReportsReply written written' failed failed' (Shown text) status = ReportsText written written' failed failed' text status
+ReportsReply written written' failed failed' (Undone code) status = (status ≡ code) × (written' ≡ written) × (failed' ≡ failed)
 
--- `done` is printed where that is the answer; else nothing is, and the status is the answer's
-abbrev pub TellsReply : Option (List ℕ) → Option (List ℕ) → Bool → Bool → List ℕ → ℕ → Type 0
-TellsReply written written' failed failed' reply status =
-    MatchBool (pointwise nat_eq reply (codes "0 done")) (TellsDone written written' failed failed' status) ((status ≡ reply_status reply) × (written' ≡ written) × (failed' ≡ failed))
-
-abbrev pub TellsSent : Option (List ℕ) → Option (List ℕ) → Bool → Bool → Result (Vec ℕ Global) SendFault → ℕ → Type 0
-TellsSent written written' failed failed' (Ok reply) status = TellsReply written written' failed failed' reply.items status
-TellsSent written written' failed failed' (Err why) status = (status ≡ send_status why) × (written' ≡ written) × (failed' ≡ failed)
+abbrev pub ReportsSent : Option (List ℕ) → Option (List ℕ) → Bool → Bool → Result (Vec ℕ Global) SendFault → ℕ → Type 0
+ReportsSent written written' failed failed' (Ok reply) status = ReportsReply written written' failed failed' (reply_in reply.items) status
+ReportsSent written written' failed failed' (Err why) status = (status ≡ send_status why) × (written' ≡ written) × (failed' ≡ failed)

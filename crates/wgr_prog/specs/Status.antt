@@ -8,7 +8,7 @@ use Rattle.clap.specs.declared.error.kind.ErrorKind.TheVariants.{DisplayHelp, Di
 use Rattle.sqlite.specs.Recovery.{Image}
 use Rattle.sqlite_disk.specs.declared.Disk as disk
 use Rattle.sqlite_disk.specs.declared.Files.{Files}
-use Rattle.wgr_command_line.specs.Words.{Asked, Batch, Init, Operate, Orders, Plan, Send, Serve, asked_by, wrong_with}
+use Rattle.wgr_command_line.specs.Words.{Asked, Batch, Init, Operate, Orders, Plan, Send, Serve, Show, asked_by, wrong_with}
 use Rattle.wgr_register.specs.declared.fault.Done.{Done}
 use Rattle.wgr_text.specs.Prefix.{PrefixValue}
 use Rattle.wgr_text.specs.PrefixText.{Spells}
@@ -21,10 +21,11 @@ use Rattle.wgr_service.specs.Network.{Log}
 use Rattle.wgr_prog.specs.Answering.{EndsBatch, EndsServe, Output}
 use Rattle.wgr_file.specs.OnFiles.{IsMade, Stays}
 use Rattle.wgr_prog.specs.Failures.{failure_status}
-use Rattle.wgr_prog.specs.Messages.{TellsDone}
+use Rattle.wgr_prog.specs.Messages.{ReportsDone, ReportsText}
 use Rattle.wgr_prog.specs.OnRegister.{CarriesOut}
 use Rattle.wgr_prog.specs.Ordering.{EndsOrders, orders_status}
-use Rattle.wgr_prog.specs.Sending.{Sends, TellsSent}
+use Rattle.wgr_prog.specs.Sending.{Sends, ReportsSent}
+use Rattle.wgr_prog.specs.Showing.{Shows}
 use Rattle.wgr_words.specs.Asked.{OrderAsked}
 use Rattle.wgr_words.specs.Order.{Input, wants_token}
 use Rattle.std.specs.declared.vec.Vec.{Vec}
@@ -57,7 +58,7 @@ pub record RefusesPool (text : Text) (old new : Streams) (status : ℕ) : Type 0
   pub refused : status ≡ REFUSED
 
 -- the text is a pool: the status is that of its plan
-pub record TellsPlan (text : Text) (old new : Streams) (status : ℕ) : Type 0 where
+pub record PrintsPlan (text : Text) (old new : Streams) (status : ℕ) : Type 0 where
   pub pool : PrefixValue
   pub answer : Result (Unit {0}) PlanFault
   pub spelled : SpellsPool text pool
@@ -65,7 +66,7 @@ pub record TellsPlan (text : Text) (old new : Streams) (status : ℕ) : Type 0 w
   pub reported : status ≡ plan_status answer
 
 abbrev pub RunsPlan : Text → Streams → Streams → ℕ → Type 0
-RunsPlan text old new status = RefusesPool text old new status ⊎ TellsPlan text old new status
+RunsPlan text old new status = RefusesPool text old new status ⊎ PrintsPlan text old new status
 
 -- ---- a register
 
@@ -74,12 +75,12 @@ abbrev pub ReadsNothing : Streams → Streams → Type 0
 ReadsNothing old new = (new.input ≡ old.input) × (new.read_failed ≡ old.read_failed)
 
 -- the result is reported; if nothing is done, nothing is printed
-abbrev pub TellsEnd : Option (List ℕ) → Option (List ℕ) → Bool → Bool → Result Done Failure → ℕ → Type 0
-TellsEnd written written' failed failed' (Ok done) status = TellsDone written written' failed failed' status
-TellsEnd written written' failed failed' (Err why) status = (status ≡ failure_status why) × (written' ≡ written) × (failed' ≡ failed)
+abbrev pub ReportsEnd : Option (List ℕ) → Option (List ℕ) → Bool → Bool → Result Done Failure → ℕ → Type 0
+ReportsEnd written written' failed failed' (Ok done) status = ReportsDone written written' failed failed' status
+ReportsEnd written written' failed failed' (Err why) status = (status ≡ failure_status why) × (written' ≡ written) × (failed' ≡ failed)
 
 abbrev pub Reports : Streams → Streams → Result Done Failure → ℕ → Type 0
-Reports old new answer status = TellsEnd old.written new.written old.write_failed new.write_failed answer status
+Reports old new answer status = ReportsEnd old.written new.written old.write_failed new.write_failed answer status
 
 -- a register is made, or a fault is reported; nothing is read
 pub record RunsInit {D : Type 0} (g : disk.Ghosts D) (start : Image) (closed : Option (Files D)) (old new : Streams) (status : ℕ) : Type 0 where
@@ -133,13 +134,26 @@ pub record RunsOrders {D : Type 0} (g : disk.Ghosts D) (start : Image) (closed :
   pub ends : EndsOrders g start closed file (input_in old) (input_in new) (output_in old) (output_in new) answer
   pub reported : status ≡ orders_status answer
 
--- ---- an order to a running service
+-- the text is printed; if there is none, nothing is
+abbrev pub ReportsShown : Option (List ℕ) → Option (List ℕ) → Bool → Bool → Result (Vec ℕ Global) Failure → ℕ → Type 0
+ReportsShown written written' failed failed' (Ok text) status = ReportsText written written' failed failed' text.items status
+ReportsShown written written' failed failed' (Err why) status = (status ≡ failure_status why) × (written' ≡ written) × (failed' ≡ failed)
+
+-- what the register in the files has is shown, and they hold what they held
+pub record RunsShow {D : Type 0} (g : disk.Ghosts D) (start : Image) (closed : Option (Files D)) (tenant : Option Text) (is_json : Bool) (old new : Streams) (status : ℕ) : Type 0 where
+  pub answer : Result (Vec ℕ Global) Failure
+  pub kept : Stays g start closed
+  pub shows : Shows g start closed tenant is_json answer
+  pub reported : ReportsShown old.written new.written old.write_failed new.write_failed answer status
+  pub unread : ReadsNothing old new
+
+-- ---- an order or a reading to a running service
 
 -- what the service answers is printed
-pub record RunsSend (path : Text) (words : List Text) (digest : Option Text) (before after : Log) (old new : Streams) (status : ℕ) : Type 0 where
+pub record RunsSend (path : Text) (words : List Text) (digest : Option Text) (is_json : Bool) (before after : Log) (old new : Streams) (status : ℕ) : Type 0 where
   pub answer : Result (Vec ℕ Global) SendFault
-  pub sends : Sends path words digest before after (input_in old) (input_in new) answer
-  pub reported : TellsSent old.written new.written old.write_failed new.write_failed answer status
+  pub sends : Sends path words digest is_json before after (input_in old) (input_in new) answer
+  pub reported : ReportsSent old.written new.written old.write_failed new.write_failed answer status
 
 -- ---- the command line
 
@@ -153,8 +167,9 @@ Runs g start closed (Init db) before after old new status = (after ≡ before) �
 Runs g start closed (Operate db order) before after old new status = (after ≡ before) × RunsOrder g start closed order old new status
 Runs g start closed (Batch db now files) before after old new status = (after ≡ before) × RunsBatch g start closed now files old new status
 Runs g start closed (Serve db place count now orders) before after old new status = RunsServe g start closed place count now orders before after old new status
-Runs g start closed (Send path words digest) before after old new status = Stays g start closed × RunsSend path words digest before after old new status
+Runs g start closed (Send path words digest is_json) before after old new status = Stays g start closed × RunsSend path words digest is_json before after old new status
 Runs g start closed (Orders db file) before after old new status = (after ≡ before) × RunsOrders g start closed file old new status
+Runs g start closed (Show db tenant is_json) before after old new status = (after ≡ before) × RunsShow g start closed tenant is_json old new status
 
 -- The words ask for something: it is run, or there is no memory and the files stay as they are.
 abbrev pub ServesAsked : {D : Type 0} → disk.Ghosts D → Image → Option (Files D) → Asked → Log → Log → Streams → Streams → ℕ → Type 0
@@ -172,7 +187,7 @@ abbrev pub FailsToWrite : Streams → Streams → ℕ → Type 0
 FailsToWrite old new status = ReadsNothing old new × (new.write_failed ≡ true) × (status ≡ FAULT)
 
 -- an error of one of the kinds is reported, without a failure of the writer; nothing is printed on a mistake
-pub record TellsKind (kinds : Kinds) (old new : Streams) (status : ℕ) : Type 0 where
+pub record ReportsKind (kinds : Kinds) (old new : Streams) (status : ℕ) : Type 0 where
   pub kind : ErrorKind
   pub among : IsAmong kind kinds
   pub reported : status ≡ kind_status kind
@@ -181,13 +196,13 @@ pub record TellsKind (kinds : Kinds) (old new : Streams) (status : ℕ) : Type 0
   pub kept : kind_status kind ≢ DONE → new ≡ old
 
 -- the words ask for nothing
-abbrev pub TellsError : Kinds → Streams → Streams → ℕ → Type 0
-TellsError kinds old new status = LacksMemory old new status ⊎ FailsToWrite old new status ⊎ TellsKind kinds old new status
+abbrev pub ReportsError : Kinds → Streams → Streams → ℕ → Type 0
+ReportsError kinds old new status = LacksMemory old new status ⊎ FailsToWrite old new status ⊎ ReportsKind kinds old new status
 
 -- The words ask for something, or for nothing. Only `serve` and `send` use the network.
 pub record Serves {D : Type 0} (g : disk.Ghosts D) (start : Image) (closed : Option (Files D)) (words : List Text) (before after : Log) (old new : Streams) (status : ℕ) : Type 0 where
   pub served : IfSome (asked_by words) (λ asked. ServesAsked g start closed asked before after old new status)
-  pub reported : IfNone (asked_by words) ((after ≡ before) × Stays g start closed × TellsError (wrong_with words) old new status)
+  pub reported : IfNone (asked_by words) ((after ≡ before) × Stays g start closed × ReportsError (wrong_with words) old new status)
 
 -- the arguments are not available: they aren't UTF-8, or there is no memory; nothing is read or printed
 pub record LacksWords (why : io.ErrorKind) (old new : Streams) (status : ℕ) : Type 0 where

@@ -1,13 +1,16 @@
 //! The program `wgr`.
 #![tactic(auto)]
 
+mod laws;
 mod messages;
 mod order_lines;
 mod program;
 mod register_words;
+mod reply;
 mod request_words;
 mod requests;
 mod send;
+mod showing;
 
 use sqlite::Unknown;
 use std::process::ExitCode;

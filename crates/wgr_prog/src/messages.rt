@@ -2,9 +2,9 @@
 //!
 //! If standard error fails, nothing can be reported, and the status is unchanged.
 ghost use Rattle.std.specs.Prelude.{◌≡◌};
-ghost use Rattle.wgr_prog.specs.Messages.{TellsDone};
+ghost use Rattle.wgr_prog.specs.Messages.{ReportsDone, ReportsText};
 ghost use Rattle.wgr_prog.specs.Failures.{failure_status};
-ghost use Rattle.wgr_prog.specs.Status.{TellsEnd};
+ghost use Rattle.wgr_prog.specs.Status.{ReportsEnd};
 
 use crate::register_words::Failure;
 use std::fmt;
@@ -47,9 +47,16 @@ pub(crate) fn device<E: Write>(err: &mut E) -> u8
 
 /// Prints that what was asked for is done.
 pub(crate) fn done<W: Write, E: Write>(out: &mut W, err: &mut E) -> u8
-    ensures { TellsDone (W.contents out.old) (W.contents out.new) (W.failed out.old) (W.failed out.new) result }
+    ensures { ReportsDone (W.contents out.old) (W.contents out.new) (W.failed out.old) (W.failed out.new) result }
 {
-    match write_all(out, b"done\n") {
+    print(b"done\n", out, err)
+}
+
+/// Prints a text.
+pub(crate) fn print<W: Write, E: Write>(text: &[u8], out: &mut W, err: &mut E) -> u8
+    ensures { ReportsText (W.contents out.old) (W.contents out.new) (W.failed out.old) (W.failed out.new) text.now result }
+{
+    match write_all(out, text) {
         Ok(()) => DONE,
         Err(_) => device(err),
     }
@@ -61,7 +68,7 @@ pub(crate) fn ended<W: Write, E: Write>(
     out: &mut W,
     err: &mut E,
 ) -> u8
-    ensures { TellsEnd (W.contents out.old) (W.contents out.new) (W.failed out.old) (W.failed out.new) ended.now result }
+    ensures { ReportsEnd (W.contents out.old) (W.contents out.new) (W.failed out.old) (W.failed out.new) ended.now result }
 {
     match ended {
         Ok(_) => done(out, err),

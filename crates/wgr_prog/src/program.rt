@@ -13,6 +13,7 @@ use crate::order_lines::run_orders;
 use crate::register_words::{run_init, run_order};
 use crate::request_words::{run_batch, run_serve};
 use crate::send::run_send;
+use crate::showing::run_show;
 use clap::error::ErrorKind;
 use sqlite::{FileFrom, Start};
 use sqlite_disk::Disk;
@@ -95,13 +96,23 @@ fn program<S: Start, T: AsStr, N: Network, R: Read, W: Write, E: Write>(
         ) => run_serve(rt, db, start, place, count, now, orders, network, out, err),
         Ok(Invocation::Orders { db, file }) => run_orders(rt, db, start, file, input, out, err),
         Ok(
+            Invocation::Show {
+                db,
+                tenant,
+                is_json,
+            },
+        ) => run_show(rt, db, start, tenant, is_json, out, err),
+        Ok(
             Invocation::Send {
                 path,
                 words,
                 digest,
+                is_json,
             },
         ) => (
-            run_send(alloc, path, &words, digest, network, input, out, err),
+            run_send(
+                alloc, path, &words, digest, is_json, network, input, out, err,
+            ),
             None,
         ),
         Err(answer) => (no_invocation(alloc, &answer, out, err), None),

@@ -12,14 +12,14 @@ use crate::register_words::Failure;
 use crate::requests::read_requests;
 use sqlite::{FileFrom, FileStore, Start};
 use sqlite_disk::Disk;
-use std::alloc::Global;
 use std::net::IpAddr;
+use std::time::{SystemTime, UNIX_EPOCH};
 use wgr_core::Port;
 use wgr_file::{Closed, Unopened, close, open_register};
 use wgr_io::{DeviceError, Write, write_all};
 use wgr_office::{Event, Office};
 use wgr_register::RegisterFault;
-use wgr_service::{BatchFault, Ending, Network, answer_all, serve_connections};
+use wgr_service::{BatchFault, Desk, Ending, FileCopies, Network, answer_all, serve_connections};
 use wgr_words::{WordFault, WordField, read_endpoint_field, read_whole_field};
 
 /// Answers the requests in files in order, and returns the exit status.
@@ -219,13 +219,14 @@ fn serve_all<S: Start, N: Network, W: Write, E: Write>(
         Ok(office) => office,
         Err(Unopened { fault, files }) => return (Err(Failure::Register(fault)), files),
     };
-    let served = listen(rt.alloc(), &mut office, serving, network, out, err);
+    let served = listen(rt, path, &mut office, serving, network, out, err);
     (served, close_office(office))
 }
 
 // Listens, prints `listening`, and serves connections.
 fn listen<S: Start, N: Network, W: Write, E: Write>(
-    alloc: Global,
+    rt: &HostRuntime,
+    path: &str,
     office: &mut Office<FileStore<FileFrom<S>>>,
     serving: &Serving<'_>,
     network: &mut N,
@@ -244,9 +245,23 @@ fn listen<S: Start, N: Network, W: Write, E: Write>(
     if write_all(out, b"listening\n").is_err() {
         return Err(Failure::Device);
     }
-    match serve_connections(alloc, office, network, serving.count, serving.moment, err) {
+    let alloc = rt.alloc();
+    let mut desk = Desk::new(FileCopies::new(alloc, rt, path), seconds_now(rt));
+    let Serving { count, moment, .. } = *serving;
+    match serve_connections(alloc, office, network, &mut desk, count, moment, err) {
         Ending::Served => Ok(()),
         Ending::Shut => Err(Failure::Shut),
+    }
+}
+
+// The clock's time, in whole seconds since 1970-01-01 00:00 UTC, and 0 where it failed.
+fn seconds_now(rt: &HostRuntime) -> u64 {
+    let Ok(now) = SystemTime::now(rt) else {
+        return 0;
+    };
+    match now.duration_since(UNIX_EPOCH) {
+        Ok(since) => since.as_secs(),
+        Err(_) => 0,
     }
 }
 

@@ -1,22 +1,24 @@
-//! `send`: an order to a running service.
-ghost use Rattle.std.specs.Prelude.{◌≡◌, ◌⊎◌, ◌∷◌, ◌++◌, ℕ, [], Result, Some, map, option_map, IfErr, IfOk, IfSome};
+//! `send`: an order or a reading, sent to a running service.
+ghost use Rattle.std.specs.Prelude.{◌≡◌, ◌⊎◌, ◌∷◌, ◌++◌, ℕ, Result, map, option_map, IfErr, IfOk, IfSome};
 ghost use Rattle.std.specs.declared.vec.Vec.{Vec};
 ghost use Rattle.std.specs.declared.alloc.Global.{Global};
 ghost use Rattle.std.specs.Io.KnownBytes.{Appends};
-ghost use Rattle.wgr_prog.specs.Sending.{Sends, SendsLine, SendsToken, TellsReply, TellsSent, asks_token, line_words, reply_status, send_status};
+ghost use Rattle.wgr_prog.specs.Reply.{reply_in};
+ghost use Rattle.wgr_prog.specs.Sending.{Sends, SendsLine, SendsToken, ReportsReply, ReportsSent, asks_token, line_words, option_words, send_status};
 ghost use Rattle.wgr_prog.specs.declared.send.SendFault.{SendFault as Failed};
-ghost use Rattle.wgr_words.specs.Line.{first_line, line_text};
+ghost use Rattle.wgr_words.specs.Line.{line_text};
 ghost use Rattle.wgr_words.specs.Order.{input_of};
 ghost use Rattle.wgr_words.specs.Words.{line_of};
 
 use crate::messages::{self, FAULT, REFUSED, device, no_memory, refusal};
+use crate::reply::{Reply, read_reply};
 use std::alloc::{AllocError, Global};
 use std::str;
 use wgr_io::{Read, ReadFault, Write, read_to_end, write_all};
 use wgr_service::Network;
-use wgr_words::{is_line, read_first_line, write_line};
+use wgr_words::{is_line, write_line};
 
-/// Why no answer came to an order.
+/// Why no reply came.
 #[derive(Clone, Copy, Debug, PartialEq, Eq)]
 pub(crate) enum SendFault {
     /// The words make no line.
@@ -40,30 +42,31 @@ impl From<AllocError> for SendFault {
     }
 }
 
-/// Sends an order to the service that takes orders at this path, and returns the exit status.
+/// Sends an order or a reading to the service that takes them at this path, and returns the exit status.
 pub(crate) fn run_send<N: Network, R: Read, W: Write, E: Write>(
     alloc: Global,
     path: &str,
     words: &[&str],
     digest: Option<&str>,
+    is_json: bool,
     network: &mut N,
     input: &mut R,
     out: &mut W,
     err: &mut E,
 ) -> u8
-    ensures { (answer : Result (Vec ℕ Global) Failed) × Sends path.now (map (λ word. word.now) words.now) (option_map (λ text. text.now) digest.entry) (N.log network.old) (N.log network.new) (input_of R.remaining R.failed input.old) (input_of R.remaining R.failed input.new) answer
-        × TellsSent (W.contents out.old) (W.contents out.new) (W.failed out.old) (W.failed out.new) answer result }
+    ensures { (answer : Result (Vec ℕ Global) Failed) × Sends path.now (map (λ word. word.now) words.now) (option_map (λ text. text.now) digest.entry) is_json (N.log network.old) (N.log network.new) (input_of R.remaining R.failed input.old) (input_of R.remaining R.failed input.new) answer
+        × ReportsSent (W.contents out.old) (W.contents out.new) (W.failed out.old) (W.failed out.new) answer result }
 {
-    let answer = send(alloc, path, words, digest, network, input);
-    tell(&answer, out, err)
+    let answer = send(alloc, path, words, digest, is_json, network, input);
+    report(&answer, out, err)
 }
 
 // Prints what the service answered, or why it didn't.
-fn tell<W: Write, E: Write>(answer: &Result<Vec<u8>, SendFault>, out: &mut W, err: &mut E) -> u8
-    ensures { TellsSent (W.contents out.old) (W.contents out.new) (W.failed out.old) (W.failed out.new) answer.now result }
+fn report<W: Write, E: Write>(answer: &Result<Vec<u8>, SendFault>, out: &mut W, err: &mut E) -> u8
+    ensures { ReportsSent (W.contents out.old) (W.contents out.new) (W.failed out.old) (W.failed out.new) answer.now result }
 {
     match answer {
-        Ok(reply) => tell_reply(reply, out, err),
+        Ok(reply) => report_reply(reply, out, err),
         Err(why) => send_fault(*why, err),
     }
 }
@@ -79,34 +82,26 @@ fn send_fault<E: Write>(why: SendFault, err: &mut E) -> u8
     }
 }
 
-// Prints the text of an answer, and returns its status.
-fn tell_reply<W: Write, E: Write>(reply: &[u8], out: &mut W, err: &mut E) -> u8
-    ensures { TellsReply (W.contents out.old) (W.contents out.new) (W.failed out.old) (W.failed out.new) reply.now result }
+// Prints what a reply says, and returns its status.
+fn report_reply<W: Write, E: Write>(reply: &[u8], out: &mut W, err: &mut E) -> u8
+    ensures { ReportsReply (W.contents out.old) (W.contents out.new) (W.failed out.old) (W.failed out.new) (reply_in reply.now) result }
 {
-    if reply == b"0 done".as_slice() {
-        return messages::done(out, err);
-    }
-    match reply {
-        [b'1' | b'2', b' ', text @ ..] => tell_text(text, err),
-        _ => {
-            let _ = device(err);
+    match read_reply(reply) {
+        Reply::Done => messages::done(out, err),
+        Reply::Shown(text) => messages::print(text, out, err),
+        Reply::Refused(text) => {
+            report_text(text, err);
+            REFUSED
         }
-    }
-    reply_status(reply)
-}
-
-// The status at the front of an answer that isn't `0 done`.
-fn reply_status(reply: &[u8]) -> u8
-    ensures { result ≡ reply_status reply.now }
-{
-    if !reply.is_empty() && reply[0] == b'2' {
-        REFUSED
-    } else {
-        FAULT
+        Reply::Failed(text) => {
+            report_text(text, err);
+            FAULT
+        }
+        Reply::Broken => device(err),
     }
 }
 
-fn tell_text<E: Write>(text: &[u8], err: &mut E) {
+fn report_text<E: Write>(text: &[u8], err: &mut E) {
     for part in [b"wgr: ".as_slice(), text, b"\n"] {
         if write_all(err, part).is_err() {
             return;
@@ -114,21 +109,22 @@ fn tell_text<E: Write>(text: &[u8], err: &mut E) {
     }
 }
 
-// Sends the line of these words, and returns the line that answers it.
+// Sends the line of these words, and returns all of the reply.
 fn send<N: Network, R: Read>(
     alloc: Global,
     path: &str,
     words: &[&str],
     digest: Option<&str>,
+    is_json: bool,
     network: &mut N,
     input: &mut R,
 ) -> Result<Vec<u8>, SendFault>
-    ensures { Sends path.now (map (λ word. word.now) words.now) (option_map (λ text. text.now) digest.entry) (N.log network.old) (N.log network.new) (input_of R.remaining R.failed input.old) (input_of R.remaining R.failed input.new) result }
+    ensures { Sends path.now (map (λ word. word.now) words.now) (option_map (λ text. text.now) digest.entry) is_json (N.log network.old) (N.log network.new) (input_of R.remaining R.failed input.old) (input_of R.remaining R.failed input.new) result }
 {
     if asks_token(words, digest) {
-        send_with_token(alloc, path, words, network, input)
+        send_with_token(alloc, path, words, is_json, network, input)
     } else {
-        send_words(alloc, path, words, digest, network)
+        send_words(alloc, path, words, digest, is_json, network)
     }
 }
 
@@ -146,22 +142,31 @@ fn asks_token(words: &[&str], digest: Option<&str>) -> bool
     }
 }
 
-// Sends the words, with the digest after them.
+// Sends the words, with the digest and the option after them.
 fn send_words<N: Network>(
     alloc: Global,
     path: &str,
     words: &[&str],
     digest: Option<&str>,
+    is_json: bool,
     network: &mut N,
 ) -> Result<Vec<u8>, SendFault>
-    ensures { SendsLine path.now (line_words (map (λ word. word.now) words.now) (option_map (λ text. text.now) digest.entry)) (N.log network.old) (N.log network.new) result }
+    ensures { SendsLine path.now (line_words (map (λ word. word.now) words.now) (option_map (λ text. text.now) digest.entry) is_json) (N.log network.old) (N.log network.new) result }
 {
     let mut line = Vec::new(alloc);
     line.extend_from_slice(words)?;
     if let Some(digest) = digest {
         line.extend_from_slice(&["--digest", digest])?;
     }
+    line.extend_from_slice(option_words(is_json))?;
     exchange(alloc, path, &line, network)
+}
+
+// The option that is a line's last word, if it is given.
+fn option_words(is_json: bool) -> &'static [&'static str]
+    ensures { map (λ word. word.now) result.now ≡ option_words is_json }
+{
+    if is_json { &["--json"] } else { &[] }
 }
 
 // Sends the words, with the token after them that is all of the input.
@@ -169,10 +174,11 @@ fn send_with_token<N: Network, R: Read>(
     alloc: Global,
     path: &str,
     words: &[&str],
+    is_json: bool,
     network: &mut N,
     input: &mut R,
 ) -> Result<Vec<u8>, SendFault>
-    ensures { SendsToken path.now (map (λ word. word.now) words.now) (N.log network.old) (N.log network.new) (input_of R.remaining R.failed input.old) (input_of R.remaining R.failed input.new) result }
+    ensures { SendsToken path.now (map (λ word. word.now) words.now) is_json (N.log network.old) (N.log network.new) (input_of R.remaining R.failed input.old) (input_of R.remaining R.failed input.new) result }
 {
     let typed = match read_to_end(alloc, input) {
         Ok(typed) => typed,
@@ -182,7 +188,7 @@ fn send_with_token<N: Network, R: Read>(
     let Some(token) = token_word(&typed) else {
         return Err(SendFault::BadToken);
     };
-    send_token(alloc, path, words, token, network)
+    send_token(alloc, path, words, token, is_json, network)
 }
 
 // Sends the words, with this token after them.
@@ -191,13 +197,15 @@ fn send_token<N: Network>(
     path: &str,
     words: &[&str],
     token: &str,
+    is_json: bool,
     network: &mut N,
 ) -> Result<Vec<u8>, SendFault>
-    ensures { SendsLine path.now (map (λ word. word.now) words.now ++ token.now ∷ []) (N.log network.old) (N.log network.new) result }
+    ensures { SendsLine path.now (map (λ word. word.now) words.now ++ token.now ∷ option_words is_json) (N.log network.old) (N.log network.new) result }
 {
     let mut line = Vec::new(alloc);
     line.extend_from_slice(words)?;
     line.extend_from_slice(&[token])?;
+    line.extend_from_slice(option_words(is_json))?;
     exchange(alloc, path, &line, network)
 }
 
@@ -216,7 +224,7 @@ fn token_word(typed: &[u8]) -> Option<&str>
     Some(text)
 }
 
-// Writes the line of these words to the service, and reads the line that answers it.
+// Writes the line of these words to the service, and reads its reply.
 fn exchange<N: Network>(
     alloc: Global,
     path: &str,
@@ -242,15 +250,15 @@ fn ask<R: Read, W: Write>(
     input: &mut R,
     out: &mut W,
 ) -> Result<Vec<u8>, SendFault>
-    ensures ok { IfOk result (λ reply. Appends (W.contents out.old) (W.contents out.new) (line_text (map (λ word. word.now) line.now)) × IfSome (R.remaining input.old) (λ all. first_line all ≡ Some reply.items)) }
+    ensures ok { IfOk result (λ reply. Appends (W.contents out.old) (W.contents out.new) (line_text (map (λ word. word.now) line.now)) × IfSome (R.remaining input.old) (λ all. reply.items ≡ all)) }
     ensures err { IfErr result (λ why. (why ≡ SendFault.NoMemory) ⊎ (why ≡ SendFault.Device)) }
 {
     if write_line(out, line).is_err() {
         return Err(SendFault::Device);
     }
-    match read_first_line(alloc, input) {
-        Ok(Some(reply)) => Ok(reply),
+    match read_to_end(alloc, input) {
+        Ok(reply) => Ok(reply),
         Err(ReadFault::NoMemory) => Err(SendFault::NoMemory),
-        Ok(None) | Err(ReadFault::Device) => Err(SendFault::Device),
+        Err(ReadFault::Device) => Err(SendFault::Device),
     }
 }

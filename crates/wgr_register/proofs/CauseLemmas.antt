@@ -10,9 +10,9 @@ use Rattle.sqlite_rules.specs.Lists as rules
 use Rattle.wgr_core.specs.Network.{NetworkValue}
 use Rattle.wgr_core.specs.declared.fault.ActFault.{ActFault}
 use Rattle.wgr_core.specs.declared.fault.ActFault.TheVariants as act_fault
-use Rattle.wgr_model.specs.Consistent.{IsTenant, has_tenant}
+use Rattle.wgr_model.specs.Consistent.{IsDigest, IsTenant, has_tenant}
 use Rattle.wgr_model.specs.Laws.{Has}
-use Rattle.wgr_model.specs.Register.{Bytes, Tenant}
+use Rattle.wgr_model.specs.Register.{Bytes, Tenant, Token}
 use Rattle.wgr_model.specs.RowLaws.{AreConsistent}
 use Rattle.wgr_model.specs.Rows.{NetworkRow, Tables, holding_of}
 use Rattle.wgr_model.proofs.CollectLemmas.{has_map}
@@ -35,7 +35,7 @@ use Rattle.wgr_sql.specs.declared.fault.Fault.TheVariants.{NoMemory, Store}
 use Rattle.wgr_columns.specs.Decode.{network_in}
 use Rattle.wgr_columns.specs.Stored.{AreSettings, AreStored, IsKeptNetwork, stored_network}
 use Rattle.wgr_tables.specs.Stored.{IsStored}
-use Rattle.wgr_entries.specs.Kept.{AreOf}
+use Rattle.wgr_entries.specs.Kept.{AreOf, IsKeptToken}
 use Rattle.wgr_entries.proofs.KeptLemmas as kept
 use Rattle.wgr_tables.proofs.ToldLemmas.{told_settings}
 use Rattle.wgr_opening.proofs.ConsistentLemmas.{consistent_is_whole, holding}
@@ -164,6 +164,12 @@ module _ (t : Tables) (good : AreConsistent t) where
 
   pub tenant_kept : (x : Tenant) → Has t.tenants x → IsTenant x
   tenant_kept x here = at_has IsTenant t.tenants x good.consistent.tenants here
+
+  pub token_kept : (x : Token) → Has t.tokens x → IsKeptToken x
+  token_kept x here = record {
+    digest = at_has (λ (y : Token). IsDigest y.digest) t.tokens x good.consistent.tokens here;
+    tenant = holder_low t.tenants x.tenant good.consistent.tenants (at_has (λ (y : Token). has_tenant t.tenants y.tenant ≡ true) t.tokens x good.consistent.token_tenants here);
+  }
 
   -- each row of a tenant's networks is stored as the register writes it
   pub rows_kept : (tenant : ℕ) (rows : List Row) → ShowNetworksOf tenant t rows → AreStored stored_network network_in rows → AreOf IsKeptNetwork stored_network rows

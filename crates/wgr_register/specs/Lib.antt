@@ -3,6 +3,7 @@ pub mod Recent
 pub mod Standing
 pub mod Ends
 pub mod Listing
+pub mod Census
 pub mod Loaded
 pub mod Moments
 pub mod Cached

@@ -3,7 +3,7 @@
 //! Each has a span of moments: within it no lease ends, so the file stays the same until the network
 //! changes. The least recently used is dropped first. Where memory is refused, and after a fault, none
 //! is kept: the next request makes its file again.
-ghost use Rattle.std.specs.Prelude.{◌≡◌, ◌≤◌, ℕ, length, None, Some, IfOk, IfSome, false, is_some, nat_eq, true};
+ghost use Rattle.std.specs.Prelude.{◌≡◌, ◌≤◌, ℕ, length, None, Some, IfOk, IfSome, OnOk, false, is_some, nat_eq, true};
 ghost use Rattle.std.specs.List.{IsDistinct, filter};
 ghost use Rattle.std.specs.Map.{keys_of, lookup, remove_entry};
 ghost use Rattle.wgr_conf.specs.Files.{server_config};
@@ -24,6 +24,8 @@ use crate::recent::{MAX_RECENT, Recent};
 use std::alloc::{AllocError, Global};
 use wgr_conf::server_file;
 use wgr_core::{Change, Form, Network, Peer};
+use wgr_orders::Census;
+use wgr_tables::Fault;
 
 /// How many servers' files stay in memory between requests, of all tenants together.
 pub const FILES_IN_MEMORY: usize = MAX_RECENT;
@@ -184,6 +186,15 @@ pub(crate) fn drop_after_failure(files: &mut Option<Files>, ended: &Result<Done,
     ensures { (t : Tables) → UnlessUndone ended.now (AreCurrent (files_of files.old) t) → AreCurrent (files_of files.new) t }
 {
     if let Err(OrderFault::Fault(_)) = ended {
+        *files = None;
+    }
+}
+
+/// Drops all after a census that failed.
+pub(crate) fn drop_if_unread(files: &mut Option<Files>, read: &Result<Census, Fault>)
+    ensures { (t : Tables) → OnOk read.now (AreCurrent (files_of files.old) t) → AreCurrent (files_of files.new) t }
+{
+    if read.is_err() {
         *files = None;
     }
 }

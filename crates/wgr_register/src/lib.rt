@@ -2,6 +2,7 @@
 #![tactic(auto)]
 
 mod ask;
+mod census;
 mod fault;
 mod files;
 mod given;
@@ -17,6 +18,6 @@ pub use files::FILES_IN_MEMORY;
 pub use given::{Given, Render};
 pub use loaded::NETWORKS_IN_MEMORY;
 pub use register::Register;
-pub use wgr_orders::{Order, OrderRefusal};
+pub use wgr_orders::{Census, Counted, Order, OrderRefusal};
 pub use wgr_schema::{RegisterFault, register_fault};
 pub use wgr_tables::Fault;

@@ -2,17 +2,20 @@
 //!
 //! The least recently used is dropped first. Where memory is refused, and after a fault, none is kept:
 //! the next request loads its network from the rows.
-ghost use Rattle.std.specs.Prelude.{◌≡◌, None, IfOk, IfSome, nat_eq};
+ghost use Rattle.std.specs.Prelude.{◌≡◌, ◌≤◌, None, IfOk, IfSome, OnOk, length, nat_eq};
 ghost use Rattle.std.specs.List.{IsDistinct};
 ghost use Rattle.std.specs.Map.{keys_of, lookup, remove_entry};
 ghost use Rattle.wgr_core.specs.Change.{Fits, applied_if};
 ghost use Rattle.wgr_model.specs.Rows.{Tables};
+ghost use Rattle.wgr_register.specs.Recent.{max_recent};
 ghost use Rattle.wgr_register.specs.Loaded.{AreFormed, AreOthersFormed, IsFormed, UnlessFault, UnlessUndone, entries_of};
 
 use crate::fault::{AskFault, Done, OrderFault};
 use crate::recent::{MAX_RECENT, Recent};
 use std::alloc::{AllocError, Global};
 use wgr_core::{Change, Network};
+use wgr_orders::Census;
+use wgr_tables::Fault;
 
 /// How many networks stay in memory between requests, of all tenants together.
 pub const NETWORKS_IN_MEMORY: usize = MAX_RECENT;
@@ -77,6 +80,17 @@ pub(crate) fn keep_changed(
     }
 }
 
+/// How many are kept.
+pub(crate) fn count(loaded: &Option<Networks>) -> usize
+    ensures kept { result ≡ length (entries_of loaded.now) }
+    ensures at_most { result ≤ max_recent }
+{
+    match loaded {
+        Some(kept) => kept.len(),
+        None => 0,
+    }
+}
+
 /// Drops the network of this id.
 pub(crate) fn forget(loaded: &mut Option<Networks>, id: u32)
     ensures { (t : Tables) → AreOthersFormed id (entries_of loaded.old) t → AreFormed (entries_of loaded.new) t }
@@ -98,6 +112,15 @@ pub(crate) fn drop_after_failure(loaded: &mut Option<Networks>, ended: &Result<D
     ensures { (t : Tables) → UnlessUndone ended.now (AreFormed (entries_of loaded.old) t) → AreFormed (entries_of loaded.new) t }
 {
     if let Err(OrderFault::Fault(_)) = ended {
+        *loaded = None;
+    }
+}
+
+/// Drops all after a census that failed.
+pub(crate) fn drop_if_unread(loaded: &mut Option<Networks>, read: &Result<Census, Fault>)
+    ensures { (t : Tables) → OnOk read.now (AreFormed (entries_of loaded.old) t) → AreFormed (entries_of loaded.new) t }
+{
+    if read.is_err() {
         *loaded = None;
     }
 }

@@ -6,6 +6,7 @@ ghost use Rattle.sqlite.specs.Held.{state};
 ghost use Rattle.wgr_orders.specs.Orders.{order_event};
 ghost use Rattle.wgr_model.specs.Steps.{Ask, Event, Networks};
 ghost use Rattle.wgr_core.specs.Outcome.{is_reading};
+ghost use Rattle.wgr_register.specs.Census.{IsCensus};
 ghost use Rattle.wgr_register.specs.Causes.{AskStops, IfFault, IfOrderFault, OrderStops};
 ghost use Rattle.wgr_register.specs.Ends.{AskEnds, OrderEnds};
 ghost use Rattle.wgr_register.specs.Left.{LeavesGood};
@@ -24,15 +25,15 @@ ghost use Rattle.wgr_opening.specs.Good.{IsGood};
 use crate::fault::{AskFault, Done, OpenFault, OrderFault};
 use crate::files::{self, Files};
 use crate::given::Render;
-use crate::loaded::{Networks, drop_after_failure, drop_after_fault};
-use crate::{ask, list, order};
+use crate::loaded::{self, Networks, drop_after_failure, drop_after_fault};
+use crate::{ask, census, list, order};
 use sqlite::{Alter, Connection};
 use std::alloc::Global;
 use std::marker::Model;
 use wgr_core::Command;
 use wgr_entries::tenant_of_token;
 use wgr_opening::check_register;
-use wgr_orders::Order;
+use wgr_orders::{Census, Order};
 use wgr_schema::make;
 use wgr_tables::Fault;
 
@@ -145,6 +146,14 @@ impl<S: Alter> Register<S> {
         let _rest = &self.conn;
     }
 
+    /// How many networks stay in memory now, of all tenants together: at most
+    /// [`NETWORKS_IN_MEMORY`](crate::NETWORKS_IN_MEMORY). As of files, no clause says which there are.
+    pub fn loaded(&self) -> usize
+        ensures at_most { result ≤ max_recent }
+    {
+        loaded::count(&self.loaded)
+    }
+
     /// How many servers' files stay in memory now, of all tenants together: at most
     /// [`FILES_IN_MEMORY`](crate::FILES_IN_MEMORY), one for each network and form. Files are no part of a
     /// register's value, so no clause says which there are.
@@ -254,6 +263,22 @@ impl<S: Alter> Register<S> {
         drop_after_fault(&mut self.loaded, &answered);
         files::drop_after_fault(&mut self.files, &answered);
         answered
+    }
+
+    /// All tenants, tokens and networks, each in any order, and how many peers and routes each network has.
+    /// The networks in memory aren't used.
+    ///
+    /// It writes nothing. A fault is lack of memory, or it has a cause.
+    pub fn census(&mut self, alloc: Global) -> Result<Census, Fault>
+        ensures clean { HasCleanDisk (state S.Store self.new) → HasCleanDisk (state S.Store self.old) }
+        ensures stands { (db : Database) (late : List Event) → StandsAt S.Store self.old db late → StandsAt S.Store self.new db late }
+        ensures listed { (db : Database) (late : List Event) → StandsAt S.Store self.old db late → HasCleanDisk (state S.Store self.new) → IfOk result (IsCensus (tables_of db)) }
+        ensures cause { IfErr result (HasCause (state S.Store self.old) (state S.Store self.new)) }
+    {
+        let read = census::census(alloc, &mut self.conn);
+        loaded::drop_if_unread(&mut self.loaded, &read);
+        files::drop_if_unread(&mut self.files, &read);
+        read
     }
 }
 

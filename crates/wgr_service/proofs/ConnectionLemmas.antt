@@ -21,17 +21,21 @@ use Rattle.wgr_office.specs.declared.serve.ServeFault.TheVariants as serve_fault
 use Rattle.wgr_office.proofs.BetweenLemmas.{call_kept, calls_more, passed}
 use Rattle.wgr_office.proofs.RunLemmas.{ask_served}
 use Rattle.wgr_service.specs.Batch.{IsCut}
-use Rattle.wgr_service.specs.Connections.{AreServed, AreSound, AreWritten, Asked, Exchange, HasCounted, HasMet, HasOutcome, IsServed, Meeting, Ordered, Outcome, Reports, answer_of, answered, asked_of, contacts_of, cut, door_of, exchange_of, exchanges, failed, failure_line, is_request_at, line_of, meeting_of, missed, moment_of, requests_in, unavailable_line, unspelled, weight}
-use Rattle.wgr_service.specs.Lines.{TakesLine, end_text, fault_text, is_end_available, settled}
+use Rattle.wgr_service.specs.Connections.{AreServed, AreSound, AreWritten, Asked, Exchange, HasCounted, HasMet, HasOutcome, IsServed, Meeting, Ordered, Outcome, Reports, answer_of, answered, asked_of, contacts_of, cut, door_of, exchange_of, exchanges, failed, failure_line, is_request_at, line_of, meeting_of, missed, moment_of, requests_in, shown, unavailable_line, unspelled, weight}
+use Rattle.wgr_service.specs.Lines.{fault_text, settled}
 use Rattle.wgr_service.specs.Network.{Contact, Log, Logs}
+use Rattle.wgr_service.specs.Readings.{HasTaken, Reads, is_reading_available, is_taken_available, reading_text, taken_text}
 use Rattle.wgr_service.specs.Reports.{IsReport, report_line}
 use Rattle.wgr_service.specs.declared.connections.Ending.{Ending}
-use Rattle.wgr_service.specs.declared.lines.LineEnd.{LineEnd}
 use Rattle.wgr_service.specs.declared.lines.LineEnd.TheVariants as line_end
 use Rattle.wgr_service.specs.declared.network.Door.{Door}
 use Rattle.wgr_service.specs.declared.network.Door.TheVariants as door
 use Rattle.wgr_service.specs.declared.report.Report.{Report}
+use Rattle.wgr_service.specs.declared.readings.ReadingEnd.{ReadingEnd}
 use Rattle.wgr_service.specs.declared.report.Report.TheVariants as report
+use Rattle.wgr_service.specs.declared.taken.Taken.{Taken}
+use Rattle.wgr_service.specs.declared.taken.Taken.TheVariants as taken
+use Rattle.wgr_words.specs.Reading.{ReadingAsked}
 
 -- ---- what is written
 
@@ -82,6 +86,37 @@ reported m x r told = by (answer_of x) refl told
     by givens.Unavailable is (inl same) = subst (λ (k : Report). Reports k (answered m x)) (sym same) is
     by givens.Unavailable is (inr same) = subst (λ (k : Report). Reports k (answered m x)) (sym same) is
 
+shown_reported : (m : Meeting) (asked : ReadingAsked) (end : ReadingEnd) (r : Report) → m.write_failed ≡ false → IsReport (is_reading_available end) r → Reports r (shown m asked end)
+shown_reported m asked end r whole told = by (is_reading_available end) refl told
+  where
+    by : (available : Bool) → is_reading_available end ≡ available → IsReport available r → Reports r (shown m asked end)
+    by true is fine = subst (λ (k : Report). Reports k (shown m asked end)) (sym fine) (whole, is)
+    by false is (inl same) = subst (λ (k : Report). Reports k (shown m asked end)) (sym same) (whole, is)
+    by false is (inr same) = subst (λ (k : Report). Reports k (shown m asked end)) (sym same) (whole, is)
+
+-- ---- readings before and between events
+
+module _ {S : Type 0} (g : Ghosts S) where
+  pub keeps_same : (conn : Held S) → Keeps g conn conn
+  keeps_same conn = record { clean = λ clean. clean; stands = λ db late at. at }
+
+  pub keeps_both : (old mid new : Held S) → Keeps g old mid → Keeps g mid new → Keeps g old new
+  keeps_both old mid new first next = record { clean = λ clean. first.clean (next.clean clean); stands = λ db late at. next.stands db late (first.stands db late at) }
+
+  pub reads_kept : (old mid new : Held S) (asked : ReadingAsked) (end : ReadingEnd) → Reads g old mid asked end → Keeps g mid new → Reads g old new asked end
+  reads_kept old mid new asked end (first, may, says) keeps = (keeps_both old mid new first keeps, may, λ db late at clean. says db late at (keeps.clean clean))
+
+  -- a reading after calls belongs to the last of them, and one before all of them comes first
+  calls_kept : (start mid new : Held S) (asked : List event.Event) (answers : List given.Answer) → AreCalls g start mid asked answers → Keeps g mid new → (front : Held S) × Keeps g start front × AreCalls g front new asked answers
+  calls_kept start mid new [] [] calls keeps = (new, subst (λ (conn : Held S). Keeps g conn new) calls keeps, refl)
+  calls_kept start mid new [] (a ∷ answers) calls keeps = absurd calls
+  calls_kept start mid new (e ∷ asked) [] calls keeps = absurd calls
+  calls_kept start mid new (e ∷ asked) (a ∷ answers) (next, call, rest) keeps =
+      let (front, kept, later) = calls_kept next mid new asked answers rest keeps in
+      (start, keeps_same start, (front, call_kept g start next front e a call kept, later))
+
+-- ---- a message
+
 -- a tenant's message
 module _ {S : Type 0} (g : Ghosts S) (now clock : Option ℕ) (before after : Ends) (sound : AreSound before) where
   abbrev pub request : Meeting
@@ -107,24 +142,29 @@ module _ {S : Type 0} (g : Ghosts S) (now clock : Option ℕ) (before after : En
         let takes = fails.2.1 in
         (cut request (Asked moment takes.message answer), (((refl, is, takes.asks), cut_at sent before.written after.written (reply_of answer) fails.2.3, fails.1 ∙ sound.0, fails.0), called answer takes), refl, tt, refl)
 
--- an operator's order
+-- an operator's order or reading
 module _ {S : Type 0} (g : Ghosts S) (now clock : Option ℕ) (before after : Ends) (sound : AreSound before) where
   abbrev pub order : Meeting
   order = meeting_of door.Orders clock before after
 
-  pub line_answered : (old mid new : Held S) (end : LineEnd) (r : Report) → TakesLine g old mid before.input end → Appends before.written after.written (end_text end)
-      → after.read_failed ≡ before.read_failed → after.write_failed ≡ before.write_failed → IsReport (is_end_available end) r → Keeps g mid new → (is_end_available end ≡ true → new ≡ mid) → HasMet g old new now order r
-  line_answered old mid new (line_end.Ended ended) r takes written read wrote told keeps same =
+  pub line_answered : (old mid new : Held S) (end : Taken) (r : Report) → HasTaken g old mid before.input end → Appends before.written after.written (taken_text end)
+      → after.read_failed ≡ before.read_failed → after.write_failed ≡ before.write_failed → IsReport (is_taken_available end) r → Keeps g mid new → (is_taken_available end ≡ true → new ≡ mid) → HasMet g old new now order r
+  line_answered old mid new (taken.Order (line_end.Ended ended)) r takes written read wrote told keeps same =
       let x = Ordered takes.0 ended in
       (answered order x, (((refl, takes.1), written, read ∙ sound.0, wrote ∙ sound.1), call_kept g old mid new (asked_of x) (settled ended) takes.2 keeps), refl, reported order x r told, refl)
-  line_answered old mid new (line_end.Unspelled why) r takes written read wrote told keeps same =
+  line_answered old mid new (taken.Order (line_end.Unspelled why)) r takes written read wrote told keeps same =
       let whole = wrote ∙ sound.1 in
       (unspelled order why, ((refl, takes.1, subst (λ b. MatchBool b (IsCut before.written after.written (fault_text why)) (Appends before.written after.written (fault_text why))) (sym whole) written, read ∙ sound.0), same refl ∙ takes.0), refl, subst (λ (k : Report). Reports k (unspelled order why)) (sym told) whole, refl)
+  line_answered old mid new (taken.Reading end) r takes written read wrote told keeps same =
+      let whole = wrote ∙ sound.1 in
+      (shown order takes.0 end, ((refl, takes.1, subst (λ b. MatchBool b (IsCut before.written after.written (reading_text end)) (Appends before.written after.written (reading_text end))) (sym whole) written, read ∙ sound.0), reads_kept g old mid new takes.0 end takes.2 keeps), refl, shown_reported order takes.0 end r whole told, refl)
 
-  pub line_broken : (old new : Held S) (end : LineEnd) → TakesLine g old new before.input end → IsCut before.written after.written (end_text end) → after.read_failed ≡ before.read_failed → after.write_failed ≡ true → HasMet g old new now order report.Failed
-  line_broken old new (line_end.Ended ended) takes cut_off read broken = (cut order (Ordered takes.0 ended), (((refl, takes.1), cut_off, read ∙ sound.0, broken), takes.2), refl, tt, refl)
-  line_broken old new (line_end.Unspelled why) takes cut_off read broken =
+  pub line_broken : (old new : Held S) (end : Taken) → HasTaken g old new before.input end → IsCut before.written after.written (taken_text end) → after.read_failed ≡ before.read_failed → after.write_failed ≡ true → HasMet g old new now order report.Failed
+  line_broken old new (taken.Order (line_end.Ended ended)) takes cut_off read broken = (cut order (Ordered takes.0 ended), (((refl, takes.1), cut_off, read ∙ sound.0, broken), takes.2), refl, tt, refl)
+  line_broken old new (taken.Order (line_end.Unspelled why)) takes cut_off read broken =
       (unspelled order why, ((refl, takes.1, subst (λ b. MatchBool b (IsCut before.written after.written (fault_text why)) (Appends before.written after.written (fault_text why))) (sym broken) cut_off, read ∙ sound.0), takes.0), refl, broken, refl)
+  line_broken old new (taken.Reading end) takes cut_off read broken =
+      (shown order takes.0 end, ((refl, takes.1, subst (λ b. MatchBool b (IsCut before.written after.written (reading_text end)) (Appends before.written after.written (reading_text end))) (sym broken) cut_off, read ∙ sound.0), takes.2), refl, broken, refl)
 
   pub line_unread : (old new : Held S) → new ≡ old → after.written ≡ before.written → after.write_failed ≡ before.write_failed → after.read_failed ≡ true → HasMet g old new now order report.Failed
   line_unread old new same written wrote broken = (failed order, ((written, wrote ∙ sound.1, inl broken), same), refl, tt, refl)
@@ -133,21 +173,25 @@ module _ {S : Type 0} (g : Ghosts S) (now clock : Option ℕ) (before after : En
 line_is : (r : Report) (outcome : Outcome) → Reports r outcome → report_line (door_of outcome) r ≡ line_of outcome
 line_is report.Fine (answered m x) is = ap (λ b. cond b [] unavailable_line) (sym is)
 line_is report.Fine (cut m x) is = absurd is
+line_is report.Fine (shown m asked end) is = ap (λ b. cond b [] unavailable_line) (sym is.1) ∙ ap (λ b. cond b (failure_line m.door) (cond (is_reading_available end) [] unavailable_line)) (sym is.0)
 line_is report.Fine (unspelled m why) is = ap (λ b. cond b (failure_line m.door) []) (sym is)
 line_is report.Fine (failed m) is = absurd is
 line_is report.Fine missed is = absurd is
 line_is report.Unavailable (answered m x) is = ap (λ a. cond (is_available a) [] unavailable_line) (sym is)
 line_is report.Unavailable (cut m x) is = absurd is
+line_is report.Unavailable (shown m asked end) is = ap (λ b. cond b [] unavailable_line) (sym is.1) ∙ ap (λ b. cond b (failure_line m.door) (cond (is_reading_available end) [] unavailable_line)) (sym is.0)
 line_is report.Unavailable (unspelled m why) is = absurd is
 line_is report.Unavailable (failed m) is = absurd is
 line_is report.Unavailable missed is = absurd is
 line_is report.Shut (answered m x) is = ap (λ a. cond (is_available a) [] unavailable_line) (sym is)
 line_is report.Shut (cut m x) is = absurd is
+line_is report.Shut (shown m asked end) is = ap (λ b. cond b [] unavailable_line) (sym is.1) ∙ ap (λ b. cond b (failure_line m.door) (cond (is_reading_available end) [] unavailable_line)) (sym is.0)
 line_is report.Shut (unspelled m why) is = absurd is
 line_is report.Shut (failed m) is = absurd is
 line_is report.Shut missed is = absurd is
 line_is report.Failed (answered m x) is = absurd is
 line_is report.Failed (cut m x) is = refl
+line_is report.Failed (shown m asked end) is = ap (λ b. cond b (failure_line m.door) (cond (is_reading_available end) [] unavailable_line)) (sym is)
 line_is report.Failed (unspelled m why) is = ap (λ b. cond b (failure_line m.door) []) (sym is)
 line_is report.Failed (failed m) is = refl
 line_is report.Failed missed is = refl
@@ -167,7 +211,7 @@ given_to outcomes = map answer_of (exchanges outcomes)
 pub record AreServedSoFar {S : Type 0} (g : Ghosts S) (old new : Held S) (now : Option ℕ) (count : ℕ) (outcomes : List Outcome) : Type 0 where
   pub each : requests_in outcomes ≡ count
   pub served : All (IsServed now) outcomes
-  pub calls : AreCalls g old new (asked outcomes) (given_to outcomes)
+  pub calls : (start : Held S) × Keeps g old start × AreCalls g start new (asked outcomes) (given_to outcomes)
 
 -- one more
 counted : (outcomes : List Outcome) (outcome : Outcome) → requests_in (outcomes ++ outcome ∷ []) ≡ requests_in outcomes + weight (door_of outcome)
@@ -184,7 +228,7 @@ module _ {S : Type 0} (g : Ghosts S) (old : Held S) (now : Option ℕ) where
   none_served = record {
     each = refl;
     served = search rules;
-    calls = refl;
+    calls = (old, keeps_same g old, refl);
   }
 
   module _ (mid new : Held S) (count : ℕ) (outcomes : List Outcome) (so_far : AreServedSoFar g old mid now count outcomes) where
@@ -194,39 +238,52 @@ module _ {S : Type 0} (g : Ghosts S) (old : Held S) (now : Option ℕ) where
     with_one : (outcome : Outcome) (x : Exchange) → exchange_of outcome ≡ Some x → IsServed now outcome → IsCall g mid new (asked_of x) (answer_of x) → AreServedSoFar g old new now (count + weight (door_of outcome)) (outcomes ++ outcome ∷ [])
     with_one outcome x is served one =
         let xs = exchanges outcomes in
+        let start = so_far.calls.0 in
         let more : exchanges (outcomes ++ outcome ∷ []) ≡ xs ++ x ∷ [] = filter_map-append exchange_of outcomes (outcome ∷ []) ∙ ap (λ o. xs ++ cons_option o []) is in
         record {
           each = one_more outcome;
           served = All-append (IsServed now) outcomes (outcome ∷ []) so_far.served (search rules);
-          calls =
-              subst (λ ys. AreCalls g old new (map asked_of ys) (map answer_of ys)) (sym more)
-              (subst (λ es. AreCalls g old new es (map answer_of (xs ++ x ∷ []))) (sym (map-append asked_of xs (x ∷ [])))
-              (subst (AreCalls g old new (asked outcomes ++ asked_of x ∷ [])) (sym (map-append answer_of xs (x ∷ [])))
-              (calls_more g old mid new (asked outcomes) (given_to outcomes) (asked_of x) (answer_of x) so_far.calls one)));
+          calls = (
+            start,
+            so_far.calls.1,
+            subst (λ ys. AreCalls g start new (map asked_of ys) (map answer_of ys)) (sym more)
+                (subst (λ es. AreCalls g start new es (map answer_of (xs ++ x ∷ []))) (sym (map-append asked_of xs (x ∷ [])))
+                (subst (AreCalls g start new (asked outcomes ++ asked_of x ∷ [])) (sym (map-append answer_of xs (x ∷ [])))
+                (calls_more g start mid new (asked outcomes) (given_to outcomes) (asked_of x) (answer_of x) so_far.calls.2 one))),
+          );
         }
 
-    with_none : (outcome : Outcome) → exchange_of outcome ≡ None → IsServed now outcome → new ≡ mid → AreServedSoFar g old new now (count + weight (door_of outcome)) (outcomes ++ outcome ∷ [])
-    with_none outcome is served same =
+    with_none : (outcome : Outcome) → exchange_of outcome ≡ None → IsServed now outcome → Keeps g mid new → AreServedSoFar g old new now (count + weight (door_of outcome)) (outcomes ++ outcome ∷ [])
+    with_none outcome is served keeps =
+        let (start, kept, calls) = so_far.calls in
+        let (front, more_kept, later) = calls_kept g start mid new (asked outcomes) (given_to outcomes) calls keeps in
         let more : exchanges (outcomes ++ outcome ∷ []) ≡ exchanges outcomes = filter_map-append exchange_of outcomes (outcome ∷ []) ∙ ap (λ o. exchanges outcomes ++ cons_option o []) is ∙ append-nil (exchanges outcomes) in
         record {
           each = one_more outcome;
           served = All-append (IsServed now) outcomes (outcome ∷ []) so_far.served (search rules);
-          calls =
-              subst (λ ys. AreCalls g old new (map asked_of ys) (map answer_of ys)) (sym more)
-              (subst (λ conn. AreCalls g old conn (asked outcomes) (given_to outcomes)) (sym same) so_far.calls);
+          calls = (front, keeps_both g old start front kept more_kept, subst (λ ys. AreCalls g front new (map asked_of ys) (map answer_of ys)) (sym more) later);
         }
+
+    -- nothing was done
+    same_kept : new ≡ mid → Keeps g mid new
+    same_kept same = subst (λ conn. Keeps g mid conn) (sym same) (keeps_same g mid)
 
     pub served_more : (outcome : Outcome) → HasOutcome g mid new now outcome → AreServedSoFar g old new now (count + weight (door_of outcome)) (outcomes ++ outcome ∷ [])
     served_more (answered m x) one = with_one (answered m x) x refl one.0 one.1
     served_more (cut m x) one = with_one (cut m x) x refl one.0 one.1
-    served_more (unspelled m why) one = with_none (unspelled m why) refl one.0 one.1
-    served_more (failed m) one = with_none (failed m) refl one.0 one.1
-    served_more missed one = with_none missed refl one.0 one.1
+    served_more (shown m asked end) one = with_none (shown m asked end) refl one.0 one.1.0
+    served_more (unspelled m why) one = with_none (unspelled m why) refl one.0 (same_kept one.1)
+    served_more (failed m) one = with_none (failed m) refl one.0 (same_kept one.1)
+    served_more missed one = with_none missed refl one.0 (same_kept one.1)
 
   pub all_served : (new : Held S) (asked_for count : ℕ) (ended : Ending) (outcomes : List Outcome) → RowsAreIsolated → AreServedSoFar g old new now count outcomes → HasCounted ended asked_for outcomes → AreServed g old new now asked_for ended outcomes
-  all_served new asked_for count ended outcomes law so_far counted = record {
-    each = counted;
-    served = so_far.served;
-    run = λ db late at clean. (passed g old new db late (asked outcomes) (given_to outcomes) law so_far.calls at clean).run;
-    between = λ db late at clean. passed g old new db late (asked outcomes) (given_to outcomes) law so_far.calls at clean;
-  }
+  all_served new asked_for count ended outcomes law so_far counted =
+      let (start, kept, calls) = so_far.calls in
+      record {
+        each = counted;
+        served = so_far.served;
+        run = λ db late at clean. (passed g start new db late (asked outcomes) (given_to outcomes) law calls (kept.stands db late at) clean).run;
+        start = start;
+        kept = kept;
+        between = λ db late at clean. passed g start new db late (asked outcomes) (given_to outcomes) law calls at clean;
+      }

@@ -10,7 +10,7 @@ use Rattle.sqlite.specs.Store.{Ghosts}
 use Rattle.sqlite.specs.Held.{Held, state}
 use Rattle.wgr_model.specs.Register.{Bytes}
 use Rattle.wgr_model.specs.Steps.{Event}
-use Rattle.wgr_office.specs.Between.{HasPassed, IsCall}
+use Rattle.wgr_office.specs.Between.{HasPassed, IsCall, Keeps}
 use Rattle.wgr_office.specs.Events.{HasRun}
 use Rattle.wgr_office.specs.Serving.{AsksAll, Ends, is_available, reply_of}
 use Rattle.wgr_office.specs.declared.answer.Answer as given
@@ -21,14 +21,17 @@ use Rattle.wgr_orders.specs.declared.order.Order.{Order}
 use Rattle.wgr_register.specs.Standing.{StandsAt}
 use Rattle.wgr_register.specs.declared.fault.Done.{Done}
 use Rattle.wgr_register.specs.declared.fault.OrderFault.{OrderFault}
+use Rattle.wgr_words.specs.Reading.{ReadingAsked}
 use Rattle.wgr_words.specs.declared.line.LineFault.{LineFault}
 use Rattle.wgr_service.specs.Batch.{IsCut}
 use Rattle.wgr_service.specs.Lines.{SpellsFirst, SpellsNone, ended_text, fault_text, settled}
 use Rattle.wgr_service.specs.Network as network
+use Rattle.wgr_service.specs.Readings.{Reads, SpellsFirstReading, is_reading_available, reading_text}
 use Rattle.wgr_service.specs.declared.connections.Ending.{Ending}
 use Rattle.wgr_service.specs.declared.connections.Ending.TheVariants as ending
 use Rattle.wgr_service.specs.declared.network.Door.{Door}
 use Rattle.wgr_service.specs.declared.network.Door.TheVariants as door
+use Rattle.wgr_service.specs.declared.readings.ReadingEnd.{ReadingEnd}
 use Rattle.wgr_service.specs.declared.report.Report.{Report}
 use Rattle.wgr_service.specs.declared.report.Report.TheVariants as report
 
@@ -64,11 +67,13 @@ pub record Meeting : Type 0 where
   pub read_failed : Bool
   pub write_failed : Bool
 
--- a message or an order was answered and its answer written; it was answered, but writing that failed; a line spelled no
--- order, and nothing was done; nothing was done or written; or no connection could be accepted
+-- a message or an order was answered and its answer written; it was answered, but writing that failed; a reading was
+-- answered; a line spelled neither an order nor a reading, and nothing was done; nothing was done or written; or no
+-- connection could be accepted
 pub data Outcome : Type 0 where
   answered : Meeting → Exchange → Outcome
   cut : Meeting → Exchange → Outcome
+  shown : Meeting → ReadingAsked → ReadingEnd → Outcome
   unspelled : Meeting → LineFault → Outcome
   failed : Meeting → Outcome
   missed : Outcome
@@ -82,6 +87,7 @@ exchange_of other = None
 abbrev pub door_of : Outcome → Door
 door_of (answered m x) = m.door
 door_of (cut m x) = m.door
+door_of (shown m asked end) = m.door
 door_of (unspelled m why) = m.door
 door_of (failed m) = m.door
 door_of missed = door.Requests
@@ -99,6 +105,7 @@ unavailable_line = codes "wgr: unavailable\n"
 abbrev pub line_of : Outcome → Bytes
 line_of (answered m x) = cond (is_available (answer_of x)) [] unavailable_line
 line_of (cut m x) = failure_line m.door
+line_of (shown m asked end) = cond m.write_failed (failure_line m.door) (cond (is_reading_available end) [] unavailable_line)
 line_of (unspelled m why) = cond m.write_failed (failure_line m.door) []
 line_of (failed m) = failure_line m.door
 line_of missed = failure_line door.Requests
@@ -110,6 +117,7 @@ met m = network.came m.door m.clock m.input m.before ∷ network.ended m.after m
 abbrev pub contacts_of : Outcome → List network.Contact
 contacts_of (answered m x) = met m
 contacts_of (cut m x) = met m
+contacts_of (shown m asked end) = met m
 contacts_of (unspelled m why) = met m
 contacts_of (failed m) = met m
 contacts_of missed = network.missed ∷ []
@@ -130,15 +138,18 @@ Suits now m (Ordered order ended) = (m.door ≡ door.Orders) × IfSome m.input (
 abbrev pub IsServed : Option ℕ → Outcome → Type 0
 IsServed now (answered m x) = Suits now m x × Appends m.before m.after (written_of x) × (m.read_failed ≡ false) × (m.write_failed ≡ false)
 IsServed now (cut m x) = Suits now m x × IsCut m.before m.after (written_of x) × (m.read_failed ≡ false) × (m.write_failed ≡ true)
+IsServed now (shown m asked end) =
+    (m.door ≡ door.Orders) × IfSome m.input (λ all. SpellsFirstReading all asked) × MatchBool m.write_failed (IsCut m.before m.after (reading_text end)) (Appends m.before m.after (reading_text end)) × (m.read_failed ≡ false)
 IsServed now (unspelled m why) =
     (m.door ≡ door.Orders) × IfSome m.input (λ all. SpellsNone all why) × MatchBool m.write_failed (IsCut m.before m.after (fault_text why)) (Appends m.before m.after (fault_text why)) × (m.read_failed ≡ false)
 IsServed now (failed m) = (m.after ≡ m.before) × (m.write_failed ≡ false) × ((m.read_failed ≡ true) ⊎ ((m.door ≡ door.Requests) × (moment_of now m.clock ≡ None)))
 IsServed now missed = Unit {0}
 
--- one message or order was answered, whatever the rows of the register were, or nothing was done
+-- one message or order was answered, whatever the rows of the register were; a reading kept them; or nothing was done
 abbrev pub Moves : {S : Type 0} → Ghosts S → Held S → Held S → Outcome → Type 0
 Moves g old new (answered m x) = IsCall g old new (asked_of x) (answer_of x)
 Moves g old new (cut m x) = IsCall g old new (asked_of x) (answer_of x)
+Moves g old new (shown m asked end) = Reads g old new asked end
 Moves g old new other = new ≡ old
 
 abbrev pub HasOutcome : {S : Type 0} → Ghosts S → Held S → Held S → Option ℕ → Outcome → Type 0
@@ -147,13 +158,16 @@ HasOutcome g old new now outcome = IsServed now outcome × Moves g old new outco
 -- it was answered Unavailable
 abbrev pub IsUnavailable : Outcome → Type 0
 IsUnavailable (answered m x) = answer_of x ≡ givens.Unavailable
+IsUnavailable (shown m asked end) = (m.write_failed ≡ false) × (is_reading_available end ≡ false)
 IsUnavailable other = ⊥
 
 -- which outcome is reported as
 abbrev pub Reports : Report → Outcome → Type 0
 Reports report.Fine (answered m x) = is_available (answer_of x) ≡ true
+Reports report.Fine (shown m asked end) = (m.write_failed ≡ false) × (is_reading_available end ≡ true)
 Reports report.Fine (unspelled m why) = m.write_failed ≡ false
 Reports report.Failed (cut m x) = Unit {0}
+Reports report.Failed (shown m asked end) = m.write_failed ≡ true
 Reports report.Failed (unspelled m why) = m.write_failed ≡ true
 Reports report.Failed (failed m) = Unit {0}
 Reports report.Failed missed = Unit {0}
@@ -208,12 +222,15 @@ HasCounted ending.Served count outcomes = requests_in outcomes ≡ count
 HasCounted ending.Shut count outcomes = (requests_in outcomes ≤ count) × ((earlier : List Outcome) × (last : Outcome) × (outcomes ≡ earlier ++ last ∷ []) × IsUnavailable last)
 
 -- `count` requests' connections were served, and the orders' that came, each with one outcome: the register handled the
--- answered messages and orders like a list of events, and between any two of them it was at some rows.
+-- answered messages and orders like a list of events, and between any two of them it was at some rows. Readings kept
+-- the rows; those that came before the first event led to `start`.
 pub record AreServed {S : Type 0} (g : Ghosts S) (old new : Held S) (now : Option ℕ) (count : ℕ) (ended : Ending) (outcomes : List Outcome) : Type 0 where
   pub each : HasCounted ended count outcomes
   pub served : All (IsServed now) outcomes
   pub run : (db : Database) (late : List Event) → StandsAt g old db late → HasCleanDisk (state g new) → HasServed g new db late (exchanges outcomes)
-  pub between : (db : Database) (late : List Event) → StandsAt g old db late → HasCleanDisk (state g new) → HasPassed g old new db late (map asked_of (exchanges outcomes)) (map answer_of (exchanges outcomes))
+  pub start : Held S
+  pub kept : Keeps g old start
+  pub between : (db : Database) (late : List Event) → StandsAt g start db late → HasCleanDisk (state g new) → HasPassed g start new db late (map asked_of (exchanges outcomes)) (map answer_of (exchanges outcomes))
 
 -- where no write failed, these bytes were written
 abbrev pub AreWritten : Bool → Option Bytes → Option Bytes → Bytes → Type 0

@@ -3,5 +3,7 @@ pub mod Connections
 pub mod Laws
 pub mod Lines
 pub mod Network
+pub mod Readings
 pub mod Reports
+pub mod Status
 pub mod Texts

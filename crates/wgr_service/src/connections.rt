@@ -9,9 +9,11 @@ ghost use Rattle.wgr_service.specs.Connections.{AreServed, AreSound, AreWritten,
 ghost use Rattle.wgr_service.specs.Network.{Logs};
 ghost use Rattle.wgr_service.specs.declared.network.Door.TheVariants as door;
 
-use crate::lines::{take_line, write_line_end};
+use crate::copies::Archive;
+use crate::desk::Desk;
 use crate::network::{Arrival, Door, Network};
 use crate::report::{Report, report_of, write_report};
+use crate::taken::{take_line, write_taken};
 use sqlite::Alter;
 use std::alloc::Global;
 use wgr_io::{Read, Write};
@@ -27,8 +29,8 @@ pub enum Ending {
     Shut,
 }
 
-/// Serves `count` connections of requests, and the orders that come meanwhile: reads a message or an
-/// order's line from each, answers it, and writes the answer. It ends earlier if the store fails for good.
+/// Serves `count` connections of requests, and the orders and readings that come meanwhile: reads a message
+/// or a line from each, answers it, and writes the answer. It ends earlier if the store fails for good.
 ///
 /// A message's moment is `now`, or else the clock's time after its connection was accepted (seconds
 /// since 1970-01-01). For a connection that fails, `wgr: connection` or `wgr: order` is written to `err`; it
@@ -38,11 +40,12 @@ pub enum Ending {
 /// rows are those that its own requests and the accepted orders about it give on its own rows alone. Where the
 /// network's log is known, a message asks what its connection's bytes ask (one that is answered Unavailable is
 /// what they begin with), an order is that of its connection's first line, and the answer is what was written to
-/// that connection.
-pub fn serve_connections<S: Alter, N: Network, E: Write>(
+/// that connection. A reading keeps the rows.
+pub fn serve_connections<S: Alter, N: Network, A: Archive, E: Write>(
     alloc: Global,
     office: &mut Office<S>,
     network: &mut N,
+    desk: &mut Desk<A>,
     count: u64,
     now: Option<u64>,
     err: &mut E,
@@ -58,7 +61,7 @@ pub fn serve_connections<S: Alter, N: Network, E: Write>(
     rows_are_isolated();
     let mut served = 0;
     while served < count {
-        let (door, report) = serve_next(alloc, office, network, now, err);
+        let (door, report) = serve_next(alloc, office, network, desk, now, err);
         if let Report::Shut = report {
             return Ending::Shut;
         }
@@ -78,10 +81,11 @@ fn weight(door: Door) -> u64
 }
 
 // Serves the next connection, and reports it on `err`.
-fn serve_next<S: Alter, N: Network, E: Write>(
+fn serve_next<S: Alter, N: Network, A: Archive, E: Write>(
     alloc: Global,
     office: &mut Office<S>,
     network: &mut N,
+    desk: &mut Desk<A>,
     now: Option<u64>,
     err: &mut E,
 ) -> (Door, Report)
@@ -92,16 +96,18 @@ fn serve_next<S: Alter, N: Network, E: Write>(
         × AreWritten (E.failed err.new) (E.contents err.old) (E.contents err.new) (line_of outcome)
         × Logs (N.log network.old) (N.log network.new) (contacts_of outcome) }
 {
-    let (door, report) = serve_one(alloc, office, network, now);
+    let (door, report) = serve_one(alloc, office, network, desk, now);
+    desk.count_report(report);
     write_report(door, report, err);
     (door, report)
 }
 
 // Waits for a connection, serves it, and ends it.
-fn serve_one<S: Alter, N: Network>(
+fn serve_one<S: Alter, N: Network, A: Archive>(
     alloc: Global,
     office: &mut Office<S>,
     network: &mut N,
+    desk: &mut Desk<A>,
     now: Option<u64>,
 ) -> (Door, Report)
     ensures clean { HasCleanDisk (state S.Store office.new) → HasCleanDisk (state S.Store office.old) }
@@ -120,15 +126,25 @@ fn serve_one<S: Alter, N: Network>(
     else {
         return (Door::Requests, Report::Failed);
     };
-    let report = serve_arrival(alloc, office, now, door, clock, &mut reader, &mut writer);
+    let report = serve_arrival(
+        alloc,
+        office,
+        desk,
+        now,
+        door,
+        clock,
+        &mut reader,
+        &mut writer,
+    );
     network.end(reader, writer);
     (door, report)
 }
 
 // Serves a connection that was accepted at this time of the clock.
-fn serve_arrival<S: Alter, R: Read, W: Write>(
+fn serve_arrival<S: Alter, A: Archive, R: Read, W: Write>(
     alloc: Global,
     office: &mut Office<S>,
+    desk: &mut Desk<A>,
     now: Option<u64>,
     door: Door,
     clock: Option<u64>,
@@ -139,15 +155,16 @@ fn serve_arrival<S: Alter, R: Read, W: Write>(
     ensures outcome { AreSound (ends_of R.remaining R.failed W.contents W.failed input.old out.old) → HasMet S.Store office.old office.new now (meeting_of door clock (ends_of R.remaining R.failed W.contents W.failed input.old out.old) (ends_of R.remaining R.failed W.contents W.failed input.new out.new)) result }
 {
     match door {
-        Door::Requests => serve_request(alloc, office, now, clock, input, out),
-        Door::Orders => serve_order(alloc, office, input, out),
+        Door::Requests => serve_request(alloc, office, desk, now, clock, input, out),
+        Door::Orders => serve_order(alloc, office, desk, input, out),
     }
 }
 
 // Answers a tenant's message, at the given moment or the clock's.
-fn serve_request<S: Alter, R: Read, W: Write>(
+fn serve_request<S: Alter, A: Archive, R: Read, W: Write>(
     alloc: Global,
     office: &mut Office<S>,
+    desk: &mut Desk<A>,
     now: Option<u64>,
     clock: Option<u64>,
     input: &mut R,
@@ -160,7 +177,10 @@ fn serve_request<S: Alter, R: Read, W: Write>(
         return Report::Failed;
     };
     match office.serve_one(alloc, moment, input, out) {
-        Ok(is_available) => report_of(office, is_available),
+        Ok(answer) => {
+            desk.count_reply(answer.status());
+            report_of(office, answer.is_available())
+        }
         Err(_) => Report::Failed,
     }
 }
@@ -175,22 +195,24 @@ fn moment_of(now: Option<u64>, clock: Option<u64>) -> Option<u64>
     }
 }
 
-// Carries out an operator's order.
-fn serve_order<S: Alter, R: Read, W: Write>(
+// Carries out an operator's order, or answers a reading.
+fn serve_order<S: Alter, A: Archive, R: Read, W: Write>(
     alloc: Global,
     office: &mut Office<S>,
+    desk: &mut Desk<A>,
     input: &mut R,
     out: &mut W,
 ) -> Report
     ensures clean { HasCleanDisk (state S.Store office.new) → HasCleanDisk (state S.Store office.old) }
     ensures outcome { (now clock : Option ℕ) → AreSound (ends_of R.remaining R.failed W.contents W.failed input.old out.old) → HasMet S.Store office.old office.new now (meeting_of door.Orders clock (ends_of R.remaining R.failed W.contents W.failed input.old out.old) (ends_of R.remaining R.failed W.contents W.failed input.new out.new)) result }
 {
-    let end = match take_line(alloc, office, input) {
-        Ok(end) => end,
+    let taken = match take_line(alloc, office, desk, input) {
+        Ok(taken) => taken,
         Err(_) => return Report::Failed,
     };
-    match write_line_end(&end, out) {
-        Ok(()) => report_of(office, end.is_available()),
+    desk.count_taken(&taken);
+    match write_taken(&taken, out) {
+        Ok(()) => report_of(office, taken.is_available()),
         Err(_) => Report::Failed,
     }
 }

@@ -4,20 +4,26 @@
 
 mod batch;
 mod connections;
+mod copies;
+mod desk;
 mod doors;
 mod laws;
 mod lines;
 mod network;
 mod parts;
+mod readings;
 mod report;
 mod sockets;
 mod stream;
+mod taken;
 #[cfg(test)]
 mod tests;
 mod texts;
 
 pub use batch::{BatchFault, answer_all};
 pub use connections::{Ending, serve_connections};
+pub use copies::{Archive, CopyFault, FileCopies};
+pub use desk::Desk;
 pub use laws::connections_are_apart;
 pub use lines::{LineEnd, carry_out_line, write_line_end};
 pub use network::{Arrival, Door, Network};

@@ -1,18 +1,18 @@
 //! Orders that come as lines: carries one out, and writes how it ended as a line.
-ghost use Rattle.std.specs.Prelude.{◌≡◌, ◌++◌, codes, flat_map, true, IfOk, OnErr, OnOk};
+ghost use Rattle.std.specs.Prelude.{◌≡◌, ◌++◌, codes, flat_map, true, OnErr, OnOk};
 ghost use Rattle.std.specs.Io.KnownBytes.{Appends};
 ghost use Rattle.wgr_orders.specs.Orders.{refusal_of};
 ghost use Rattle.wgr_service.specs.Batch.{IsCut};
-ghost use Rattle.wgr_service.specs.Lines.{EndsLine, TakesLine, end_status, end_text, is_end_available, refusal_text};
+ghost use Rattle.wgr_service.specs.Lines.{EndsLine, end_status, end_text, is_end_available, refusal_text};
 
 use crate::parts::write_parts;
 use sqlite::Alter;
 use std::alloc::Global;
-use wgr_io::{DeviceError, Read, ReadFault, Write, WriteFault};
+use wgr_io::{Write, WriteFault};
 use wgr_office::Office;
 use wgr_orders::OrderRefusal;
 use wgr_register::{Done, Fault, OrderFault};
-use wgr_words::{LineFault, order_in, read_first_line};
+use wgr_words::{LineFault, order_in};
 
 /// How a line ended.
 #[derive(Drop)]
@@ -53,25 +53,6 @@ pub fn carry_out_line<S: Alter>(alloc: Global, office: &mut Office<S>, line: &[u
     match order_in(alloc, line) {
         Ok(order) => LineEnd::Ended(office.operate(alloc, &order)),
         Err(why) => LineEnd::Unspelled(why),
-    }
-}
-
-/// Carries out the order in the first line of the input. Nothing is done without a newline.
-pub(crate) fn take_line<S: Alter, R: Read>(
-    alloc: Global,
-    office: &mut Office<S>,
-    input: &mut R,
-) -> Result<LineEnd, DeviceError>
-    ensures ok { IfOk result (λ end. TakesLine S.Store office.old office.new (R.remaining input.old) end) }
-    ensures sound { OnOk result (R.failed input.new ≡ R.failed input.old) }
-    ensures failed { OnErr result (R.failed input.new ≡ true) }
-    ensures undone { OnErr result (office.new ≡ office.old) }
-{
-    match read_first_line(alloc, input) {
-        Ok(Some(line)) => Ok(carry_out_line(alloc, office, &line)),
-        Ok(None) => Ok(LineEnd::Unspelled(LineFault::NoOrder)),
-        Err(ReadFault::NoMemory) => Ok(LineEnd::Unspelled(LineFault::NoMemory)),
-        Err(ReadFault::Device) => Err(DeviceError),
     }
 }
 

@@ -4,8 +4,8 @@ use std::net::{Net, OpenStream, Shutdown};
 use std::os::unix::net::UnixStream;
 use std::time::{Clock, Duration, Instant};
 
-/// How long all reads and writes of an order's connection may take, so that no client of its socket holds
-/// up the service.
+/// How long all reads of an order's connection may take, and all writes of its answer, so that no client of its
+/// socket holds up the service.
 const ORDER_SECONDS: u64 = 5;
 
 /// The socket of a connection.
@@ -13,23 +13,25 @@ const ORDER_SECONDS: u64 = 5;
 pub enum Stream<'a, H: Net> {
     /// Of a tenant's request, without a time limit.
     Request(H::Stream),
-    /// Of an operator's order, with the moment at which it has to be over, if there is one.
+    /// Of an operator's order, with the moments at which it has to be read, if there is one, and at which its
+    /// answer has to be written, once that began. An answer may take long to make, as a large copy does.
     Order {
         host: &'a H,
         stream: UnixStream,
         until: Option<Instant>,
+        answer_until: Option<Instant>,
     },
 }
 
 impl<'a, H: Clock + Net> Stream<'a, H> {
     /// The socket of an order that was accepted now.
     pub(crate) fn accepted(host: &'a H, stream: UnixStream) -> io::Result<Stream<'a, H>> {
-        let limit = Duration::from_secs(ORDER_SECONDS);
-        let until = Instant::now(host)?.checked_add(limit);
+        let until = deadline(host)?;
         Ok(Stream::Order {
             host,
             stream,
             until,
+            answer_until: None,
         })
     }
 
@@ -40,6 +42,7 @@ impl<'a, H: Clock + Net> Stream<'a, H> {
             host,
             stream,
             until: None,
+            answer_until: None,
         }
     }
 
@@ -51,10 +54,12 @@ impl<'a, H: Clock + Net> Stream<'a, H> {
                 host,
                 stream,
                 until,
+                answer_until,
             } => Ok(Stream::Order {
                 host: *host,
                 stream: stream.try_clone()?,
                 until: *until,
+                answer_until: *answer_until,
             }),
         }
     }
@@ -75,6 +80,7 @@ impl<'a, H: Clock + Net> io::Read for Stream<'a, H> {
                 host,
                 stream,
                 until,
+                ..
             } => {
                 stream.set_read_timeout(left_until(*host, *until)?)?;
                 stream.read(buf)
@@ -91,8 +97,12 @@ impl<'a, H: Clock + Net> io::Write for Stream<'a, H> {
                 host,
                 stream,
                 until,
+                answer_until,
             } => {
-                stream.set_write_timeout(left_until(*host, *until)?)?;
+                if until.is_some() && answer_until.is_none() {
+                    *answer_until = deadline(*host)?;
+                }
+                stream.set_write_timeout(left_until(*host, *answer_until)?)?;
                 stream.write(buf)
             }
         }
@@ -104,6 +114,11 @@ impl<'a, H: Clock + Net> io::Write for Stream<'a, H> {
             Stream::Order { stream, .. } => stream.flush(),
         }
     }
+}
+
+// The moment at which what begins now has to be over.
+fn deadline<C: Clock>(clock: &C) -> io::Result<Option<Instant>> {
+    Ok(Instant::now(clock)?.checked_add(Duration::from_secs(ORDER_SECONDS)))
 }
 
 // The time from now to this moment, if there is one. It is an error if it is over: the system takes a time of 0

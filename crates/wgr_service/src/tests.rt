@@ -1,5 +1,7 @@
 //! Clients and the service in one thread, over a register in memory.
-use super::{Ending, Network, Sockets, answer_all, carry_out_text, serve_connections};
+use super::{
+    Desk, Ending, FileCopies, Network, Sockets, answer_all, carry_out_text, serve_connections,
+};
 use sqlite::{Connection, MemStore};
 use std::alloc::AllocGlobal;
 use std::io;
@@ -81,8 +83,17 @@ fn clients_are_served_in_turn(rt: HostRuntime) -> io::Result<()> {
     let mut office = office(&rt);
     add_acme(&rt, &mut office);
     let mut err = Device::new(Vec::new(rt.alloc()));
+    let mut desk = Desk::new(FileCopies::new(rt.alloc(), &rt, "register.db"), 7);
     for (count, now) in [(0, Some(7)), (1, None), (1, Some(7))] {
-        let ended = serve_connections(rt.alloc(), &mut office, &mut network, count, now, &mut err);
+        let ended = serve_connections(
+            rt.alloc(),
+            &mut office,
+            &mut network,
+            &mut desk,
+            count,
+            now,
+            &mut err,
+        );
         assert_eq!(rt; ended, Ending::Served);
     }
     let _conn = office.into_register().into_connection();

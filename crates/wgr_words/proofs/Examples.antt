@@ -1,8 +1,11 @@
--- What lines of orders are, by computation.
-use Rattle.std.proofs.Common.{◌≡◌, List, ℕ, [], ◌∷◌, ◌++◌, Option, Some, None, codes, false, refl, true}
+-- What lines of orders and of readings are, by computation.
+use Rattle.std.proofs.Common.{◌≡◌, Bool, List, ℕ, [], ◌∷◌, ◌++◌, Option, Some, None, codes, false, refl, true}
+use Rattle.std.specs.Char.{encode_utf8}
 use Rattle.std.specs.List.{repeat}
+use Rattle.std.specs.Str.{chars, is_utf8}
 use Rattle.wgr_words.specs.Asked.{OrderAsked, DigestEnd, NetworkAdd, NetworkEnd, TenantAdd, TokenEnd, TokenGrant}
 use Rattle.wgr_words.specs.Line.{LineAsked, first_line, is_line, line_in, line_text, words_in}
+use Rattle.wgr_words.specs.Reading.{ReadingAsked, Backup, Show, Status, reading_in_line}
 
 -- the order of a line, and its token
 abbrev read : List ℕ → Option LineAsked
@@ -58,6 +61,87 @@ field_less = refl
 
 pub other_option : read (codes "token-end --token abc") ≡ None
 other_option = refl
+
+-- ---- readings
+
+abbrev shows : Option (List ℕ) → Bool → Option ReadingAsked
+shows tenant is_json = Some (Show tenant is_json)
+
+pub status : reading_in_line (codes "status") ≡ Some Status
+unfolding is_utf8 chars encode_utf8
+status = refl
+
+pub show_all : reading_in_line (codes "show") ≡ shows None false
+unfolding is_utf8 chars encode_utf8
+show_all = refl
+
+pub show_all_as_json : reading_in_line (codes "show --json") ≡ shows None true
+unfolding is_utf8 chars encode_utf8
+show_all_as_json = refl
+
+pub show_one : reading_in_line (codes "show acme") ≡ shows (Some (codes "acme")) false
+unfolding is_utf8 chars encode_utf8
+show_one = refl
+
+pub show_one_as_json : reading_in_line (codes "show acme --json") ≡ shows (Some (codes "acme")) true
+unfolding is_utf8 chars encode_utf8
+show_one_as_json = refl
+
+-- the option is the last word, so before another it is a name
+pub option_before_a_tenant : reading_in_line (codes "show --json acme") ≡ None
+unfolding is_utf8 chars encode_utf8
+option_before_a_tenant = refl
+
+pub option_as_a_tenant : reading_in_line (codes "show --json --json") ≡ shows (Some (codes "--json")) true
+unfolding is_utf8 chars encode_utf8
+option_as_a_tenant = refl
+
+pub show_two : reading_in_line (codes "show acme globex") ≡ None
+unfolding is_utf8 chars encode_utf8
+show_two = refl
+
+pub backup : reading_in_line (codes "backup /var/backups/register.db") ≡ Some (Backup (codes "/var/backups/register.db"))
+unfolding is_utf8 chars encode_utf8
+backup = refl
+
+-- the file's form is not checked here
+pub backup_to_an_option : reading_in_line (codes "backup --json") ≡ Some (Backup (codes "--json"))
+unfolding is_utf8 chars encode_utf8
+backup_to_an_option = refl
+
+pub backup_without_a_file : reading_in_line (codes "backup") ≡ None
+unfolding is_utf8 chars encode_utf8
+backup_without_a_file = refl
+
+pub backup_to_two_files : reading_in_line (codes "backup /a /b") ≡ None
+unfolding is_utf8 chars encode_utf8
+backup_to_two_files = refl
+
+pub status_of_a_tenant : reading_in_line (codes "status acme") ≡ None
+unfolding is_utf8 chars encode_utf8
+status_of_a_tenant = refl
+
+pub status_in_capitals : reading_in_line (codes "STATUS") ≡ None
+unfolding is_utf8 chars encode_utf8
+status_in_capitals = refl
+
+-- a blank at the end makes an empty name
+pub blank_behind_show : reading_in_line (codes "show ") ≡ shows (Some []) false
+unfolding is_utf8 chars encode_utf8
+blank_behind_show = refl
+
+pub no_reading : reading_in_line [] ≡ None
+unfolding is_utf8 chars encode_utf8
+no_reading = refl
+
+pub an_order : reading_in_line (codes "tenant-add acme") ≡ None
+unfolding is_utf8 chars encode_utf8
+an_order = refl
+
+-- `show ` and the byte 255, which is no text
+pub not_text : reading_in_line (codes "show " ++ 255 ∷ []) ≡ None
+unfolding is_utf8 chars encode_utf8
+not_text = refl
 
 -- ---- the first line
 

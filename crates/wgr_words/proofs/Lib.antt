@@ -2,3 +2,4 @@ pub mod EndpointLemmas
 pub mod Examples
 pub mod LineLemmas
 pub mod OrderLemmas
+pub mod ReadingLemmas

@@ -1,4 +1,5 @@
 pub mod Asked
 pub mod Line
 pub mod Order
+pub mod Reading
 pub mod Words

@@ -109,14 +109,14 @@ abbrev pub TakesToken : OrderAsked → Input → Input → List ℕ → Type 0
 TakesToken asked old new token = MatchBool (wants_token asked) (IsTaken old new token) (new ≡ old)
 
 -- a field of the words is malformed, and nothing is read; or the token is read, and it or another field is malformed
-abbrev pub TellsField : OrderAsked → Input → Input → WordField → Type 0
-TellsField asked old new field =
+abbrev pub ReportsField : OrderAsked → Input → Input → WordField → Type 0
+ReportsField asked old new field =
     ((new ≡ old) × ((token : List ℕ) → IsFirst field (fields_of asked token)))
     ⊎ ((token : List ℕ) × TakesToken asked old new token × IsFirst field (fields_of asked token))
 
 -- the order that the words and the input spell, or why they spell none
 abbrev pub OrdersBy : OrderAsked → Input → Input → Result Order WordFault → Type 0
 OrdersBy asked old new (Ok order) = (token : List ℕ) × TakesToken asked old new token × MakesOrder asked token order
-OrdersBy asked old new (Err (fault.Field field)) = TellsField asked old new field
+OrdersBy asked old new (Err (fault.Field field)) = ReportsField asked old new field
 OrdersBy asked old new (Err fault.NoMemory) = new.failed ≡ old.failed
 OrdersBy asked old new (Err fault.Device) = new.failed ≡ true

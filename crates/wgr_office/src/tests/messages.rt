@@ -129,7 +129,10 @@ fn serve(
     let bytes = text_of(rt, message);
     let mut input = Device::new(bytes.as_slice());
     let mut out = Device::new(Vec::new(rt.alloc()));
-    assert!(rt; office.serve_one(rt.alloc(), 7, &mut input, &mut out) == Ok(true));
+    let answer = office
+        .serve_one(rt.alloc(), 7, &mut input, &mut out)
+        .expect(rt, "an answer");
+    assert_eq!(rt; answer.status(), wanted.get(9..12).expect(rt, "a status"));
     assert_eq!(rt; out.inner.as_slice(), text_of(rt, wanted).as_slice());
 }
 

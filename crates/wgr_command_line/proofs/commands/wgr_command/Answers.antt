@@ -14,6 +14,7 @@ returns-clause-app c =
     let network_add = c.in_ok-command-7.ensures.app ∙ ap₂ both token_end c.in_ok-network_add_command.ensures.app in
     let network_end = c.in_ok-command-8.ensures.app ∙ ap₂ both network_add c.in_ok-network_end_command.ensures.app in
     let orders = c.in_ok-command-9.ensures.app ∙ ap₂ both network_end c.in_ok-orders_command.ensures.app in
-    let batch = c.in_ok-command-10.ensures.app ∙ ap₂ both orders c.in_ok-batch_command.ensures.app in
-    let serve = c.in_ok-command-11.ensures.app ∙ ap₂ both batch c.in_ok-serve_command.ensures.app in
-    c.in_ok-command-12.ensures.app ∙ ap₂ both serve c.in_ok-send_command.ensures.app
+    let show = c.in_ok-command-10.ensures.app ∙ ap₂ both orders c.in_ok-show_command.ensures.app in
+    let batch = c.in_ok-command-11.ensures.app ∙ ap₂ both show c.in_ok-batch_command.ensures.app in
+    let serve = c.in_ok-command-12.ensures.app ∙ ap₂ both batch c.in_ok-serve_command.ensures.app in
+    c.in_ok-command-13.ensures.app ∙ ap₂ both serve c.in_ok-send_command.ensures.app

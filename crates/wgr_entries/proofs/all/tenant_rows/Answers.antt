@@ -6,6 +6,7 @@ use Rattle.wgr_tables.proofs.AskedLemmas.{answered_here}
 use Rattle.wgr_entries.proofs.AllLemmas.{tenants_answered, tenants_stored}
 use Rattle.wgr_columns.specs.Decode.{tenant_in}
 use Rattle.wgr_columns.specs.Stored.{AreStored, stored_tenant}
+use Rattle.wgr_entries.proofs.LookupLemmas.{on_each}
 use Rattle.wgr_entries.proofs.all.tenant_rows.Goals as goal
 
 pub returns-clause-stands : goal.returns-clause-stands
@@ -21,3 +22,6 @@ returns-clause-cause g c db pending stood = c.query.ensures.cause (answered_here
 pub returns-clause-stored : goal.returns-clause-stored
 returns-clause-stored g c db pending stood clean =
     if_ok c.query.result _ _ (λ rows given. rows_read g.S.Store c.args.conn.now c.query.new.conn db pending stood tenants_text c.query.ensures.survives (λ t. AreStored stored_tenant tenant_in) [] (λ a b register found. tenants_stored a b register found) clean rows.items given) (c.query.ensures.shown clean)
+
+pub returns-clause-open : goal.returns-clause-open
+returns-clause-open g c clean = on_each c.query.result _ _ (λ rows given. given.was_open) (c.query.ensures.shown clean)

@@ -8,6 +8,7 @@ use Rattle.wgr_columns.specs.Decode.{tenant_in}
 use Rattle.wgr_columns.specs.Stored.{stored_tenant}
 use Rattle.wgr_entries.proofs.KeptLemmas.{rows_kept}
 use Rattle.wgr_model.specs.Consistent.{IsTenant}
+use Rattle.wgr_entries.proofs.LookupLemmas.{on_any}
 use Rattle.wgr_entries.proofs.all.tenants.Goals as goal
 
 pub returns-clause-listed : goal.returns-clause-listed
@@ -21,3 +22,6 @@ returns-in_err-rows-clause-cause g c db pending stood kept = handed (HasCause (s
 pub returns-clause-cause : goal.returns-clause-cause
 returns-clause-cause g c db pending stood kept = never_stores _ (state g.S.Store c.args.conn.now) (state g.S.Store c.tenant_rows.new.conn) c.tenants_in.result (rw c.as_slice.ensures.value at c.tenants_in.ensures.only)
     (λ clean only. only (rows_kept tenant_in stored_tenant IsTenant (tables_of db).tenants c.in_ok-rows.rows.items (c.in_ok-rows.ensures.listed db pending stood clean) (c.in_ok-rows.ensures.stored db pending stood clean) kept))
+
+pub returns-clause-open : goal.returns-clause-open
+returns-clause-open g c clean = on_any c.tenants_in.result _ (c.in_ok-rows.ensures.open clean)

@@ -3,7 +3,10 @@ use Rattle.wgr_sql.proofs.ResultLemmas.{if_ok}
 use Rattle.wgr_tables.proofs.ReadLemmas.{stands_read, rows_read}
 use Rattle.wgr_entries.proofs.AllLemmas.{ShowTokens, tokens_asks, tokens_listed, tokens_text}
 use Rattle.wgr_tables.proofs.AskedLemmas.{answered_here}
-use Rattle.wgr_entries.proofs.AllLemmas.{tokens_answered}
+use Rattle.wgr_entries.proofs.AllLemmas.{tokens_answered, tokens_stored}
+use Rattle.wgr_columns.specs.Decode.{token_in}
+use Rattle.wgr_columns.specs.Stored.{AreStored}
+use Rattle.wgr_entries.specs.Kept.{stored_token}
 use Rattle.wgr_entries.proofs.all.token_rows.Goals as goal
 
 pub returns-clause-stands : goal.returns-clause-stands
@@ -15,3 +18,7 @@ returns-clause-listed g c db pending stood clean =
 
 pub returns-clause-cause : goal.returns-clause-cause
 returns-clause-cause g c db pending stood = c.query.ensures.cause (answered_here g.S.Store c.args.conn.now c.query.new.conn db pending stood c.query.ensures.survives tokens_text [] tokens_answered)
+
+pub returns-clause-stored : goal.returns-clause-stored
+returns-clause-stored g c db pending stood clean =
+    if_ok c.query.result _ _ (λ rows given. rows_read g.S.Store c.args.conn.now c.query.new.conn db pending stood tokens_text c.query.ensures.survives (λ t. AreStored stored_token token_in) [] (λ a b register found. tokens_stored a b register found) clean rows.items given) (c.query.ensures.shown clean)

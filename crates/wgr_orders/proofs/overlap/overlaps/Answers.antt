@@ -5,14 +5,14 @@ use Rattle.wgr_text.specs.Prefix.{AreDisjoint, PrefixValue}
 use Rattle.wgr_pool.proofs.Bools.{decide}
 use Rattle.wgr_pool.specs.Pool.{IsPool}
 use Rattle.wgr_model.specs.Consistent.{overlaps}
-use Rattle.wgr_model.proofs.PoolLemmas.{overlaps_are_told}
+use Rattle.wgr_model.proofs.PoolLemmas.{overlaps_are_decided}
 use Rattle.wgr_orders.proofs.overlap.overlaps.Goals as goal
 
 told : (p q : PrefixValue) (b : Bool) → IsPool p → IsPool q → IsTrue b ↔ AreDisjoint p q → not b ≡ overlaps p q
-told p q true pools others is = sym ((overlaps_are_told p q pools others).1 (is.0 refl))
+told p q true pools others is = sym ((overlaps_are_decided p q pools others).1 (is.0 refl))
 told p q false pools others is = elim (decide (overlaps p q)) [
   | inl yes_it_does ↦ sym yes_it_does
-  | inr apart ↦ absurd (true≢false (sym (is.1 ((overlaps_are_told p q pools others).0 apart))))
+  | inr apart ↦ absurd (true≢false (sym (is.1 ((overlaps_are_decided p q pools others).0 apart))))
 ]
 
 pub returns : goal.returns

@@ -11,7 +11,7 @@ use Rattle.sqlite_disk.specs.declared.Files.{Files}
 use Rattle.wgr_command_line.specs.Words.{Asked, asked_by}
 use Rattle.wgr_plan.specs.PlanFault.{Streams}
 use Rattle.wgr_service.specs.Network.{Log}
-use Rattle.wgr_prog.specs.Status.{ReadsNothing, Runs, Serves, ServesAsked, TellsError, kind_status, streams}
+use Rattle.wgr_prog.specs.Status.{ReadsNothing, Runs, Serves, ServesAsked, ReportsError, kind_status, streams}
 use Rattle.wgr_prog.proofs.program.program.Goals as goal
 
 -- how the status of an error goes with its kind
@@ -31,7 +31,7 @@ lacks_memory g start (Some asked) log old new kind status memory kept told =
     let is : kind_status kind ≡ FAULT = ap kind_status (memory refl) in
     inl (refl, tt, (kept (λ done. cc (is, done)), follows_memory kind status (memory refl) told))
 
-tells_fault : (kinds : Kinds) (old new : Streams) (status : ℕ) → ReadsNothing old new → status ≡ FAULT → (new ≡ old) ⊎ (new.write_failed ≡ true) → TellsError kinds old new status
+tells_fault : (kinds : Kinds) (old new : Streams) (status : ℕ) → ReadsNothing old new → status ≡ FAULT → (new ≡ old) ⊎ (new.write_failed ≡ true) → ReportsError kinds old new status
 tells_fault kinds old new status unread fault (inl kept) = inl (kept, fault)
 tells_fault kinds old new status unread fault (inr failed) = inr (inl (unread, failed, fault))
 
@@ -41,7 +41,7 @@ is_fault status = elim (eqb_tells status FAULT) [ inl e ↦ inl e.1 | inr e ↦ 
 -- and where none is asked for it is of one of the kinds
 tells_error : (kinds : Kinds) (error : Error) (old new : Streams) (status : ℕ) → ReadsNothing old new → HasKind kinds error → Follows (kind_of error) status
     → (kind_status (kind_of error) ≢ DONE → new ≡ old) → (status ≡ FAULT → (new ≡ old) ⊎ (new.write_failed ≡ true))
-    → (status ≢ FAULT → new.write_failed ≡ old.write_failed) → TellsError kinds old new status
+    → (status ≢ FAULT → new.write_failed ≡ old.write_failed) → ReportsError kinds old new status
 tells_error kinds error old new status unread has (inl fault) kept failed sound = tells_fault kinds old new status unread fault (failed fault)
 tells_error kinds error old new status unread (inl memory) (inr told) kept failed sound =
     let fault : status ≡ FAULT = told ∙ ap kind_status memory in
@@ -94,3 +94,7 @@ returns-in-Ok-Batch g c =
 pub returns-in-Ok-Serve : goal.returns-in-Ok-Serve
 returns-in-Ok-Serve g c =
     serves _ _ _ _ _ _ _ _ _ _ (rw c.in-Ok-Serve.field-0-is at c.in-Ok-Serve.ensures.ok) (c.run_serve.ensures (g.R.Read.remaining c.args.input.now) (g.R.Read.failed c.args.input.now))
+
+pub returns-in-Ok-Show : goal.returns-in-Ok-Show
+returns-in-Ok-Show g c =
+    serves _ _ _ _ _ _ _ _ _ _ (rw c.in-Ok-Show.field-0-is at c.in-Ok-Show.ensures.ok) (refl, c.run_show.ensures (g.R.Read.remaining c.args.input.now) (g.R.Read.failed c.args.input.now))

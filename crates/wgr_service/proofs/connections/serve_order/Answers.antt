@@ -10,15 +10,15 @@ returns-in-Err-clause-outcome g c now clock sound =
     let after = ends_of g.R.Read.remaining g.R.Read.failed g.W.Write.contents g.W.Write.failed c.take_line.new.input c.args.out.now in
     line_unread g.S.Store now clock before after sound c.args.office.now c.take_line.new.office c.in-Err.ensures.undone refl refl c.in-Err.ensures.failed
 
-pub returns-in-Ok-write_line_end-clause-outcome : goal.returns-in-Ok-write_line_end-clause-outcome
-returns-in-Ok-write_line_end-clause-outcome g c now clock sound =
+pub returns-in-Ok-write_taken-clause-outcome : goal.returns-in-Ok-write_taken-clause-outcome
+returns-in-Ok-write_taken-clause-outcome g c now clock sound =
     let before = ends_of g.R.Read.remaining g.R.Read.failed g.W.Write.contents g.W.Write.failed c.args.input.now c.args.out.now in
-    let after = ends_of g.R.Read.remaining g.R.Read.failed g.W.Write.contents g.W.Write.failed c.take_line.new.input c.write_line_end.new.out in
-    line_answered g.S.Store now clock before after sound c.args.office.now c.take_line.new.office c.report_of.new.office c.in-Ok.end c.report_of.result c.in-Ok.ensures.ok c.in-Ok-write_line_end.ensures.ok
-    c.in-Ok.ensures.sound c.in-Ok-write_line_end.ensures.sound (subst (λ b. IsReport b c.report_of.result) c.is_available.ensures c.report_of.ensures.report) c.report_of.ensures.keeps (λ is. c.report_of.ensures.same (subst (λ b. b ≡ true) (sym c.is_available.ensures) is))
+    let after = ends_of g.R.Read.remaining g.R.Read.failed g.W.Write.contents g.W.Write.failed c.take_line.new.input c.write_taken.new.out in
+    line_answered g.S.Store now clock before after sound c.args.office.now c.take_line.new.office c.report_of.new.office c.in-Ok.taken c.report_of.result c.in-Ok.ensures.ok c.in-Ok-write_taken.ensures.ok
+    c.in-Ok.ensures.sound c.in-Ok-write_taken.ensures.sound (subst (λ b. IsReport b c.report_of.result) c.is_available.ensures c.report_of.ensures.report) c.report_of.ensures.keeps (λ is. c.report_of.ensures.same (subst (λ b. b ≡ true) (sym c.is_available.ensures) is))
 
 pub returns-clause-outcome : goal.returns-clause-outcome
 returns-clause-outcome g c now clock sound =
     let before = ends_of g.R.Read.remaining g.R.Read.failed g.W.Write.contents g.W.Write.failed c.args.input.now c.args.out.now in
-    let after = ends_of g.R.Read.remaining g.R.Read.failed g.W.Write.contents g.W.Write.failed c.take_line.new.input c.write_line_end.new.out in
-    line_broken g.S.Store now clock before after sound c.args.office.now c.take_line.new.office c.in-Ok.end c.in-Ok.ensures.ok c.in-Err-write_line_end.ensures.cut c.in-Ok.ensures.sound c.in-Err-write_line_end.ensures.failed
+    let after = ends_of g.R.Read.remaining g.R.Read.failed g.W.Write.contents g.W.Write.failed c.take_line.new.input c.write_taken.new.out in
+    line_broken g.S.Store now clock before after sound c.args.office.now c.take_line.new.office c.in-Ok.taken c.in-Ok.ensures.ok c.in-Err-write_taken.ensures.cut c.in-Ok.ensures.sound c.in-Err-write_taken.ensures.failed

@@ -12,8 +12,8 @@ pub returns-in-Ok-clause-outcome : goal.returns-in-Ok-clause-outcome
 returns-in-Ok-clause-outcome g c sound =
     let before = ends_of g.R.Read.remaining g.R.Read.failed g.W.Write.contents g.W.Write.failed c.args.input.now c.args.out.now in
     let after = ends_of g.R.Read.remaining g.R.Read.failed g.W.Write.contents g.W.Write.failed c.serve_one.new.input c.serve_one.new.out in
-    let (answer, takes, written, whether) = c.in-Ok.ensures.ok in
-    request_answered g.S.Store c.args.now c.args.clock before after sound c.args.office.now c.serve_one.new.self c.serve_one.ensures.clean c.in-Some.moment (sym c.in-Some.ensures) c.report_of.new.office answer c.in-Ok.is_available c.report_of.result takes written whether
+    let (takes, written) = c.in-Ok.ensures.ok in
+    request_answered g.S.Store c.args.now c.args.clock before after sound c.args.office.now c.serve_one.new.self c.serve_one.ensures.clean c.in-Some.moment (sym c.in-Some.ensures) c.report_of.new.office c.in-Ok.answer c.is_available.result c.report_of.result takes written c.is_available.ensures
     c.in-Ok.ensures.sound.0 c.in-Ok.ensures.sound.1 c.report_of.ensures.report c.report_of.ensures.keeps
 
 pub returns-in-Err-clause-outcome : goal.returns-in-Err-clause-outcome

@@ -1,0 +1,19 @@
+//! All entries of a register, for an operator to look at.
+use crate::holding::{Holding, Tenant, Token};
+
+/// A network as it was added, and how many peers and routes its rows have. A peer whose lease is over counts
+/// until a change of the network removes it.
+#[derive(Drop)]
+pub struct Counted {
+    pub holding: Holding,
+    pub peers: usize,
+    pub routes: usize,
+}
+
+/// All entries, each list in any order.
+#[derive(Drop)]
+pub struct Census {
+    pub tenants: Vec<Tenant>,
+    pub tokens: Vec<Token>,
+    pub networks: Vec<Counted>,
+}

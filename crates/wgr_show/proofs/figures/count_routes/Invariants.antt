@@ -1,0 +1,7 @@
+use Rattle.std.proofs.Common.{◌≡◌, take}
+use Rattle.std.specs.List.{sum_by}
+use Rattle.wgr_show.specs.Figures.{capped}
+use Rattle.wgr_show.proofs.figures.count_routes.Given as goal
+
+abbrev pub invariant-loop-counted : goal.invariant-loop-counted
+invariant-loop-counted l = l.routes ≡ capped (sum_by (λ n. n.routes) (take l.counted-index l.networks))

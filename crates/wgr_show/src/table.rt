@@ -1,0 +1,84 @@
+//! Tables for a person.
+use crate::columns::aligned;
+use crate::entries::Entry;
+use crate::text::{text_of_endpoint, text_of_prefix};
+use std::alloc::{AllocError, Global};
+use wgr_orders::{Counted, Token};
+
+/// A table of networks, and one of tokens where there is one.
+pub(crate) fn tables(alloc: Global, entries: &[Entry<'_, '_>]) -> Result<Vec<u8>, AllocError> {
+    let mut networks = String::from_str(
+        alloc,
+        "TENANT\tNETWORK\tPOOL\tENDPOINT\tCAPACITY\tPEERS\tROUTES\n",
+    )?;
+    let mut tokens = String::from_str(alloc, "TENANT\tTOKEN\n")?;
+    let mut has_token = false;
+    for entry in entries {
+        write_networks(alloc, entry, &mut networks)?;
+        write_tokens(alloc, entry, &mut tokens)?;
+        has_token = has_token || !entry.tokens.is_empty();
+    }
+    let mut text = aligned(alloc, &networks)?;
+    if has_token {
+        text.push('\n')?;
+        text.push_str(&aligned(alloc, &tokens)?)?;
+    }
+    Ok(text.into_bytes())
+}
+
+// Appends a tenant's networks. One that has none has a line too.
+fn write_networks(
+    alloc: Global,
+    entry: &Entry<'_, '_>,
+    out: &mut String,
+) -> Result<(), AllocError> {
+    let tenant = entry.tenant;
+    let tenant = tenant.name.as_str();
+    if entry.networks.is_empty() {
+        return writeln!(out, "{tenant}\t-\t-\t-\t-\t-\t-");
+    }
+    for counted in entry.networks {
+        write_network(alloc, tenant, counted, out)?;
+    }
+    Ok(())
+}
+
+// Appends the line of a network.
+fn write_network(
+    alloc: Global,
+    tenant: &str,
+    counted: &Counted,
+    out: &mut String,
+) -> Result<(), AllocError> {
+    let name = counted.holding.name.as_str();
+    let network = &counted.holding.network;
+    let pool = text_of_prefix(alloc, &network.pool().prefix())?;
+    let endpoint = text_of_endpoint(alloc, network.host().as_str(), network.port().number())?;
+    let capacity = network.capacity().peers();
+    let peers = counted.peers;
+    let routes = counted.routes;
+    writeln!(
+        out,
+        "{tenant}\t{name}\t{pool}\t{endpoint}\t{capacity}\t{peers}\t{routes}"
+    )
+}
+
+// Appends a line for each token of a tenant.
+fn write_tokens(alloc: Global, entry: &Entry<'_, '_>, out: &mut String) -> Result<(), AllocError> {
+    let tenant = entry.tenant;
+    for token in entry.tokens {
+        write_token(alloc, tenant.name.as_str(), token, out)?;
+    }
+    Ok(())
+}
+
+// Appends the line of a token.
+fn write_token(
+    alloc: Global,
+    tenant: &str,
+    token: &Token,
+    out: &mut String,
+) -> Result<(), AllocError> {
+    let digest = hex::encode(alloc, &token.digest)?;
+    writeln!(out, "{tenant}\t{digest}")
+}
