@@ -23,7 +23,7 @@ LOCK_START, LOCK_LENGTH = 0x4000_0000, 512
 def judge(path):
     """Lets wgr open the register, test all rows and put the log into the file; gives its message, or nothing."""
     try:
-        told = subprocess.run(["wgr", "batch", path, "--now", "0", "/dev/null"], stdout=subprocess.PIPE, stderr=subprocess.PIPE, text=True)
+        told = subprocess.run(["wgr", "show", path], stdout=subprocess.DEVNULL, stderr=subprocess.PIPE, text=True)
     except FileNotFoundError:
         fail("wgr isn't installed")
     return None if told.returncode == 0 else told.stderr.strip() or f"status {told.returncode}"

@@ -38,7 +38,7 @@ def open_copy(path):
     if not Path(path).is_file():
         fail(f"there is no copy {path}")
     if has_log(path):
-        fail(f"{path} has a log beside it: wgr batch {path} --now 0 /dev/null puts it into the file")
+        fail(f"{path} has a log beside it: wgr show {path} puts it into the file")
     link = sqlite3.connect(uri_of(path), uri=True)
     try:
         versions = link.execute("SELECT version FROM meta").fetchall()
@@ -103,9 +103,9 @@ class Figures:
         self.lines = []
         self.labels = labels
 
-    def add(self, name, what, value=None):
+    def add(self, name, what, value=None, kind="gauge"):
         self.name = name
-        self.lines += [f"# HELP {name} {what}", f"# TYPE {name} gauge"]
+        self.lines += [f"# HELP {name} {what}", f"# TYPE {name} {kind}"]
         if value is not None:
             self.put(value)
 

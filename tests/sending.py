@@ -1,4 +1,4 @@
-"""Orders over the socket of a service: as lines, by `wgr send`, and the same orders as commands on a file.
+"""Orders and readings over the socket of a service: as lines, by `wgr send`, and the same orders as commands on a file.
 
 An order is written as its line has it: the word, then the fields by their place, the token last.
 """
@@ -55,6 +55,13 @@ def tell_line(path, order):
     status, text = answer.removesuffix("\n").split(" ", 1)
     assert answer == f"{status} {text}\n", answer
     return int(status), text
+
+
+def shown(path, *words):
+    """The text that a reading is answered, all of which has to come."""
+    head, newline, text = tell(path, line(words)).partition(b"\n")
+    assert head + newline == b"0 %d\n" % len(text), (head, len(text))
+    return text
 
 
 def parts_of(order):

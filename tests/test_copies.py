@@ -3,6 +3,7 @@
 import os
 import re
 import signal
+import socket
 import sqlite3
 import subprocess
 import threading
@@ -15,7 +16,7 @@ from faulty import WHOLE, tell
 from keys import numbered_keys
 from program import Left
 from serving import PEERS, done, request
-from shipped import SYSTEMCTL, Shipped, is_stopped, rows_of
+from shipped import DIST, SYSTEMCTL, Shipped, is_stopped, rows_of
 from tools import needs
 
 COPIES = 100 if WHOLE else 5
@@ -28,28 +29,36 @@ class Load(threading.Thread):
     def __init__(self, server):
         super().__init__(daemon=True)
         self.server, self.stopped, self.failed = server, False, None
-        # What is there after so many changes; how many were asked for, and how many acknowledged.
-        self.states, self.asked, self.acknowledged = [set()], 0, 0
+        # What each change leaves of its peer; how many were asked for, and how many acknowledged.
+        self.left, self.asked, self.acknowledged = [], 0, 0
 
     def changes(self):
-        """Each change's request, and the peers that it leaves: three come for each one that goes, and some move or are renewed."""
-        held = {}
+        """Each change's request, the peer's number and what it leaves of it: three come for each one that goes, and some are renewed."""
         for number, text in enumerate(numbered_keys(10_000), 1):
-            address = f"10.8.{number // 250}.{number % 250 + 2}"
-            held[number] = (address, 0)
-            yield "POST", PEERS, {"key": text, "address": address}, held
+            yield "POST", PEERS, {"key": text, "address": address_of(number)}, number, 0
             if number % 3 == 0:
-                held[number - 1] = (held[number - 1][0], 4_000_000_000 + number)
-                yield "POST", f"{PEERS}/{number - 1}/lease", {"end": 4_000_000_000 + number}, held
-                held.pop(number - 2)
-                yield "DELETE", f"{PEERS}/{number - 2}", None, held
+                end = 4_000_000_000 + number
+                yield "POST", f"{PEERS}/{number - 1}/lease", {"end": end}, number - 1, end
+                yield "DELETE", f"{PEERS}/{number - 2}", None, number - 2, None
+
+    def has_left(self, rows, least, most):
+        """Whether these are the peers after some number of changes, from the least to the most."""
+        found, held = {number: (low, end) for number, low, end in rows}, {}
+        for count, (number, end) in enumerate([*self.left[:most], (None, None)]):
+            if count >= least and found == held:
+                return True
+            if end is None:
+                held.pop(number, None)
+            else:
+                held[number] = (hex_of(address_of(number)), end)
+        return False
 
     def run(self):
         try:
-            for method, path, body, held in self.changes():
+            for method, path, body, number, end in self.changes():
                 if self.stopped:
                     return
-                self.states.append({(number, hex_of(address), end) for number, (address, end) in held.items()})
+                self.left.append((number, end))
                 self.asked += 1
                 reply = self.server.send(request(method, path, body))
                 if not reply.startswith(b"HTTP/1.1 200 "):
@@ -57,6 +66,10 @@ class Load(threading.Thread):
                 self.acknowledged += 1
         except Exception as error:
             self.failed = error
+
+
+def address_of(number):
+    return f"10.8.{number // 250}.{number % 250 + 2}"
 
 
 def hex_of(address):
@@ -73,40 +86,51 @@ class Copies(Shipped):
             self.assertLess(time.monotonic(), end)
             time.sleep(0.01)
 
-    def test_copies_under_load(self):
+    def copy_under_load(self, server, *words):
         """Each copy has what was acknowledged before it, and is the register after some number of changes."""
-        self.run_script("wgr", "network-end", self.database, "acme", "office")
-        words = ["--pool", "10.8.0.0/16", "--host", "h", "--port", "1", "--key", numbered_keys(1)[0].replace("A", "Q", 1), "--capacity", "4096"]
-        self.run_script("wgr", "network-add", self.database, "acme", "office", *words)
-        server = self.serve()
         load = Load(server)
         load.start()
         pauses, before = [], 0
         for turn in range(COPIES):
-            with self.subTest(turn):
+            with self.subTest(turn, words=words):
                 if turn == 0:
-                    # The log is about to be put into the file, and the copy takes long: if the service weren't
-                    # frozen, the file would be copied before that and the log after it.
+                    # The log is about to be put into the file, and the copy takes long: if the service went on
+                    # meanwhile, the file would be copied before that and the log after it.
                     self.wait_until(lambda: os.path.getsize(f"{self.database}-wal") > 4_000_000 or load.failed)
                     self.stand_in("cp", '/bin/cp "$@"; sleep 0.2')
                 else:
                     (self.bin / "cp").unlink(missing_ok=True)
                     self.wait_until(lambda: load.acknowledged > before + 20 or load.failed)
                 before = load.acknowledged
-                left = self.back_up("--process", server.process.pid)
+                left = self.back_up(*words)
                 asked = load.asked
                 self.assertEqual((left.status, left.err), (0, b""))
                 pauses.append(int(re.search(rb"paused for (\d+) ms", left.out)[1]))
                 copy = self.copies()[-1]
                 self.assertEqual(left.out.split(b":")[0].decode(), f"copies/{copy.name}")
-                self.assertEqual(self.run_script("wgr", "batch", copy, "--now", "0", "/dev/null").status, 0)
-                self.assertIn(set(rows_of(copy, HELD)), load.states[before : asked + 1])
+                self.assertEqual(self.run_script("wgr", "show", copy).status, 0)
+                self.assertTrue(load.has_left(rows_of(copy, HELD), before, asked))
         load.stopped = True
         load.join()
         self.assertIsNone(load.failed)
         self.assertEqual(len(self.copies()), COPIES)
+        self.assertEqual([name for name in self.names(".") if "copy" in name], [])
         tell("copies", COPIES, f"during {load.acknowledged} changes, the longest pause but the first {max(pauses[1:])} ms")
         self.assertIn(f"at most {max(pauses)} ms\n".encode(), left.out)
+
+    def make_a_large_network(self):
+        self.run_script("wgr", "network-end", self.database, "acme", "office")
+        words = ["--pool", "10.8.0.0/16", "--host", "h", "--port", "1", "--key", numbered_keys(1)[0].replace("A", "Q", 1), "--capacity", "4096"]
+        self.run_script("wgr", "network-add", self.database, "acme", "office", *words)
+
+    def test_copies_under_load(self):
+        self.make_a_large_network()
+        server = self.serve()
+        self.copy_under_load(server, "--process", server.process.pid)
+
+    def test_copies_by_the_service_under_load(self):
+        self.make_a_large_network()
+        self.copy_under_load(self.serve(orders=self.folder / "orders"), "--orders", "orders")
 
     def test_a_copy_that_ran_on_is_none(self):
         """The process is let go on in the middle of the copy."""
@@ -185,6 +209,91 @@ class Copies(Shipped):
             (self.folder / "main").write_text(str(os.getpid()))
             self.assertEqual(self.back_up(), Left(1, b"", f"wgr-backup: wgr.service doesn't have {self.database} open\n".encode()))
             self.assertFalse(is_stopped(server.process))
+
+    def here(self):
+        """wgr-backup, for which the socket of the unit wgr.service is the file `orders`, and that of wgr@eu1 `orders-eu1`."""
+        text = (DIST / "wgr-backup").read_text().replace("=/run/wgr/orders", f"={self.folder}/orders")
+        return text.replace("=/run/wgr-${name#wgr@}/orders", f"={self.folder}/orders-${{name#wgr@}}")
+
+    def test_the_service_makes_the_copy(self):
+        """At the socket of the unit; nothing is frozen, and what it wrote beside the register is gone."""
+        self.stand_in("systemctl", SYSTEMCTL)
+        self.stand_in("wgr-backup", self.here())
+        server = self.serve(orders=self.folder / "orders")
+        (self.folder / "main").write_text(str(server.process.pid))
+        server.ask("POST", PEERS, {"key": numbered_keys(1)[0]})
+        for name in ["reg.db.copy", "reg.db.copy-wal"]:
+            (self.folder / name).write_text("what a killed copy left")
+        before = self.names(".")
+        left = self.back_up()
+        self.assertEqual((left.status, left.err), (0, b""))
+        (copy,) = self.copies()
+        self.assertRegex(left.out.decode(), rf"^copies/{copy.name}: paused for \d+ ms, at most \d+ ms\n$")
+        self.assertEqual(rows_of(copy, "SELECT id & 1048575 FROM peer"), [(1,)])
+        self.assertEqual(set(before) - set(self.names(".")), {"reg.db.copy", "reg.db.copy-wal"})
+        self.assertEqual(self.names(), [copy.name, "pauses"])
+        self.assertEqual((os.stat(copy).st_mode & 0o777, os.stat(copy).st_uid), (0o600, os.geteuid()))
+        asked = (self.folder / "asked").read_text()
+        self.assertNotIn("freeze", asked)
+        with self.subTest("another unit has the file"):
+            (self.folder / "main").write_text(str(os.getpid()))
+            self.assertEqual(self.back_up(), Left(1, b"", f"wgr-backup: wgr.service doesn't have {self.database} open\n".encode()))
+            self.assertEqual(len(self.copies()), 1)
+
+    def test_the_socket_of_a_unit(self):
+        """Only that of the unit whose register is copied."""
+        self.stand_in("wgr-backup", self.here())
+        self.stand_in("systemctl", SYSTEMCTL.replace("wgr.service", "wgr@eu1"))
+        server = self.serve(orders=self.folder / "orders-eu1")
+        (self.folder / "main").write_text(str(server.process.pid))
+        for place, (words, is_frozen) in enumerate([(["--unit", "wgr@eu1"], False), (["--process", server.process.pid], True)]):
+            with self.subTest(words):
+                self.stand_in("cp", f'[[ $1 != --reflink=auto ]] || grep "^State" /proc/{server.process.pid}/status >"$ROOM/state"; exec /bin/cp "$@"')
+                left = self.back_up(*words)
+                self.assertEqual((left.status, left.err, len(self.copies())), (0, b"", place + 1))
+                self.assertEqual("stopped" in (self.folder / "state").read_text(), is_frozen)
+
+    def test_a_service_that_makes_no_copy(self):
+        """It says why, and the copy is made as of a service without a socket."""
+        server = self.serve()
+        server.ask("POST", PEERS, {"key": numbered_keys(1)[0]})
+        real = os.readlink(self.bin / "wgr")
+        rows = [
+            ("an earlier version", "echo 'wgr: bad_order' >&2; exit 2", "wgr: bad_order"),
+            ("no room", "echo 'wgr: device' >&2; exit 1", "wgr: device"),
+            ("one that hangs", "exit 124", "no answer"),
+            ("one that writes it elsewhere", "echo done; exit", "done"),
+        ]
+        with socket.socket(socket.AF_UNIX) as left:
+            left.bind(str(self.folder / "orders"))
+        for place, (name, text, told) in enumerate(rows):
+            with self.subTest(name):
+                self.stand_in("wgr", f'[[ $1 != send ]] || {{ {text}; }}\nexec {real} "$@"')
+                left = self.back_up("--orders", "orders", "--process", server.process.pid)
+                self.assertEqual((left.status, left.err), (0, f"wgr-backup: the service at orders makes no copy: {told}\n".encode()))
+                self.assertEqual(rows_of(self.copies()[-1], "SELECT id & 1048575 FROM peer"), [(1,)])
+                self.assertEqual(len(self.copies()), place + 1)
+        self.assertFalse(is_stopped(server.process))
+
+    @needs("sqlite3")
+    def test_the_socket_of_a_stopped_service(self):
+        with socket.socket(socket.AF_UNIX) as left:
+            left.bind(str(self.folder / "orders"))
+        left = self.back_up("--orders", "orders")
+        self.assertEqual((left.status, left.err), (0, b"wgr-backup: the service at orders makes no copy: wgr: device\n"))
+        self.assertEqual(len(self.copies()), 1)
+        with self.subTest("another program has the file"):
+            self.serve()
+            left = self.back_up("--orders", "orders")
+            self.assertEqual((left.status, b"database is locked" in left.err), (1, True), left.err)
+
+    def test_a_copy_of_the_service_that_is_bad(self):
+        self.serve(orders=self.folder / "orders")
+        real = os.readlink(self.bin / "wgr")
+        self.stand_in("wgr", f'[[ $1 != show ]] || {{ echo "wgr: not_good" >&2; exit 1; }}\nexec {real} "$@"')
+        before = self.names(".")
+        self.assertEqual(self.back_up("--orders", "orders"), Left(1, b"", b"wgr-backup: the copy is bad: wgr: not_good\n"))
+        self.assertEqual((self.names(), self.names(".")), ([], sorted([*before, "copies"])))
 
     @needs("sqlite3")
     def test_a_stopped_register_is_copied_too(self):

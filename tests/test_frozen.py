@@ -1,4 +1,4 @@
-"""The units of wgr-backup, wgr-figures and wgr-probe under a systemd of their own, which freezes the real service."""
+"""The units of wgr-backup, wgr-figures and wgr-probe under a systemd of their own, with the real service, which they ask or freeze."""
 
 import importlib.util
 import json
@@ -80,7 +80,7 @@ class Frozen(unittest.TestCase):
             self.assertLess(time.monotonic(), end, (unit, name, self.system.show(unit, name)))
             time.sleep(0.05)
 
-    def test_a_copy_and_its_figures(self):
+    def make_a_copy(self):
         self.ask("-d", json.dumps({"key": key(1)}))
         self.run_all(["systemctl", "start", "wgr-backup.service"])
         (copy,) = self.inside("/var/backups/wgr").glob("*.db")
@@ -88,17 +88,35 @@ class Frozen(unittest.TestCase):
         here = self.system.folder / "copy.db"
         here.write_bytes(copy.read_bytes())
         self.assertEqual(rows_of(here, "SELECT key FROM peer"), [(bytes([1]) * 32,)])
-        # It was frozen: a register that isn't served is copied without a pause.
+        # A register that isn't served is copied without a pause.
         self.assertGreater(int((copy.parent / "pauses").read_text().split()[1]), 0)
         self.assertEqual(self.system.show("wgr.service", "ActiveState", "FreezerState"), ("active", "running"))
+        self.assertEqual(sorted(path.name for path in self.inside("/var/lib/wgr").iterdir()), ["register.db", "register.db-wal"])
+        self.assertEqual((copy.stat().st_mode & 0o777, copy.stat().st_uid), (0o600, 0))
+
+    def force_freezing(self):
+        """Takes away the socket at which the service would be asked for a copy."""
+        self.run_all(["rm", "/run/wgr/orders"])
+
+    def test_a_frozen_service(self):
+        self.force_freezing()
+        self.make_a_copy()
+
+    def test_a_copy_and_its_figures(self):
+        # If it froze the unit, this would be told.
+        self.inside("/usr/local/bin/systemctl").write_text('#!/bin/bash\n[[ $1 != freeze ]] || echo frozen >>/var/lib/wgr/told\nexec /usr/bin/systemctl "$@"\n')
+        self.run_all(["chmod", "+x", "/usr/local/bin/systemctl"])
+        self.make_a_copy()
         self.wait_for("wgr-figures.service", "Result", "success")
         figures = self.inside("/var/lib/prometheus/node-exporter/wgr.prom")
         end = time.monotonic() + 20
         while not figures.exists() and time.monotonic() < end:
             time.sleep(0.05)
         self.assertIn('wgr_network_peers{tenant="acme",network="office"} 1\n', figures.read_text())
+        self.assertIn('wgr_service_requests_total{status="200"} 1\n', figures.read_text())
 
     def test_a_copy_that_is_killed_leaves_nothing_frozen(self):
+        self.force_freezing()
         self.inside("/usr/local/bin/cp").write_text("#!/bin/bash\nsleep 60\n")
         self.run_all(["chmod", "+x", "/usr/local/bin/cp"], ["systemctl", "start", "--no-block", "wgr-backup.service"])
         self.wait_for("wgr.service", "FreezerState", "frozen")

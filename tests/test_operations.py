@@ -28,7 +28,6 @@ FOLLOWED = {
     ("Another token without a gap", 0): "package",
     ("A lost or leaked token", 0): "package",
     ("Keeping tokens out of process lists", 0): "package",
-    ("Requests from files", 0): "package",
     ("Backup, restore, another machine", 0): "package",
     ("To restore", 0): "package",
     ("To restore", 1): "package",
@@ -93,7 +92,6 @@ class ByPackage(Story):
         self.let_it_follow()
         self.probe()
         self.keep_a_history()
-        self.answer_files()
         self.restore()
         self.change_a_network()
         self.end_tokens()
@@ -173,10 +171,6 @@ class ByPackage(Story):
         self.follow("Backup, restore, another machine")
         self.follow("Who had which address when", 0)
         self.follow("Who had which address when", 1)
-
-    def answer_files(self):
-        self.do('cp "$(ls /var/backups/wgr/*.db | tail -n 1)" register.db')
-        self.follow("Requests from files")
 
     def restore(self):
         for number in [1, 2]:

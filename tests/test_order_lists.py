@@ -2,12 +2,15 @@
 
 Three tenants ask over HTTP, and the operator gives orders over the socket, hostile bytes among both. Each reply and
 each answer has to be that of the plain register (`plain.py`, `plain_orders.py`), byte for byte, and so have the views
-at the end: the tenants, their tokens and their networks with all peers. A service is killed now and then. A run takes
-3,000 events, `WGR_ALL=1` 60,000; `WGR_SEED=N` takes others.
+at the end: the tenants, their tokens and their networks with all peers. Readings come between them, each of which has
+to show the plain register. A service is killed now and then. A run takes 3,000 events, `WGR_ALL=1` 60,000;
+`WGR_SEED=N` takes others.
 """
 
 import ipaddress
+import json
 import os
+import random
 import sqlite3
 import unittest
 from contextlib import closing
@@ -16,12 +19,14 @@ from faulty import WHOLE, scratch, tell
 from plain import Register, digest_of
 from plain_orders import answer_line
 from program import Left, run
-from sending import answered
+from sending import answered, shown
 from serving import Server, request
 from test_hostile import HOSTILE, Hostile, rarely
 from test_worlds import NAMES, TENANTS
 
 EVENTS, SEGMENT = 60_000 if WHOLE else 3_000, 150
+# How many of the events have a reading behind them.
+READ = 0.05
 # Lines that no spoilt bytes make.
 ODD = [b"", b"\n", b"x\n", b"tenant-add acme", b"tenant-add " + 4_084 * b"x" + b"\n", b"tenant-add " + 4_085 * b"x" + b"\n", b"token-end --digest\n", b"token-end --digest ab\n"]
 
@@ -72,6 +77,7 @@ class Lists(unittest.TestCase):
             self.database, self.socket, self.plain = f"{folder}/run.db", f"{folder}/orders", Register()
             self.script = Orders(seed, self.plain)
             self.random, self.replies, self.answers = self.script.random, set(), {}
+            self.readings = random.Random(seed)
             self.assertEqual(run(["init", self.database]).out, b"done\n")
             for place in range(EVENTS // SEGMENT):
                 now = max(0, place * SEGMENT // 2 - self.random.choice([0, 0, 0, 500]))
@@ -111,12 +117,39 @@ class Lists(unittest.TestCase):
                     due = answer_line(self.plain, text)
                     self.compare(now, text, answered(self.socket, text), due)
                     self.answers[due] = text
+                if self.readings.random() < READ:
+                    self.read(now)
             if ends and events[-1][0] == "request":
                 self.assertEqual(server.ended(), Left(0))
 
     def compare(self, now, text, given, due):
         if given != due:
             self.fail(f"at {now}\n{text!r}\ngave {given!r}\nand not {due!r}")
+
+    def read(self, now):
+        """What the service shows of all tenants or of one, and its counts of them, are those of the plain register."""
+        tenant = self.readings.choice([None, *self.plain.tenants])
+        words = ["show", *([tenant] if tenant else []), "--json"]
+        names = [name for name in sorted(self.plain.tenants) if tenant in (None, name)]
+        due = json.dumps({"tenants": [self.shown_of(name) for name in names]}, separators=(",", ":")).encode() + b"\n"
+        self.compare(now, words, shown(self.socket, *words), due)
+        networks = [network for each in self.plain.tenants.values() for network in each.values()]
+        counts = [len(self.plain.tenants), len(self.plain.tokens), len(networks), sum(len(it.peers) for it in networks), sum(len(it.routes) for it in networks)]
+        names = ["tenants", "tokens", "networks", "peers", "routes"]
+        lines = shown(self.socket, "status").decode().splitlines()
+        found = [line for name in names for line in lines if line.startswith(f"wgr_service_{name} ")]
+        self.compare(now, "status", found, [f"wgr_service_{name} {count}" for name, count in zip(names, counts)])
+
+    def shown_of(self, name):
+        tokens = sorted(digest.hex() for digest, tenant in self.plain.tokens.items() if tenant == name)
+        networks = [
+            {
+                "name": each, "pool": str(network.pool), "host": network.host, "port": network.port, "server": network.server,
+                "capacity": network.capacity, "peers": len(network.peers), "routes": len(network.routes),
+            }
+            for each, network in sorted(self.plain.tenants[name].items())
+        ]
+        return {"name": name, "tokens": tokens, "networks": networks}
 
     def look_at_all(self):
         """At moment 0 all peers are live. The rows of tenants, tokens and networks are those of the plain register."""

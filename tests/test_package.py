@@ -19,7 +19,7 @@ RELEASE = DIST / "release/RELEASE"
 DOCUMENTS = "usr/share/doc/wgr"
 
 TOOLS = [f"wgr-{name}" for name in ["backup", "change-network", "client", "end-token", "figures", "free-pool", "history", "probe"]]
-TOOL_UNITS = ["wgr-backup.service", "wgr-backup.timer", "wgr-figures.service", "wgr-probe.service", "wgr-probe.timer"]
+TOOL_UNITS = ["wgr-backup.service", "wgr-backup.timer", "wgr-figures.service", "wgr-figures.timer", "wgr-probe.service", "wgr-probe.timer"]
 
 # Each file of the package and the file of the repository that it is, the program and what is made of others apart.
 COPIED = {
@@ -76,7 +76,12 @@ COMPLETED = [
     ("the file of orders", ["orders", "register.db", ""], FILES),
     ("the socket of send", ["send", ""], FILES),
     ("the order of send", ["send", "orders", "network"], ["network-add", "network-end"]),
+    ("the reading of send", ["send", "orders", "s"], ["show", "status"]),
+    ("the reading behind --", ["send", "orders", "--", "b"], ["backup"]),
+    ("the file of a copy", ["send", "orders", "backup", ""], FILES),
     ("no field of an order", ["send", "orders", "tenant-add", ""], []),
+    ("no tenant of a reading", ["show", "register.db", ""], []),
+    ("the register behind --json", ["show", "--json", ""], FILES),
     ("no file of plan", ["plan", ""], []),
     ("a word that there isn't", ["peer-add", ""], []),
 ]

@@ -133,7 +133,7 @@ class Readme(Page):
         self.no_secret_was_a_word(["acme.token", "server.private", "laptop.private"])
 
 
-@needs("ip", "wg", "wg-quick", "wireguard-go", "ping", "curl", "jq", "nsenter", "sqlite3", root=True)
+@needs("ip", "wg", "wg-quick", "wireguard-go", "ping", "curl", "jq", "nsenter", root=True)
 class Tutorial(Page):
     def setUp(self):
         super().setUp()

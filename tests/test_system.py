@@ -160,6 +160,16 @@ def opened_in(record):
     return {path.decode() for kind, _, _, path in recorded(record) if kind == "o"}
 
 
+# What `show` prints of a tenant with the token `abc`.
+SHOWN = b"""\
+TENANT  NETWORK  POOL  ENDPOINT  CAPACITY  PEERS  ROUTES
+acme    -        -     -         -         -      -
+
+TENANT  TOKEN
+acme    ba7816bf8f01cfea414140de5dae2223b00361a396177a9cb410ff61f20015ad
+"""
+
+
 class Opened(Files):
     """Each word opens the database's file, its log and their folder, and the files that it names, and no other."""
 
@@ -181,6 +191,7 @@ class Opened(Files):
             ("an order", ["tenant-add", self.db, "acme"], b"", DONE),
             ("an order with a token", ["token-grant", self.db, "acme"], b"abc", DONE),
             ("an order that is refused", ["tenant-add", self.db, "acme"], b"", refused_order("name_held")),
+            ("a reading", ["show", self.db, "acme"], b"", Left(0, SHOWN)),
             ("requests", ["batch", self.db, "--now", "7", *asked], b"", Left(0, 2 * refused(404, "no_such_network"))),
         ]
         with Faulty() as faulty:

@@ -12,7 +12,7 @@ from tools import needs
 
 PYTHON = ["change-network", "client", "end-token", "figures", "free-pool", "history", "probe"]
 
-UNITS = ["wgr-backup.service", "wgr-backup.timer", "wgr-figures.service", "wgr-probe.service", "wgr-probe.timer"]
+UNITS = ["wgr-backup.service", "wgr-backup.timer", "wgr-figures.service", "wgr-figures.timer", "wgr-probe.service", "wgr-probe.timer"]
 
 
 class Tools(unittest.TestCase):

@@ -1,0 +1,362 @@
+"""What `show` prints: of a file by `wgr show`, and of a running service by `wgr send`; replies that are cut, and clients that stop."""
+
+import base64
+import hashlib
+import ipaddress
+import json
+import os
+import shutil
+import socket
+import threading
+import time
+
+from keys import K0
+from program import Left, run
+from register_file import DONE, S, failed, network_row, pool_of, put, refused
+from sending import connect, send, shown
+from serving import PEERS, Server, done, key, read_all, request
+from test_order_socket import LATE, PATIENCE
+from test_readings import ACME, HEADER, TEST, Reading
+
+TABLE = f"""\
+TENANT  NETWORK  POOL          ENDPOINT               CAPACITY  PEERS  ROUTES
+acme    lab      fd00:1::/64   vpn.example.net:51821  4096      0      0
+acme    office   10.66.0.0/24  vpn.example.net:51820  250       12     3
+globex  -        -             -                      -         -      -
+
+TENANT  TOKEN
+acme    {TEST}
+"""
+ACME_JSON = (
+    f'{{"name":"acme","tokens":["{TEST}"],"networks":['
+    f'{{"name":"lab","pool":"fd00:1::/64","host":"vpn.example.net","port":51821,"server":"{K0}","capacity":4096,"peers":0,"routes":0}},'
+    f'{{"name":"office","pool":"10.66.0.0/24","host":"vpn.example.net","port":51820,"server":"{S}","capacity":250,"peers":12,"routes":3}}]}}'
+)
+GLOBEX_JSON = '{"name":"globex","tokens":[],"networks":[]}'
+# What is shown of that register: the words behind `show`, and the text.
+SHOWN = [
+    ("all", [], TABLE),
+    ("all, as JSON", ["--json"], f'{{"tenants":[{ACME_JSON},{GLOBEX_JSON}]}}\n'),
+    ("a tenant", ["acme"], TABLE.replace("globex  -        -             -                      -         -      -\n", "")),
+    ("a tenant, as JSON", ["acme", "--json"], f'{{"tenants":[{ACME_JSON}]}}\n'),
+    ("one without networks and tokens", ["globex"], f"{HEADER}globex  -        -     -         -         -      -\n"),
+    ("the same as JSON", ["globex", "--json"], f'{{"tenants":[{GLOBEX_JSON}]}}\n'),
+]
+
+
+def pool_text(family, low, length):
+    return f"{ipaddress.IPv4Address(low[12:]) if family == 4 else ipaddress.IPv6Address(low)}/{length}"
+
+
+def table_of(rows):
+    """The rows in columns."""
+    widths = [max(map(len, column)) for column in zip(*rows)]
+    return "".join("  ".join(cell.ljust(width) for cell, width in zip(row, widths)).rstrip() + "\n" for row in rows)
+
+
+class Show(Reading):
+    def show(self, *words, database=None):
+        """What `wgr show` prints of a file."""
+        left = run(["show", database or self.db, *words])
+        self.assertEqual((left.status, left.err), (0, b""))
+        return left.out.decode()
+
+    def test_texts(self):
+        """By the command on a file, by the socket and by `wgr send`, the same bytes."""
+        self.make_two()
+        before = self.rows()
+        for name, words, due in SHOWN:
+            with self.subTest(name):
+                self.assertEqual(self.show(*words), due)
+        self.assertEqual(self.rows(), before)
+        self.serve()
+        for name, words, due in SHOWN:
+            with self.subTest(name, by="socket"):
+                self.assertEqual(shown(self.socket, "show", *words).decode(), due)
+                self.assertEqual(send(self.socket, ("show", *words)), Left(0, due.encode()))
+
+    def test_no_tenant(self):
+        self.init()
+        rows = [([], HEADER), (["--json"], '{"tenants":[]}\n')]
+        for words, due in rows:
+            self.assertEqual(self.show(*words), due)
+        self.serve()
+        for words, due in rows:
+            self.assertEqual(shown(self.socket, "show", *words).decode(), due)
+
+    def test_the_order_and_the_width_of_columns(self):
+        """Names in the order of their bytes, digests too; a host that is an IPv6 address."""
+        self.init()
+        names = ["b", "a0", "-x", "a", 32 * "z"]
+        self.do(*(("tenant-add", name) for name in names))
+        self.do(*(("token-grant", "a", text) for text in ["abc", "test", "second"]), ("token-grant", "-x", "first"))
+        self.do(("network-add", "b", "n-1", "10.8.0.0/30", "2001:DB8::0001", "1", S, "1"), ("network-add", "b", "n", "10.9.0.0/24", "h", "65535", K0, "4096"))
+        digests = sorted(hashlib.sha256(text).hexdigest() for text in [b"abc", b"test", b"second"])
+        longest = 32 * "z"
+        due = f"""\
+TENANT                            NETWORK  POOL         ENDPOINT         CAPACITY  PEERS  ROUTES
+-x                                -        -            -                -         -      -
+a                                 -        -            -                -         -      -
+a0                                -        -            -                -         -      -
+b                                 n        10.9.0.0/24  h:65535          4096      0      0
+b                                 n-1      10.8.0.0/30  [2001:db8::1]:1  1         0      0
+{longest}  -        -            -                -         -      -
+
+TENANT  TOKEN
+-x      {hashlib.sha256(b"first").hexdigest()}
+a       {digests[0]}
+a       {digests[1]}
+a       {digests[2]}
+"""
+        self.assertEqual(self.show(), due)
+        tenants = json.loads(self.show("--json"))["tenants"]
+        self.assertEqual([tenant["name"] for tenant in tenants], ["-x", "a", "a0", "b", longest])
+        self.assertEqual(tenants[1]["tokens"], digests)
+        self.assertEqual([(network["name"], network["host"], network["port"]) for network in tenants[3]["networks"]], [("n", "h", 65535), ("n-1", "2001:db8::1", 1)])
+        self.assertEqual(self.show("--", "-x").count("\n"), 5)
+
+    def due(self, database, name=None):
+        """The table and the JSON of what SQLite reads, of all tenants or of one."""
+        names = sorted(found for (found,) in self.query("SELECT name FROM tenant", database) if name in (None, found))
+        tokens = sorted(self.query("SELECT tenant.name, lower(hex(digest)) FROM token JOIN tenant ON tenant.id = token.tenant", database))
+        networks = self.query(
+            "SELECT tenant.name, network.name, family, lo, length, host, port, server, capacity, (SELECT count(*) FROM peer WHERE network = network.id), "
+            "(SELECT count(*) FROM allowed WHERE network = network.id AND kind = 'route') FROM network JOIN tenant ON tenant.id = network.tenant", database
+        )
+        rows, tenants = [HEADER.split()], []
+        for tenant in names:
+            own = sorted(row[1:] for row in networks if row[0] == tenant)
+            shown_rows = [(tenant, row[0], pool_text(*row[1:4]), f"[{row[4]}]:{row[5]}" if ":" in row[4] else f"{row[4]}:{row[5]}", *map(str, row[7:])) for row in own]
+            rows += shown_rows or [(tenant, *6 * "-")]
+            members = [{"name": row[0], "pool": pool_text(*row[1:4]), "host": row[4], "port": row[5], "server": base64.b64encode(row[6]).decode(), "capacity": row[7], "peers": row[8], "routes": row[9]} for row in own]
+            tenants.append({"name": tenant, "tokens": [digest for owner, digest in tokens if owner == tenant], "networks": members})
+        table = table_of(rows)
+        if any(tenant["tokens"] for tenant in tenants):
+            table += "\n" + table_of([("TENANT", "TOKEN"), *(row for row in tokens if row[0] in names)])
+        return table, json.dumps({"tenants": tenants}, separators=(",", ":")) + "\n"
+
+    def test_a_larger_register(self):
+        """2,000 networks of 40 tenants, and 500 tokens: by a file and by the socket, as SQLite reads a copy."""
+        self.init()
+        put(self.db, "tenant", [(row, f"t{row * 7919 % 1009}") for row in range(1, 41)])
+        put(self.db, "token", [(hashlib.sha256(b"%d" % row).digest(), row % 39 + 1) for row in range(500)])
+        networks = [network_row(row, row % 38 + 1, f"n{row * 31 % 2003}", pool_of(row)[0], f"h{row}.example.net", row) for row in range(1, 2_001)]
+        put(self.db, "network", networks)
+        copy = self.path("copy.db")
+        shutil.copy(self.db, copy)
+        [(rich,)], [(poor,)] = (self.query(f"SELECT name FROM tenant WHERE id = {row}") for row in [7, 40])
+        with Server(self.db, orders=self.socket):
+            for name in [None, rich, poor]:
+                words = [] if name is None else [name]
+                for extra, due in zip([[], ["--json"]], self.due(copy, name)):
+                    with self.subTest(name, extra=extra):
+                        # A text of this length is too long to print where it differs.
+                        self.assertTrue(shown(self.socket, "show", *words, *extra).decode() == due)
+                        self.assertTrue(self.show(*words, *extra, database=copy) == due)
+        self.assertGreater(len(due), 50)
+
+    def test_peers_and_routes(self):
+        self.make_two()
+        copy = self.path("copy.db")
+        server = self.serve()
+        for message in [request("DELETE", f"{PEERS}/12", token="test"), request("POST", PEERS, {"key": key(30)}, "test")]:
+            self.assertIn(b" 200 OK", server.send(message))
+        self.assertEqual(send(self.socket, ("backup", copy)), DONE)
+        self.assertEqual([shown(self.socket, "show", *words).decode() for words in [[], ["--json"]]], [*self.due(copy)])
+        self.assertEqual([each["peers"] for each in json.loads(shown(self.socket, "show", "--json"))["tenants"][0]["networks"]], [0, 12])
+
+    def test_on_a_file(self):
+        """What is refused, with its message and status."""
+        self.make_two()
+        none, empty, bad = self.path("none.db"), self.path("empty.db"), self.path("bad.db")
+        open(empty, "w").close()
+        shutil.copy(self.db, bad)
+        with Server(self.db):
+            with self.subTest("a register that is served"):
+                self.assertEqual(run(["show", self.db]), failed("store"))
+        self.db, good = bad, self.db
+        self.change("UPDATE network SET port = 0 WHERE name = 'lab'")
+        rows = [
+            ("a malformed name", [good, "Acme"], refused("bad_field tenant")),
+            ("the same before a file", [none, "Acme"], refused("bad_field tenant")),
+            ("a name that nobody has", [good, "nobody"], refused("no_such_tenant")),
+            ("the same as JSON", [good, "nobody", "--json"], refused("no_such_tenant")),
+            ("a name like an option", [good, "--", "--json"], refused("no_such_tenant")),
+            ("no file", [none], failed("not_a_register")),
+            ("an empty file", [empty], failed("not_a_register")),
+            ("rows that aren't good", [bad], failed("not_good")),
+            ("a folder", [str(self.folder)], failed("store")),
+        ]
+        for name, words, due in rows:
+            with self.subTest(name):
+                self.assertEqual(run(["show", *words]), due)
+        self.assertFalse(os.path.exists(none))
+        for name, extra in [("a table", []), ("JSON", ["--json"])]:
+            with self.subTest(name), open("/dev/full", "wb") as full:
+                self.assertEqual(run(["show", good, *extra], stdout=full), failed("device"))
+
+    def test_the_log_is_put_into_the_file(self):
+        """A killed service leaves a log; `show` has what it has, and then the file alone has it too."""
+        self.make_two()
+        server = self.serve()
+        self.assertIn(b" 200 OK", server.send(request("POST", PEERS, {"key": key(20)}, "test")))
+        server.process.kill()
+        server.process.wait()
+        self.assertEqual(self.show("acme"), SHOWN[2][2].replace("12     3", "13     3"))
+        alone = self.path("alone.db")
+        shutil.copy(self.db, alone)
+        self.assertEqual(self.query("SELECT count(*) FROM peer", alone), [(13,)])
+
+
+class Service:
+    """In place of a service: it takes one client's line and answers these parts, and then ends the connection."""
+
+    def __init__(self, path, *parts):
+        self.listener, self.parts, self.line = socket.socket(socket.AF_UNIX), parts, b""
+        self.listener.bind(path)
+        self.listener.listen()
+        self.thread = threading.Thread(target=self.serve, daemon=True)
+        self.thread.start()
+
+    def serve(self):
+        with self.listener.accept()[0] as link:
+            while not self.line.endswith(b"\n"):
+                self.line += link.recv(4_096)
+            for part in self.parts:
+                link.sendall(part)
+
+    def ended(self):
+        self.thread.join(10)
+        self.listener.close()
+        return self.line
+
+
+class Sent(Reading):
+    """`wgr send` of readings, to services that answer what they should and what they shouldn't."""
+
+    def answered(self, words, *parts):
+        """What `wgr send` leaves, and the line that it sends."""
+        path = self.path("service")
+        service = Service(path, *parts)
+        left = send(path, words)
+        told = service.ended()
+        os.unlink(path)
+        return left, told
+
+    def test_the_line(self):
+        for words in [("status",), ("show",), ("show", "--json"), ("show", "acme"), ("show", "acme", "--json"), ("show", "-x")]:
+            with self.subTest(words):
+                self.assertEqual(self.answered(words, b"0 3\nabc"), (Left(0, b"abc"), " ".join(words).encode() + b"\n"))
+        self.assertEqual(self.answered(("backup", "/a/b"), b"0 done\n"), (DONE, b"backup /a/b\n"))
+        for words in [["show", "acme", "--json"], ["--json", "show", "acme"]]:
+            with self.subTest(words, by="option"):
+                service = Service(self.path("other"), b"0 3\nabc")
+                self.assertEqual(run(["send", self.path("other"), *words]), Left(0, b"abc"))
+                self.assertEqual(service.ended(), b"show acme --json\n")
+                os.unlink(self.path("other"))
+
+    def test_whole_replies(self):
+        long = 300_000 * b"text\n"
+        rows = [
+            ("an empty text", [b"0 0\n"], Left(0)),
+            ("a text without a newline", [b"0 5\n1 abc"], Left(0, b"1 abc")),
+            ("any bytes", [b"0 4\n\0\n\xff\n"], Left(0, b"\0\n\xff\n")),
+            ("in single bytes", [bytes([byte]) for byte in b"0 12\nwgr: device\n"[:-1]] + [b""], None),
+            ("a long text", [b"0 %d\n" % len(long), long], Left(0, long)),
+            ("no such tenant", [b"2 no_such_tenant\n"], refused("no_such_tenant")),
+            ("no memory", [b"1 no_memory\n"], failed("no_memory")),
+            ("the store", [b"1 store\n"], failed("store")),
+        ]
+        for name, parts, due in rows:
+            with self.subTest(name):
+                left, _ = self.answered(("show",), *parts)
+                # The text of single bytes is one byte short of its length.
+                due = due or failed("device")._replace(out=left.out)
+                self.assertTrue(left == due, (left.status, left.out[:50], left.err))
+        for text, due in [(b"2 file_exists\n", refused("file_exists")), (b"1 device\n", failed("device")), (b"2 bad_field file\n", refused("bad_field file"))]:
+            with self.subTest(text):
+                self.assertEqual(self.answered(("backup", "/a"), text)[0], due)
+
+    def test_replies_that_are_not_whole(self):
+        """`wgr: device`, whatever the text; what came of it may be printed."""
+        rows = [
+            ("nothing", ("show",), b""),
+            ("a part of the first line", ("show",), b"0 5"),
+            ("no text", ("show",), b"0 5\n"),
+            ("a part of the text", ("show",), b"0 5\nabcd"),
+            ("a part of figures", ("status",), b"0 50\nwgr_service_start_time_seconds 1\n"),
+            ("more than the text", ("show",), b"0 3\nabcd"),
+            ("no length", ("show",), b"0 \nabc"),
+            ("what is no number", ("show",), b"0 x\nabc"),
+            ("the largest length", ("show",), b"0 18446744073709551615\nabc"),
+            ("a copy without its newline", ("backup", "/a"), b"0 done"),
+        ]
+        for name, words, text in rows:
+            with self.subTest(name):
+                left, _ = self.answered(words, text)
+                self.assertEqual(left, failed("device")._replace(out=left.out))
+                self.assertTrue(text.partition(b"\n")[2].startswith(left.out), left.out)
+
+    def test_nobody_serves_and_output_that_fails(self):
+        self.init()
+        for words in [("status",), ("show",), ("backup", "/a")]:
+            self.assertEqual(send(self.socket, words), failed("device"))
+        self.serve()
+        with open("/dev/full", "wb") as full:
+            self.assertEqual(send(self.socket, ("status",), stdout=full), failed("device"))
+
+    def test_words_that_make_no_reading(self):
+        self.init()
+        self.serve()
+        for words in [("show", ""), ("show", "a b"), ("show", "a\n"), ("status", ""), ("backup", "/a b"), ("show", "--json", "acme")]:
+            with self.subTest(words):
+                self.assertEqual(send(self.socket, words), refused("bad_order"))
+
+
+class Stops(Reading):
+    """A client that doesn't take what is shown: its reply is cut, and the service goes on."""
+
+    def setUp(self):
+        super().setUp()
+        self.init(ACME)
+        self.grant("acme")
+        # The text is longer than what a socket holds.
+        put(self.db, "network", [network_row(row, 1, f"n{row}", pool_of(row)[0], "h", row) for row in range(1, 4_001)])
+        self.whole = run(["show", self.db, "--json"]).out
+        self.assertGreater(len(self.whole), 500_000)
+
+    def ask(self, server):
+        """Whether a request is answered."""
+        return server.send(request("GET", "/networks/n1/peers")) == done({"peers": []})
+
+    def test_one_that_reads_nothing(self):
+        server = self.serve(count=1)
+        with connect(self.socket) as link:
+            begin = time.monotonic()
+            link.sendall(b"show --json\n")
+            time.sleep(0.3)
+            self.assertTrue(self.ask(server))
+            self.assertTrue(PATIENCE - 0.5 < time.monotonic() - begin < LATE)
+            head, _, text = read_all(link).partition(b"\n")
+        self.assertEqual(head, b"0 %d" % len(self.whole))
+        self.assertTrue(len(text) < len(self.whole) and self.whole.startswith(text))
+        self.assertEqual(server.ended(), Left(0, b"", b"wgr: order\n"))
+
+    def test_one_that_goes_away(self):
+        server = self.serve(count=1)
+        with connect(self.socket) as link:
+            link.sendall(b"show --json\n")
+            self.assertEqual(link.recv(2), b"0 ")
+        begin = time.monotonic()
+        self.assertTrue(self.ask(server))
+        self.assertLess(time.monotonic() - begin, PATIENCE)
+        self.assertEqual(server.ended(), Left(0, b"", b"wgr: order\n"))
+
+    def test_one_that_takes_its_time(self):
+        """Within its five seconds it gets all."""
+        self.serve()
+        with connect(self.socket) as link:
+            link.sendall(b"show --json\n")
+            time.sleep(2)
+            whole = read_all(link)
+        self.assertTrue(whole == b"0 %d\n" % len(self.whole) + self.whole)
