@@ -1,5 +1,5 @@
 //! The lowest address that is free.
-ghost use Rattle.std.specs.Prelude.{◌≡◌, ℕ, ◌+◌, ◌^◌, ◌<◌, ◌≤◌, ◌↔◌, List, IsTrue, IfOk, IfErr, IfSome, IfNone, MatchOption};
+ghost use Rattle.std.specs.Prelude.{◌≡◌, ℕ, ◌+◌, ◌^◌, ◌<◌, ◌≤◌, ◌↔◌, List, IsTrue, IfOk, IfErr, IfSome, IfNone, MatchOption, OnOk};
 ghost use Rattle.wgr_text.specs.Prefix.{rank, width};
 ghost use Rattle.wgr_text.specs.declared.prefix.Span.{Span};
 ghost use Rattle.wgr_pool.specs.Spans.{RisesFrom, Takes, IsLowestFree, IsFull, IsFilledBy, StopsAt};
@@ -33,15 +33,23 @@ pub trait Holds {
     /// Whether it has stopped, and why.
     ghost stopped: { Self → Stop → Type 0 };
 
+    /// What a call leaves as it was.
+    ghost keeps: { Self → Self → Type 0 };
+
     fn next_hold(&mut self) -> Result<Option<Span>, Stop>
         ensures falls { IfOk result (λ given. IfSome given (λ _. left self.new < left self.old)) }
         ensures floor { floor self.old ≤ floor self.new }
         ensures rises { IfOk result (λ given. IfSome given (λ s. (floor self.old ≤ rank s.lo) × (floor self.new ≡ rank s.lo))) }
         ensures first { honest self.new → IfOk result (λ given. Takes (rest self.old) given (rest self.new)) }
         ensures stops { IfErr result (λ why. stopped self.new why) }
-        ensures was_honest { honest self.new → honest self.old };
+        ensures was_honest { honest self.new → OnOk result (honest self.old) }
+        ensures keeps { keeps self.old self.new };
 
     ghost in_order: { (s : Self) → honest s → RisesFrom (floor s) (rest s) };
+
+    ghost keeps_itself: { (s : Self) → keeps s s };
+
+    ghost keeps_on: { (a b c : Self) → keeps a b → keeps b c → keeps a c };
 }
 
 /// The lowest address that the pool may give and that no span of the source has. From the source it
@@ -50,6 +58,7 @@ pub trait Holds {
 pub fn lowest_free<H: Holds>(pool: &Pool, holds: &mut H) -> Result<Option<Addr>, Stop>
     ensures lowest { H.honest holds.new → IfOk result (λ found. MatchOption found (IsFull pool.now (H.rest holds.old)) (IsLowestFree pool.now (H.rest holds.old))) }
     ensures stop { IfErr result (λ why. H.stopped holds.new why) }
+    ensures keeps { H.keeps holds.old holds.new }
     ensures taken { H.honest holds.new → IfOk result (λ found. IfSome found (StopsAt (H.rest holds.old) (H.rest holds.new))) }
     ensures filled { H.honest holds.new → IfOk result (λ found. IfNone found (IsFilledBy pool.now (H.rest holds.old) (H.rest holds.new))) }
 {

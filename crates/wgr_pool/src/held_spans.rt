@@ -108,6 +108,8 @@ impl Holds for HeldSpans<'_> {
 
     ghost stopped = { λ s why. ⊥ };
 
+    ghost keeps = { λ a b. Unit {0} };
+
     fn next_hold(&mut self) -> Result<Option<Span>, Stop> {
         match (self.next_run(), self.route) {
             (Some((run, later)), _) => {
@@ -125,6 +127,10 @@ impl Holds for HeldSpans<'_> {
     }
 
     ghost in_order = { λ s h. s.all_rise };
+
+    ghost keeps_itself = { λ s. tt };
+
+    ghost keeps_on = { λ a b c one other. tt };
 }
 
 // The route's span.

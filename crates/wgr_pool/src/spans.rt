@@ -38,6 +38,8 @@ impl Holds for SortedSpans<'_> {
 
     ghost stopped = { λ s why. ⊥ };
 
+    ghost keeps = { λ a b. Unit {0} };
+
     fn next_hold(&mut self) -> Result<Option<Span>, Stop> {
         match self.spans.split_first() {
             Some((&span, later)) => {
@@ -50,4 +52,8 @@ impl Holds for SortedSpans<'_> {
     }
 
     ghost in_order = { λ s h. s.in_order };
+
+    ghost keeps_itself = { λ s. tt };
+
+    ghost keeps_on = { λ a b c one other. tt };
 }

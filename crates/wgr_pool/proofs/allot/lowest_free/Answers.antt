@@ -10,7 +10,7 @@ returns-then-not-is_at_most-clause-lowest g c = λ h.
     let before = c.in_ok-span.ensures.was_honest h in
     let took = rw c.in-Some.is at (c.in_ok-span.ensures.first h) in
     let order = subst (RisesFrom _) took (g.met.H.Holds.in_order c.loop-span.holds before) in
-    let w = c.loop-span.invariant.3 before in
+    let w = c.loop-span.invariant.4 before in
     let above : rank c.loop-span.candidate < rank c.in-Some.span.lo = elim (cases_lt (rank c.loop-span.candidate) (rank c.in-Some.span.lo)) [ inl l ↦ l | inr g ↦ (let no = c.if-not-is_at_most.ensures.1 g in cc) ] in
     walk_free _ _ _ _ _ _ c.assignable-lo.ensures w c.loop-span.invariant.0 c.loop-span.invariant.1 c.loop-span.invariant.2
     (λ i. none_first _ _ _ _ order above (subst (λ xs. IsHeld xs c.loop-span.candidate) took i))
@@ -19,13 +19,13 @@ pub returns-then-not-is_at_most-clause-taken : goal.returns-then-not-is_at_most-
 returns-then-not-is_at_most-clause-taken g c = λ h.
     let before = c.in_ok-span.ensures.was_honest h in
     let took = rw c.in-Some.is at (c.in_ok-span.ensures.first h) in
-    walk_stops _ _ (c.in-Some.span ∷ []) _ _ (subst (λ xs. Walk (g.H.Holds.rest c.args.holds.now) xs c.assignable-lo.result.lo c.loop-span.candidate) took (c.loop-span.invariant.3 before)) (omega arith)
+    walk_stops _ _ (c.in-Some.span ∷ []) _ _ (subst (λ xs. Walk (g.H.Holds.rest c.args.holds.now) xs c.assignable-lo.result.lo c.loop-span.candidate) took (c.loop-span.invariant.4 before)) (omega arith)
 
 pub returns-then-is_at_most-clause-lowest : goal.returns-then-is_at_most-clause-lowest
 returns-then-is_at_most-clause-lowest g c = λ h.
     let before = c.in_ok-span.ensures.was_honest h in
     let took = rw c.in-Some.is at (c.in_ok-span.ensures.first h) in
-    let w = subst (λ xs. Walk (g.H.Holds.rest c.args.holds.now) xs c.assignable-lo.result.lo c.loop-span.candidate) took (c.loop-span.invariant.3 before) in
+    let w = subst (λ xs. Walk (g.H.Holds.rest c.args.holds.now) xs c.assignable-lo.result.lo c.loop-span.candidate) took (c.loop-span.invariant.4 before) in
     let begins = c.if-not-is_at_most.ensures.0 refl in
     let ends = c.if-is_at_most.ensures.0 refl in
     walk_full _ _ _ _ _ _ _ c.assignable-lo.ensures w begins ends
@@ -34,7 +34,7 @@ pub returns-then-is_at_most-clause-filled : goal.returns-then-is_at_most-clause-
 returns-then-is_at_most-clause-filled g c = λ h.
     let before = c.in_ok-span.ensures.was_honest h in
     let took = rw c.in-Some.is at (c.in_ok-span.ensures.first h) in
-    let w = subst (λ xs. Walk (g.H.Holds.rest c.args.holds.now) xs c.assignable-lo.result.lo c.loop-span.candidate) took (c.loop-span.invariant.3 before) in
+    let w = subst (λ xs. Walk (g.H.Holds.rest c.args.holds.now) xs c.assignable-lo.result.lo c.loop-span.candidate) took (c.loop-span.invariant.4 before) in
     walk_fills _ _ _ _ _ _ _ c.assignable-lo.ensures w c.loop-span.invariant.0 c.loop-span.invariant.1 c.loop-span.invariant.2
 
 pub loop-span-preserved-then-is_at_most-2 : goal.loop-span-preserved-then-is_at_most-2
@@ -47,10 +47,11 @@ loop-span-preserved-then-is_at_most-2 g c =
       next.0,
       omega (arith, c.loop-span.invariant.1, from, next.1),
       omega (arith, below, next.1),
+      g.met.H.Holds.keeps_on c.args.holds.now c.loop-span.holds c.next_hold.new.self c.loop-span.invariant.3 c.next_hold.ensures.keeps,
       λ h.
           let before = c.in_ok-span.ensures.was_honest h in
           let took = rw c.in-Some.is at (c.in_ok-span.ensures.first h) in
-          let w = subst (λ xs. Walk (g.H.Holds.rest c.args.holds.now) xs c.assignable-lo.result.lo c.loop-span.candidate) took (c.loop-span.invariant.3 before) in
+          let w = subst (λ xs. Walk (g.H.Holds.rest c.args.holds.now) xs c.assignable-lo.result.lo c.loop-span.candidate) took (c.loop-span.invariant.4 before) in
           walk_on _ _ _ _ _ _ w begins (omega (arith, from, next.1)) (λ a from' below'. omega (arith, below', next.1)) (omega (arith, next.1)),
     )
 
@@ -61,9 +62,10 @@ loop-span-preserved g c =
       c.loop-span.invariant.0,
       c.loop-span.invariant.1,
       c.loop-span.invariant.2,
+      g.met.H.Holds.keeps_on c.args.holds.now c.loop-span.holds c.next_hold.new.self c.loop-span.invariant.3 c.next_hold.ensures.keeps,
       λ h.
           let before = c.in_ok-span.ensures.was_honest h in
           let took = rw c.in-Some.is at (c.in_ok-span.ensures.first h) in
-          let w = subst (λ xs. Walk (g.H.Holds.rest c.args.holds.now) xs c.assignable-lo.result.lo c.loop-span.candidate) took (c.loop-span.invariant.3 before) in
+          let w = subst (λ xs. Walk (g.H.Holds.rest c.args.holds.now) xs c.assignable-lo.result.lo c.loop-span.candidate) took (c.loop-span.invariant.4 before) in
           walk_on _ _ _ _ _ _ w begins (omega arith) (λ a from' below'. absurd (omega (arith, from', below'))) past,
     )
