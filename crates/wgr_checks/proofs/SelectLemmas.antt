@@ -38,18 +38,6 @@ module _ {P : Type 0} (shown : P → ℕ → Checked (Option Returning)) (base :
   none_shown (Ok p) c none is = of_parts p (shown p (base p)) (made p) c (none (base p)) is
   none_shown (Err e) c none is = absurd (let n = none 0 in cc)
 
--- a SELECT shows none, whatever the schema is
-asks_none : (t : Table) (s : Schema) (n : ℕ) → and_then (first (text_of t)) (λ p. returning s n p.statement) ≡ Ok None
-unfolding first returning everything
-asks_none Peers s n = refl
-asks_none Allowed s n = refl
-
-compiled_none : (t : Table) (s : Schema) (c : Compiled) → compiled s (text_of t) ≡ Ok c → c.returning ≡ None
-unfolding compiled planned meaning
-compiled_none t s c is =
-    none_shown (λ p n. returning s n p.statement) (λ p. small p.names + small (timed s p.formats p.statement)) (λ p. command s p.formats (small p.names + small (timed s p.formats p.statement)) p.statement) (λ p. timed s p.formats p.statement) with_command (λ p plan. refl)
-    (first (text_of t)) c (asks_none t s) is
-
 abbrev kept : Compiled → Checked Compiled
 kept d = Ok d
 
@@ -61,28 +49,50 @@ of_select : (r : Checked Compiled) (c : Compiled) → if_select r ≡ Ok c → r
 of_select (Ok d) c is = chosen (is_select d.command) d c is
 of_select (Err e) c is = absurd cc
 
-understood_none : (t : Table) (s : Schema) (c : Compiled) → understood s (text_of t) ≡ Ok c → c.returning ≡ None
-unfolding understood
-understood_none t s c is = elim (cases_Bool (reads_listing s (text_of t))) [
-  | inl listing ↦ compiled_none t listing_schema c (of_select (compiled listing_schema (text_of t)) c (rw listing at is))
-  | inr other ↦ compiled_none t s c (rw other at is)
-]
+-- a text of which the compiler shows no row of a write, whatever the schema is
+module _ (text : List ℕ) (asks_none : (s : Schema) (n : ℕ) → and_then (first text) (λ p. returning s n p.statement) ≡ Ok None) where
+  compiled_none : (s : Schema) (c : Compiled) → compiled s text ≡ Ok c → c.returning ≡ None
+  unfolding compiled planned meaning
+  compiled_none s c is =
+      none_shown (λ p n. returning s n p.statement) (λ p. small p.names + small (timed s p.formats p.statement)) (λ p. command s p.formats (small p.names + small (timed s p.formats p.statement)) p.statement) (λ p. timed s p.formats p.statement) with_command (λ p plan. refl)
+      (first text) c (asks_none s) is
 
-never_returns : (t : Table) (s : Schema) → ¬ Returns (understood s (text_of t))
-never_returns t s some = returned (understood s (text_of t)) (understood_none t s) some
-  where
-    returned : (r : Checked Compiled) → ((c : Compiled) → r ≡ Ok c → c.returning ≡ None) → ¬ Returns r
-    returned (Ok c) none some = absurd (let e = none c refl in let here = rw e at some in cc)
-    returned (Err e) none some = some
+  understood_none : (s : Schema) (c : Compiled) → understood s text ≡ Ok c → c.returning ≡ None
+  unfolding understood
+  understood_none s c is = elim (cases_Bool (reads_listing s text)) [
+    | inl listing ↦ compiled_none listing_schema c (of_select (compiled listing_schema text) c (rw listing at is))
+    | inr other ↦ compiled_none s c (rw other at is)
+  ]
 
--- so it is at its start, once it has begun
+  never_returns : (s : Schema) → ¬ Returns (understood s text)
+  never_returns s some = returned (understood s text) (understood_none s) some
+    where
+      returned : (r : Checked Compiled) → ((c : Compiled) → r ≡ Ok c → c.returning ≡ None) → ¬ Returns r
+      returned (Ok c) none some = absurd (let e = none c refl in let here = rw e at some in cc)
+      returned (Err e) none some = some
+
+  -- so it is at its start, once it has begun
+  pub text_begun : {S : Type 0} (g : Ghosts S) (params : Row) (old new : Held S) → HasBegun g text params old new → HasGiven g text params new [] × IsUnchanged (state g old) (state g new)
+  text_begun g params old new (inl h) = h
+  text_begun g params old new (inr h) = absurd (never_returns old.schema h.0)
+
+  never_commits : (params : Row) (s : State) (db : Trees) → ¬ CommitsShowing text params s db
+  unfolding CommitsShowing
+  never_commits params s db h = absurd (let none = understood_none s.now.schema h.0 h.1.is in let some = rw none at h.2 in cc)
+
+  pub text_commits_nothing : (params : Row) (old new : State) → Survives old new (CommitsShowing text params old) → Survives old new (λ _. ⊥)
+  text_commits_nothing params old new = survives_weaker old new _ _ (λ _ db. never_commits params old db)
+
+-- ---- a table's query
+
+-- a SELECT shows none, whatever the schema is
+asks_none : (t : Table) (s : Schema) (n : ℕ) → and_then (first (text_of t)) (λ p. returning s n p.statement) ≡ Ok None
+unfolding first returning everything
+asks_none Peers s n = refl
+asks_none Allowed s n = refl
+
 pub begun : {S : Type 0} (g : Ghosts S) (t : Table) (params : Row) (old new : Held S) → HasBegun g (text_of t) params old new → HasGiven g (text_of t) params new [] × IsUnchanged (state g old) (state g new)
-begun g t params old new (inl h) = h
-begun g t params old new (inr h) = absurd (never_returns t old.schema h.0)
-
-never_commits : (t : Table) (params : Row) (s : State) (db : Trees) → ¬ CommitsShowing (text_of t) params s db
-unfolding CommitsShowing
-never_commits t params s db h = absurd (let none = understood_none t s.now.schema h.0 h.1.is in let some = rw none at h.2 in cc)
+begun g t = text_begun (text_of t) (asks_none t) g
 
 pub commits_nothing : (t : Table) (params : Row) (old new : State) → Survives old new (CommitsShowing (text_of t) params old) → Survives old new (λ _. ⊥)
-commits_nothing t params old new = survives_weaker old new _ _ (λ _ db. never_commits t params old db)
+commits_nothing t = text_commits_nothing (text_of t) (asks_none t)

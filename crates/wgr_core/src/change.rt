@@ -266,8 +266,8 @@ impl Network {
     }
 }
 
-// The set of these numbers.
-pub(crate) fn number_set(alloc: Global, numbers: &[u32]) -> Result<HashSet<u32>, AllocError>
+/// The set of these numbers.
+pub fn number_set(alloc: Global, numbers: &[u32]) -> Result<HashSet<u32>, AllocError>
     ensures { IfOk result (λ set. (n : ℕ) → contains nat_eq set n ≡ is_among numbers.now n) }
 {
     let mut set = HashSet::new(alloc);

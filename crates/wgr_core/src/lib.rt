@@ -23,7 +23,7 @@ mod routes;
 mod seen_peer;
 mod views;
 
-pub use change::Change;
+pub use change::{Change, number_set};
 pub use command::Command;
 pub use fault::ActFault;
 pub use form::Form;

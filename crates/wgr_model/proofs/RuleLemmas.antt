@@ -27,7 +27,7 @@ none_at f (x ∷ xs) a none (inl e) = ap f (sym e) ∙ (or_false (f x) (list_any
 none_at f (x ∷ xs) a none (inr h) = none_at f xs a (or_false (f x) (list_any f xs) none).1 h
 
 -- a number that leads to a peer is the number of one
-found_peer : (peers : List Peer) (number : ℕ) → is_some (peer_of peers number) ≡ true → (v : Peer) × Has peers v × (v.number ≡ number)
+pub found_peer : (peers : List Peer) (number : ℕ) → is_some (peer_of peers number) ≡ true → (v : Peer) × Has peers v × (v.number ≡ number)
 found_peer [] number h = absurd (true≢false (sym h))
 found_peer (p ∷ peers) number h = by_test (nat_eq p.number number) refl h (found_peer peers number) where
   by_test : (b : Bool) → nat_eq p.number number ≡ b → is_some (cond b (Some p) (peer_of peers number)) ≡ true → (is_some (peer_of peers number) ≡ true → (v : Peer) × Has peers v × (v.number ≡ number)) → (v : Peer) × Has (p ∷ peers) v × (v.number ≡ number)
@@ -41,30 +41,33 @@ pair_flips : (a b : ℕ × ℕ) → same_pair a b ≡ same_pair b a
 pair_flips a b = ap₂ (λ x y. x && y) (eqb_sym a.0 b.0) (eqb_sym a.1 b.1)
 
 module _ (t : Tables) (is : AreConsistent t) where
-  here : (w : NetworkRow) → Has t.networks w → Has (register_of t).networks (holding_of t w)
+  pub here : (w : NetworkRow) → Has t.networks w → Has (register_of t).networks (holding_of t w)
   here w h = has_map (holding_of t) t.networks w h
 
-  rules : (w : NetworkRow) → Has t.networks w → IsNetwork (holding_of t w).network
-  rules w h = (at_has IsHolding (register_of t).networks (holding_of t w) is.consistent.networks (here w h)).rules
+  pub holding : (w : NetworkRow) → Has t.networks w → IsHolding (holding_of t w)
+  holding w h = at_has IsHolding (register_of t).networks (holding_of t w) is.consistent.networks (here w h)
+
+  pub rules : (w : NetworkRow) → Has t.networks w → IsNetwork (holding_of t w).network
+  rules w h = (holding w h).rules
 
   -- two networks of one id are one
-  one_network : (v w : NetworkRow) → Has t.networks v → Has t.networks w → v.id ≡ w.id → v ≡ w
+  pub one_network : (v w : NetworkRow) → Has t.networks v → Has t.networks w → v.id ≡ w.id → v ≡ w
   one_network v w hv hw e = elim (one_or_apart (λ x. x.id) nat_eq eqb_sym (register_of t).networks (holding_of t v) (holding_of t w) is.consistent.network_ids (here v hv) (here w hw)) [
     | inl same ↦ ap network_row same
     | inr apart ↦ absurd (true≢false (sym (eqb_self w.id) ∙ ap (λ i. nat_eq i w.id) (sym e) ∙ apart))
   ]
 
-  from_peer : (p : PeerRow) → Has t.peers p → (w : NetworkRow) × (v : Peer) × Has t.networks w × Has (holding_of t w).network.peers v × (peer_row w.id v ≡ p)
+  pub from_peer : (p : PeerRow) → Has t.peers p → (w : NetworkRow) × (v : Peer) × Has t.networks w × Has (holding_of t w).network.peers v × (peer_row w.id v ≡ p)
   from_peer p h =
       let f = from_flat peer_rows (register_of t).networks p ((is.rows.peers p).1 h) in
       let w = from_map (holding_of t) t.networks f.0 f.1 in
       let v = from_map (peer_row f.0.id) f.0.network.peers p f.2 in
       (w.0, v.0, w.1, subst (λ k. Has k.network.peers v.0) (sym w.2) v.1, ap (λ k. peer_row k.id v.0) w.2 ∙ v.2)
 
-  abbrev IsOf : AllowedRow → NetworkRow → Type 0
+  abbrev pub IsOf : AllowedRow → NetworkRow → Type 0
   IsOf a w = ((v : Peer) × Has (holding_of t w).network.peers v × (address_row w.id v ≡ a)) ⊎ ((r : PrefixValue × ℕ) × Has (holding_of t w).network.routes r × (route_row w.id r ≡ a))
 
-  from_allowed : (a : AllowedRow) → Has t.allowed a → (w : NetworkRow) × Has t.networks w × IsOf a w
+  pub from_allowed : (a : AllowedRow) → Has t.allowed a → (w : NetworkRow) × Has t.networks w × IsOf a w
   from_allowed a h =
       let f = from_flat allowed_rows (register_of t).networks a ((is.rows.allowed a).1 h) in
       let w = from_map (holding_of t) t.networks f.0 f.1 in (
@@ -76,10 +79,10 @@ module _ (t : Tables) (is : AreConsistent t) where
         ],
       )
 
-  peer_there : (w : NetworkRow) (v : Peer) → Has t.networks w → Has (holding_of t w).network.peers v → Has t.peers (peer_row w.id v)
+  pub peer_there : (w : NetworkRow) (v : Peer) → Has t.networks w → Has (holding_of t w).network.peers v → Has t.peers (peer_row w.id v)
   peer_there w v hw hv = (is.rows.peers (peer_row w.id v)).0 (has_flat peer_rows (register_of t).networks (holding_of t w) (peer_row w.id v) (here w hw) (has_map (peer_row w.id) (holding_of t w).network.peers v hv))
 
-  address_there : (w : NetworkRow) (v : Peer) → Has t.networks w → Has (holding_of t w).network.peers v → Has t.allowed (address_row w.id v)
+  pub address_there : (w : NetworkRow) (v : Peer) → Has t.networks w → Has (holding_of t w).network.peers v → Has t.allowed (address_row w.id v)
   address_there w v hw hv = (is.rows.allowed (address_row w.id v)).0 (has_flat allowed_rows (register_of t).networks (holding_of t w) (address_row w.id v) (here w hw)
       (has_left (map (address_row w.id) (holding_of t w).network.peers) (map (route_row w.id) (holding_of t w).network.routes) (address_row w.id v) (has_map (address_row w.id) (holding_of t w).network.peers v hv)))
 

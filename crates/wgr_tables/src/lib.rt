@@ -14,6 +14,6 @@ mod route;
 mod stored;
 
 pub use commit::commit_change;
-pub use load::load_network;
+pub use load::{load_network, network_row};
 pub use stored::network_if_stored;
 pub use wgr_sql::Fault;

@@ -259,10 +259,7 @@ fn load_row<S: Alter>(
 }
 
 /// The row of the network of this id.
-pub(crate) fn network_row<S: Alter>(
-    conn: &mut Connection<S>,
-    network: u32,
-) -> Result<Option<Row>, Fault>
+pub fn network_row<S: Alter>(conn: &mut Connection<S>, network: u32) -> Result<Option<Row>, Fault>
     requires idle { conn.old.in_transaction ≡ false }
     ensures idle { conn.new.in_transaction ≡ false }
     ensures stands { (db : Database) (pending : List Written) → Stands S.Store conn.old db pending → Stands S.Store conn.new db pending }
