@@ -1,0 +1,153 @@
+-- Why a reading of holding rows stops.
+use Rattle.std.proofs.Common.{◌≡◌, ◌⊎◌, ◌↔◌, ◌<◌, ◌≤◌, ◌+◌, ◌-◌, ◌^◌, ◌++◌, min, ℕ, Bool, true, false, List, [], ◌∷◌, Option, Some, None, IsSome, IsTrue, inl, inr, refl, sym, subst, ◌∙◌, arith}
+use Rattle.std.proofs.Math.Logic.{∥∥₁_elim}
+use Rattle.std.proofs.lemmas.Bool.{cases_lt}
+use Rattle.sqlite.specs.declared.error.Error.{Error}
+use Rattle.sqlite.specs.declared.error.Error.TheVariants.{SqliteFailure}
+use Rattle.sqlite.specs.declared.error.ErrorCode.TheVariants.{OutOfMemory}
+use Rattle.sqlite.specs.Listing.{understood}
+use Rattle.sqlite.specs.Order.{Row}
+use Rattle.sqlite.specs.Effect.{Database}
+use Rattle.sqlite.specs.Given.{FailsToAdvance, HasGiven}
+use Rattle.sqlite.specs.Held.{Held, state}
+use Rattle.sqlite.specs.Schema.{Schema}
+use Rattle.sqlite.specs.State.{State, FailsToQuery, HasCleanDisk, IsUnchanged, Survives}
+use Rattle.sqlite.specs.Store.{Ghosts}
+use Rattle.sqlite_rules.proofs.ListLemmas.{has_right}
+use Rattle.sqlite_tied.specs.Compute.{everything}
+use Rattle.wgr_text.specs.Prefix.{AddrValue, PrefixValue, IsAddr, IsPrefix, rank}
+use Rattle.wgr_text.specs.declared.prefix.Span.{Span}
+use Rattle.wgr_pool.specs.Spans.{RisesFrom, reached}
+use Rattle.wgr_pool.specs.declared.allot.Stop.{Stop}
+use Rattle.wgr_model.specs.Rows.{AreKeyed}
+use Rattle.wgr_sql.specs.Causes.{HasCause, IsAnswered, IsHindered}
+use Rattle.wgr_sql.specs.declared.fault.Fault.{Fault}
+use Rattle.wgr_sql.specs.declared.fault.Fault.TheVariants.{NoMemory, Store}
+use Rattle.wgr_sql.proofs.CauseLemmas.{cause_if, query_hindered}
+use Rattle.wgr_columns.specs.Decode.{IsRegister, allowed_in, tables_of}
+use Rattle.wgr_columns.specs.Fields.{IsPeerIdAt, IsPrefixAt}
+use Rattle.wgr_columns.specs.Layout.{Others, schema_with}
+use Rattle.wgr_columns.proofs.Statements.{never_refused}
+use Rattle.wgr_rows.specs.Holding.{brief, hold_params, holds_text, max_holds}
+use Rattle.wgr_rows.specs.Stopping.{Blames, HavePool, IsSound, fault_at}
+use Rattle.wgr_rows.specs.Telling.{IsGood, IsToldTo, Tells}
+use Rattle.wgr_rows.specs.declared.progress.Progress.{Progress}
+use Rattle.wgr_rows.specs.declared.progress.Progress.TheVariants.{Running, Stopped}
+use Rattle.wgr_rows.proofs.Coming.{is_open, parts, spans}
+use Rattle.wgr_rows.proofs.ReadLemmas.{few_given, given_read}
+
+-- ---- what hinders a call can be told from what doesn't
+
+either_limit : (limit : Option ℕ) → IsSome limit ⊎ (IsSome limit → ⊥)
+either_limit (Some n) = inl refl
+either_limit None = inr (λ h. cc)
+
+either_open : (b : Bool) → (b ≡ false) ⊎ (b ≡ false → ⊥)
+either_open false = inl refl
+either_open true = inr (λ e. cc)
+
+unless_hindered : (old new : State) → ((IsHindered old new → ⊥) → ⊥) → IsHindered old new
+unless_hindered old new h = elim (cases_lt new.faults (min (old.faults + 1) (2 ^ 64 - 1))) [
+  | inr more ↦ inl (omega (arith, more))
+  | inl same ↦ elim (either_open old.is_open) [
+    | inl shut ↦ inr (inl shut)
+    | inr live ↦ elim (either_limit old.step_limit) [
+      | inl limit ↦ inr (inr limit)
+      | inr free ↦ absurd (h (λ hindered. elim hindered [ inl more ↦ omega (arith, same, more) | inr (inl shut) ↦ live shut | inr (inr limit) ↦ free limit ]))
+    ]
+  ]
+]
+
+-- a fault that can't come where nothing hindered the call
+pub cause_unless : (old new : State) (f : Fault) → (f ≡ Store → HasCleanDisk new → (IsHindered old new → ⊥) → ⊥) → HasCause old new f
+cause_unless old new f h = cause_if ⊥ old new f (λ is clean. inl (unless_hindered old new (h is clean)))
+
+pub for_cause : (network : ℕ) (pool : PrefixValue) (old new : State) (at : Progress) (why : Stop) → ((HasCleanDisk new → IsSound network pool old) → HasCause old new (fault_at why)) → Blames network pool old at new (Stopped why)
+for_cause network pool old new at why cause other is =
+    let same : why ≡ other = cc in
+    inr (λ known. subst (λ (w : Stop). HasCause old new (fault_at w)) same (cause known))
+
+no_two : (x y : ⊥) → x ≡ y
+no_two x y = absurd x
+
+good_of : (network : ℕ) (pool : PrefixValue) (s : State) → HasCleanDisk s → IsSound network pool s → IsGood s
+good_of network pool s clean sound = (clean, λ live. let it = sound.1 live in (it.0, it.1.consistent.rows.keyed))
+
+-- ---- the query is answered
+
+pub holds_answered : (others : Others) (network : ℕ) (pool : PrefixValue) → IsAnswered (schema_with others) holds_text (hold_params network pool)
+unfolding understood everything
+holds_answered others network pool = record { given = (refl, refl, omega arith, refl); unlisted = refl; plain = λ limit trees e refused. never_refused _ refl limit (trees 10) refused }
+
+answered_at : (db : Database) → IsRegister db → (network : ℕ) (pool : PrefixValue) → IsAnswered db.schema holds_text (hold_params network pool)
+answered_at db register network pool = subst (λ (s : Schema). IsAnswered s holds_text (hold_params network pool)) (sym register.schema_is) (holds_answered register.others network pool)
+
+abbrev Told : Fault → Error → Type 0
+Told f e = (f ≡ NoMemory) ↔ (e ≡ SqliteFailure OutOfMemory)
+
+hindered_by : (old new : State) (e : Error) (f : Fault) → Told f e → f ≡ Store → (e ≡ SqliteFailure OutOfMemory) ⊎ IsHindered old new → IsHindered old new
+hindered_by old new e f told is (inl memory) = absurd (let e = sym is ∙ told.1 memory in cc)
+hindered_by old new e f told is (inr hindered) = hindered
+
+-- the query didn't begin
+pub begin_cause : (network : ℕ) (pool : PrefixValue) (old new : State) (e : Error) (f : Fault) → Told f e → (HasCleanDisk new → IsSound network pool old) → (HasCleanDisk new → FailsToQuery holds_text (hold_params network pool) old new e) → HasCause old new f
+begin_cause network pool old new e f told known fails = cause_unless old new f (λ why clean free. either old.is_open refl why clean free)
+  where
+    either : (b : Bool) → old.is_open ≡ b → f ≡ Store → HasCleanDisk new → (IsHindered old new → ⊥) → ⊥
+    either false shut why clean free = free (inr (inl shut))
+    either true live why clean free = free (hindered_by old new e f told why (query_hindered holds_text (hold_params network pool) old new (answered_at old.now ((known clean).1 live).0 network pool) e (inl (fails clean))))
+
+module _ {S : Type 0} (g : Ghosts S) (network : ℕ) (pool : PrefixValue) (is : IsPrefix pool) (fits : IsAddr pool.address) (taken : ℕ) (last : Option AddrValue) (at : Progress) (running : at ≡ Running) (old : Held S) (tells : ∥ Tells g old network pool taken last at ∥₁) where
+  -- what is told, where only the rows' soundness is known
+  with_told : (HasCleanDisk (state g old)) → IsSound network pool (state g old) → (IsToldTo g old network pool taken last → ⊥) → ⊥
+  with_told clean sound never = ∥∥₁_elim tells no_two (λ t. never (t running (good_of network pool (state g old) clean sound)))
+
+  live_given : (h : Held S) (given : List Row) → HasGiven g holds_text (hold_params network pool) h given → IsTrue (state g h).is_open
+  live_given h given runs = is_open g h (hold_params network pool) given runs
+
+  -- there are no more rows than a network may have
+  pub limit_cause : max_holds < taken → (HasCleanDisk (state g old) → IsSound network pool (state g old)) → HasCause (state g old) (state g old) Store
+  limit_cause high known = cause_unless (state g old) (state g old) Store (λ _ clean free.
+      let sound = known clean in
+      with_told clean sound (λ told.
+      let it = sound.1 (live_given old told.given told.runs) in
+      let few = few_given g old it.0 network pool is fits it.1 told.given told.runs in
+      let count = told.count in
+      omega (arith, high, few, count)))
+
+  module _ (new : Held S) (survives : Survives (state g old) (state g new) (λ _. ⊥)) where
+    clean_before : HasCleanDisk (state g new) → HasCleanDisk (state g old)
+    clean_before clean = omega (arith, survives.clean, clean)
+
+    -- the next row couldn't be had
+    pub advance_cause : (e : Error) (f : Fault) → Told f e → (HasCleanDisk (state g new) → FailsToAdvance g old new e) → (HasCleanDisk (state g new) → IsSound network pool (state g old)) → HasCause (state g old) (state g new) f
+    advance_cause e f told_as fails known = cause_unless (state g old) (state g new) f (λ why clean free.
+        let sound = known clean in
+        with_told (clean_before clean) sound (λ told.
+        let it = sound.1 (live_given old told.given told.runs) in
+        free (hindered_by (state g old) (state g new) e f told_as why
+        (query_hindered holds_text (hold_params network pool) (state g old) (state g new) (answered_at (state g old).now it.0 network pool) e (inl (fails clean holds_text (hold_params network pool) told.given told.runs))))))
+
+    module _ (row : Row) (same : HasCleanDisk (state g new) → IsUnchanged (state g old) (state g new)) (gives : HasCleanDisk (state g new) → (given : List Row) → HasGiven g holds_text (hold_params network pool) old given → HasGiven g holds_text (hold_params network pool) new (given ++ row ∷ [])) where
+      -- a row that was given isn't refused
+      pub row_cause : (IsPrefixAt row 2 → IsPeerIdAt row 6 network → ⊥) → (HasCleanDisk (state g new) → IsSound network pool (state g old)) → HasCause (state g old) (state g new) Store
+      row_cause refused known = cause_unless (state g old) (state g new) Store (λ _ clean free.
+          let sound = known clean in
+          with_told (clean_before clean) sound (λ told.
+          let it = sound.1 (live_given old told.given told.runs) in
+          let now_is = (same clean).0.now_is in
+          let register = subst IsRegister (sym now_is) it.0 in
+          let have = subst (λ (d : Database). HavePool (tables_of d) network pool) (sym now_is) it.1 in
+          let read = given_read g new register network pool is fits have (told.given ++ row ∷ []) (gives clean told.given told.runs) row (has_right told.given (row ∷ []) row (inl refl)) in
+          refused read.0 read.1))
+
+      -- and none begins below the one before it
+      pub order_cause : (hold : Span × ℕ) → hold ≡ brief network (allowed_in row) → (reached last ≤ rank hold.0.lo → ⊥) → (HasCleanDisk (state g new) → IsSound network pool (state g old)) → HasCause (state g old) (state g new) Store
+      order_cause hold hold_is below known = cause_unless (state g old) (state g new) Store (λ _ clean free.
+          let sound = known clean in
+          with_told (clean_before clean) sound (λ told.
+          let it = sound.1 (live_given old told.given told.runs) in
+          let now_is = (same clean).0.now_is in
+          let good : IsGood (state g new) = (clean, λ live. subst (λ (d : Database). IsRegister d × AreKeyed (tables_of d)) (sym now_is) (it.0, it.1.consistent.rows.keyed)) in
+          let up = (subst (λ l. RisesFrom (reached last) (spans network l)) (parts g old new (same clean) good network pool is fits taken last told row (gives clean told.given told.runs)) told.rises).0 in
+          below (subst (λ (x : Span × ℕ). reached last ≤ rank x.0.lo) (sym hold_is) up)))

@@ -1,0 +1,33 @@
+-- The spans of a reading rise.
+use Rattle.std.specs.Prelude.{ℕ, ◌≤◌, Bool, true, false, if◌then◌else◌, List, [], ◌∷◌, map, Option}
+use Rattle.std.proofs.Common.{arith, refl}
+use Rattle.std.proofs.Math.Logic.{∥∥₁_elim}
+use Rattle.sqlite.specs.Store.{Ghosts}
+use Rattle.sqlite.specs.Held.{Held, state}
+use Rattle.wgr_text.specs.declared.prefix.Span.{Span}
+use Rattle.wgr_text.specs.Prefix.{AddrValue, PrefixValue, rank}
+use Rattle.wgr_pool.specs.Spans.{RisesFrom, reached}
+use Rattle.wgr_pool.specs.Rising.{RisesFrom-prop}
+use Rattle.wgr_columns.specs.Decode.{tables_of}
+use Rattle.wgr_rows.specs.declared.progress.Progress.{Progress}
+use Rattle.wgr_rows.specs.declared.progress.Progress.TheVariants.{Running, Done, Stopped}
+use Rattle.wgr_rows.specs.Holding.{staying, to_come}
+use Rattle.wgr_rows.specs.Telling.{IsGood, Tells}
+
+from_lower : (low high : ℕ) (spans : List Span) → low ≤ high → RisesFrom high spans → RisesFrom low spans
+from_lower low high [] le up = tt
+from_lower low high (s ∷ spans) le up = let first = up.0 in (omega (arith, le, first), up.1)
+
+staying_rise : (expired : ℕ → Bool) (floor : ℕ) (holds : List (Span × ℕ)) → RisesFrom floor (map (λ x. x.0) holds) → RisesFrom floor (staying expired holds)
+staying_rise expired floor [] up = tt
+staying_rise expired floor (h ∷ holds) up = go (expired h.1) (staying_rise expired (rank h.0.lo) holds up.1)
+  where
+    go : (b : Bool) → RisesFrom (rank h.0.lo) (staying expired holds) → RisesFrom floor (if b then staying expired holds else h.0 ∷ staying expired holds)
+    go true later = from_lower floor (rank h.0.lo) (staying expired holds) up.0 later
+    go false later = (up.0, later)
+
+pub told_rise : {S : Type 0} (g : Ghosts S) (h : Held S) (network : ℕ) (pool : PrefixValue) (taken : ℕ) (last : Option AddrValue) (at : Progress) (expired : ℕ → Bool) → ∥ Tells g h network pool taken last at ∥₁ → IsGood (state g h)
+    → RisesFrom (reached last) (staying expired (to_come at (tables_of (state g h).now) network pool taken))
+told_rise g h network pool taken last Running expired told good = ∥∥₁_elim told (RisesFrom-prop (reached last) _) (λ tells. staying_rise expired (reached last) (to_come Running (tables_of (state g h).now) network pool taken) (tells refl good).rises)
+told_rise g h network pool taken last Done expired told good = tt
+told_rise g h network pool taken last (Stopped why) expired told good = tt

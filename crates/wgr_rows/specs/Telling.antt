@@ -1,0 +1,28 @@
+-- What a reading of holding rows knows.
+use Rattle.std.specs.Prelude.{◌≡◌, ℕ, IsTrue, List, length, map, Option}
+use Rattle.sqlite_value.specs.Order.{Row}
+use Rattle.sqlite.specs.State.{State, HasCleanDisk}
+use Rattle.sqlite.specs.Store.{Ghosts}
+use Rattle.sqlite.specs.Held.{Held, state}
+use Rattle.sqlite.specs.Given.{HasGiven}
+use Rattle.wgr_text.specs.Prefix.{AddrValue, PrefixValue}
+use Rattle.wgr_pool.specs.Spans.{RisesFrom, reached}
+use Rattle.wgr_model.specs.Rows.{AreKeyed}
+use Rattle.wgr_columns.specs.Decode.{IsRegister, tables_of}
+use Rattle.wgr_rows.specs.Holding.{hold_params, holds_text, to_come}
+use Rattle.wgr_rows.specs.declared.progress.Progress.{Progress}
+use Rattle.wgr_rows.specs.declared.progress.Progress.TheVariants.{Running}
+
+-- the disk is clean, and what an open connection shows are the rows of a register, no two of which have a key
+abbrev pub IsGood : State → Type 0
+IsGood s = HasCleanDisk s × (IsTrue s.is_open → IsRegister s.now × AreKeyed (tables_of s.now))
+
+-- the query runs and has given so many rows; what is to come begins no lower than `last`
+pub record IsToldTo {S : Type 0} (g : Ghosts S) (h : Held S) (network : ℕ) (pool : PrefixValue) (taken : ℕ) (last : Option AddrValue) : Type 0 where
+  pub given : List Row
+  pub runs : HasGiven g holds_text (hold_params network pool) h given
+  pub count : length given ≡ taken
+  pub rises : RisesFrom (reached last) (map (λ x. x.0) (to_come Running (tables_of (state g h).now) network pool taken))
+
+abbrev pub Tells : {S : Type 0} → Ghosts S → Held S → ℕ → PrefixValue → ℕ → Option AddrValue → Progress → Type 0
+Tells g h network pool taken last at = at ≡ Running → IsGood (state g h) → IsToldTo g h network pool taken last

@@ -1,0 +1,217 @@
+//! Add and Owner on the rows of one network, which isn't loaded.
+ghost use Rattle.std.specs.Prelude.{◌≡◌, ◌≤◌, ◌+◌, ℕ, List, IfErr, IfOk, IfSome, Some, None, [], ◌∷◌, false, is_some, nat_eq, nat_lt, not, true, length};
+ghost use Rattle.std.specs.HashSet.{contains};
+ghost use Rattle.sqlite.specs.Effect.{Database};
+ghost use Rattle.sqlite.specs.State.{HasCleanDisk, Survives};
+ghost use Rattle.sqlite.specs.Held.{state};
+ghost use Rattle.wgr_peers.specs.Limits.{max_number};
+ghost use Rattle.wgr_peers.specs.Peers.{expired};
+ghost use Rattle.wgr_core.specs.Change.{Fits, Meets};
+ghost use Rattle.wgr_core.specs.Network.{live_at, lowest_free};
+ghost use Rattle.wgr_core.specs.Outcome.{is_reading, outcome_of, place};
+ghost use Rattle.wgr_sql.specs.Causes.{HasCause};
+ghost use Rattle.wgr_tables.specs.Writes.{Written};
+ghost use Rattle.wgr_tables.specs.Standing.{Stands};
+ghost use Rattle.wgr_rows.specs.Act.{Admits, IfFails, IsPlaced, as_acted, is_directed, is_plain};
+ghost use Rattle.wgr_rows.specs.Directed.{OnNetwork};
+ghost use Rattle.wgr_rows.specs.Heads.{IsHead};
+
+use crate::allowed::allowed_row;
+use crate::count::count_rows;
+use crate::expired::expired_rows;
+use crate::fault::RowFault;
+use crate::free::free_row;
+use crate::head::{Head, head_row};
+use crate::key::key_row;
+use crate::owner::owner_row;
+use sqlite::{Alter, Connection};
+use std::alloc::{AllocError, Global};
+use wgr_core::{Change, Command, PeerView, Refusal, Reply, number_set};
+use wgr_peers::{Items, LeaseEnd, MAX_NUMBER, Peer};
+use wgr_sql::Fault;
+use wgr_text::{Addr, Key, Prefix};
+
+/// Whether [`row_act`] takes the command.
+pub fn is_directed(command: &Command) -> bool
+    ensures { result ≡ is_directed command.now }
+{
+    matches!(command, Command::Add { .. } | Command::Owner { .. })
+}
+
+// What a network has for a new peer: its own row, and the numbers of the peers whose leases are over.
+#[derive(Drop)]
+struct Admission {
+    head: Head,
+    expired: Vec<u32>,
+}
+
+// Whether the network has room for one more live peer. Numbers are given from 1 on, so that a network in
+// which fewer numbers were given than it may have peers has room.
+fn has_room<S: Alter>(
+    conn: &mut Connection<S>,
+    network: u32,
+    head: &Head,
+    over: &[u32],
+) -> Result<bool, Fault>
+    requires idle { conn.old.in_transaction ≡ false }
+    ensures idle { conn.new.in_transaction ≡ false }
+    ensures stands { (db : Database) (pending : List Written) → Stands S.Store conn.old db pending → Stands S.Store conn.new db pending }
+    ensures clean { HasCleanDisk (state S.Store conn.new) → HasCleanDisk (state S.Store conn.old) }
+    ensures found { OnNetwork S.Store conn.old network (λ n. HasCleanDisk (state S.Store conn.new) → (now : ℕ) → IsHead head.now n → over.now ≡ expired now n.peers → IfOk result (λ has. has ≡ nat_lt (length (live_at n now).peers) n.capacity)) }
+    ensures survives { Survives (state S.Store conn.old) (state S.Store conn.new) (λ _. ⊥) }
+    ensures cause { OnNetwork S.Store conn.old network (λ n. IfErr result (HasCause (state S.Store conn.old) (state S.Store conn.new))) }
+{
+    let most = u32::from(head.capacity.peers());
+    if head.next <= most {
+        return Ok(true);
+    }
+    let count = count_rows(conn, network)?;
+    Ok(count < over.len() + most as usize)
+}
+
+// What the network has for a new peer with this key and this end of its lease, or why it may not join.
+fn admit_row<S: Alter>(
+    alloc: Global,
+    conn: &mut Connection<S>,
+    network: u32,
+    now: u64,
+    key: &Key,
+    until: LeaseEnd,
+) -> Result<Admission, RowFault>
+    requires idle { conn.old.in_transaction ≡ false }
+    ensures idle { conn.new.in_transaction ≡ false }
+    ensures stands { (db : Database) (pending : List Written) → Stands S.Store conn.old db pending → Stands S.Store conn.new db pending }
+    ensures clean { HasCleanDisk (state S.Store conn.new) → HasCleanDisk (state S.Store conn.old) }
+    ensures found { OnNetwork S.Store conn.old network (λ n. HasCleanDisk (state S.Store conn.new) → Admits n now key.now until result) }
+    ensures left { IfOk result (λ admission. admission.head.next ≤ max_number) }
+    ensures survives { Survives (state S.Store conn.old) (state S.Store conn.new) (λ _. ⊥) }
+    ensures cause { OnNetwork S.Store conn.old network (λ n. IfErr result (IfFails (HasCause (state S.Store conn.old) (state S.Store conn.new)))) }
+{
+    let head = head_row(conn, network)?;
+    if *key == head.server {
+        return Err(RowFault::Refused(Refusal::ServerKey));
+    }
+    if let Some(number) = key_row(conn, network, now, key)? {
+        return Err(RowFault::Refused(Refusal::KeyHeld { number }));
+    }
+    if until.is_expired(now) {
+        return Err(RowFault::Refused(Refusal::LeaseOver));
+    }
+    let expired = expired_rows(alloc, conn, network, now)?;
+    if !has_room(conn, network, &head, expired.as_slice())? {
+        return Err(RowFault::Refused(Refusal::CapacityReached));
+    }
+    if head.next > MAX_NUMBER {
+        return Err(RowFault::Refused(Refusal::NumbersSpent));
+    }
+    Ok(Admission { head, expired })
+}
+
+// The address that a new peer gets: the named one, if it may, or the lowest that is free.
+fn place_row<S: Alter>(
+    alloc: Global,
+    conn: &mut Connection<S>,
+    network: u32,
+    now: u64,
+    admission: &Admission,
+    wanted: Option<Addr>,
+) -> Result<Addr, RowFault>
+    requires idle { conn.old.in_transaction ≡ false }
+    ensures idle { conn.new.in_transaction ≡ false }
+    ensures stands { (db : Database) (pending : List Written) → Stands S.Store conn.old db pending → Stands S.Store conn.new db pending }
+    ensures clean { HasCleanDisk (state S.Store conn.new) → HasCleanDisk (state S.Store conn.old) }
+    ensures found { OnNetwork S.Store conn.old network (λ n. HasCleanDisk (state S.Store conn.new) → IsHead admission.now.head n → admission.now.expired.items ≡ expired now n.peers → IsPlaced (place (live_at n now) wanted) result) }
+    ensures survives { Survives (state S.Store conn.old) (state S.Store conn.new) (λ _. ⊥) }
+    ensures cause { OnNetwork S.Store conn.old network (λ n. (HasCleanDisk (state S.Store conn.new) → IsHead admission.now.head n) → IfErr result (IfFails (HasCause (state S.Store conn.old) (state S.Store conn.new)))) }
+{
+    let pool = &admission.head.pool;
+    if let Some(address) = wanted {
+        if !pool.gives(&address) {
+            return Err(RowFault::Refused(Refusal::OutsidePool));
+        }
+        return match allowed_row(conn, network, now, &Prefix::full(address))? {
+            Some(_) => Err(RowFault::Refused(Refusal::AddressHeld)),
+            None => Ok(address),
+        };
+    }
+    let expired = number_set(alloc, admission.expired.as_slice())?;
+    match free_row(conn, network, pool, &expired)? {
+        Some(address) => Ok(address),
+        None => Err(RowFault::Refused(Refusal::PoolFull)),
+    }
+}
+
+// The new peer's view, and the change by which it joins and these peers leave.
+fn joined(
+    alloc: Global,
+    peer: Peer,
+    removed: Vec<u32>,
+) -> Result<(Reply, Option<Change>), AllocError>
+    requires { peer.number ≤ max_number }
+    ensures { IfOk result (λ given. given ≡ (Reply.Peer (record { peer = peer; routes = [] }), Some (record { removed = removed.items; peers = peer ∷ []; routes_put = []; routes_gone = []; next = peer.number + 1 }))) }
+{
+    let mut peers = Vec::new(alloc);
+    peers.push(peer.copy()?)?;
+    let change = Change {
+        removed: Items::of(removed),
+        peers: Items::of(peers),
+        routes_put: Items::new(alloc),
+        routes_gone: Items::new(alloc),
+        next: peer.number + 1,
+    };
+    let routes = Items::new(alloc);
+    Ok((Reply::Peer(PeerView { peer, routes }), Some(change)))
+}
+
+/// What Add or Owner answers at this moment on the network that the rows of this id form, and what it
+/// changes, as `Network::act` answers on the network that they load. Nothing is written.
+///
+/// It reads the rows that decide: the network's own, the one with the key, those of its expired peers,
+/// and, for the lowest free address, the held addresses up to the first gap. For Owner at most one row
+/// for each length of a prefix, and its peer's.
+pub fn row_act<S: Alter>(
+    alloc: Global,
+    conn: &mut Connection<S>,
+    network: u32,
+    now: u64,
+    command: &Command,
+) -> Result<(Reply, Option<Change>), RowFault>
+    requires idle { conn.old.in_transaction ≡ false }
+    requires directed { is_directed command.now ≡ true }
+    ensures idle { conn.new.in_transaction ≡ false }
+    ensures stands { (db : Database) (pending : List Written) → Stands S.Store conn.old db pending → Stands S.Store conn.new db pending }
+    ensures clean { HasCleanDisk (state S.Store conn.new) → HasCleanDisk (state S.Store conn.old) }
+    ensures outcome { OnNetwork S.Store conn.old network (λ n. HasCleanDisk (state S.Store conn.new) → Meets n (as_acted result) (outcome_of n now command.now)) }
+    ensures change { IfOk result (λ given. is_some given.1 ≡ not (is_reading command.now)) }
+    ensures plain { IfOk result (λ given. is_plain given.0 ≡ true) }
+    ensures survives { Survives (state S.Store conn.old) (state S.Store conn.new) (λ _. ⊥) }
+    ensures cause { OnNetwork S.Store conn.old network (λ n. IfErr result (IfFails (HasCause (state S.Store conn.old) (state S.Store conn.new)))) }
+{
+    match command {
+        Command::Add {
+            key,
+            label,
+            address,
+            until,
+            keepalive,
+        } => {
+            let admission = admit_row(alloc, conn, network, now, key, *until)?;
+            let address = place_row(alloc, conn, network, now, &admission, *address)?;
+            let peer = Peer {
+                number: admission.head.next,
+                key: *key,
+                label: label.copy()?,
+                address,
+                until: *until,
+                keepalive: *keepalive,
+                status: None,
+            };
+            Ok(joined(alloc, peer, admission.expired)?)
+        }
+        Command::Owner { address } => match owner_row(conn, network, now, address)? {
+            Some(number) => Ok((Reply::Owner(number), None)),
+            None => Err(RowFault::Refused(Refusal::NobodysAddress)),
+        },
+        _ => unreachable!(),
+    }
+}

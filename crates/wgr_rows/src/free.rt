@@ -1,0 +1,61 @@
+//! The lowest address of a network that is free, by its rows.
+ghost use Rattle.std.specs.Prelude.{◌≡◌, ℕ, List, IfErr, IfOk, false, nat_eq};
+ghost use Rattle.std.specs.HashSet.{contains};
+ghost use Rattle.sqlite.specs.Effect.{Database};
+ghost use Rattle.sqlite.specs.State.{HasCleanDisk, Survives};
+ghost use Rattle.sqlite.specs.Held.{state};
+ghost use Rattle.wgr_peers.specs.Peers.{expired as ended};
+ghost use Rattle.wgr_core.specs.Network.{is_among, live_at, lowest_free};
+ghost use Rattle.wgr_sql.specs.Causes.{HasCause};
+ghost use Rattle.wgr_tables.specs.Writes.{Written};
+ghost use Rattle.wgr_tables.specs.Standing.{Stands};
+ghost use Rattle.wgr_rows.specs.Directed.{OnNetwork};
+
+use crate::holds::lowest_in;
+use sqlite::types::ValueRef;
+use sqlite::{Alter, Connection};
+use std::collections::HashSet;
+use wgr_columns::{bytes_of, family_value, number_value};
+use wgr_pool::Pool;
+use wgr_sql::{Fault, fault_of};
+use wgr_text::Addr;
+
+/// The lowest address of the pool that may be given and that no row of the network holds, except the
+/// rows that lead to the peers of the numbers in `expired`. It is read outside of a transaction.
+pub fn free_row<S: Alter>(
+    conn: &mut Connection<S>,
+    network: u32,
+    pool: &Pool,
+    expired: &HashSet<u32>,
+) -> Result<Option<Addr>, Fault>
+    requires idle { conn.old.in_transaction ≡ false }
+    ensures idle { conn.new.in_transaction ≡ false }
+    ensures stands { (db : Database) (pending : List Written) → Stands S.Store conn.old db pending → Stands S.Store conn.new db pending }
+    ensures clean { HasCleanDisk (state S.Store conn.new) → HasCleanDisk (state S.Store conn.old) }
+    ensures found { OnNetwork S.Store conn.old network (λ n. HasCleanDisk (state S.Store conn.new) → IfOk result (λ found. (now : ℕ) → pool.now ≡ n.pool
+        → ((i : ℕ) → contains nat_eq expired.now i ≡ is_among (ended now n.peers) i) → found ≡ lowest_free (live_at n now))) }
+    ensures survives { Survives (state S.Store conn.old) (state S.Store conn.new) (λ _. ⊥) }
+    ensures cause { OnNetwork S.Store conn.old network (λ n. pool.now ≡ n.pool → IfErr result (HasCause (state S.Store conn.old) (state S.Store conn.new))) }
+{
+    let prefix = pool.prefix();
+    prefix.rules_hold();
+    let span = prefix.span();
+    let first = bytes_of(span.lo.number());
+    let last = bytes_of(span.hi.number());
+    let length = u32::from(prefix.length());
+    let _settled = conn.is_autocommit();
+    let mut rows = match conn.query(
+        "SELECT NULL, network, family, lo, length, hi, peer, kind FROM allowed WHERE network = ?1 AND family = ?2 AND lo >= ?3 AND lo <= ?4 AND length >= ?5 ORDER BY lo, length",
+        &[
+            number_value(network),
+            family_value(span.lo.family()),
+            ValueRef::Blob(&first),
+            ValueRef::Blob(&last),
+            number_value(length),
+        ],
+    ) {
+        Ok(rows) => rows,
+        Err(error) => return Err(fault_of(error)),
+    };
+    lowest_in(&mut rows, network, pool, expired)
+}

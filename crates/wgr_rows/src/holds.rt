@@ -1,0 +1,198 @@
+//! The spans of a network's held addresses, read row by row.
+ghost use Rattle.std.specs.Prelude.{◌≡◌, ◌≤◌, ◌<◌, ◌+◌, ◌-◌, ℕ, nat_eq, false, IsTrue, IfOk, IfErr, IfNone, IfSome, MatchOption, None, OnOk};
+ghost use Rattle.std.specs.HashSet.{contains};
+ghost use Rattle.std.proofs.Common.{refl, ◌∙◌};
+ghost use Rattle.wgr_text.specs.Prefix.{rank};
+ghost use Rattle.wgr_text.specs.declared.prefix.Span.{Span, Span as SpanValue};
+ghost use Rattle.wgr_pool.specs.Spans.{IsFilledBy, IsFull, IsLowestFree, StopsAt, reached};
+ghost use Rattle.sqlite.specs.State.{HasCleanDisk, Survives};
+ghost use Rattle.sqlite.specs.Held.{state};
+ghost use Rattle.wgr_sql.specs.Causes.{HasCause};
+ghost use Rattle.wgr_columns.specs.Decode.{tables_of};
+ghost use Rattle.wgr_rows.specs.declared.progress.Progress.TheVariants.{Running, Stopped};
+ghost use Rattle.wgr_rows.specs.Holding.{TakesFirst, max_holds, to_come, staying};
+ghost use Rattle.wgr_rows.specs.Rising.{told_rise};
+ghost use Rattle.wgr_rows.specs.Staying.{Stays};
+ghost use Rattle.wgr_rows.specs.Stopping.{Blames, IsSound, Leaves, fault_at};
+ghost use Rattle.wgr_rows.specs.Left.{leaves_itself, leaves_on};
+ghost use Rattle.wgr_rows.specs.Telling.{IsGood, Tells};
+
+use crate::progress::Progress;
+use crate::row::{hold_in, is_from};
+use sqlite::{Alter, Rows};
+use std::collections::HashSet;
+use wgr_peers::{Capacity, MAX_ROUTES};
+use wgr_pool::{Holds, Pool, Stop, lowest_free};
+use wgr_sql::{Fault, fault_of};
+use wgr_text::{Addr, Prefix, Span};
+
+/// How many prefixes a network may have: an address of each peer, and the routes.
+const MAX_HOLDS: usize = Capacity::MOST as usize + MAX_ROUTES;
+
+/// Why a source stops at this fault.
+fn stop_of(fault: Fault) -> Stop
+    ensures { fault_at result ≡ fault }
+{
+    match fault {
+        Fault::NoMemory => Stop::NoMemory,
+        Fault::Store => Stop::Store,
+    }
+}
+
+/// The spans of the addresses that a network's rows hold, read row by row. Rows that lead to the
+/// peers of the numbers in `expired` are passed over.
+#[derive(Drop)]
+pub struct HoldRows<'r, 'conn, 'a, S: Alter> {
+    rows: &'r mut Rows<'conn, S>,
+    network: u32,
+    pool: Prefix,
+    expired: &'a HashSet<u32>,
+    // How many rows were taken.
+    taken: usize,
+    // Where the span that was taken last begins: what is to come begins no lower.
+    last: Option<Addr>,
+    at: Progress,
+    ghost in_range: { taken ≤ max_holds + 1 },
+    ghost told: { ∥ Tells S.Store rows.now.conn.now network pool taken last at ∥₁ },
+}
+
+impl<'r, 'conn, 'a, S: Alter> HoldRows<'r, 'conn, 'a, S> {
+    /// The span of the next row, and the number of the peer to which it leads.
+    fn next_row(&mut self) -> Result<Option<(Span, u32)>, Stop>
+        ensures same_rows { self.new.rows.ghost_name ≡ self.old.rows.ghost_name }
+        ensures same_reference { self.new.rows.now.conn.ghost_name ≡ self.old.rows.now.conn.ghost_name }
+        ensures stays { Stays S.Store self.old.rows.now.conn.now self.new.rows.now.conn.now }
+        ensures settings { (self.new.network ≡ self.old.network) × (self.new.pool ≡ self.old.pool) × (self.new.expired.now ≡ self.old.expired.now) }
+        ensures falls { IfOk result (λ given. IfSome given (λ _. self.old.taken < self.new.taken)) }
+        ensures floor { reached self.old.last ≤ reached self.new.last }
+        ensures rises { IfOk result (λ given. IfSome given (λ h. (reached self.old.last ≤ rank h.0.lo) × (reached self.new.last ≡ rank h.0.lo))) }
+        ensures first { IsGood (state S.Store self.new.rows.now.conn.now) → IfOk result (λ given. TakesFirst (to_come self.old.at (tables_of (state S.Store self.old.rows.now.conn.now).now) self.old.network self.old.pool self.old.taken) given (to_come self.new.at (tables_of (state S.Store self.new.rows.now.conn.now).now) self.new.network self.new.pool self.new.taken)) }
+        ensures stops { IfErr result (λ why. self.new.at ≡ Stopped why) }
+        ensures was_good { IsGood (state S.Store self.new.rows.now.conn.now) → OnOk result (IsGood (state S.Store self.old.rows.now.conn.now)) }
+        ensures blames { Blames self.old.network self.old.pool (state S.Store self.old.rows.now.conn.now) self.old.at (state S.Store self.new.rows.now.conn.now) self.new.at }
+    {
+        match self.at {
+            Progress::Running => {}
+            Progress::Done => return Ok(None),
+            Progress::Stopped(why) => return Err(why),
+        }
+        self.pool.rules_hold();
+        // Until the row is at hand, nothing is known of what comes after it.
+        self.at = Progress::Stopped(Stop::Store);
+        if self.taken > MAX_HOLDS {
+            return Err(Stop::Store);
+        }
+        if let Err(error) = self.rows.advance() {
+            let why = stop_of(fault_of(error));
+            self.at = Progress::Stopped(why);
+            return Err(why);
+        }
+        let Some(row) = self.rows.get() else {
+            self.at = Progress::Done;
+            return Ok(None);
+        };
+        let Some((span, number)) = hold_in(row, self.network) else {
+            return Err(Stop::Store);
+        };
+        if !is_from(self.last, &span.lo) {
+            return Err(Stop::Store);
+        }
+        self.taken += 1;
+        self.last = Some(span.lo);
+        self.at = Progress::Running;
+        Ok(Some((span, number)))
+    }
+}
+
+impl<S: Alter> Holds for HoldRows<'_, '_, '_, S> {
+    ghost rest = { λ s. staying (contains nat_eq s.expired.now) (to_come s.at (tables_of (state S.Store s.rows.now.conn.now).now) s.network s.pool s.taken) };
+
+    ghost honest = { λ s. IsGood (state S.Store s.rows.now.conn.now) };
+
+    ghost floor = { λ s. reached s.last };
+
+    ghost left = { λ s. max_holds + 1 - s.taken };
+
+    ghost stopped = { λ s why. s.at ≡ Stopped why };
+
+    ghost keeps = { λ a b. (b.rows.ghost_name ≡ a.rows.ghost_name) × (b.rows.now.conn.ghost_name ≡ a.rows.now.conn.ghost_name) × Leaves S.Store a.rows.now.conn.now a.network a.pool a.at b.rows.now.conn.now b.network b.pool b.at };
+
+    fn next_hold(&mut self) -> Result<Option<Span>, Stop> {
+        while let Some((span, number)) = self.next_row()? {
+            if !self.expired.contains(&number) {
+                return Ok(Some(span));
+            }
+        }
+        Ok(None)
+    }
+
+    ghost in_order = { λ s good. told_rise S.Store.own s.rows.now.conn.now s.network s.pool s.taken s.last s.at (contains nat_eq s.expired.now) s.told good };
+
+    ghost keeps_itself = { λ s. (refl, refl, leaves_itself S.Store.own s.rows.now.conn.now s.network s.pool s.at) };
+
+    ghost keeps_on = { λ a b c one other. (other.0 ∙ one.0, other.1 ∙ one.1, leaves_on S.Store.own a.rows.now.conn.now b.rows.now.conn.now c.rows.now.conn.now a.network a.pool a.at b.network b.pool b.at c.network c.pool c.at one.2 other.2) };
+}
+
+/// The fault for which a source stopped.
+fn fault_at(stop: Stop) -> Fault
+    ensures { result ≡ fault_at stop }
+{
+    match stop {
+        Stop::NoMemory => Fault::NoMemory,
+        Stop::Store => Fault::Store,
+    }
+}
+
+/// The lowest address of the pool that may be given and that none of the spans has which these rows
+/// are about to show.
+pub(crate) fn lowest_in<S: Alter>(
+    rows: &mut Rows<'_, S>,
+    network: u32,
+    pool: &Pool,
+    expired: &HashSet<u32>,
+) -> Result<Option<Addr>, Fault>
+    requires told { Tells S.Store rows.old.conn.now network pool.now 0 None Running }
+    ensures same_reference { rows.new.conn.ghost_name ≡ rows.old.conn.ghost_name }
+    ensures stays { Stays S.Store rows.old.conn.now rows.new.conn.now }
+    ensures lowest { IsGood (state S.Store rows.new.conn.now)
+        → IfOk result (λ found. MatchOption found (IsFull pool.now (staying (contains nat_eq expired.now) (to_come Running (tables_of (state S.Store rows.old.conn.now).now) network pool.now 0)))
+        (IsLowestFree pool.now (staying (contains nat_eq expired.now) (to_come Running (tables_of (state S.Store rows.old.conn.now).now) network pool.now 0)))) }
+    ensures cause { (HasCleanDisk (state S.Store rows.new.conn.now) → IsSound network pool.now (state S.Store rows.old.conn.now)) → IfErr result (HasCause (state S.Store rows.old.conn.now) (state S.Store rows.new.conn.now)) }
+{
+    let mut holds = HoldRows {
+        rows,
+        network,
+        pool: pool.prefix(),
+        expired,
+        taken: 0,
+        last: None,
+        at: Progress::Running,
+    };
+    lowest_held(pool, &mut holds)
+}
+
+/// The lowest address of the pool that may be given and that none of the spans to come has.
+///
+/// What the rows end as a caller learns only where the name of the reference is told in plain words,
+/// and not through `Holds`.
+fn lowest_held<S: Alter>(
+    pool: &Pool,
+    holds: &mut HoldRows<'_, '_, '_, S>,
+) -> Result<Option<Addr>, Fault>
+    ensures same_rows { holds.new.rows.ghost_name ≡ holds.old.rows.ghost_name }
+    ensures same_reference { holds.new.rows.now.conn.ghost_name ≡ holds.old.rows.now.conn.ghost_name }
+    ensures stays { Stays S.Store holds.old.rows.now.conn.now holds.new.rows.now.conn.now }
+    ensures lowest { IsGood (state S.Store holds.new.rows.now.conn.now)
+        → IfOk result (λ found. MatchOption found (IsFull pool.now (staying (contains nat_eq holds.old.expired.now) (to_come holds.old.at (tables_of (state S.Store holds.old.rows.now.conn.now).now) holds.old.network holds.old.pool holds.old.taken)))
+        (IsLowestFree pool.now (staying (contains nat_eq holds.old.expired.now) (to_come holds.old.at (tables_of (state S.Store holds.old.rows.now.conn.now).now) holds.old.network holds.old.pool holds.old.taken)))) }
+    ensures taken { IsGood (state S.Store holds.new.rows.now.conn.now)
+        → IfOk result (λ found. IfSome found (StopsAt (staying (contains nat_eq holds.old.expired.now) (to_come holds.old.at (tables_of (state S.Store holds.old.rows.now.conn.now).now) holds.old.network holds.old.pool holds.old.taken)) (staying (contains nat_eq holds.new.expired.now) (to_come holds.new.at (tables_of (state S.Store holds.new.rows.now.conn.now).now) holds.new.network holds.new.pool holds.new.taken)))) }
+    ensures filled { IsGood (state S.Store holds.new.rows.now.conn.now)
+        → IfOk result (λ found. IfNone found (IsFilledBy pool.now (staying (contains nat_eq holds.old.expired.now) (to_come holds.old.at (tables_of (state S.Store holds.old.rows.now.conn.now).now) holds.old.network holds.old.pool holds.old.taken)) (staying (contains nat_eq holds.new.expired.now) (to_come holds.new.at (tables_of (state S.Store holds.new.rows.now.conn.now).now) holds.new.network holds.new.pool holds.new.taken)))) }
+    ensures cause { holds.old.at ≡ Running → (HasCleanDisk (state S.Store holds.new.rows.now.conn.now) → IsSound holds.old.network holds.old.pool (state S.Store holds.old.rows.now.conn.now)) → IfErr result (HasCause (state S.Store holds.old.rows.now.conn.now) (state S.Store holds.new.rows.now.conn.now)) }
+{
+    match lowest_free(pool, holds) {
+        Ok(found) => Ok(found),
+        Err(stop) => Err(fault_at(stop)),
+    }
+}
