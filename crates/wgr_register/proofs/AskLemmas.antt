@@ -1,9 +1,10 @@
 -- What an ask comes to, on the rows.
-use Rattle.std.proofs.Common.{◌≡◌, ℕ, Bool, true, false, ◌&&◌, List, [], ◌∷◌, Option, Some, None, Ok, Err, is_some, map, nat_eq, not, refl, sym, ap, subst, ◌∙◌, true≢false, option_map, inl, inr}
+use Rattle.std.proofs.Common.{◌≡◌, ℕ, Bool, true, false, ◌&&◌, List, [], ◌∷◌, Option, Some, None, Result, Ok, Err, is_some, map, nat_eq, not, refl, sym, ap, subst, ◌∙◌, true≢false, option_map, inl, inr}
 use Rattle.std.specs.Prelude.{if◌then◌else◌}
 use Rattle.wgr_core.specs.Change.{Meets, applied, applied_if}
 use Rattle.wgr_core.specs.declared.change.Change.{Change}
 use Rattle.wgr_core.specs.declared.command.Command.{Command}
+use Rattle.wgr_core.specs.declared.fault.ActFault.{ActFault}
 use Rattle.wgr_core.specs.declared.fault.ActFault.TheVariants as act_fault
 use Rattle.wgr_core.specs.declared.refusal.Refusal.{Refusal}
 use Rattle.wgr_core.specs.declared.reply.Reply.{Reply}
@@ -91,6 +92,11 @@ module _ (t : Tables) (is : AreConsistent t) (digest name : Bytes) (now : ℕ) (
         let at_id = subst (λ i. Replaces i after t u) (sym found.at) replaces in
         let step = changes_replace_rows t u w digest now command (reply, after) is found.there found.tenant acts at_id in
         at_name (Replied reply (applied change n)) u (subst (λ m. IsRowStep t (Ask digest w.name now command) (Replied reply (applied change m)) u) (sym found.value) step)
+
+-- an outcome on the network that a row forms is one on the network that is found
+pub at_found : (t : Tables) (digest name : Bytes) (id : ℕ) (n : NetworkValue) (found : IsFound t digest name id n) (now : ℕ) (command : Command) (r : Result (Reply × Option Change) ActFault)
+    → Meets (holding_of t found.row).network r (outcome_of (holding_of t found.row).network now command) → Meets n r (outcome_of n now command)
+at_found t digest name id n found now command r met = subst (λ m. Meets m r (outcome_of m now command)) (sym found.value) met
 
 -- ---- no network of the name
 

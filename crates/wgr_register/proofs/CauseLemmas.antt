@@ -21,9 +21,9 @@ use Rattle.wgr_model.proofs.HolderLemmas.{one_or_apart}
 use Rattle.wgr_model.proofs.OrderLemmas.{from_filter}
 use Rattle.wgr_model.proofs.SameLemmas.{at_has, eqb_sym, has_permutation}
 use Rattle.wgr_sql.specs.Causes.{HasCause, HasCauseOr}
-use Rattle.wgr_sql.proofs.CauseLemmas.{cause_after}
+use Rattle.wgr_sql.proofs.CauseLemmas.{cause_after, cause_weaker}
 use Rattle.wgr_sql.proofs.SurvivesLemmas.{survives_still}
-use Rattle.sqlite.proofs.StateLemmas.{survives_weaker}
+use Rattle.sqlite.proofs.StateLemmas.{survives_then, survives_weaker}
 use Rattle.std.specs.Bool.{⊤}
 use Rattle.wgr_core.specs.Change.{Meets}
 use Rattle.wgr_core.specs.Outcome.{is_reading, outcome_of}
@@ -40,7 +40,10 @@ use Rattle.wgr_entries.proofs.KeptLemmas as kept
 use Rattle.wgr_tables.proofs.ToldLemmas.{told_settings}
 use Rattle.wgr_opening.proofs.ConsistentLemmas.{consistent_is_whole, holding}
 use Rattle.wgr_register.specs.Causes.{AskStops, IfFault, StopsIf}
-use Rattle.wgr_register.specs.Ends.{IsFound, ask_fault}
+use Rattle.wgr_rows.specs.Act.{IfFails}
+use Rattle.wgr_rows.specs.declared.fault.RowFault.{RowFault}
+use Rattle.wgr_rows.specs.declared.fault.RowFault.TheVariants as on_rows
+use Rattle.wgr_register.specs.Ends.{IsFound, ask_fault, row_fault}
 use Rattle.wgr_entries.specs.Lookups.{ShowNetworksOf}
 use Rattle.wgr_register.specs.declared.fault.AskFault.{AskFault}
 use Rattle.wgr_register.specs.declared.fault.AskFault.TheVariants as fault
@@ -69,6 +72,19 @@ fault_handed P (Err (fault.Refused other)) why is h = tt
 fault_handed P (Err fault.UnknownToken) why is h = tt
 fault_handed P (Err fault.NoSuchNetwork) why is h = tt
 fault_handed P (Err (fault.Fault other)) why is h = let same : other ≡ why = cc in subst P (sym same) h
+
+-- and so is one of a command on rows
+pub row_handed : (P : Fault → Type 0) (r : Result (Vec ℕ Global) AskFault) (why : RowFault) → IsErrAnd r (λ e. e ≡ row_fault why) → IfFails P why → IfFault P r
+row_handed P r (on_rows.Fault why) is h = fault_handed P r why is h
+row_handed P (Ok text) (on_rows.Refused why) is h = tt
+row_handed P (Err (fault.Refused other)) (on_rows.Refused why) is h = tt
+row_handed P (Err fault.UnknownToken) (on_rows.Refused why) is h = tt
+row_handed P (Err fault.NoSuchNetwork) (on_rows.Refused why) is h = tt
+row_handed P (Err (fault.Fault other)) (on_rows.Refused why) is h = absurd (let e : fault.Fault other ≡ fault.Refused why = is in cc)
+
+pub row_weaker : (P : Type 0) (old new : State) (why : RowFault) → IfFails (HasCause old new) why → IfFails (HasCauseOr P old new) why
+row_weaker P old new (on_rows.Refused why) h = tt
+row_weaker P old new (on_rows.Fault why) h = cause_weaker ⊥ P old new (λ none. absurd none) why h
 
 -- want of memory is no fault of the store
 pub memory_alone : (old new : State) (r : Result (Vec ℕ Global) AskFault) → IfFault (λ why. why ≡ NoMemory) r → IfFault (HasCause old new) r
@@ -112,6 +128,12 @@ memory_stops P old new (Err (fault.Fault Store)) h = absurd (let e = h in cc)
 
 pub survives_as_is : (a : State) → Survives a a (λ _. ⊤)
 survives_as_is a = survives_weaker a a (λ _. ⊥) (λ _. ⊤) (λ _ trees none. tt) (survives_still a)
+
+pub survives_any : (a b : State) → Survives a b (λ _. ⊥) → Survives a b (λ _. ⊤)
+survives_any a b s = survives_weaker a b (λ _. ⊥) (λ _. ⊤) (λ _ trees none. tt) s
+
+pub survives_on : (a b c : State) → Survives a b (λ _. ⊥) → Survives b c (λ _. ⊤) → Survives a c (λ _. ⊤)
+survives_on a b c p q = survives_then a b c (λ _. ⊥) (λ _. ⊤) (λ _. ⊤) (λ _ trees none. tt) (λ _ trees any. tt) p q
 
 pub ask_stops : (t : Tables) (digest name : Bytes) (now : ℕ) (command : Command) (id : ℕ) (network : NetworkValue) (found : IsFound t digest name id network) (reply : Reply) (change : Option Change)
     → Meets network (Ok (reply, change)) (outcome_of network now command) → is_some change ≡ not (is_reading command) → StopsIf id change t → AskStops t digest name now command

@@ -47,6 +47,9 @@ use Rattle.wgr_register.proofs.AskLemmas.{act_done, changed_rows, one_row}
 pub others_left : (id : ℕ) (loaded : Loaded) (t : Tables) → AreFormed loaded t → AreOthersFormed id (remove_entry (nat_eq id) loaded) t
 others_left id loaded t formed other n off found = formed other n (sym (lookup_rest (nat_eq id) (nat_eq other) (apart id other off) loaded) ∙ found)
 
+pub formed_others : (id : ℕ) (loaded : Loaded) (t : Tables) → AreFormed loaded t → AreOthersFormed id loaded t
+formed_others id loaded t formed other n off found = formed other n found
+
 pub put_formed : (c : LruCache ℕ NetworkValue) (id : ℕ) (n : NetworkValue) (t : Tables) → AreOthersFormed id c.entries t → IsFormed t id n → AreFormed (put_entries nat_eq c id n) t
 put_formed c id n t others own other m found = elim (found_put c id n other m found) [
   | inl same ↦ subst (λ i. IsFormed t i m) same.0 (subst (IsFormed t id) same.1 own)

@@ -26,7 +26,9 @@ use Rattle.wgr_sql.specs.declared.fault.Fault.TheVariants.{NoMemory}
 use Rattle.wgr_columns.specs.Decode.{IsRegister, tables_of}
 use Rattle.wgr_tables.specs.Standing.{IsDone, Stands}
 use Rattle.wgr_tables.specs.Writes.{Changes, Written}
-use Rattle.wgr_register.specs.Ends.{AskEnds, EndsAt, EndsStill, EndsWith, OrderEnds, ask_fault, is_change}
+use Rattle.wgr_rows.specs.declared.fault.RowFault.{RowFault}
+use Rattle.wgr_rows.specs.declared.fault.RowFault.TheVariants as on_rows
+use Rattle.wgr_register.specs.Ends.{AskEnds, EndsAt, EndsStill, EndsWith, OrderEnds, ask_fault, is_change, row_fault}
 use Rattle.wgr_register.specs.Given.{GivenValue}
 use Rattle.wgr_register.specs.Standing.{AreSteps, StandsAt}
 use Rattle.wgr_register.specs.declared.fault.AskFault.{AskFault}
@@ -127,6 +129,12 @@ module _ {S : Type 0} (g : Ghosts S) where
   undone_ends shown conn db late event now (Err fault.UnknownToken) (act_fault.Refused why) is at refuses = cc
   undone_ends shown conn db late event now (Err fault.NoSuchNetwork) (act_fault.Refused why) is at refuses = cc
   undone_ends shown conn db late event now (Err (fault.Fault other)) (act_fault.Refused why) is at refuses = cc
+
+  -- a command on rows that isn't done
+  pub rows_undone_ends : (shown : GivenValue → Bytes) (conn : Held S) (db : Database) (late : List Event) (event : Event) (now : ℕ) (r : Result (Vec ℕ Global) AskFault) (why : RowFault) → IsErrAnd r (λ e. e ≡ row_fault why)
+      → StandsAt g conn db late → ((refusal : Refusal) → why ≡ on_rows.Refused refusal → IsRowStep (tables_of db) event (Declined refusal) (tables_of db)) → AskEnds g shown conn db late event now r
+  rows_undone_ends shown conn db late event now r (on_rows.Fault failed) is at refuses = late_ends shown conn db late event now r failed is (at_more conn db late event at)
+  rows_undone_ends shown conn db late event now r (on_rows.Refused why) is at refuses = undone_ends shown conn db late event now r (act_fault.Refused why) is at (λ refusal same. refuses refusal (let e : why ≡ refusal = cc in ap on_rows.Refused e))
 
   -- however a call ends, the register is at rest
   with_somewhere : (conn : Held S) (db : Database) (late : List Event) (event : Event) (P : Answer → Type 0) → EndsWith g conn db late event P → HasCleanDisk (state g conn) → (next : Database) × (others : List Event) × StandsAt g conn next others

@@ -21,6 +21,8 @@ use Rattle.wgr_model.specs.Steps.{Answer, Ask, Declined, Event, NoSuchNetwork, R
 use Rattle.wgr_model.specs.Steps as answered
 use Rattle.wgr_sql.specs.declared.fault.Fault.TheVariants.{NoMemory}
 use Rattle.wgr_columns.specs.Decode.{tables_of}
+use Rattle.wgr_rows.specs.declared.fault.RowFault.{RowFault}
+use Rattle.wgr_rows.specs.declared.fault.RowFault.TheVariants as on_rows
 use Rattle.wgr_tables.specs.Standing.{IsDone, Stands}
 use Rattle.wgr_tables.specs.Writes.{Replaced, Written}
 use Rattle.wgr_register.specs.Given.{GivenValue, IsShown}
@@ -78,6 +80,10 @@ Admits r tenant name settings (Err (order_fault.Fault why)) = why ≡ NoMemory
 abbrev pub ask_fault : ActFault → AskFault
 ask_fault (act_fault.Refused why) = fault.Refused why
 ask_fault act_fault.NoMemory = fault.Fault NoMemory
+
+abbrev pub row_fault : RowFault → AskFault
+row_fault (on_rows.Refused why) = fault.Refused why
+row_fault (on_rows.Fault why) = fault.Fault why
 
 -- the change, if there is one, is committed
 abbrev pub CommitsIf : {S : Type 0} → Ghosts S → Held S → Database → List Written → ℕ → NetworkValue → Option Change → Type 0

@@ -18,6 +18,7 @@ ghost use Rattle.wgr_tables.specs.Standing.{Stands};
 ghost use Rattle.wgr_tables.specs.Writes.{Written};
 ghost use Rattle.wgr_conf.specs.Files.{server_config};
 ghost use Rattle.wgr_core.specs.Network.{NetworkValue};
+ghost use Rattle.wgr_rows.specs.Act.{is_directed};
 ghost use Rattle.wgr_register.specs.Cached.{AreCurrent, files_of};
 ghost use Rattle.wgr_register.specs.Given.{OfFile};
 ghost use Rattle.wgr_register.specs.Causes.{AskStops, IfFault, StopsIf};
@@ -25,14 +26,16 @@ ghost use Rattle.wgr_register.specs.Ends.{AskEnds, CommitsIf, FailsIf, IsFound};
 ghost use Rattle.wgr_register.specs.Loaded.{AreFormed, AreOthersFormed, IsFormed, Shows, UnlessFault, entries_of};
 ghost use Rattle.wgr_register.specs.Standing.{StandsAt};
 
+use crate::asked::{Asked, is_first};
 use crate::fault::AskFault;
 use crate::files::{Files, drop_changed, kept_text, made_text};
-use crate::given::{Render, render_reply};
-use crate::loaded::{Networks, keep, keep_changed, take};
+use crate::given::{Render, render_plain, render_reply};
+use crate::loaded::{Networks, forget, is_kept, keep, keep_changed, take};
 use sqlite::{Alter, Connection};
 use std::alloc::Global;
 use wgr_core::{Change, Command, Form, Name, Network};
 use wgr_entries::{network_id, tenant_of_token};
+use wgr_rows::{is_directed, row_act};
 use wgr_tables::{Fault, commit_change, load_network};
 
 // The network whose row has this id: the kept one, which is taken out, or else the one that its rows form.
@@ -152,6 +155,41 @@ fn act_on<S: Alter, R: Render>(
     Ok(text)
 }
 
+// The text of the answer of Add or Owner on the network whose row has this id, which is not in memory:
+// only the rows that decide are read. What it changes is committed once the text is made.
+fn act_on_rows<S: Alter, R: Render>(
+    alloc: Global,
+    conn: &mut Connection<S>,
+    loaded: &mut Option<Networks>,
+    files: &mut Option<Files>,
+    id: u32,
+    now: u64,
+    command: &Command,
+    render: &R,
+) -> Result<Vec<u8>, AskFault>
+    requires idle { conn.old.in_transaction ≡ false }
+    requires directed { is_directed command.now ≡ true }
+    ensures idle { conn.new.in_transaction ≡ false }
+    ensures clean { HasCleanDisk (state S.Store conn.new) → HasCleanDisk (state S.Store conn.old) }
+    ensures ends { (db : Database) (late : List Event) (digest name : Bytes) (n : NetworkValue) → StandsAt S.Store conn.old db late → IsFound (tables_of db) digest name id n
+        → AskEnds S.Store R.shown conn.new db late (Ask digest name now command.now) now result }
+    ensures formed { (db : Database) (late : List Event) (digest name : Bytes) (n : NetworkValue) → StandsAt S.Store conn.old db late → IsFound (tables_of db) digest name id n → AreFormed (entries_of loaded.old) (tables_of db)
+        → UnlessFault result (Shows S.Store conn.new (AreFormed (entries_of loaded.new))) }
+    ensures current { (db : Database) (late : List Event) (digest name : Bytes) (n : NetworkValue) → StandsAt S.Store conn.old db late → IsFound (tables_of db) digest name id n → AreCurrent (files_of files.old) (tables_of db)
+        → UnlessFault result (Shows S.Store conn.new (AreCurrent (files_of files.new))) }
+    ensures cause { (db : Database) (late : List Event) (digest name : Bytes) (n : NetworkValue) → StandsAt S.Store conn.old db late → IsFound (tables_of db) digest name id n → is_reading command.now ≡ true → IfFault (HasCause (state S.Store conn.old) (state S.Store conn.new)) result }
+    ensures survives { Survives (state S.Store conn.old) (state S.Store conn.new) (λ _. ⊤) }
+    ensures stops { (db : Database) (late : List Event) (digest name : Bytes) (n : NetworkValue) → StandsAt S.Store conn.old db late → IsFound (tables_of db) digest name id n → IfFault (HasCauseOr (AskStops (tables_of db) digest name now command.now) (state S.Store conn.old) (state S.Store conn.new)) result }
+{
+    command.forms_hold();
+    let (reply, changes) = row_act(alloc, conn, id, now, command)?;
+    let text = render_plain(alloc, render, &reply)?;
+    drop_changed(files, id, &changes);
+    commit_if(conn, id, &changes)?;
+    forget(loaded, id);
+    Ok(text)
+}
+
 // The text of the server's file of the network whose row has this id: from the file that is kept, or from
 // one that is made.
 fn file_at<S: Alter, R: Render>(
@@ -197,6 +235,7 @@ pub(crate) fn ask<S: Alter, R: Render>(
     conn: &mut Connection<S>,
     loaded: &mut Option<Networks>,
     files: &mut Option<Files>,
+    asked: &mut Option<Asked>,
     digest: &[u8; 32],
     name: &[u8],
     now: u64,
@@ -223,6 +262,9 @@ pub(crate) fn ask<S: Alter, R: Render>(
     if let Command::ServerFile { form } = command {
         let text = file_at(alloc, conn, loaded, files, id, *form, now, render)?;
         return Ok(text);
+    }
+    if is_directed(command) && !is_kept(loaded, id) && is_first(alloc, asked, id) {
+        return act_on_rows(alloc, conn, loaded, files, id, now, command, render);
     }
     let network = take_network(alloc, conn, loaded, id)?;
     act_on(

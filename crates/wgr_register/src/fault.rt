@@ -3,6 +3,7 @@ use sqlite::{Alter, Connection};
 use std::alloc::AllocError;
 use wgr_core::{ActFault, Refusal};
 use wgr_orders::OrderRefusal;
+use wgr_rows::RowFault;
 use wgr_schema::RegisterFault;
 use wgr_tables::Fault;
 
@@ -82,6 +83,20 @@ impl From<ActFault> for AskFault {
         match why {
             ActFault::Refused(why) => AskFault::Refused(why),
             ActFault::NoMemory => AskFault::Fault(Fault::NoMemory),
+        }
+    }
+}
+
+impl From<RowFault> for AskFault {
+    ghost use Rattle.std.specs.Prelude.{◌≡◌};
+    ghost use Rattle.wgr_register.specs.Ends.{row_fault};
+
+    ghost from_gives = { λ why r. r ≡ row_fault why };
+
+    fn from(why: RowFault) -> AskFault {
+        match why {
+            RowFault::Refused(why) => AskFault::Refused(why),
+            RowFault::Fault(why) => AskFault::Fault(why),
         }
     }
 }

@@ -1,5 +1,7 @@
 //! What is rendered of an answer before it is committed.
 ghost use Rattle.std.specs.Prelude.{◌≡◌, List, ℕ, true, is_some, option_map, Some, IfOk};
+ghost use Rattle.wgr_core.specs.Network.{NetworkValue};
+ghost use Rattle.wgr_rows.specs.Act.{is_plain};
 ghost use Rattle.wgr_register.specs.Given.{GivenValue, given_view, reply_given};
 
 use std::alloc::{AllocError, Global};
@@ -25,6 +27,18 @@ pub trait Render {
     /// The text.
     fn given(&self, alloc: Global, given: Given<'_>) -> Result<Vec<u8>, AllocError>
         ensures { IfOk result (λ text. text.items ≡ shown (given_view given.entry)) };
+}
+
+// The text of a reply that allows no file.
+pub(crate) fn render_plain<R: Render>(
+    alloc: Global,
+    render: &R,
+    reply: &Reply,
+) -> Result<Vec<u8>, AllocError>
+    requires { is_plain reply.now ≡ true }
+    ensures { IfOk result (λ text. (now : ℕ) (n : NetworkValue) → option_map R.shown (reply_given now n reply.now) ≡ Some text.items) }
+{
+    render.given(alloc, Given::Reply(reply))
 }
 
 // The text of a command's reply on a network.

@@ -2,6 +2,7 @@
 #![tactic(auto)]
 
 mod ask;
+mod asked;
 mod census;
 mod fault;
 mod files;

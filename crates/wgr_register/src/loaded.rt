@@ -36,6 +36,14 @@ pub(crate) fn take(loaded: &mut Option<Networks>, id: u32) -> Option<Network>
     network
 }
 
+/// Whether the network of this id is kept. No contract says it: the caller may act either way.
+pub(crate) fn is_kept(loaded: &Option<Networks>, id: u32) -> bool {
+    match loaded {
+        Some(networks) => networks.has(u64::from(id)),
+        None => false,
+    }
+}
+
 /// Keeps the network of this id, in place of one that was kept.
 pub(crate) fn keep(alloc: Global, loaded: &mut Option<Networks>, id: u32, network: Network)
     ensures { (t : Tables) → AreOthersFormed id (entries_of loaded.old) t → IsFormed t id network → AreFormed (entries_of loaded.new) t }

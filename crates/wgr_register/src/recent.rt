@@ -61,6 +61,11 @@ impl<V: Drop> Recent<V> {
         }
     }
 
+    /// Whether there is a value of this key. No contract says it: the caller may act either way.
+    pub(crate) fn has(&self, key: u64) -> bool {
+        self.cache.contains(&key)
+    }
+
     /// How many there are.
     pub(crate) fn len(&self) -> usize
         ensures len { result ≡ length self.now.entries }

@@ -22,6 +22,7 @@ ghost use Rattle.wgr_schema.specs.declared.fault.RegisterFault.TheVariants.{NotA
 ghost use Rattle.wgr_columns.specs.Decode.{tables_of};
 ghost use Rattle.wgr_opening.specs.Good.{IsGood};
 
+use crate::asked::Asked;
 use crate::fault::{AskFault, Done, OpenFault, OrderFault};
 use crate::files::{self, Files};
 use crate::given::Render;
@@ -40,8 +41,8 @@ use wgr_tables::Fault;
 /// The networks of many tenants, in a database whose rows are consistent at all times.
 ///
 /// The [`NETWORKS_IN_MEMORY`](crate::NETWORKS_IN_MEMORY) most recently used networks stay in
-/// memory as their rows form them, so a request loads a network only where it isn't one of them. So
-/// do the [`FILES_IN_MEMORY`](crate::FILES_IN_MEMORY) most recently used servers' files.
+/// memory as their rows form them, so a request loads a network only where it isn't one of them. The
+/// first Add or Owner on such a network reads only the rows that it needs, and loads nothing. So do the [`FILES_IN_MEMORY`](crate::FILES_IN_MEMORY) most recently used servers' files.
 ///
 /// Every contract names the database that the register is in, and the events that a stop at
 /// this moment may leave done: those that were answered by a fault since the last acknowledged change.
@@ -49,6 +50,7 @@ pub struct Register<S: Alter> {
     conn: Connection<S>,
     loaded: Option<Networks>,
     files: Option<Files>,
+    asked: Option<Asked>,
 }
 
 impl<S: Alter> Model for Register<S> {
@@ -90,6 +92,7 @@ impl<S: Alter> Register<S> {
                 conn,
                 loaded: None,
                 files: None,
+                asked: None,
             }),
             Err(fault) => Err(OpenFault {
                 fault,
@@ -123,6 +126,7 @@ impl<S: Alter> Register<S> {
                 conn,
                 loaded: None,
                 files: None,
+                asked: None,
             }),
             Err(fault) => Err(OpenFault {
                 fault,
@@ -185,6 +189,7 @@ impl<S: Alter> Register<S> {
             conn,
             loaded: _loaded,
             files: _files,
+            asked: _asked,
         } = self;
         conn
     }
@@ -234,6 +239,7 @@ impl<S: Alter> Register<S> {
             &mut self.conn,
             &mut self.loaded,
             &mut self.files,
+            &mut self.asked,
             digest,
             name,
             now,

@@ -1,7 +1,11 @@
-use Rattle.std.proofs.Common.{◌≡◌, None, Some, refl, sym, ap, subst, ◌∙◌}
+use Rattle.std.proofs.Common.{List, ◌≡◌, None, Some, refl, sym, ap, subst, ◌∙◌}
 use Rattle.wgr_model.specs.Laws.{Has}
-use Rattle.wgr_model.specs.Rows.{NetworkRow}
-use Rattle.wgr_model.specs.Steps.{Ask, tenant_of_token}
+use Rattle.wgr_model.specs.Rows.{NetworkRow, holding_of}
+use Rattle.sqlite.specs.Effect.{Database}
+use Rattle.wgr_core.specs.Network.{NetworkValue}
+use Rattle.wgr_model.specs.Steps.{Ask, Event, tenant_of_token}
+use Rattle.wgr_register.specs.Ends.{IsFound}
+use Rattle.wgr_register.specs.Standing.{StandsAt}
 use Rattle.wgr_columns.specs.Decode.{tables_of}
 use Rattle.wgr_register.specs.Loaded.{AreFormed, AreOthersFormed, entries_of}
 use Rattle.wgr_core.specs.declared.command.Command.TheVariants.{ServerFile}
@@ -14,7 +18,7 @@ use Rattle.wgr_sql.specs.Causes.{HasCause, HasCauseOr}
 use Rattle.sqlite.specs.State.{HasCleanDisk}
 use Rattle.wgr_sql.proofs.CauseLemmas.{cause_after, cause_weaker}
 use Rattle.wgr_sql.proofs.SurvivesLemmas.{survives_next}
-use Rattle.wgr_register.proofs.CauseLemmas.{fault_handed, memory_alone, stopped_after, stopped_clean}
+use Rattle.wgr_register.proofs.CauseLemmas.{asked_clean, fault_handed, memory_alone, stopped_after, stopped_clean}
 use Rattle.wgr_register.specs.Causes.{AskStops}
 use Rattle.wgr_register.specs.Cached.{AreCurrent, files_of}
 use Rattle.wgr_register.proofs.ask.ask.Goals as goal
@@ -295,3 +299,47 @@ returns-in-ServerFile-clause-current g c db late at clean live =
     let formed = known_so g.S.Store c.args.conn.now db at.pending (AreFormed (entries_of c.args.loaded.now)) at.stands c.requires.formed (c.tenant_of_token.ensures.clean first_clean) was_open in
     let current = known_so g.S.Store c.args.conn.now db at.pending (AreCurrent (files_of c.args.files.now)) at.stands c.requires.current (c.tenant_of_token.ensures.clean first_clean) was_open in
     shown_so g.S.Store c.file_at.new.conn db at.pending (AreCurrent (files_of c.file_at.new.files)) (c.file_at.ensures.stands db at.pending taken_at) (c.in_ok-text.ensures.current db at.pending taken_at at.consistent formed current clean) clean live
+
+-- ---- Add and Owner on rows
+
+pub returns-then-is_first : goal.returns-then-is_first
+returns-then-is_first g c =
+    let old = state g.S.Store c.args.conn.now in
+    let mid = state g.S.Store c.find_id.new.conn in
+    let new = state g.S.Store c.act_on_rows.new.conn in
+    let named_clean : HasCleanDisk new → HasCleanDisk mid = c.act_on_rows.ensures.clean in
+    let first_clean : HasCleanDisk new → HasCleanDisk (state g.S.Store c.tenant_of_token.new.conn) = λ clean. c.find_id.ensures.clean (named_clean clean) in
+    let was_clean : HasCleanDisk new → HasCleanDisk old = λ clean. c.tenant_of_token.ensures.clean (first_clean clean) in
+    let survived = survives_next _ _ _ c.tenant_of_token.ensures.survives c.find_id.ensures.survives in
+    let here : (db : Database) (late : List Event) → StandsAt g.S.Store c.args.conn.now db late → StandsAt g.S.Store c.find_id.new.conn db late = λ db late at.
+    at_read g.S.Store c.args.conn.now c.find_id.new.conn db late (λ pending stood. c.find_id.ensures.stands db pending (c.tenant_of_token.ensures.stands db pending stood)) at in
+    let found : (db : Database) (late : List Event) → StandsAt g.S.Store c.args.conn.now db late → HasCleanDisk new → (n : NetworkValue) × IsFound (tables_of db) c.args.digest.now c.args.name.now c.in-Some-2.id n = λ db late at clean.
+    let known : tenant_of_token (tables_of db).tokens c.args.digest.now ≡ Some c.in-Some.tenant = sym (c.in_ok-tenant.ensures.found db at.pending at.stands (first_clean clean)) ∙ c.in-Some.is in
+    let named = rw c.in-Some-2.is at c.in_ok-id.ensures.some db at.pending (c.tenant_of_token.ensures.stands db at.pending at.stands) (named_clean clean) in
+    let n = (holding_of (tables_of db) named.0).network in
+    (n, found_so (tables_of db) c.args.digest.now c.args.name.now c.in-Some.tenant c.in-Some-2.id n at.consistent known named (named.0, named.1, named.3, refl)) in
+    record {
+      idle = c.act_on_rows.ensures.idle;
+      clean = was_clean;
+      ends = λ db late at.
+          ask_if g.S.Store g.R.Render.shown c.act_on_rows.new.conn db late (Ask c.args.digest.now c.args.name.now c.args.now c.args.command.now) c.args.now c.act_on_rows.result c.act_on_rows.ensures.idle at.stands.sound at.consistent
+          (λ clean. let it = found db late at clean in c.act_on_rows.ensures.ends db late c.args.digest.now c.args.name.now it.0 (here db late at) it.1);
+      formed = λ db late at.
+          shows_if g.S.Store c.act_on_rows.result c.act_on_rows.new.conn (AreFormed (entries_of c.act_on_rows.new.loaded)) (λ clean.
+          let it = found db late at clean in
+          c.act_on_rows.ensures.formed db late c.args.digest.now c.args.name.now it.0 (here db late at) it.1
+          (known_so g.S.Store c.args.conn.now db at.pending (AreFormed (entries_of c.args.loaded.now)) at.stands c.requires.formed (was_clean clean) (c.in_ok-tenant.ensures.open (first_clean clean))));
+      current = λ db late at.
+          shows_if g.S.Store c.act_on_rows.result c.act_on_rows.new.conn (AreCurrent (files_of c.act_on_rows.new.files)) (λ clean.
+          let it = found db late at clean in
+          c.act_on_rows.ensures.current db late c.args.digest.now c.args.name.now it.0 (here db late at) it.1
+          (known_so g.S.Store c.args.conn.now db at.pending (AreCurrent (files_of c.args.files.now)) at.stands c.requires.current (was_clean clean) (c.in_ok-tenant.ensures.open (first_clean clean))));
+      cause = λ db late at reads.
+          asked_clean old new c.act_on_rows.result (λ clean.
+          let it = found db late at clean in
+          stopped_after ⊥ old mid new c.act_on_rows.result survived c.act_on_rows.ensures.survives (c.act_on_rows.ensures.cause db late c.args.digest.now c.args.name.now it.0 (here db late at) it.1 reads));
+      stops = λ db late at.
+          stopped_clean (AskStops (tables_of db) c.args.digest.now c.args.name.now c.args.now c.args.command.now) old new c.act_on_rows.result (λ clean.
+          let it = found db late at clean in
+          stopped_after (AskStops (tables_of db) c.args.digest.now c.args.name.now c.args.now c.args.command.now) old mid new c.act_on_rows.result survived c.act_on_rows.ensures.survives (c.act_on_rows.ensures.stops db late c.args.digest.now c.args.name.now it.0 (here db late at) it.1));
+    }
