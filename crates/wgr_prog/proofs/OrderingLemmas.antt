@@ -1,5 +1,5 @@
 -- How the orders of a text end.
-use Rattle.std.proofs.Common.{ℕ, List, Option, Result, Ok, Err, inr}
+use Rattle.std.proofs.Common.{◌≡◌, ℕ, List, Option, None, Result, Ok, Err, inl, inr, refl, subst, sym}
 use Rattle.sqlite.specs.Files.{file_state, over_files}
 use Rattle.sqlite.specs.Held.{Held}
 use Rattle.sqlite.specs.Recovery.{Image}
@@ -11,8 +11,11 @@ use Rattle.wgr_file.specs.OnFiles.{IsClosedTo, IsOpen}
 use Rattle.wgr_service.specs.Texts.{HasCarriedOut}
 use Rattle.wgr_service.specs.declared.lines.LineEnd.{LineEnd}
 use Rattle.wgr_words.specs.Order.{Input}
+use Rattle.wgr_words.specs.declared.field.WordFault.{WordFault}
+use Rattle.wgr_words.specs.declared.field.WordFault.TheVariants as word_fault
 use Rattle.wgr_prog.specs.Answering.{Output}
-use Rattle.wgr_prog.specs.Ordering.{CarriesOutText, EndsOrders, HasCarried, IsText}
+use Rattle.wgr_prog.specs.OnRegister.{of_words}
+use Rattle.wgr_prog.specs.Ordering.{CarriesOutText, EndsOrders, HasCarried, IsText, IsTextFault}
 use Rattle.wgr_prog.specs.declared.register_words.Failure.{Failure}
 use Rattle.wgr_prog.specs.declared.register_words.Failure.TheVariants as failure
 
@@ -27,6 +30,16 @@ pub ends_orders : {D : Type 0} (g : disk.Ghosts D) (start : Image) (closed : Opt
 ends_orders g start closed file was is text old new (Ok status) read carries = (text, read, carries)
 ends_orders g start closed file was is text old new (Err (failure.Field f)) read carries = absurd carries
 ends_orders g start closed file was is text old new (Err (failure.Refused why)) read carries = absurd carries
-ends_orders g start closed file was is text old new (Err (failure.Register why)) read carries = carries
+ends_orders g start closed file was is text old new (Err (failure.Register why)) read carries = (carries.0, carries.1, inr (text, read))
 ends_orders g start closed file was is text old new (Err failure.Device) read carries = inr (text, read, carries)
 ends_orders g start closed file was is text old new (Err failure.Shut) read carries = absurd carries
+
+-- no text was read, and no register opened
+pub unread : {D : Type 0} (g : disk.Ghosts D) (start : Image) (file : Option (List ℕ)) (was is : Input) (old : Output) (why : WordFault) (failed : Failure) → failed ≡ of_words why → IsTextFault file was is why
+    → EndsOrders g start None file was is old old (Err failed)
+unread g start file was is old why failed same fault = subst (λ (f : Failure). EndsOrders g start None file was is old old (Err f)) (sym same) (by_fault why fault)
+  where
+    by_fault : (why : WordFault) → IsTextFault file was is why → EndsOrders g start None file was is old old (Err (of_words why))
+    by_fault (word_fault.Field field) fault = absurd fault
+    by_fault word_fault.NoMemory fault = (refl, tt, inl (refl, fault))
+    by_fault word_fault.Device fault = inl (refl, tt, fault)

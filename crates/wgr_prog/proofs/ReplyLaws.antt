@@ -8,7 +8,7 @@ use Rattle.std.proofs.lemmas.Slice.Eq.{bytes_eq-Decides}
 use Rattle.wgr_words.specs.Line.{before_newline}
 use Rattle.wgr_words.proofs.LineLemmas.{both_none, onwards}
 use Rattle.wgr_prog.specs.Laws.{ShownTextsAreWhole, TextsAreRead, with_length}
-use Rattle.wgr_prog.specs.Reply.{Reply, Done, Shown, Undone, alone, behind_newline, reply_in, reply_of}
+use Rattle.wgr_prog.specs.Reply.{Done, Shown, Undone, alone, behind_newline, reply_in, reply_of}
 
 -- ---- a text with its length is read
 

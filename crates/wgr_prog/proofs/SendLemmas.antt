@@ -1,5 +1,5 @@
 -- An order or a reading that is sent to a service.
-use Rattle.std.proofs.Common.{◌≡◌, ◌⊎◌, ◌++◌, ℕ, Bool, true, List, [], ◌∷◌, Result, Ok, Err, IfErr, IfOk, inl, inr, subst, sym}
+use Rattle.std.proofs.Common.{◌≡◌, ◌++◌, ℕ, Bool, true, false, List, [], ◌∷◌, Result, Ok, Err, IfErr, IfOk, OnOk, inr}
 use Rattle.std.specs.Prelude.{IfSome}
 use Rattle.std.specs.declared.vec.Vec.{Vec}
 use Rattle.std.specs.declared.alloc.Global.{Global}
@@ -9,30 +9,33 @@ use Rattle.wgr_service.proofs.ConnectionLemmas.{logs_more}
 use Rattle.wgr_words.specs.Line.{is_line, line_text}
 use Rattle.wgr_words.specs.Order.{Input, IsTaken}
 use Rattle.wgr_words.specs.Words.{line_of}
-use Rattle.wgr_prog.specs.Sending.{Call, SendsLine, SendsToken, option_words}
+use Rattle.wgr_prog.specs.Sending.{Call, MayBreak, SendsLine, SendsToken, has_failed, option_words}
 use Rattle.wgr_prog.specs.declared.send.SendFault.{SendFault}
 use Rattle.wgr_prog.specs.declared.send.SendFault.TheVariants as fault
 
 -- a call of the service, until its connection was ended
 pub exchanged : (path : List ℕ) (line : List (List ℕ)) (before mid after : Log) (c : Call) (answer : Result (Vec ℕ Global) SendFault) → Logs before mid (called path c.input c.before ∷ []) → Logs mid after (ended c.after c.read_failed c.write_failed ∷ [])
-    → is_line line ≡ true → IfOk answer (λ reply. Appends c.before c.after (line_text line) × IfSome c.input (λ all. reply.items ≡ all)) → IfErr answer (λ why. (why ≡ fault.NoMemory) ⊎ (why ≡ fault.Device)) → SendsLine path line before after answer
-exchanged path line before mid after c (Ok reply) first last whole ok err = record {
+    → is_line line ≡ true → IfOk answer (λ reply. Appends c.before c.after (line_text line) × IfSome c.input (λ all. reply.items ≡ all)) → IfErr answer (λ why. MayBreak why (has_failed c)) → OnOk answer (has_failed c ≡ false) → SendsLine path line before after answer
+exchanged path line before mid after c (Ok reply) first last whole ok err sound = record {
   call = c;
   logged = logs_more before mid after (called path c.input c.before ∷ []) (ended c.after c.read_failed c.write_failed ∷ []) first last;
   whole = whole;
   written = ok.0;
   read = ok.1;
+  sound = sound;
 }
-exchanged path line before mid after c (Err why) first last whole ok (inl same) =
-    subst (λ (w : SendFault). SendsLine path line before after (Err w)) (sym same) (inr (c, logs_more before mid after (called path c.input c.before ∷ []) (ended c.after c.read_failed c.write_failed ∷ []) first last))
-exchanged path line before mid after c (Err why) first last whole ok (inr same) =
-    subst (λ (w : SendFault). SendsLine path line before after (Err w)) (sym same) (inr (c, logs_more before mid after (called path c.input c.before ∷ []) (ended c.after c.read_failed c.write_failed ∷ []) first last))
+exchanged path line before mid after c (Err fault.BadOrder) first last whole ok err sound = absurd err
+exchanged path line before mid after c (Err fault.BadToken) first last whole ok err sound = absurd err
+exchanged path line before mid after c (Err fault.NoMemory) first last whole ok err sound =
+    inr (c, logs_more before mid after (called path c.input c.before ∷ []) (ended c.after c.read_failed c.write_failed ∷ []) first last, err)
+exchanged path line before mid after c (Err fault.Device) first last whole ok err sound =
+    (whole, inr (c, logs_more before mid after (called path c.input c.before ∷ []) (ended c.after c.read_failed c.write_failed ∷ []) first last, err))
 
 -- with the token that is all of the input
-pub with_token : (path : List ℕ) (words : List (List ℕ)) (is_json : Bool) (before after : Log) (old new : Input) (text : List ℕ) (answer : Result (Vec ℕ Global) SendFault) → IsTaken old new text
+pub with_token : (path : List ℕ) (words : List (List ℕ)) (is_json : Bool) (before after : Log) (old new : Input) (text : List ℕ) (answer : Result (Vec ℕ Global) SendFault) → IsTaken old new text → is_line (line_of text ∷ []) ≡ true
     → SendsLine path (words ++ line_of text ∷ option_words is_json) before after answer → SendsToken path words is_json before after old new answer
-with_token path words is_json before after old new text (Ok reply) taken sends = (text, taken, sends)
-with_token path words is_json before after old new text (Err fault.BadOrder) taken sends = (text, taken, sends)
-with_token path words is_json before after old new text (Err fault.BadToken) taken sends = absurd sends
-with_token path words is_json before after old new text (Err fault.NoMemory) taken sends = sends
-with_token path words is_json before after old new text (Err fault.Device) taken sends = sends
+with_token path words is_json before after old new text (Ok reply) taken word sends = (text, taken, word, sends)
+with_token path words is_json before after old new text (Err fault.BadOrder) taken word sends = (text, taken, word, sends)
+with_token path words is_json before after old new text (Err fault.BadToken) taken word sends = absurd sends
+with_token path words is_json before after old new text (Err fault.NoMemory) taken word sends = inr (text, taken, word, sends)
+with_token path words is_json before after old new text (Err fault.Device) taken word sends = inr (text, taken, word, sends)

@@ -61,11 +61,11 @@ AreAsked now count asked = (length asked ≡ count) × All (IsAskedAt now) asked
 abbrev pub AreSpelled : List ℕ → List (List ℕ) → List event.Event → Type 0
 AreSpelled now files asked = (moment : ℕ) × SpellsWhole now moment × AreAsked moment (length files) asked
 
--- the moment is malformed, or memory or a file fails
+-- the moment is malformed; or it was read, and a file failed; or memory was refused
 abbrev pub IsBatchFault : List ℕ → WordFault → Type 0
 IsBatchFault now (word_fault.Field field) = IsFirst field ((of.Now, now) ∷ [])
 IsBatchFault now word_fault.NoMemory = Unit {0}
-IsBatchFault now word_fault.Device = Unit {0}
+IsBatchFault now word_fault.Device = (moment : ℕ) × SpellsWhole now moment
 
 -- These requests were run, with these answers, on the register that was in the files, and nothing else; and between any
 -- two of them it was at some rows.
@@ -110,7 +110,7 @@ EndsBatch g start closed now files old new (Err (failure.Field field)) = (new �
 EndsBatch g start closed now files old new (Err (failure.Refused why)) = ⊥
 EndsBatch g start closed now files old new (Err failure.Shut) = ⊥
 EndsBatch g start closed now files old new (Err (failure.Register why)) = (new ≡ old) × Stays g start closed × OnceRead why ((asked : List event.Event) × AreSpelled now files asked)
-EndsBatch g start closed now files old new (Err failure.Device) = ((new ≡ old) × Stays g start closed) ⊎ ((asked : List event.Event) × AreSpelled now files asked × HasBrokenOff g start closed asked old new)
+EndsBatch g start closed now files old new (Err failure.Device) = ((new ≡ old) × Stays g start closed × ((moment : ℕ) × SpellsWhole now moment)) ⊎ ((asked : List event.Event) × AreSpelled now files asked × HasBrokenOff g start closed asked old new)
 
 -- ---- connections
 

@@ -12,7 +12,10 @@ use Rattle.wgr_file.specs.OnFiles.{IsClosedTo, IsOpen, Stays}
 use Rattle.wgr_service.specs.Lines.{end_text}
 use Rattle.wgr_service.specs.Texts.{HasCarriedOut, IsCutAtLast, greatest, lines_in}
 use Rattle.wgr_service.specs.declared.lines.LineEnd.{LineEnd}
+use Rattle.wgr_schema.specs.declared.fault.RegisterFault.TheVariants as register_fault
 use Rattle.wgr_words.specs.Order.{Input, IsTaken}
+use Rattle.wgr_words.specs.declared.field.WordFault.{WordFault}
+use Rattle.wgr_words.specs.declared.field.WordFault.TheVariants as word_fault
 use Rattle.wgr_prog.specs.Answering.{Output}
 use Rattle.wgr_prog.specs.Failures.{failure_status}
 use Rattle.wgr_prog.specs.declared.register_words.Failure.{Failure}
@@ -22,6 +25,13 @@ use Rattle.wgr_prog.specs.declared.register_words.Failure.TheVariants as failure
 abbrev pub IsText : Option (List ℕ) → Input → Input → List ℕ → Type 0
 IsText None old new text = IsTaken old new text
 IsText (Some file) old new text = new ≡ old
+
+-- the input failed, or memory was refused; of a file nothing is known
+abbrev pub IsTextFault : Option (List ℕ) → Input → Input → WordFault → Type 0
+IsTextFault file old new (word_fault.Field field) = ⊥
+IsTextFault None old new word_fault.NoMemory = new.failed ≡ old.failed
+IsTextFault None old new word_fault.Device = new.failed ≡ true
+IsTextFault (Some file) old new why = new ≡ old
 
 -- these lines were carried out on the register that was in the files, and nothing else
 pub record HasCarried {D : Type 0} (g : disk.Ghosts D) (start : Image) (closed : Option (Files D)) (lines : List (Option (List ℕ))) (ends : List LineEnd) : Type 0 where
@@ -57,11 +67,12 @@ CarriesOutText g start closed text old new (Err (failure.Register why)) = (new �
 CarriesOutText g start closed text old new (Err failure.Device) = HasStopped g start closed text old new
 CarriesOutText g start closed text old new (Err other) = ⊥
 
--- and those of the text that was read
+-- and those of the text that was read, or why none was
 abbrev pub EndsOrders : {D : Type 0} → disk.Ghosts D → Image → Option (Files D) → Option (List ℕ) → Input → Input → Output → Output → Result ℕ Failure → Type 0
 EndsOrders g start closed file was is old new (Ok status) = (text : List ℕ) × IsText file was is text × HasReported g start closed text old new status
-EndsOrders g start closed file was is old new (Err (failure.Register why)) = (new ≡ old) × Stays g start closed
-EndsOrders g start closed file was is old new (Err failure.Device) = ((new ≡ old) × Stays g start closed) ⊎ ((text : List ℕ) × IsText file was is text × HasStopped g start closed text old new)
+EndsOrders g start closed file was is old new (Err (failure.Register why)) =
+    (new ≡ old) × Stays g start closed × (((why ≡ register_fault.NoMemory) × IsTextFault file was is word_fault.NoMemory) ⊎ ((text : List ℕ) × IsText file was is text))
+EndsOrders g start closed file was is old new (Err failure.Device) = ((new ≡ old) × Stays g start closed × IsTextFault file was is word_fault.Device) ⊎ ((text : List ℕ) × IsText file was is text × HasStopped g start closed text old new)
 EndsOrders g start closed file was is old new (Err other) = ⊥
 
 abbrev pub orders_status : Result ℕ Failure → ℕ

@@ -1,5 +1,5 @@
 -- An order or a reading that is sent to a running service.
-use Rattle.std.specs.Prelude.{ℕ, ◌≡◌, ◌⊎◌, ◌++◌, Bool, true, false, List, [], ◌∷◌, Option, Some, None, IfSome, MatchBool, Result, Ok, Err, codes, if◌then◌else◌}
+use Rattle.std.specs.Prelude.{ℕ, ◌≡◌, ◌⊎◌, ◌++◌, ◌||◌, Bool, true, false, List, [], ◌∷◌, Option, Some, None, IfSome, IsUtf8, MatchBool, Result, Ok, Err, codes, if◌then◌else◌}
 use Rattle.std.specs.Str.{bytes_eq}
 use Rattle.std.specs.declared.vec.Vec.{Vec}
 use Rattle.std.specs.declared.alloc.Global.{Global}
@@ -32,6 +32,10 @@ abbrev pub line_words : List (List ℕ) → Option (List ℕ) → Bool → List 
 line_words words None is_json = words ++ option_words is_json
 line_words words (Some digest) is_json = words ++ codes "--digest" ∷ digest ∷ option_words is_json
 
+-- the text makes no word of a line
+abbrev pub IsNoWord : List ℕ → Type 0
+IsNoWord text = (¬ (IsUtf8 text)) ⊎ (is_line (text ∷ []) ≡ false)
+
 -- ---- the connection
 
 -- What was to be read from it and what had been written to it as it was made, what had been written as it was ended, and
@@ -46,6 +50,10 @@ pub record Call : Type 0 where
 abbrev pub met_in : List ℕ → Call → List Contact
 met_in path c = called path c.input c.before ∷ ended c.after c.read_failed c.write_failed ∷ []
 
+-- whether a read or a write had failed
+abbrev pub has_failed : Call → Bool
+has_failed call = call.read_failed || call.write_failed
+
 -- the line was written to the service at the path, and its reply is all that came back
 pub record IsAnswered (path : List ℕ) (line : List (List ℕ)) (before after : Log) (reply : List ℕ) : Type 0 where
   pub call : Call
@@ -53,23 +61,38 @@ pub record IsAnswered (path : List ℕ) (line : List (List ℕ)) (before after :
   pub whole : is_line line ≡ true
   pub written : Appends call.before call.after (line_text line)
   pub read : IfSome call.input (λ all. reply ≡ all)
+  pub sound : has_failed call ≡ false
 
--- no connection was made, or one was, and whether an order was done isn't known
-abbrev pub IsUnanswered : List ℕ → Log → Log → Type 0
-IsUnanswered path before after = (after ≡ before) ⊎ ((call : Call) × Logs before after (met_in path call))
+-- No connection was made; or one was, and whether an order was done isn't known. `failed` says whether a read or a write
+-- of it had failed.
+abbrev pub IsUnanswered : List ℕ → Log → Log → Bool → Type 0
+IsUnanswered path before after failed = (after ≡ before) ⊎ ((call : Call) × Logs before after (met_in path call) × (has_failed call ≡ failed))
 
+-- how an exchange may break off, and whether a read or a write has failed by then
+abbrev pub MayBreak : SendFault → Bool → Type 0
+MayBreak fault.NoMemory failed = failed ≡ false
+MayBreak fault.Device failed = failed ≡ true
+MayBreak other failed = ⊥
+
+-- the words are no line; or they are one, and the connection failed; or memory was refused
 abbrev pub SendsLine : List ℕ → List (List ℕ) → Log → Log → Result (Vec ℕ Global) SendFault → Type 0
 SendsLine path line before after (Ok reply) = IsAnswered path line before after reply.items
-SendsLine path line before after (Err fault.BadOrder) = after ≡ before
+SendsLine path line before after (Err fault.BadOrder) = (after ≡ before) × (is_line line ≡ false)
 SendsLine path line before after (Err fault.BadToken) = ⊥
-SendsLine path line before after (Err why) = IsUnanswered path before after
+SendsLine path line before after (Err fault.Device) = (is_line line ≡ true) × IsUnanswered path before after true
+SendsLine path line before after (Err fault.NoMemory) = IsUnanswered path before after false
 
--- all of the input is the token, which comes after the words
+-- all of the input is the token, a word, which comes after the words
+abbrev pub SendsTaken : List ℕ → List (List ℕ) → Bool → Log → Log → Input → Input → Result (Vec ℕ Global) SendFault → Type 0
+SendsTaken path words is_json before after old new answer =
+    (text : List ℕ) × IsTaken old new text × (is_line (line_of text ∷ []) ≡ true) × SendsLine path (words ++ line_of text ∷ option_words is_json) before after answer
+
+-- so it is; or it is no word; or it wasn't read, since the input failed or memory was refused
 abbrev pub SendsToken : List ℕ → List (List ℕ) → Bool → Log → Log → Input → Input → Result (Vec ℕ Global) SendFault → Type 0
-SendsToken path words is_json before after old new (Err fault.BadToken) = after ≡ before
-SendsToken path words is_json before after old new (Err fault.Device) = IsUnanswered path before after
-SendsToken path words is_json before after old new (Err fault.NoMemory) = IsUnanswered path before after
-SendsToken path words is_json before after old new answer = (text : List ℕ) × IsTaken old new text × SendsLine path (words ++ line_of text ∷ option_words is_json) before after answer
+SendsToken path words is_json before after old new (Err fault.BadToken) = (after ≡ before) × ((text : List ℕ) × IsTaken old new text × IsNoWord (line_of text))
+SendsToken path words is_json before after old new (Err fault.Device) = ((after ≡ before) × (new.failed ≡ true)) ⊎ SendsTaken path words is_json before after old new (Err fault.Device)
+SendsToken path words is_json before after old new (Err fault.NoMemory) = ((after ≡ before) × (new.failed ≡ old.failed)) ⊎ SendsTaken path words is_json before after old new (Err fault.NoMemory)
+SendsToken path words is_json before after old new answer = SendsTaken path words is_json before after old new answer
 
 abbrev pub Sends : List ℕ → List (List ℕ) → Option (List ℕ) → Bool → Log → Log → Input → Input → Result (Vec ℕ Global) SendFault → Type 0
 Sends path words digest is_json before after old new answer =

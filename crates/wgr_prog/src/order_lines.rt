@@ -1,8 +1,8 @@
 //! `orders`: orders in the lines of a file, or of standard input, on the register in a file.
-ghost use Rattle.std.specs.Prelude.{◌≡◌, IfErr, IfOk, option_map};
+ghost use Rattle.std.specs.Prelude.{◌≡◌, IfErr, IfOk, None, option_map};
 ghost use Rattle.sqlite.specs.WalFiles.{image_at};
-ghost use Rattle.wgr_prog.specs.Answering.{IsNoField, output_of};
-ghost use Rattle.wgr_prog.specs.Ordering.{CarriesOutText, EndsOrders, IsText, orders_status};
+ghost use Rattle.wgr_prog.specs.Answering.{output_of};
+ghost use Rattle.wgr_prog.specs.Ordering.{CarriesOutText, EndsOrders, IsText, IsTextFault, orders_status};
 ghost use Rattle.wgr_prog.specs.Status.{RunsOrders, streams};
 ghost use Rattle.wgr_words.specs.Order.{IsTaken, input_of};
 
@@ -67,7 +67,7 @@ fn read_text<R: Read>(
     input: &mut R,
 ) -> Result<Vec<u8>, WordFault>
     ensures ok { IfOk result (λ text. IsText (option_map (λ file. file.now) file.entry) (input_of R.remaining R.failed input.old) (input_of R.remaining R.failed input.new) text.items) }
-    ensures err { IfErr result IsNoField }
+    ensures err { IfErr result (IsTextFault (option_map (λ file. file.now) file.entry) (input_of R.remaining R.failed input.old) (input_of R.remaining R.failed input.new)) }
 {
     match file {
         Some(file) => read_file(rt, file),
@@ -77,7 +77,7 @@ fn read_text<R: Read>(
 
 fn read_input<R: Read>(alloc: Global, input: &mut R) -> Result<Vec<u8>, WordFault>
     ensures ok { IfOk result (λ text. IsTaken (input_of R.remaining R.failed input.old) (input_of R.remaining R.failed input.new) text.items) }
-    ensures err { IfErr result IsNoField }
+    ensures err { IfErr result (IsTextFault None (input_of R.remaining R.failed input.old) (input_of R.remaining R.failed input.new)) }
 {
     match read_to_end(alloc, input) {
         Ok(text) => Ok(text),

@@ -1,12 +1,12 @@
 //! `send`: an order or a reading, sent to a running service.
-ghost use Rattle.std.specs.Prelude.{◌≡◌, ◌⊎◌, ◌∷◌, ◌++◌, ℕ, Result, map, option_map, IfErr, IfOk, IfSome};
+ghost use Rattle.std.specs.Prelude.{◌≡◌, ◌||◌, ◌∷◌, ◌++◌, ℕ, Result, [], false, map, option_map, true, IfErr, IfNone, IfOk, IfSome, OnOk};
 ghost use Rattle.std.specs.declared.vec.Vec.{Vec};
 ghost use Rattle.std.specs.declared.alloc.Global.{Global};
 ghost use Rattle.std.specs.Io.KnownBytes.{Appends};
 ghost use Rattle.wgr_prog.specs.Reply.{reply_in};
-ghost use Rattle.wgr_prog.specs.Sending.{Sends, SendsLine, SendsToken, ReportsReply, ReportsSent, asks_token, line_words, option_words, send_status};
+ghost use Rattle.wgr_prog.specs.Sending.{IsNoWord, MayBreak, Sends, SendsLine, SendsToken, ReportsReply, ReportsSent, asks_token, line_words, option_words, send_status};
 ghost use Rattle.wgr_prog.specs.declared.send.SendFault.{SendFault as Failed};
-ghost use Rattle.wgr_words.specs.Line.{line_text};
+ghost use Rattle.wgr_words.specs.Line.{is_line, line_text};
 ghost use Rattle.wgr_words.specs.Order.{input_of};
 ghost use Rattle.wgr_words.specs.Words.{line_of};
 
@@ -211,7 +211,8 @@ fn send_token<N: Network>(
 
 // The text without a newline at its end, if that makes a word of a line.
 fn token_word(typed: &[u8]) -> Option<&str>
-    ensures { IfSome result (λ token. token.now ≡ line_of typed.now) }
+    ensures some { IfSome result (λ token. (token.now ≡ line_of typed.now) × (is_line (token.now ∷ []) ≡ true)) }
+    ensures none { IfNone result (IsNoWord (line_of typed.now)) }
 {
     let line = match typed.strip_suffix(b"\n".as_slice()) {
         Some(line) => line,
@@ -244,14 +245,17 @@ fn exchange<N: Network>(
     reply
 }
 
+// Writes the line of these words, and reads all that comes back.
 fn ask<R: Read, W: Write>(
     alloc: Global,
     line: &[&str],
     input: &mut R,
     out: &mut W,
 ) -> Result<Vec<u8>, SendFault>
+    requires sound { (R.failed input.old ≡ false) × (W.failed out.old ≡ false) }
     ensures ok { IfOk result (λ reply. Appends (W.contents out.old) (W.contents out.new) (line_text (map (λ word. word.now) line.now)) × IfSome (R.remaining input.old) (λ all. reply.items ≡ all)) }
-    ensures err { IfErr result (λ why. (why ≡ SendFault.NoMemory) ⊎ (why ≡ SendFault.Device)) }
+    ensures err { IfErr result (λ why. MayBreak why (R.failed input.new || W.failed out.new)) }
+    ensures sound { OnOk result ((R.failed input.new || W.failed out.new) ≡ false) }
 {
     if write_line(out, line).is_err() {
         return Err(SendFault::Device);
