@@ -89,6 +89,8 @@ ASKED = {
     "a dump with a held address": request("POST", "/networks/office/dump", dump((5, "10.8.0.30/32"), (6, "10.8.0.9/32"))),
     "no dump": request("POST", "/networks/office/dump", THREE[:-9]),
 }
+# Where the network isn't in memory, these read only the rows that they need.
+DIRECTED = ["a new peer", "a new peer with all members", "a key that is held", "an owner", "nobody's address"]
 # On a network of 4,096 routes.
 AT_THE_LIMIT = {
     "a route too many": request("POST", f"{PEERS}/2/routes", {"prefix": "10.200.0.0/16"}),
@@ -276,6 +278,8 @@ class Serving(unittest.TestCase):
     """One connection, from its first read to its reply."""
 
     maxDiff = None
+    # Whether the service has the network in memory by then.
+    loads = True
 
     def setUp(self):
         folder = scratch()
@@ -295,14 +299,14 @@ class Serving(unittest.TestCase):
             self.assertEqual(left, Left(0, self.shown))
 
     def start(self):
-        """A service on a copy of the register, which has loaded the network; one that is as it began goes on."""
-        if self.server and self.shown == self.before:
+        """A service on a copy of the register. One that has loaded the network goes on where it is as it began."""
+        if self.loads and self.server and self.shown == self.before:
             return
         self.end()
         shutil.copyfile(self.base, f"{self.folder}/run.db")
         Path(f"{self.folder}/run.db-wal").unlink(missing_ok=True)
         self.server = self.faulty.serve(f"{self.folder}/run.db", now=NOW).__enter__()
-        self.before = self.shown = self.server.send(LOOK)
+        self.before = self.shown = self.server.send(LOOK) if self.loads else batch(self.base, NOW, [LOOK]).out
 
     def ask(self, message, growth, lasting=0):
         """The reply to a message at which this growth is refused, and whether it was; `shown` is what follows."""
@@ -345,6 +349,10 @@ class Serving(unittest.TestCase):
     def test_no_memory_from_a_growth_on(self):
         self.base = make_base(self.folder)
         self.each(ASKED, lasting=1, stride=1 if WHOLE else 37)
+
+    def test_growths_by_rows(self):
+        self.base, self.loads = make_base(self.folder), False
+        self.each({name: ASKED[name] for name in DIRECTED}, stride=1 if WHOLE else 23)
 
     def test_growths_of_4096_routes(self):
         self.base = make_base(self.folder)

@@ -152,12 +152,12 @@ class Large(unittest.TestCase):
         compare(self, self.database, moment, rows, part=part)
 
     def seconds_of_two_requests(self):
-        """How long the first two requests to a service take."""
-        times, owner = [], request("GET", f"{OFFICE}/owner/{SERVER + 1}")
+        """How long the first two requests to a service take, of which the first loads the network."""
+        times, file = [], request("GET", f"{OFFICE}/peers/1/file/wg")
         with Server(self.database, now=7) as server:
             for _ in range(2):
                 began = time.monotonic()
-                server.send(owner)
+                server.send(file)
                 times.append(time.monotonic() - began)
         return times
 

@@ -10,8 +10,11 @@ from serving import make_register
 
 SOURCES = Path(__file__).resolve().parent.parent / "crates"
 
+# The crate that reads only the rows that a request needs, where its network isn't in memory.
+ROWS = "wgr_rows"
+
 # The crates whose statements are run by requests and orders.
-CRATES = ["wgr_tables", "wgr_entries"]
+CRATES = ["wgr_tables", "wgr_entries", ROWS]
 
 # An order that adds a network, and the opening, read whole tables: of these, only the first is in these
 # crates, in this file.
@@ -19,11 +22,16 @@ WHOLE_TABLES = "all.rt"
 
 
 def statements():
-    """The statements that requests and orders run, with the file that each is in."""
+    """The statements that requests and orders run, with the crate and the file that each is in."""
     for crate in CRATES:
         for file in sorted((SOURCES / crate / "src").glob("*.rt")):
             for found in re.finditer(r'"((?:SELECT|INSERT|UPDATE|DELETE) [^"]*)"', file.read_text()):
-                yield file.name, found[1]
+                yield crate, file.name, found[1]
+
+
+def plan_of(link, statement):
+    count = len(set(re.findall(r"\?\d+", statement)))
+    return [row[3] for row in link.execute(f"EXPLAIN QUERY PLAN {statement}", [None] * count)]
 
 
 class Plans(unittest.TestCase):
@@ -32,9 +40,8 @@ class Plans(unittest.TestCase):
             link = sqlite3.connect(make_register(folder))
             self.addCleanup(link.close)
             seen = []
-            for file, statement in statements():
-                count = len(set(re.findall(r"\?\d+", statement)))
-                plan = [row[3] for row in link.execute(f"EXPLAIN QUERY PLAN {statement}", [None] * count)]
+            for _, file, statement in statements():
+                plan = plan_of(link, statement)
                 with self.subTest(statement):
                     scans = [line for line in plan if line.startswith("SCAN")]
                     self.assertEqual(bool(scans), file == WHOLE_TABLES, plan)
@@ -42,3 +49,18 @@ class Plans(unittest.TestCase):
         # A token, a tenant and a network by their keys, and a tenant's networks.
         self.assertEqual(seen.count("lookup.rt"), 4)
         self.assertGreater(len(seen), 20)
+
+    def test_no_rows_are_sorted(self):
+        """Those that are read where a network isn't in memory come in their order, so the first ones may be enough."""
+        with tempfile.TemporaryDirectory() as folder:
+            link = sqlite3.connect(make_register(folder))
+            self.addCleanup(link.close)
+            texts = [statement for crate, _, statement in statements() if crate == ROWS]
+            for statement in texts:
+                # The program reads a range of rowids where both bounds are given, and so does the C library once a
+                # plus keeps it from the index.
+                plan = plan_of(link, statement.replace("network = ?1 AND id >= ", "+network = ?1 AND id >= "))
+                with self.subTest(statement):
+                    self.assertEqual([line for line in plan if "TEMP B-TREE" in line or line.startswith("SCAN")], [], plan)
+            # Peers by key, by number, those whose leases are over, and their count; a prefix, and those in the pool.
+            self.assertEqual(len(texts), 6)

@@ -290,6 +290,21 @@ class Status(Reading):
             self.assertEqual(send(self.socket, ("network-end", "acme", "office")), DONE)
             self.assertEqual(self.figure("networks_in_memory"), 1)
 
+    def test_what_is_read_by_rows_alone(self):
+        """The first request on a network for a new peer or for an owner doesn't load it, and the second one does."""
+        self.make_two()
+        server = self.serve()
+        rows = [
+            ("an owner", 200, ("GET", "/networks/office/owner/10.66.0.2", None), 0),
+            ("a new peer in another network", 200, ("POST", "/networks/lab/peers", {"key": key(20)}), 0),
+            ("a key that is held", 409, ("POST", PEERS, {"key": key(1)}), 1),
+            ("nobody's address", 404, ("GET", "/networks/lab/owner/10.66.0.2", None), 2),
+        ]
+        for name, status, asked, due in rows:
+            with self.subTest(name):
+                self.assertIn(f"HTTP/1.1 {status} ".encode(), server.send(request(*asked, "test")))
+                self.assertEqual(self.figure("networks_in_memory"), due)
+
     @needs_faults()
     def test_without_a_clock(self):
         self.init()
@@ -297,6 +312,9 @@ class Status(Reading):
             server = faulty.serve(self.db, orders=self.socket)
             faulty.arm(clock=FAILS)
             with server:
+                # It reads the clock once it listens, and again for a connection, which it drops.
+                with self.assertRaises((OSError, AssertionError)):
+                    self.status()
                 faulty.disarm()
                 self.assertEqual(self.status(), (0, status_text()))
 

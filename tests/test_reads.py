@@ -12,20 +12,45 @@ from concurrent.futures import ThreadPoolExecutor
 from contextlib import closing
 from pathlib import Path
 
-from faulty import Faulty, needs_faults, scratch
+from faulty import WHOLE, Faulty, needs_faults, scratch
+from keys import numbered_keys
 from program import Left
 from register_file import DONE, failed, network_row, put
-from serving import make_register
+from serving import SERVER_KEY, key, make_register, network_add, request
+from test_batch import batch
 from test_growths import ADD, FOLLOWING, LOOK, MORE, NOW, ORDERS, UNAVAILABLE, files, make_base, rows
 
 WORDS = {name: ORDERS[name][:2] for name in ["a tenant", "a token", "an end of a token", "a network", "an end of a full network"]}
+NOBODYS = FOLLOWING[1].replace(b"abc", b"no")
 # Requests, each alone: a reading, a change, and one that no register is asked.
-REQUESTS = {"a list": LOOK, "a new peer": ADD, "the networks": FOLLOWING[1], "a token of nobody": FOLLOWING[1].replace(b"abc", b"no")}
+REQUESTS = {"a list": LOOK, "a new peer": ADD, "the networks": FOLLOWING[1], "a token of nobody": NOBODYS}
+# The same on a network of which no page is kept, where the first two read only the rows that they need.
+LARGE = {
+    "an owner": request("GET", "/networks/large/owner/10.9.0.9"),
+    "a new peer": request("POST", "/networks/large/peers", {"key": key(1)}),
+    "a list": request("GET", "/networks/large/peers"),
+}
+# A run takes each so many-th read of a file that a request on it makes.
+STRIDE = 1 if WHOLE else 11
 
 
 def pool(place):
     """One of the pools of four addresses in 10.0.0.0/8, of which none is the first network's."""
     return f"10.{16 + (place >> 14)}.{place >> 6 & 255}.{place % 64 * 4}/30"
+
+
+def make_large(folder):
+    """A register with more pages than are kept in memory, and a network of 2,000 peers with a route each."""
+    base = make_register(folder)
+    network_add(base, "acme", "large", "10.9.0.0/20", port="51821")
+    lines = [f"(none)\t{SERVER_KEY}\t51820\toff\n"]
+    for place, of in enumerate(numbered_keys(2_000), 2):
+        at = f"{place // 256}.{place % 256}/32"
+        lines.append(f"{of}\t(none)\t(none)\t10.9.{at},172.16.{at}\t0\t0\t0\toff\n")
+    left = batch(base, NOW, [request("POST", "/networks/large/dump", "".join(lines).encode())])
+    assert b"HTTP/1.1 200 OK" in left.out, left.out[:200]
+    put(base, "network", [network_row(place, 1, f"n{place}", pool(place), f"{240 * 'h'}{place}", 1) for place in range(3, 16_300)])
+    return base
 
 
 class Reads(unittest.TestCase):
@@ -101,3 +126,25 @@ class Reads(unittest.TestCase):
                     read = opened + 1 + (total - opened) * quarters // 4
                     left = faulty.run(["tenant-add", self.fresh(faulty, base), "cato"], file_read=read)
                     self.assertEqual(left, failed("store"))
+
+    @needs_faults()
+    def test_reads_of_requests(self):
+        with scratch() as folder, Faulty() as faulty:
+            base = make_large(folder)
+            before = rows(base)
+
+            def run(message, **wanted):
+                path = self.fresh(faulty, base)
+                left = faulty.run(["batch", path, "--now", str(NOW), *files(faulty.folder.name, [message])], **wanted)
+                return left, rows(path)
+
+            run(NOBODYS)
+            opened = faulty.file_reads
+            for name, message in LARGE.items():
+                ample, total = run(message), faulty.file_reads
+                self.assertIn(b"HTTP/1.1 200 OK", ample[0].out)
+                with self.subTest(name):
+                    self.assertGreater(total, opened)
+                    found = [run(message, file_read=read) for read in range(opened, total, STRIDE)]
+                    self.assertEqual([left for left in found if left not in [ample, (Left(1, UNAVAILABLE), before)]], [])
+                    self.assertIn((Left(1, UNAVAILABLE), before), found)

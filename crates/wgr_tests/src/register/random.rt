@@ -18,7 +18,7 @@ use wgr_tables::load_network;
 
 // Events, in which a capital denotes one of its choices. Events that should be more frequent are listed
 // more often.
-const LINES: [&str; 33] = [
+const LINES: [&str; 35] = [
     "tenant T",
     "grant T D",
     "grant T D",
@@ -29,6 +29,8 @@ const LINES: [&str; 33] = [
     "end-network T N",
     "networks D",
     "list D N",
+    "owner D N A",
+    "owner D N A",
     "owner D N A",
     "server D N F",
     "file D N I F",
@@ -237,7 +239,7 @@ fn check_views<S: Alter + Drop>(
     );
 }
 
-// What is asked before and after each event.
+// What is asked before and after each event, so that networks are in memory.
 const FILES: [&str; 3] = [
     "server 1 office wg",
     "server 2 office wg",
@@ -250,63 +252,81 @@ fn take_files<S: Alter + Drop>(
     register: &mut wgr_register::Register<S>,
     plain: &mut Register,
     dice: &mut Dice,
+    files: &[&str],
 ) {
-    for line in FILES {
+    for line in files {
         take(rt, register, plain, dice.below(200), line);
     }
 }
 
-// Applies a random event to both registers, and asks for files before and after it; compares all views,
-// and opens the register anew.
+// Applies a random event to both registers, and asks for these files before and after it; compares all
+// views, and opens the register anew.
 fn check_next<S: Alter + Drop>(
     rt: &(impl Abort + AllocGlobal),
     mut register: wgr_register::Register<S>,
     plain: &mut Register,
     dice: &mut Dice,
+    files: &[&str],
 ) -> wgr_register::Register<S> {
     let line = dice.line(rt);
     let now = dice.below(200);
     let line = str::from_utf8(line.as_slice()).expect(rt, "a text");
-    take_files(rt, &mut register, plain, dice);
+    take_files(rt, &mut register, plain, dice, files);
     take(rt, &mut register, plain, now, line);
-    take_files(rt, &mut register, plain, dice);
+    take_files(rt, &mut register, plain, dice, files);
     let mut conn = register.into_connection();
     check_views(rt, &mut conn, plain);
     opened(rt, conn).expect(rt, "a register")
 }
 
-fn check_random<S: Alter + Drop>(rt: &(impl Abort + AllocGlobal), conn: Connection<S>, seed: u64) {
+fn check_random<S: Alter + Drop>(
+    rt: &(impl Abort + AllocGlobal),
+    conn: Connection<S>,
+    seed: u64,
+    files: &[&str],
+) {
     let mut plain = Register::new(rt.alloc());
     let mut register = empty(rt, conn);
     run(rt, &mut register, &mut plain, &NETWORKS);
     let mut dice = Dice { state: seed };
     for _ in 0..60u32 {
-        register = check_next(rt, register, &mut plain, &mut dice);
+        register = check_next(rt, register, &mut plain, &mut dice, files);
     }
     let _conn = register.into_connection();
 }
 
 #[test]
 fn random_events(rt: HostRuntime) {
-    check_random(&rt, in_memory(&rt), 1);
+    check_random(&rt, in_memory(&rt), 1, &FILES);
 }
 
 #[test]
 fn other_random_events(rt: HostRuntime) {
-    check_random(&rt, in_memory(&rt), 2);
+    check_random(&rt, in_memory(&rt), 2, &FILES);
 }
 
 #[test]
 fn more_random_events(rt: HostRuntime) {
-    check_random(&rt, in_memory(&rt), 3);
+    check_random(&rt, in_memory(&rt), 3, &FILES);
 }
 
 #[test]
 fn even_more_random_events(rt: HostRuntime) {
-    check_random(&rt, in_memory(&rt), 4);
+    check_random(&rt, in_memory(&rt), 4, &FILES);
 }
 
 #[test]
 fn random_events_in_files(rt: HostRuntime) {
-    check_random(&rt, in_new_files(&rt), 5);
+    check_random(&rt, in_new_files(&rt), 5, &FILES);
+}
+
+// No network is in memory at an event, so new peers and owners are answered by rows.
+#[test]
+fn random_events_by_rows(rt: HostRuntime) {
+    check_random(&rt, in_memory(&rt), 6, &[]);
+}
+
+#[test]
+fn more_random_events_by_rows(rt: HostRuntime) {
+    check_random(&rt, in_new_files(&rt), 7, &[]);
 }

@@ -234,16 +234,27 @@ pub(super) fn take<S: Alter + Drop>(
     meant.shown
 }
 
-/// Applies the events of the lines, each at its moment, to both registers.
+// Applies the event of the line, at its moment, to both registers.
+fn take_step<S: Alter + Drop>(
+    rt: &(impl Abort + AllocGlobal),
+    register: &mut Register<S>,
+    plain: &mut wgr_plain::Register,
+    step: &Step<'_>,
+) {
+    let (now, line, want) = step;
+    let shown = take(rt, register, plain, *now, line);
+    assert_eq!(rt; shown.as_slice(), want.as_bytes(), "{line}");
+}
+
+/// Applies the events of the lines to both registers.
 pub(super) fn run<S: Alter + Drop>(
     rt: &(impl Abort + AllocGlobal),
     register: &mut Register<S>,
     plain: &mut wgr_plain::Register,
     script: &[Step<'_>],
 ) {
-    for (now, line, want) in script {
-        let shown = take(rt, register, plain, *now, line);
-        assert_eq!(rt; shown.as_slice(), want.as_bytes(), "{line}");
+    for step in script {
+        take_step(rt, register, plain, step);
     }
 }
 
@@ -299,10 +310,40 @@ fn check_on<S: Alter + Drop>(
     let _conn = register.into_connection();
 }
 
-/// Runs the scripts, one after the other, on registers without entries: plain, in memory and in files.
+// Applies the events of the lines to both registers. Before each, the one in a database is opened anew, so no
+// network is in memory.
+fn run_anew<S: Alter + Drop>(
+    rt: &(impl Abort + AllocGlobal),
+    mut register: Register<S>,
+    plain: &mut wgr_plain::Register,
+    script: &[Step<'_>],
+) -> Register<S> {
+    for step in script {
+        register = opened(rt, register.into_connection()).expect(rt, "a register");
+        take_step(rt, &mut register, plain, step);
+    }
+    register
+}
+
+fn check_anew<S: Alter + Drop>(
+    rt: &(impl Abort + AllocGlobal),
+    conn: Connection<S>,
+    scripts: &[&[Step<'_>]],
+) {
+    let mut register = empty(rt, conn);
+    let mut plain = wgr_plain::Register::new(rt.alloc());
+    for script in scripts {
+        register = run_anew(rt, register, &mut plain, script);
+    }
+    let _conn = register.into_connection();
+}
+
+/// Runs the scripts, one after the other, on registers without entries: plain, in memory and in files. One in
+/// memory is opened anew before each event, so that new peers and owners are answered by rows.
 pub(super) fn check(rt: &(impl Abort + AllocGlobal), scripts: &[&[Step<'_>]]) {
     check_on(rt, in_memory(rt), scripts);
     check_on(rt, in_new_files(rt), scripts);
+    check_anew(rt, in_memory(rt), scripts);
 }
 
 /// Networks `office` and `kit` of acme's, whose token is of ones, and `office` and `lab` of bolt's.
