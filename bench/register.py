@@ -47,18 +47,21 @@ def status(number):
 
 
 class Network:
-    """The network of this number, from 1 on, of so many, and requests of its tenant, who has no other."""
+    """The network of this number, from 1 on, of so many, and requests of its tenant, who has no other.
 
-    def __init__(self, number, networks=1):
-        self.number = number
+    Its peers have every address from the first one on that may be given, or every second one and so on.
+    """
+
+    def __init__(self, number, networks=1, every=1):
+        self.number, self.every = number, every
         self.length = POOLS.prefixlen + (networks - 1).bit_length()
         self.low = int(POOLS[0]) + (number - 1 << 32 - self.length)
         self.tenant = f"tenant-{number}"
         self.token = f"token-{number}"
 
     def address(self, number):
-        """The address of the peer of this number; they lie one behind the other."""
-        return self.low + number + 1
+        """The address of the peer of this number; they rise."""
+        return self.low + 2 + self.every * (number - 1)
 
     def key(self, number):
         return digest(f"peer {self.number} {number}")
@@ -107,6 +110,13 @@ class Network:
         asked = self.address(number) if number % 2 else route_start(number, peers) + 7
         return self.ask("GET", f"owner/{ip_address(asked)}")
 
+    def unowned(self):
+        """Who owns an address that no prefix has, of the family with the more lengths."""
+        return self.ask("GET", "owner/fd00::7")
+
+    def peer_file(self, number):
+        return self.ask("GET", f"peers/{number}/file/wg")
+
     def add(self, number):
         return self.ask("POST", "peers", f'{{"key":"{key_text(self.key(number))}"}}')
 
@@ -141,7 +151,7 @@ def insert(database, table, rows):
     database.executemany(statement, rows)
 
 
-def make(path, networks, peers):
+def make(path, networks, peers, every=1):
     """Makes a register of so many networks, each of a tenant of its own and with so many peers.
 
     Each peer has a route. The tables are made by the texts with which `wgr` makes them.
@@ -150,7 +160,7 @@ def make(path, networks, peers):
     database.execute("PRAGMA journal_mode = WAL")
     for text in re.findall(r'"((?:CREATE|INSERT) [^"]*)"', MAKING.read_text(encoding="utf-8")):
         database.execute(text)
-    all_networks = [Network(number, networks) for number in range(1, networks + 1)]
+    all_networks = [Network(number, networks, every) for number in range(1, networks + 1)]
     numbers = range(1, peers + 1)
     insert(database, "tenant", ([it.number, it.tenant] for it in all_networks))
     insert(database, "token", ([digest(it.token), it.number] for it in all_networks))

@@ -1,7 +1,8 @@
 //! A network of the register: loaded from its rows, asked, and its changes committed.
 //!
 //! The statements are those of `wgr`, but for its columns of NULL. What the benchmarks never ask for ends
-//! the program: other refusals than those of `Refusal`, and rows that aren't good.
+//! the program: other refusals than those of `Refusal`, and rows that aren't good. `rows.rs` has what asks
+//! the rows of a network that isn't loaded.
 
 use crate::prefix::{Family, Prefix};
 use crate::sqlite::{Connection, Row, Value};
@@ -122,17 +123,17 @@ fn prefix_at(row: &Row, at: i32) -> Prefix {
     prefix
 }
 
-fn peer_id(network: u32, number: u32) -> Value<'static> {
+pub fn peer_id(network: u32, number: u32) -> Value<'static> {
     Value::Int((i64::from(network) << 20) + i64::from(number))
 }
 
-fn number_of(id: i64, network: u32) -> u32 {
+pub fn number_of(id: i64, network: u32) -> u32 {
     assert!(id >> 20 == i64::from(network), "a peer of another network");
     (id & 0xF_FFFF) as u32
 }
 
 /// An allowed prefix of a network, with its peer's number.
-fn allowed_at(row: &Row, network: u32) -> (Prefix, u32) {
+pub fn allowed_at(row: &Row, network: u32) -> (Prefix, u32) {
     let prefix = prefix_at(row, 1);
     assert!(row.array(4) == prefix.last().to_be_bytes(), "another last address");
     (prefix, number_of(row.int(5), network))
@@ -143,7 +144,8 @@ fn status_at(row: &Row, at: i32) -> Option<Status> {
     (!row.is_null(at)).then_some(Status { handshake, received, sent })
 }
 
-fn peer_at(row: &Row, network: u32) -> Peer {
+/// A peer as its own row has it, without its address.
+pub fn peer_at(row: &Row, network: u32) -> Peer {
     Peer {
         number: number_of(row.int(0), network),
         key: row.array(2),
@@ -220,6 +222,12 @@ pub fn networks_of(db: &mut Connection, tenant: u32) -> Vec<Network> {
     networks
 }
 
+/// The network of this id, without peers and routes.
+pub fn settled(db: &mut Connection, id: u32) -> Network {
+    let values = [Value::Int(i64::from(id))];
+    db.rows(networks!(" WHERE id = ?1"), &values, settled_at).pop().expect("a network of this id")
+}
+
 /// All networks, without peers and routes.
 pub fn all_networks(db: &mut Connection) -> Vec<Network> {
     db.rows(networks!(""), &[], settled_at)
@@ -238,10 +246,9 @@ impl Peer {
 
 impl Network {
     pub fn load(db: &mut Connection, id: u32) -> Network {
-        let values = [Value::Int(i64::from(id))];
-        let settled = db.rows(networks!(" WHERE id = ?1"), &values, settled_at).pop();
+        let settled = settled(db, id);
         let (peers, routes) = (load_peers(db, id), load_routes(db, id));
-        Network { peers, routes, ..settled.expect("a network of this id") }
+        Network { peers, routes, ..settled }
     }
 
     /// The server's address, at full length.
@@ -249,7 +256,7 @@ impl Network {
         Prefix::full(self.pool.family, self.pool.number + 1)
     }
 
-    /// The last address that the pool may give; the first is the one behind the server's.
+    /// The last address that the pool may give.
     fn last_address(&self) -> u128 {
         match self.pool.family {
             Family::V4 => self.pool.last() - 1,
@@ -260,7 +267,17 @@ impl Network {
     pub fn gives(&self, prefix: &Prefix) -> bool {
         prefix.family == self.pool.family
             && prefix.length == prefix.family.width()
-            && (self.pool.number + 2..=self.last_address()).contains(&prefix.number)
+            && (self.first_address()..=self.last_address()).contains(&prefix.number)
+    }
+
+    /// The address at full length, if the pool may give it.
+    pub fn place(&self, number: u128) -> Option<Prefix> {
+        (number <= self.last_address()).then(|| Prefix::full(self.pool.family, number))
+    }
+
+    /// The first address that the pool may give.
+    pub fn first_address(&self) -> u128 {
+        self.pool.number + 2
     }
 
     /// The lowest address that neither a peer but the mover nor a route in the pool has.
@@ -270,14 +287,14 @@ impl Network {
         let inner = self.routes.iter().filter(|route| self.pool.covers(&route.0));
         let mut held: Vec<_> = own.chain(inner.map(|route| (route.0.number, route.0.last()))).collect();
         held.sort_unstable();
-        let mut free = self.pool.number + 2;
+        let mut free = self.first_address();
         for (first, last) in held {
             if first > free {
                 break;
             }
             free = free.max(last + 1);
         }
-        (free <= self.last_address()).then(|| Prefix::full(self.pool.family, free))
+        self.place(free)
     }
 
     pub fn peer(&self, number: u32) -> Result<&Peer, Refusal> {
@@ -295,16 +312,21 @@ impl Network {
         }
     }
 
-    pub fn add(&self, wanted: Wanted) -> Result<Change, Refusal> {
+    /// A new peer at this address, where these go.
+    pub fn with(&self, wanted: Wanted, address: Prefix, removed: Vec<u32>) -> Change {
         let Wanted { key, label, until, keepalive } = wanted;
-        assert!(key != self.server, "a refusal");
-        if let Some(holder) = self.peers.iter().find(|peer| peer.key == key) {
+        let peer = Peer { number: self.next, key, label, address, until, keepalive, status: None };
+        Change { removed, peers: vec![peer], next: self.next + 1, ..self.no_change() }
+    }
+
+    pub fn add(&self, wanted: Wanted) -> Result<Change, Refusal> {
+        assert!(wanted.key != self.server, "a refusal");
+        if let Some(holder) = self.peers.iter().find(|peer| peer.key == wanted.key) {
             return Err(Refusal::KeyHeld(holder.number));
         }
         assert!(self.peers.len() < self.capacity, "a refusal");
         let address = self.lowest_free(None).expect("a refusal");
-        let peer = Peer { number: self.next, key, label, address, until, keepalive, status: None };
-        Ok(Change { peers: vec![peer], next: self.next + 1, ..self.no_change() })
+        Ok(self.with(wanted, address, Vec::new()))
     }
 
     /// The peer gets the lowest free address.
@@ -438,24 +460,26 @@ impl Network {
         }
         self.next = change.next;
     }
+}
 
-    /// Writes the change in one commit.
-    pub fn commit(&self, db: &mut Connection, change: &Change) {
+impl Change {
+    /// Writes the change of the network of this id in one commit.
+    pub fn commit(&self, db: &mut Connection, id: u32) {
         db.commit(|db| {
-            for number in &change.removed {
-                drop_peer_row(db, self.id, *number);
-                drop_allowed(db, self.id, *number);
+            for number in &self.removed {
+                drop_peer_row(db, id, *number);
+                drop_allowed(db, id, *number);
             }
-            for prefix in &change.routes_gone {
-                drop_route(db, self.id, prefix);
+            for prefix in &self.routes_gone {
+                drop_route(db, id, prefix);
             }
             // The rows of all go first, since two of them may have changed their addresses.
-            drop_peers(db, self.id, &change.peers);
-            for peer in &change.peers {
-                put_peer(db, self.id, peer);
+            drop_peers(db, id, &self.peers);
+            for peer in &self.peers {
+                put_peer(db, id, peer);
             }
-            put_routes(db, self.id, &change.routes);
-            let next = [Value::Int(i64::from(self.id)), Value::Int(i64::from(change.next))];
+            put_routes(db, id, &self.routes);
+            let next = [Value::Int(i64::from(id)), Value::Int(i64::from(self.next))];
             db.run("UPDATE network SET next = ?2 WHERE id = ?1", &next);
         });
     }

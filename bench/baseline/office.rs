@@ -6,6 +6,7 @@ use crate::key::key_of;
 use crate::network::{network_id, networks_of, tenant_of_token, Change, Network, Refusal, Seen, Status, Wanted};
 use crate::pages;
 use crate::prefix::Prefix;
+use crate::rows;
 use crate::sha256;
 use crate::sqlite::Connection;
 
@@ -34,11 +35,13 @@ struct ServerFile {
     text: Vec<u8>,
 }
 
-/// A register, and the networks and servers' files that were last asked of, the latest at the end.
+/// A register, and the networks and servers' files that were last asked of, the latest at the end. Of networks
+/// that weren't loaded, the ids of those whose rows were asked last, once each.
 pub struct Office {
     db: Connection,
     loaded: Vec<Network>,
     files: Vec<ServerFile>,
+    asked_once: Vec<u32>,
 }
 
 /// The reply of a command, and what it changes.
@@ -253,6 +256,16 @@ fn act(network: &Network, now: i64, request: &Request, rest: &[&str]) -> Outcome
     }
 }
 
+/// What a new peer or the owner of an address is answered by the rows of the network of this id.
+fn act_on_rows(db: &mut Connection, id: u32, now: i64, request: &Request, rest: &[&str]) -> Outcome {
+    if let ["owner", address] = rest {
+        let number = rows::owner(db, id, now, &prefix_of(address))?;
+        return Ok((json(pages::owner(number)), None));
+    }
+    let change = rows::add(db, id, now, wanted(request.body, now))?;
+    done(json(pages::peer(&change.peers[0], &[])), change)
+}
+
 /// Puts it at the end, in place of the one that was not asked of for longest where there are too many.
 fn keep<T>(recent: &mut Vec<T>, latest: T) {
     if recent.len() == MOST_RECENT {
@@ -276,7 +289,7 @@ impl ServerFile {
 
 impl Office {
     pub fn new(db: Connection) -> Office {
-        Office { db, loaded: Vec::new(), files: Vec::new() }
+        Office { db, loaded: Vec::new(), files: Vec::new(), asked_once: Vec::new() }
     }
 
     /// The network of this id: the one in memory, or else what its rows form.
@@ -301,24 +314,50 @@ impl Office {
         text
     }
 
+    /// Whether the rows of the network of this id are asked, in place of a load: where it isn't in memory, and
+    /// was not asked so before. One that comes again is worth a load.
+    fn asks_rows(&mut self, id: u32, request: &Request, rest: &[&str]) -> bool {
+        let is_directed = matches!((request.method, rest), ("POST", ["peers"]) | ("GET", ["owner", _]));
+        if !is_directed || self.loaded.iter().any(|network| network.id == id) {
+            return false;
+        }
+        let before = self.asked_once.iter().position(|asked| *asked == id);
+        match before {
+            Some(place) => drop(self.asked_once.remove(place)),
+            None => keep(&mut self.asked_once, id),
+        }
+        before.is_none()
+    }
+
+    /// The reply of what was decided on the network of this id; what it changes is committed.
+    fn settle(&mut self, id: u32, decided: Outcome) -> (Reply, Option<Change>) {
+        match decided {
+            Ok((reply, Some(change))) => {
+                self.files.retain(|file| file.id != id);
+                change.commit(&mut self.db, id);
+                (reply, Some(change))
+            }
+            Ok(read) => read,
+            Err(why) => (refused(why), None),
+        }
+    }
+
     /// What the command answers on the network of this id; what it changes is committed.
     fn ask(&mut self, id: u32, now: i64, request: &Request, rest: &[&str]) -> Reply {
         if let ("GET", ["server", form]) = (request.method, rest) {
             return file(self.server_file(id, *form == "quick", now));
         }
+        if self.asks_rows(id, request, rest) {
+            let decided = act_on_rows(&mut self.db, id, now, request, rest);
+            return self.settle(id, decided).0;
+        }
         let mut network = self.take(id);
         assert!(network.peers.iter().all(|peer| peer.is_live(now)), "a lease that is over");
-        let reply = match act(&network, now, request, rest) {
-            Ok((reply, change)) => {
-                if let Some(change) = change {
-                    self.files.retain(|file| file.id != id);
-                    network.commit(&mut self.db, &change);
-                    network.apply(change);
-                }
-                reply
-            }
-            Err(why) => refused(why),
-        };
+        let decided = act(&network, now, request, rest);
+        let (reply, change) = self.settle(id, decided);
+        if let Some(change) = change {
+            network.apply(change);
+        }
         keep(&mut self.loaded, network);
         reply
     }

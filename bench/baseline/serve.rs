@@ -8,6 +8,7 @@ mod network;
 mod office;
 mod pages;
 mod prefix;
+mod rows;
 mod sha256;
 mod sqlite;
 

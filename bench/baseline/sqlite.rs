@@ -153,20 +153,29 @@ impl Connection {
         self.expect(code, OK);
     }
 
-    /// Runs a statement with these values, and makes something of each row.
-    pub fn rows<T>(&mut self, sql: &'static str, values: &[Value<'_>], of: impl Fn(&Row) -> T) -> Vec<T> {
+    /// Runs a statement with these values, and shows each row until one is the last that is wanted.
+    pub fn walk(&mut self, sql: &'static str, values: &[Value<'_>], mut goes_on: impl FnMut(&Row) -> bool) {
         let statement = self.statement(sql);
         for (at, value) in (1..).zip(values) {
             self.bind(statement, at, value);
         }
-        let mut made = Vec::new();
         let mut code = unsafe { sqlite3_step(statement) };
-        while code == ROW {
-            made.push(of(&Row(statement)));
+        while code == ROW && goes_on(&Row(statement)) {
             code = unsafe { sqlite3_step(statement) };
         }
-        self.expect(code, DONE);
+        if code != ROW {
+            self.expect(code, DONE);
+        }
         self.expect(unsafe { sqlite3_reset(statement) }, OK);
+    }
+
+    /// Runs a statement with these values, and makes something of each row.
+    pub fn rows<T>(&mut self, sql: &'static str, values: &[Value<'_>], of: impl Fn(&Row) -> T) -> Vec<T> {
+        let mut made = Vec::new();
+        self.walk(sql, values, |row| {
+            made.push(of(row));
+            true
+        });
         made
     }
 

@@ -11,7 +11,7 @@ sys.path.insert(0, str(Path(__file__).resolve().parent.parent))
 import register  # noqa: E402
 
 SIZES = (1024, 4096)
-CASES = ("not in memory", "in memory", "after an order")
+CASES = ("not in memory", "asked again", "in memory", "after an order")
 OFFICE = register.Network(1)
 
 
