@@ -1,16 +1,20 @@
 -- The network with a change, by its parts.
-use Rattle.std.proofs.Common.{◌≡◌, ℕ, ◌≤◌, ◌-◌, Bool, not, nat_eq, List, [], ◌∷◌, ◌++◌, length, get_or, take, Option, Some, None, sym, ap, subst, ◌∙◌, arith}
-use Rattle.std.specs.List.{filter, list_any}
+use Rattle.std.proofs.Common.{◌≡◌, ℕ, ◌≤◌, ◌-◌, Bool, not, nat_eq, nat_lt, List, [], ◌∷◌, ◌++◌, length, get_or, take, Option, Some, None, sym, ap, subst, ◌∙◌, arith}
+use Rattle.std.specs.List.{All, filter, list_any}
+use Rattle.std.proofs.lemmas.List.Elements.{All-filter, All-head, All-tail, All-weaker}
 use Rattle.std.specs.Option.{option_to_list}
 use Rattle.wgr_text.specs.Prefix.{PrefixValue}
 use Rattle.wgr_peers.specs.declared.peer.Peer.{Peer}
 use Rattle.wgr_core.specs.declared.change.Change.{Change}
 use Rattle.wgr_peers.specs.Peers.{key_holder, put_peer}
+use Rattle.wgr_peers.specs.PeerIndex.{EndsFrom}
 use Rattle.wgr_peers.specs.PeersLeft.{OnlyRenews, peers_after}
 use Rattle.wgr_peers.specs.Routes.{Routes}
 use Rattle.wgr_core.specs.Network.{NetworkValue, is_among, without_peers}
 use Rattle.wgr_core.specs.Change.{put_peers, assign_routes, without_routes, changed, applied, NoneIsNew, NothingGrows, OnlyPuts}
 use Rattle.wgr_pool.proofs.Lists.{filter_agree_on}
+use Rattle.wgr_peers.proofs.OrderedLemmas.{put_all}
+use Rattle.wgr_peers.proofs.TableLemmas.{ends_sooner}
 use Rattle.wgr_core.proofs.CommandLemmas.{without_none}
 
 -- what a set of numbers leaves is what the list of them leaves
@@ -109,3 +113,16 @@ routes_shrunk c n gone prefixes same grows among =
     ap (without_routes (filter (λ (r : PrefixValue × ℕ). not (is_among gone r.1)) n.routes)) same
     ∙ ap (λ (rs : Routes). without_routes rs c.routes_gone) (kept_routes c.removed (λ m. list_any (nat_eq m) gone) n.routes among)
     ∙ sym (ap (assign_routes (without_routes (without_peers n c.removed).routes c.routes_gone)) grows.routes)
+
+-- ---- when the leases of a changed network end
+
+put_peers_all : (P : Peer → Type 0) (peers more : List Peer) → All P peers → All P more → All P (put_peers peers more)
+put_peers_all P peers [] all others = all
+put_peers_all P peers (p ∷ more) all others =
+    put_peers_all P (put_peer peers p) more (put_all P (λ q. nat_lt q.number p.number) (λ q. nat_eq q.number p.number) peers p all (All-head P p more others)) (All-tail P p more others)
+
+pub ends_applied : (c : Change) (n : NetworkValue) (before own end : ℕ) → end ≤ before → end ≤ own → All (EndsFrom own) c.peers → All (EndsFrom before) n.peers → All (EndsFrom end) (applied c n).peers
+ends_applied c n before own end low low' puts all =
+    put_peers_all (EndsFrom end) (filter (λ p. not (is_among c.removed p.number)) n.peers) c.peers
+    (All-filter (λ p. not (is_among c.removed p.number)) (EndsFrom end) n.peers (All-weaker (EndsFrom before) (EndsFrom end) (λ p h. ends_sooner before end p low h) n.peers all))
+    (All-weaker (EndsFrom own) (EndsFrom end) (λ p h. ends_sooner own end p low' h) c.peers puts)

@@ -3,7 +3,8 @@ ghost use Rattle.std.specs.Prelude.{◌≡◌, ℕ, ◌≤◌, ◌↔◌, [], �
 ghost use Rattle.std.specs.List.{filter};
 ghost use Rattle.std.specs.HashSet.{contains};
 ghost use Rattle.wgr_core.specs.Change.{Fits, NothingGrows, OnlyPuts, applied, without_routes};
-ghost use Rattle.wgr_core.specs.Network.{is_among, without_peers};
+ghost use Rattle.wgr_core.specs.Network.{NetworkValue, is_among, without_peers};
+ghost use Rattle.wgr_peers.specs.PeerIndex.{EndsFrom};
 ghost use Rattle.wgr_peers.specs.Peers.{key_holder};
 ghost use Rattle.wgr_peers.specs.Routes.{AreOrdered, HasAddr};
 
@@ -11,7 +12,7 @@ use crate::network::Network;
 use std::alloc::{AllocError, Global};
 use std::collections::HashSet;
 use wgr_peers::order::{drop_route, put_peer, put_route};
-use wgr_peers::{Items, NumberSet, Peer, PeerTable, RouteSlots};
+use wgr_peers::{Items, NumberSet, Peer, PeerTable, RouteSlots, soonest_end};
 use wgr_text::Prefix;
 
 /// What an accepted command changes of a network, in the order in which it is made.
@@ -39,6 +40,13 @@ impl Change {
         let peers = self.changed_peers(alloc, network, &removed)?;
         let routes = self.changed_routes(alloc, network, &removed)?;
         network.with(self.next, PeerTable::collect(alloc, peers)?, routes)
+    }
+
+    /// A moment before which no lease of a changed network ends, if `before` is one of the network before it.
+    pub fn soonest_end(&self, before: u64) -> u64
+        ensures { (n : NetworkValue) → All (EndsFrom before) n.peers → All (EndsFrom result) (applied self.now n).peers }
+    {
+        before.min(soonest_end(self.peers.as_slice()))
     }
 
     // The network's peers without the removed ones, and with the added ones.

@@ -1,8 +1,9 @@
 //! A network: its parts, its rules, and its live part.
-ghost use Rattle.std.specs.Prelude.{◌≡◌, [], ◌∷◌, ◌↔◌, IsSome, IfSome, IfOk, IsOk, OnOk, OnErr, Some, not, is_some};
+ghost use Rattle.std.specs.Prelude.{◌≡◌, [], ◌∷◌, ◌↔◌, IsSome, IfSome, IfOk, IsOk, OnOk, OnErr, Some, not, is_some, All};
 ghost use Rattle.std.specs.List.{filter};
 ghost use Rattle.std.specs.Option.{option_copied};
 ghost use Rattle.wgr_peers.specs.Peers.{key_holder, peer_of, put_peer};
+ghost use Rattle.wgr_peers.specs.PeerIndex.{EndsFrom};
 ghost use Rattle.wgr_peers.specs.PeersLeft.{OnlyRenews, peers_after};
 ghost use Rattle.wgr_core.specs.Network.{NetworkValue, IsNetwork, is_among, live_at, without_peers};
 ghost use Rattle.wgr_core.specs.Change.{without_routes};
@@ -173,6 +174,13 @@ impl Network {
         ensures { option_copied result ≡ peer_of self.now.peers number }
     {
         self.peers.peer(number)
+    }
+
+    /// A moment before which no lease of the network's peers ends, in seconds since 1970-01-01 (UTC).
+    pub fn soonest_end(&self) -> u64
+        ensures { All (EndsFrom result) self.now.peers }
+    {
+        self.peers.soonest_end()
     }
 
     /// The routes in the order of their prefixes, each with its peer's number.

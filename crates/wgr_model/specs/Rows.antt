@@ -126,6 +126,10 @@ routes_of t id = in_order prefix_cmp (map (λ a. (prefix_key a.prefix, route_val
 abbrev pub holding_of : Tables → NetworkRow → Holding
 holding_of t n = record { id = n.id; tenant = n.tenant; name = n.name; network = record { pool = n.pool; host = n.host; port = n.port; server = n.server; capacity = n.capacity; next = n.next; peers = peers_of t n.id; routes = routes_of t n.id } }
 
+-- it is the network that the rows of this id form
+abbrev pub IsFormed : Tables → ℕ → NetworkValue → Type 0
+IsFormed t id n = (w : NetworkRow) × Has t.networks w × (w.id ≡ id) × (n ≡ (holding_of t w).network)
+
 abbrev pub register_of : Tables → Register
 register_of t = record { tenants = t.tenants; tokens = t.tokens; networks = map (holding_of t) t.networks }
 

@@ -20,7 +20,7 @@ use Rattle.wgr_model.proofs.CollectLemmas.{from_map, has_map}
 use Rattle.wgr_model.proofs.GatherLemmas.{eqb_self}
 use Rattle.wgr_model.proofs.SameLemmas.{has_permutation}
 use Rattle.wgr_sql.proofs.Answers.{map-both}
-use Rattle.wgr_columns.specs.Decode.{AreTrees, allowed_in, family_of, network_in, number_at, peer_in, tables_of, tenant_in}
+use Rattle.wgr_columns.specs.Decode.{AreTrees, allowed_in, network_in, number_at, peer_in, tables_of, tenant_in}
 use Rattle.wgr_tables.proofs.RouteRests.{allowed_self}
 use Rattle.wgr_tables.proofs.UniqueLemmas.{from_model, to_model}
 use Rattle.wgr_columns.specs.LaidOut.{IsLaidOut}

@@ -7,7 +7,7 @@
 //! 5. of peers,
 //! 6. and of allowed prefixes (`wgr_checks`, called in `read.rt`),
 //! 7. and each network as a whole, with its peers and routes (`wgr_tables`, called in `stored.rt`).
-ghost use Rattle.std.specs.Prelude.{◌≡◌, [], false, Err, IsTrue, IfErr, IfOk, OnOk};
+ghost use Rattle.std.specs.Prelude.{◌≡◌, [], false, Err, IsTrue, IsSome, IfErr, IfOk, IfSome};
 ghost use Rattle.sqlite.specs.State.{HasCleanDisk, Survives};
 ghost use Rattle.sqlite.specs.Held.{state};
 ghost use Rattle.wgr_sql.specs.Calls.{IsKept};
@@ -15,24 +15,27 @@ ghost use Rattle.wgr_sql.specs.Causes.{HasCause};
 ghost use Rattle.wgr_schema.specs.Faults.{IfStatementFails};
 ghost use Rattle.wgr_schema.specs.FirstVersion.{IsFirstVersion};
 ghost use Rattle.wgr_schema.specs.declared.fault.RegisterFault.TheVariants.{NotARegister, NotEmpty, NotGood};
+ghost use Rattle.wgr_columns.specs.Decode.{tables_of};
 ghost use Rattle.wgr_tables.specs.Standing.{Stands};
 ghost use Rattle.wgr_opening.specs.Good.{IsGood};
+ghost use Rattle.wgr_opening.specs.Leases.{AreEnds, end_in};
 
+use crate::leases::Leases;
 use crate::read::read_tables;
-use crate::stored::networks_are_stored;
+use crate::stored::stored_leases;
 use sqlite::{Alter, Connection};
 use std::alloc::Global;
 use wgr_schema::{RegisterFault, check_layout, register_fault};
 use wgr_sql::Fault;
 
-// Whether the rows of a database that has the register's tables are good.
-fn rows_are_good<S: Alter>(alloc: Global, conn: &mut Connection<S>) -> Result<bool, Fault>
+// When the leases end, if the rows of a database that has the register's tables are good.
+fn good_leases<S: Alter>(alloc: Global, conn: &mut Connection<S>) -> Result<Option<Leases>, Fault>
     requires idle { conn.old.in_transaction ≡ false }
     ensures idle { conn.new.in_transaction ≡ false }
     ensures good { HasCleanDisk (state S.Store conn.new) → (IsTrue (state S.Store conn.old).is_open → IsFirstVersion (state S.Store conn.old).now)
-        → IfOk result (λ is. IsTrue is → IsTrue (state S.Store conn.old).is_open × IsGood (state S.Store conn.old).now × Stands S.Store conn.new (state S.Store conn.old).now []) }
+        → IfOk result (λ found. IfSome found (λ leases. IsTrue (state S.Store conn.old).is_open × IsGood (state S.Store conn.old).now × Stands S.Store conn.new (state S.Store conn.old).now [] × AreEnds (end_in leases) (tables_of (state S.Store conn.old).now))) }
     ensures only { HasCleanDisk (state S.Store conn.new) → (IsTrue (state S.Store conn.old).is_open → IsFirstVersion (state S.Store conn.old).now)
-        → IfOk result (λ is. IsTrue (state S.Store conn.old).is_open × (IsGood (state S.Store conn.old).now → IsTrue is)) }
+        → IfOk result (λ found. IsTrue (state S.Store conn.old).is_open × (IsGood (state S.Store conn.old).now → IsSome found)) }
     ensures kept { (HasCleanDisk (state S.Store conn.new) → IsTrue (state S.Store conn.old).is_open → IsFirstVersion (state S.Store conn.old).now) → IsKept (state S.Store conn.old) (state S.Store conn.new) }
     ensures clean { HasCleanDisk (state S.Store conn.new) → HasCleanDisk (state S.Store conn.old) }
     ensures survives { Survives (state S.Store conn.old) (state S.Store conn.new) (λ _. ⊥) }
@@ -41,21 +44,24 @@ fn rows_are_good<S: Alter>(alloc: Global, conn: &mut Connection<S>) -> Result<bo
     let _live = conn.schema();
     let _settled = conn.is_autocommit();
     let Some(networks) = read_tables(alloc, conn)? else {
-        return Ok(false);
+        return Ok(None);
     };
-    networks_are_stored(alloc, conn, networks.as_slice())
+    stored_leases(alloc, conn, networks.as_slice())
 }
 
+/// When the leases of each network end, if the database is a register whose rows are good.
+///
 /// `NotARegister` means that the database lacks the register's tables or has those of another version,
 /// and `NotGood` that it is of the first version, but its rows aren't those of a consistent
 /// register. A fault of the store has a cause. It changes nothing.
 pub fn check_register<S: Alter>(
     alloc: Global,
     conn: &mut Connection<S>,
-) -> Result<(), RegisterFault>
+) -> Result<Leases, RegisterFault>
     requires idle { conn.old.in_transaction ≡ false }
     ensures idle { conn.new.in_transaction ≡ false }
-    ensures right { HasCleanDisk (state S.Store conn.new) → OnOk result (IsGood (state S.Store conn.old).now × Stands S.Store conn.new (state S.Store conn.old).now []) }
+    ensures right { HasCleanDisk (state S.Store conn.new) → IfOk result (λ _. IsGood (state S.Store conn.old).now × Stands S.Store conn.new (state S.Store conn.old).now []) }
+    ensures ends { HasCleanDisk (state S.Store conn.new) → IfOk result (λ leases. AreEnds (end_in leases) (tables_of (state S.Store conn.old).now)) }
     ensures wrong { HasCleanDisk (state S.Store conn.new) → result ≡ Err NotARegister → IsFirstVersion (state S.Store conn.old).now → ⊥ }
     ensures bad { HasCleanDisk (state S.Store conn.new) → result ≡ Err NotGood → IsGood (state S.Store conn.old).now → ⊥ }
     ensures version { HasCleanDisk (state S.Store conn.new) → result ≡ Err NotGood → IsFirstVersion (state S.Store conn.old).now }
@@ -66,9 +72,12 @@ pub fn check_register<S: Alter>(
     ensures cause { IfErr result (IfStatementFails (HasCause (state S.Store conn.old) (state S.Store conn.new))) }
 {
     check_layout(conn)?;
-    match rows_are_good(alloc, conn) {
-        Ok(true) => Ok(()),
-        Ok(false) => Err(RegisterFault::NotGood),
-        Err(fault) => Err(register_fault(fault)),
+    let found = match good_leases(alloc, conn) {
+        Ok(found) => found,
+        Err(fault) => return Err(register_fault(fault)),
+    };
+    match found {
+        Some(leases) => Ok(leases),
+        None => Err(RegisterFault::NotGood),
     }
 }

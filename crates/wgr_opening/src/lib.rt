@@ -4,8 +4,10 @@
 
 mod check;
 mod laws;
+mod leases;
 mod read;
 mod stored;
 
 pub use check::check_register;
 pub use laws::whole_rows_are_consistent;
+pub use leases::Leases;

@@ -22,5 +22,5 @@ pub use name::Name;
 pub use number_set::NumberSet;
 pub use peer::{Peer, Status};
 pub use peer_draft::PeerDraft;
-pub use peer_table::{ExpiredPeers, PeerTable};
+pub use peer_table::{ExpiredPeers, PeerTable, soonest_end};
 pub use route_slots::RouteSlots;

@@ -246,6 +246,14 @@ impl PeerTable {
         Ok(peers)
     }
 
+    /// A moment before which no lease ends, in seconds since 1970-01-01 (UTC); the greatest number where none
+    /// ends. It is the soonest end, except after a removal: then it may be sooner.
+    pub fn soonest_end(&self) -> u64
+        ensures { All (EndsFrom result) self.now }
+    {
+        self.soonest_end
+    }
+
     /// The peers that are expired at this moment; one pass over the peers, and none before the
     /// soonest end of a lease.
     pub fn expired(&self, alloc: Global, now: u64) -> Result<ExpiredPeers, AllocError>
@@ -301,8 +309,8 @@ pub(crate) fn addresses_of(alloc: Global, peers: &[Peer]) -> Result<Vec<Addr>, A
     peers.iter().map(|peer| peer.address).collect(alloc)
 }
 
-// A moment before which no lease ends; the greatest number where none ends.
-fn soonest_end(peers: &[Peer]) -> u64
+/// A moment before which no lease of these peers ends; the greatest number where none ends.
+pub fn soonest_end(peers: &[Peer]) -> u64
     ensures { All (EndsFrom result) peers.now }
 {
     let mut soonest = u64::MAX;

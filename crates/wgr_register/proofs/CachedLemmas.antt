@@ -1,21 +1,21 @@
 -- Servers' files that stay in memory.
-use Rattle.std.proofs.Common.{◌≡◌, ℕ, ◌+◌, ◌*◌, Bool, true, false, not, List, [], ◌∷◌, ◌++◌, Option, Some, None, Ok, cond, filter, nat_eq, is_some, flat_map, refl, sym, ap, ap₂, subst, ◌∙◌, arith, inl, inr, true≢false, eqb-true}
+use Rattle.std.proofs.Common.{◌≡◌, ℕ, true, false, not, List, [], ◌∷◌, ◌++◌, Option, Some, None, Ok, cond, filter, nat_eq, is_some, flat_map, refl, sym, ap, ap₂, subst, ◌∙◌, arith, inl, inr, true≢false, eqb-true}
 use Rattle.std.specs.List.{IsDistinct}
 use Rattle.std.specs.Map.{keys_of, lookup, remove_entry}
 use Rattle.std.proofs.lemmas.List.Elements.{filter-append}
 use Rattle.lru.specs.LruCache.{LruCache, put_entries}
 use Rattle.wgr_conf.specs.Files.{peer_section, server_config, server_interface}
-use Rattle.wgr_core.specs.Network.{NetworkValue, live_at}
+use Rattle.wgr_core.specs.Network.{NetworkValue}
 use Rattle.wgr_core.specs.declared.form.Form.{Form}
 use Rattle.wgr_core.specs.declared.form.Form.TheVariants.{Quick, Wg}
-use Rattle.wgr_model.specs.Rows.{Tables, holding_of}
+use Rattle.wgr_model.specs.Rows.{IsFormed, Tables, holding_of}
 use Rattle.wgr_model.proofs.GatherLemmas.{eqb_self}
 use Rattle.wgr_peers.specs.declared.peer.Peer.{Peer}
 use Rattle.wgr_peers.specs.Limits.{is_expired}
 use Rattle.wgr_peers.specs.Peers.{is_live, peer_of}
 use Rattle.wgr_peers.specs.Routes.{routes_to}
 use Rattle.wgr_register.specs.Cached.{AreCurrent, AreOthersCurrent, Cached, IsCurrent, file_key}
-use Rattle.wgr_register.specs.Loaded.{IsFormed, Shows}
+use Rattle.wgr_register.specs.Loaded.{Shows}
 use Rattle.wgr_register.specs.declared.kept_file.KeptFile.{KeptFile}
 use Rattle.sqlite.specs.Effect.{Database}
 use Rattle.sqlite.specs.Held.{Held}

@@ -1,12 +1,10 @@
 -- Causes of the faults of asks.
-use Rattle.std.proofs.Common.{◌≡◌, ◌<◌, ◌||◌, ℕ, zero, suc, length, slice_index_or, Bool, true, false, not, List, [], ◌∷◌, map, nat_eq, Option, Some, None, Ok, Err, Result, IfErr, IsErrAnd, is_some, inl, inr, refl, sym, ap, subst, ◌∙◌, arith, true≢false, eqb-true}
+use Rattle.std.proofs.Common.{◌≡◌, ◌<◌, ◌||◌, ℕ, Bool, true, false, not, List, [], ◌∷◌, map, nat_eq, Option, Some, None, Ok, Err, Result, IfErr, IsErrAnd, is_some, inl, inr, refl, sym, ap, subst, ◌∙◌, arith, true≢false, eqb-true}
 use Rattle.std.specs.List.{AllByRecursion, IsDistinct}
 use Rattle.std.specs.declared.vec.Vec.{Vec}
 use Rattle.std.specs.declared.alloc.Global.{Global}
-use Rattle.std.proofs.lemmas.List.Sorted.{IsPermutation-sym}
 use Rattle.sqlite.specs.Order.{Row}
 use Rattle.sqlite.specs.State.{State, HasCleanDisk, Survives}
-use Rattle.sqlite_rules.specs.Lists as rules
 use Rattle.wgr_core.specs.Network.{NetworkValue}
 use Rattle.wgr_core.specs.declared.fault.ActFault.{ActFault}
 use Rattle.wgr_core.specs.declared.fault.ActFault.TheVariants as act_fault
@@ -19,7 +17,7 @@ use Rattle.wgr_model.proofs.CollectLemmas.{has_map}
 use Rattle.wgr_model.proofs.GatherLemmas.{eqb_self}
 use Rattle.wgr_model.proofs.HolderLemmas.{one_or_apart}
 use Rattle.wgr_model.proofs.OrderLemmas.{from_filter}
-use Rattle.wgr_model.proofs.SameLemmas.{at_has, eqb_sym, has_permutation}
+use Rattle.wgr_model.proofs.SameLemmas.{at_has, eqb_sym}
 use Rattle.wgr_sql.specs.Causes.{HasCause, HasCauseOr}
 use Rattle.wgr_sql.proofs.CauseLemmas.{cause_after, cause_weaker}
 use Rattle.wgr_sql.proofs.SurvivesLemmas.{survives_still}

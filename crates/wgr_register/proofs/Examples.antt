@@ -1,5 +1,5 @@
 -- The definitions on small cases, by computation.
-use Rattle.std.proofs.Common.{◌≡◌, ◌≤◌, ℕ, Some, length, refl}
+use Rattle.std.proofs.Common.{◌≡◌, ◌≤◌, Some, length, refl}
 use Rattle.wgr_core.specs.Network.{NetworkValue}
 use Rattle.wgr_core.specs.declared.fault.ActFault.TheVariants as act_fault
 use Rattle.wgr_core.specs.declared.reply.Reply.TheVariants as reply

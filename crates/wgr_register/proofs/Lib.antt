@@ -7,6 +7,7 @@ pub mod ListLemmas
 pub mod CacheLemmas
 pub mod LoadedLemmas
 pub mod CachedLemmas
+pub mod KnownLemmas
 pub mod StayLemmas
 pub mod CauseLemmas
 pub mod OrderCauses

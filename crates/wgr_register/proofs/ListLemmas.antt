@@ -1,23 +1,10 @@
 -- A tenant's networks, as their rows show them.
-use Rattle.std.proofs.Common.{◌≡◌, ℕ, suc, ◌-◌, ◌<◌, ◌≤◌, Bool, true, false, cond, ◌&&◌, List, [], ◌∷◌, length, slice_index_or, drop, drop-cons, codes, find, filter, map, nat_eq, Option, Some, None, pos, option_map, ◌⊎◌, inl, inr, IsPermutation, refl, sym, ap, subst, ◌∙◌, arith, true≢false, Ordering, Less, Equal, Greater}
+use Rattle.std.proofs.Common.{◌≡◌, ℕ, suc, ◌-◌, ◌<◌, ◌≤◌, Bool, true, false, cond, ◌&&◌, List, [], ◌∷◌, length, slice_index_or, drop, drop-cons, find, filter, map, nat_eq, Option, Some, None, option_map, ◌⊎◌, inl, inr, IsPermutation, refl, sym, ap, subst, ◌∙◌, arith, true≢false, Ordering, Less, Equal, Greater}
 use Rattle.std.specs.Cmp.Lexicographic.{slice_cmp, nat_list_cmp_total}
 use Rattle.std.specs.FinMap as map_
 use Rattle.std.specs.FinMap.Entries.{by_order}
 use Rattle.std.specs.Ordering.{nat_cmp}
 use Rattle.std.proofs.lemmas.List.Sorted.{IsPermutation-sym}
-use Rattle.sqlite.specs.declared.types.Value.TheVariants.{Int}
-use Rattle.sqlite.specs.Order.{Row}
-use Rattle.sqlite.specs.Collation.TheVariants.{Binary}
-use Rattle.sqlite.specs.Command.TheVariants.{Select}
-use Rattle.sqlite.specs.Listing.{understood}
-use Rattle.sqlite.specs.Ops.{binary, is_true}
-use Rattle.sqlite.specs.State.{State, Shown}
-use Rattle.sqlite_sql.specs.declared.ops.BinaryOp.TheVariants.{Compare}
-use Rattle.sqlite_sql.specs.declared.ops.CompareOp.TheVariants.{Eq}
-use Rattle.sqlite_tied.specs.Compute.{everything}
-use Rattle.wgr_sql.specs.Effects.{plain_query}
-use Rattle.wgr_sql.proofs.RowLemmas.{equal_nats}
-use Rattle.wgr_sql.proofs.Values.{and_true}
 use Rattle.wgr_core.specs.Network.{NetworkValue}
 use Rattle.wgr_model.specs.Consistent.{same_slot, slot}
 use Rattle.wgr_model.specs.Laws.{Has}
@@ -31,16 +18,7 @@ use Rattle.wgr_model.proofs.CollectLemmas.{from_map, has_map}
 use Rattle.wgr_model.proofs.ListingLemmas.{none_listed}
 use Rattle.wgr_model.proofs.SameLemmas.{find_has, has_find, has_permutation, network_found, slot_tells}
 use Rattle.wgr_model.proofs.ViewLemmas.{get_view, same_networks}
-use Rattle.wgr_columns.specs.Decode.{IsRegister, network_in, number_at, tables_of}
-use Rattle.wgr_sql.specs.Causes.{IsAnswered}
-use Rattle.wgr_columns.specs.Layout.{Others, schema_with}
-use Rattle.wgr_columns.specs.Stored.{AreStored, stored_network}
-use Rattle.wgr_columns.proofs.Statements.{never_refused}
-use Rattle.wgr_tables.proofs.StoredLemmas.{network_is, stored_rows}
 use Rattle.wgr_entries.specs.Lookups.{settings_of, settled}
-use Rattle.wgr_tables.proofs.ListedLemmas.{listed}
-use Rattle.wgr_tables.proofs.Meanings.{network_places, of_network}
-use Rattle.wgr_columns.proofs.Statements.{Asks}
 use Rattle.wgr_register.specs.Given.{as_added, settings_in}
 use Rattle.wgr_register.specs.Listing.{by_name, seen_by}
 

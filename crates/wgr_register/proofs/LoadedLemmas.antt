@@ -1,12 +1,9 @@
 -- The networks that a register keeps in memory, after what a call does to them and to the rows.
-use Rattle.std.proofs.Common.{◌≡◌, ℕ, zero, suc, ◌-◌, Bool, true, false, cond, List, [], ◌∷◌, take, Option, Some, None, Result, Ok, Err, IsErrAnd, IsTrue, IsPermutation, map, nat_eq, eqb-true, refl, sym, ap, subst, ◌∙◌, true≢false, inl, inr}
-use Rattle.std.specs.Cmp.{nat_eq_equiv}
-use Rattle.std.specs.Map.{AreApart, lookup, lookup_entry, remove_entry}
-use Rattle.std.specs.Option.{option_map_or}
+use Rattle.std.proofs.Common.{◌≡◌, ℕ, false, List, [], Option, Some, None, Result, Ok, Err, IsErrAnd, IsTrue, IsPermutation, map, nat_eq, sym, ap, subst, ◌∙◌, true≢false, inl, inr}
+use Rattle.std.specs.Map.{remove_entry}
 use Rattle.std.specs.declared.vec.Vec.{Vec}
 use Rattle.std.specs.declared.alloc.Global.{Global}
 use Rattle.lru.specs.LruCache.{LruCache, put_entries}
-use Rattle.lru.proofs.CallerLemmas.{Contains-lookup_entry, lookup-put_entries}
 use Rattle.sqlite.specs.Effect.{Database}
 use Rattle.sqlite.specs.State.{HasCleanDisk}
 use Rattle.sqlite.specs.Store.{Ghosts}
@@ -21,7 +18,7 @@ use Rattle.wgr_model.specs.Consistent.{same_slot, slot}
 use Rattle.wgr_model.specs.Laws.{Has}
 use Rattle.wgr_model.specs.Register.{Bytes, Holding}
 use Rattle.wgr_model.specs.RowLaws.{AreConsistent}
-use Rattle.wgr_model.specs.Rows.{NetworkRow, Replaces, Tables, holding_of, register_of}
+use Rattle.wgr_model.specs.Rows.{IsFormed, NetworkRow, Replaces, Tables, holding_of, register_of}
 use Rattle.wgr_model.specs.Steps.{Ask, IsProperCommand, Outcome, Replied, act, outcome, put_network, tenant_of_token, with_network}
 use Rattle.wgr_model.proofs.AskRowLemmas.{asked_at}
 use Rattle.wgr_model.proofs.CollectLemmas.{from_map, has_map}
@@ -29,14 +26,14 @@ use Rattle.wgr_model.proofs.CommitLemmas.{put_has, put_other}
 use Rattle.wgr_model.proofs.GatherLemmas.{eqb_self}
 use Rattle.wgr_model.proofs.HolderLemmas.{one_or_apart}
 use Rattle.wgr_model.proofs.RowRunLemmas.{row_step}
-use Rattle.wgr_model.proofs.SameLemmas.{eqb_sym, has_permutation, slot_sym}
+use Rattle.wgr_model.proofs.SameLemmas.{has_permutation, slot_sym}
 use Rattle.wgr_sql.specs.declared.fault.Fault.{Fault}
 use Rattle.wgr_columns.specs.Decode.{tables_of}
 use Rattle.wgr_entries.specs.Lookups.{IsSlotOf}
 use Rattle.wgr_tables.specs.Standing.{Stands}
 use Rattle.wgr_tables.specs.Writes.{Written}
 use Rattle.wgr_register.specs.Ends.{CommitsIf, IsFound}
-use Rattle.wgr_register.specs.Loaded.{AreFormed, AreOthersFormed, IsFormed, Loaded, Shows, UnlessFault}
+use Rattle.wgr_register.specs.Loaded.{AreFormed, AreOthersFormed, Loaded, Shows, UnlessFault}
 use Rattle.wgr_register.specs.declared.fault.AskFault.{AskFault}
 use Rattle.wgr_register.specs.declared.fault.AskFault.TheVariants as fault
 use Rattle.wgr_register.proofs.CacheLemmas.{apart, found_put, lookup_rest}

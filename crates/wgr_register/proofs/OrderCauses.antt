@@ -1,14 +1,13 @@
 -- Causes of the faults of orders.
-use Rattle.std.proofs.Common.{◌≡◌, ◌⊎◌, ℕ, Ok, Err, Result, IfErr, IsErrAnd, inl, inr, refl, sym, subst, arith}
+use Rattle.std.proofs.Common.{◌≡◌, ℕ, Ok, Err, Result, IsErrAnd, inl, inr, sym, subst, arith}
 use Rattle.std.specs.Bool.{⊤}
 use Rattle.sqlite.specs.State.{State, HasCleanDisk, Survives}
-use Rattle.sqlite.specs.Tree.{Trees}
 use Rattle.wgr_model.specs.Register.{Bytes, Register}
 use Rattle.wgr_model.specs.Steps.{Settings}
-use Rattle.wgr_sql.specs.Causes.{HasCause, HasCauseOr, IsHindered}
+use Rattle.wgr_sql.specs.Causes.{HasCause, HasCauseOr}
 use Rattle.wgr_sql.specs.declared.fault.Fault.{Fault}
 use Rattle.wgr_sql.specs.declared.fault.Fault.TheVariants.{NoMemory, Store}
-use Rattle.wgr_sql.proofs.CauseLemmas.{cause_after, cause_weaker, hindered_after}
+use Rattle.wgr_sql.proofs.CauseLemmas.{cause_after, hindered_after}
 use Rattle.wgr_register.specs.Causes.{IfOrderFault}
 use Rattle.wgr_register.specs.Ends.{Admits}
 use Rattle.wgr_register.specs.declared.fault.Done.{Done}

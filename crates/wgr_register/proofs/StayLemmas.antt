@@ -1,9 +1,7 @@
 -- Networks that stay in memory across an order.
-use Rattle.std.proofs.Common.{◌≡◌, ℕ, Bool, true, false, not, List, [], ◌∷◌, Option, Some, None, Result, Ok, Err, IsTrue, IsErrAnd, IsPermutation, map, filter, cond, nat_eq, refl, sym, ap, subst, ◌∙◌, inl, inr, true≢false, eqb-true}
-use Rattle.std.specs.Cmp.{nat_eq_equiv}
+use Rattle.std.proofs.Common.{◌≡◌, ℕ, Bool, false, not, List, [], ◌∷◌, Option, Some, None, Result, Ok, Err, IsTrue, IsErrAnd, map, nat_eq, sym, ap, subst, ◌∙◌, inl, inr, true≢false}
 use Rattle.std.specs.List.{IsDistinct}
-use Rattle.std.specs.Map.{keys_of, lookup, remove_entry}
-use Rattle.std.proofs.lemmas.Map.{lookup-remove_entry}
+use Rattle.std.specs.Map.{keys_of, remove_entry}
 use Rattle.sqlite.specs.Effect.{Database}
 use Rattle.sqlite.specs.Held.{Held, state}
 use Rattle.sqlite.specs.State.{HasCleanDisk}
@@ -13,18 +11,17 @@ use Rattle.wgr_model.specs.Consistent.{same_slot, slot}
 use Rattle.wgr_model.specs.Laws.{Has}
 use Rattle.wgr_model.specs.Register.{Bytes, Holding, Register, id_of}
 use Rattle.wgr_model.specs.RowLaws.{AreConsistent, IsRowStep}
-use Rattle.wgr_model.specs.Rows.{NetworkRow, Tables, holding_of, register_of}
+use Rattle.wgr_model.specs.Rows.{IsFormed, NetworkRow, Tables, holding_of, register_of}
 use Rattle.wgr_model.specs.Steps.{AddNetwork, AddTenant, Answer, EndNetwork, EndToken, Event, Grant, IsProper, NoNetwork, NoSuchToken, OrderRefusal, first_refusal, given, grant_checks, granted, has_digest, has_slot, network_added, network_checks, network_ended, new_network, outcome, refuse, tenant_checks, with_new_network, with_tenant, with_token, without_network, without_token}
-use Rattle.wgr_model.proofs.CollectLemmas.{from_map, has_map}
+use Rattle.wgr_model.proofs.CollectLemmas.{has_map}
 use Rattle.wgr_model.proofs.GatherLemmas.{eqb_self, in_filter}
 use Rattle.wgr_model.proofs.HolderLemmas.{one_or_apart}
 use Rattle.wgr_model.proofs.RowRunLemmas.{row_step}
-use Rattle.wgr_model.proofs.SameLemmas.{has_permutation, slot_sym}
+use Rattle.wgr_model.proofs.SameLemmas.{slot_sym}
 use Rattle.wgr_columns.specs.Decode.{tables_of}
 use Rattle.wgr_entries.specs.Lookups.{IsSlotOf}
 use Rattle.wgr_register.specs.Ends.{EndsAt, OrderEnds, is_change}
-use Rattle.wgr_register.specs.Loaded.{AreFormed, AreOthersFormed, IsFormed, Loaded, Shows, UnlessUndone}
-use Rattle.wgr_register.specs.Standing.{StandsAt}
+use Rattle.wgr_register.specs.Loaded.{AreFormed, AreOthersFormed, Loaded, Shows, UnlessUndone}
 use Rattle.wgr_register.specs.declared.fault.Done.{Done}
 use Rattle.wgr_register.specs.declared.fault.OrderFault.{OrderFault}
 use Rattle.wgr_register.specs.declared.fault.OrderFault.TheVariants as order_fault
@@ -32,6 +29,8 @@ use Rattle.wgr_sql.specs.declared.fault.Fault.{Fault}
 use Rattle.wgr_register.specs.Cached.{AreCurrent, Cached}
 use Rattle.wgr_register.proofs.CacheLemmas.{found_rest}
 use Rattle.wgr_register.proofs.CachedLemmas.{current_after}
+use Rattle.wgr_opening.specs.Leases.{AreEnds}
+use Rattle.wgr_register.proofs.KnownLemmas.{ends_after}
 use Rattle.wgr_register.proofs.LoadedLemmas.{formed_in, shown_so}
 use Rattle.wgr_register.proofs.StandLemmas.{either_way}
 
@@ -141,3 +140,6 @@ module _ {S : Type 0} (g : Ghosts S) (conn : Held S) (db : Database) (late : Lis
 
     pub files_shown : (files : Cached) → AreCurrent files (tables_of db) → UnlessUndone r (Shows g conn (AreCurrent files))
     files_shown files current = shown_after (AreCurrent files) event r ends (λ answer u step. current_after files (tables_of db) u (one_stays (tables_of db) u consistent event proper answer step none) current) current
+
+    pub ends_shown : (ends : ℕ → Option ℕ) → AreEnds ends (tables_of db) → UnlessUndone r (Shows g conn (AreEnds ends))
+    ends_shown known are = shown_after (AreEnds known) event r ends (λ answer u step. ends_after known (tables_of db) u (one_stays (tables_of db) u consistent event proper answer step none) are) are

@@ -6,8 +6,7 @@ use Rattle.wgr_conf.specs.Files.{server_config}
 use Rattle.wgr_core.specs.Network.{NetworkValue}
 use Rattle.wgr_core.specs.declared.form.Form.{Form}
 use Rattle.wgr_core.specs.declared.form.Form.TheVariants.{Quick, Wg}
-use Rattle.wgr_model.specs.Rows.{Tables}
-use Rattle.wgr_register.specs.Loaded.{IsFormed}
+use Rattle.wgr_model.specs.Rows.{IsFormed, Tables}
 use Rattle.wgr_register.specs.Moments.{IsWithin}
 use Rattle.wgr_register.specs.declared.kept_file.KeptFile.{KeptFile}
 

@@ -7,5 +7,6 @@ pub mod Census
 pub mod Loaded
 pub mod Moments
 pub mod Cached
+pub mod Known
 pub mod Left
 pub mod Causes

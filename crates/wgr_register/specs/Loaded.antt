@@ -8,8 +8,7 @@ use Rattle.sqlite.specs.State.{HasCleanDisk}
 use Rattle.sqlite.specs.Store.{Ghosts}
 use Rattle.sqlite.specs.Held.{Held, state}
 use Rattle.wgr_core.specs.Network.{NetworkValue}
-use Rattle.wgr_model.specs.Laws.{Has}
-use Rattle.wgr_model.specs.Rows.{NetworkRow, Tables, holding_of}
+use Rattle.wgr_model.specs.Rows.{IsFormed, Tables}
 use Rattle.wgr_columns.specs.Decode.{tables_of}
 use Rattle.wgr_register.specs.declared.fault.AskFault.{AskFault}
 use Rattle.wgr_register.specs.declared.fault.AskFault.TheVariants as fault
@@ -24,10 +23,6 @@ Loaded = List (ℕ × NetworkValue)
 abbrev pub entries_of : Option (LruCache ℕ NetworkValue) → Loaded
 entries_of None = []
 entries_of (Some cache) = cache.entries
-
--- it is the network that the rows of this id form
-abbrev pub IsFormed : Tables → ℕ → NetworkValue → Type 0
-IsFormed t id n = (w : NetworkRow) × Has t.networks w × (w.id ≡ id) × (n ≡ (holding_of t w).network)
 
 -- each network that is found is the one that the rows of its id form
 abbrev pub AreFormed : Loaded → Tables → Type 0

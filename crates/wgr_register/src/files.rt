@@ -8,14 +8,14 @@ ghost use Rattle.std.specs.List.{IsDistinct, filter};
 ghost use Rattle.std.specs.Map.{keys_of, lookup, remove_entry};
 ghost use Rattle.wgr_conf.specs.Files.{server_config};
 ghost use Rattle.wgr_core.specs.Network.{NetworkValue};
-ghost use Rattle.wgr_model.specs.Rows.{Tables};
+ghost use Rattle.wgr_model.specs.Rows.{IsFormed, Tables};
 ghost use Rattle.wgr_peers.specs.Limits.{is_expired};
 ghost use Rattle.wgr_peers.specs.Peers.{is_live};
 ghost use Rattle.wgr_register.specs.Cached.{AreCurrent, AreOthersCurrent, IsCurrent, file_key, files_of};
 ghost use Rattle.wgr_register.specs.Moments.{IsWithin};
 ghost use Rattle.wgr_register.specs.Given.{OfFile};
 ghost use Rattle.wgr_register.specs.Recent.{max_recent};
-ghost use Rattle.wgr_register.specs.Loaded.{IsFormed, UnlessFault, UnlessUndone};
+ghost use Rattle.wgr_register.specs.Loaded.{UnlessFault, UnlessUndone};
 
 use crate::fault::{AskFault, Done, OrderFault};
 use crate::given::{Given, Render};
@@ -169,32 +169,5 @@ pub(crate) fn count(files: &Option<Files>) -> usize
     match files {
         Some(kept) => kept.len(),
         None => 0,
-    }
-}
-
-/// Drops all after a fault.
-pub(crate) fn drop_after_fault(files: &mut Option<Files>, answered: &Result<Vec<u8>, AskFault>)
-    ensures { (t : Tables) → UnlessFault answered.now (AreCurrent (files_of files.old) t) → AreCurrent (files_of files.new) t }
-{
-    if let Err(AskFault::Fault(_)) = answered {
-        *files = None;
-    }
-}
-
-/// Drops all after an order that failed.
-pub(crate) fn drop_after_failure(files: &mut Option<Files>, ended: &Result<Done, OrderFault>)
-    ensures { (t : Tables) → UnlessUndone ended.now (AreCurrent (files_of files.old) t) → AreCurrent (files_of files.new) t }
-{
-    if let Err(OrderFault::Fault(_)) = ended {
-        *files = None;
-    }
-}
-
-/// Drops all after a census that failed.
-pub(crate) fn drop_if_unread(files: &mut Option<Files>, read: &Result<Census, Fault>)
-    ensures { (t : Tables) → OnOk read.now (AreCurrent (files_of files.old) t) → AreCurrent (files_of files.new) t }
-{
-    if read.is_err() {
-        *files = None;
     }
 }

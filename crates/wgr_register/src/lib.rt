@@ -4,10 +4,12 @@
 mod ask;
 mod asked;
 mod census;
+mod dropped;
 mod fault;
 mod files;
 mod given;
 mod kept_file;
+mod leases;
 mod list;
 mod loaded;
 mod order;

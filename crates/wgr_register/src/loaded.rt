@@ -6,9 +6,9 @@ ghost use Rattle.std.specs.Prelude.{◌≡◌, ◌≤◌, None, IfOk, IfSome, On
 ghost use Rattle.std.specs.List.{IsDistinct};
 ghost use Rattle.std.specs.Map.{keys_of, lookup, remove_entry};
 ghost use Rattle.wgr_core.specs.Change.{Fits, applied_if};
-ghost use Rattle.wgr_model.specs.Rows.{Tables};
+ghost use Rattle.wgr_model.specs.Rows.{IsFormed, Tables};
 ghost use Rattle.wgr_register.specs.Recent.{max_recent};
-ghost use Rattle.wgr_register.specs.Loaded.{AreFormed, AreOthersFormed, IsFormed, UnlessFault, UnlessUndone, entries_of};
+ghost use Rattle.wgr_register.specs.Loaded.{AreFormed, AreOthersFormed, UnlessFault, UnlessUndone, entries_of};
 
 use crate::fault::{AskFault, Done, OrderFault};
 use crate::recent::{MAX_RECENT, Recent};
@@ -104,31 +104,4 @@ pub(crate) fn forget(loaded: &mut Option<Networks>, id: u32)
     ensures { (t : Tables) → AreOthersFormed id (entries_of loaded.old) t → AreFormed (entries_of loaded.new) t }
 {
     let _gone = take(loaded, id);
-}
-
-/// Drops all after a fault.
-pub(crate) fn drop_after_fault(loaded: &mut Option<Networks>, answered: &Result<Vec<u8>, AskFault>)
-    ensures { (t : Tables) → UnlessFault answered.now (AreFormed (entries_of loaded.old) t) → AreFormed (entries_of loaded.new) t }
-{
-    if let Err(AskFault::Fault(_)) = answered {
-        *loaded = None;
-    }
-}
-
-/// Drops all after an order that failed.
-pub(crate) fn drop_after_failure(loaded: &mut Option<Networks>, ended: &Result<Done, OrderFault>)
-    ensures { (t : Tables) → UnlessUndone ended.now (AreFormed (entries_of loaded.old) t) → AreFormed (entries_of loaded.new) t }
-{
-    if let Err(OrderFault::Fault(_)) = ended {
-        *loaded = None;
-    }
-}
-
-/// Drops all after a census that failed.
-pub(crate) fn drop_if_unread(loaded: &mut Option<Networks>, read: &Result<Census, Fault>)
-    ensures { (t : Tables) → OnOk read.now (AreFormed (entries_of loaded.old) t) → AreFormed (entries_of loaded.new) t }
-{
-    if read.is_err() {
-        *loaded = None;
-    }
 }

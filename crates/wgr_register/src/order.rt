@@ -11,11 +11,14 @@ ghost use Rattle.wgr_columns.specs.Decode.{tables_of};
 ghost use Rattle.wgr_register.specs.Cached.{AreCurrent, files_of};
 ghost use Rattle.wgr_register.specs.Causes.{IfOrderFault, OrderStops};
 ghost use Rattle.wgr_register.specs.Ends.{Admits, OrderEnds};
+ghost use Rattle.wgr_opening.specs.Leases.{AreEnds};
+ghost use Rattle.wgr_register.specs.Known.{known_end};
 ghost use Rattle.wgr_register.specs.Loaded.{AreFormed, Shows, UnlessUndone, entries_of};
 ghost use Rattle.wgr_register.specs.Standing.{StandsAt};
 
 use crate::fault::{Done, OrderFault};
 use crate::files::{Files, drop_files};
+use crate::leases::forget_end;
 use crate::loaded::{Networks, forget};
 use sqlite::{Alter, Connection};
 use std::alloc::Global;
@@ -25,16 +28,17 @@ use wgr_entries::{
     tenants,
 };
 use wgr_model::MAX_ENTRIES;
+use wgr_opening::Leases;
 use wgr_orders::{Holding, Order, OrderRefusal, Settings, Tenant, admit_network, unused_id};
 use wgr_tables::Fault;
 
-// Does the order, or refuses it. Kept networks and files stay, except those of a network
-// that ends.
+// Does the order, or refuses it. What is in memory stays, except what is of a network that ends.
 pub(crate) fn operate<S: Alter>(
     alloc: Global,
     conn: &mut Connection<S>,
     loaded: &mut Option<Networks>,
     files: &mut Option<Files>,
+    leases: &mut Option<Leases>,
     order: &Order,
 ) -> Result<Done, OrderFault>
     requires idle { conn.old.in_transaction ≡ false }
@@ -44,6 +48,7 @@ pub(crate) fn operate<S: Alter>(
     ensures ends { (db : Database) (late : List Event) → StandsAt S.Store conn.old db late → OrderEnds S.Store conn.new db late (order_event order.now) result }
     ensures formed { (db : Database) (late : List Event) → StandsAt S.Store conn.old db late → AreFormed (entries_of loaded.old) (tables_of db) → UnlessUndone result (Shows S.Store conn.new (AreFormed (entries_of loaded.new))) }
     ensures current { (db : Database) (late : List Event) → StandsAt S.Store conn.old db late → AreCurrent (files_of files.old) (tables_of db) → UnlessUndone result (Shows S.Store conn.new (AreCurrent (files_of files.new))) }
+    ensures leases { (db : Database) (late : List Event) → StandsAt S.Store conn.old db late → AreEnds (known_end leases.old) (tables_of db) → UnlessUndone result (Shows S.Store conn.new (AreEnds (known_end leases.new))) }
     ensures stops { (db : Database) (late : List Event) → StandsAt S.Store conn.old db late → IfOrderFault (HasCauseOr (OrderStops (tables_of db) (order_event order.now)) (state S.Store conn.old) (state S.Store conn.new)) result }
 {
     order.forms_hold();
@@ -56,7 +61,9 @@ pub(crate) fn operate<S: Alter>(
             name,
             settings,
         } => add_network(alloc, conn, tenant, name, settings),
-        Order::EndNetwork { tenant, name } => end_network(conn, loaded, files, tenant, name),
+        Order::EndNetwork { tenant, name } => end_network(
+            conn, loaded, files, leases, tenant, name,
+        ),
     }
 }
 
@@ -81,6 +88,7 @@ fn end_network<S: Alter>(
     conn: &mut Connection<S>,
     loaded: &mut Option<Networks>,
     files: &mut Option<Files>,
+    leases: &mut Option<Leases>,
     tenant: &Name,
     name: &Name,
 ) -> Result<Done, OrderFault>
@@ -91,6 +99,7 @@ fn end_network<S: Alter>(
     ensures ends { (db : Database) (late : List Event) → StandsAt S.Store conn.old db late → OrderEnds S.Store conn.new db late (EndNetwork tenant.now name.now) result }
     ensures formed { (db : Database) (late : List Event) → StandsAt S.Store conn.old db late → AreFormed (entries_of loaded.old) (tables_of db) → UnlessUndone result (Shows S.Store conn.new (AreFormed (entries_of loaded.new))) }
     ensures current { (db : Database) (late : List Event) → StandsAt S.Store conn.old db late → AreCurrent (files_of files.old) (tables_of db) → UnlessUndone result (Shows S.Store conn.new (AreCurrent (files_of files.new))) }
+    ensures leases { (db : Database) (late : List Event) → StandsAt S.Store conn.old db late → AreEnds (known_end leases.old) (tables_of db) → UnlessUndone result (Shows S.Store conn.new (AreEnds (known_end leases.new))) }
     ensures stops { (db : Database) (late : List Event) → StandsAt S.Store conn.old db late → IfOrderFault (HasCauseOr (OrderStops (tables_of db) (EndNetwork tenant.now name.now)) (state S.Store conn.old) (state S.Store conn.new)) result }
 {
     let Some(id) = tenant_id(conn, tenant)? else {
@@ -101,6 +110,7 @@ fn end_network<S: Alter>(
     };
     forget(loaded, network);
     drop_files(files, network);
+    forget_end(leases, network);
     wgr_entries::end_network(conn, network)?;
     Ok(Done)
 }

@@ -23,17 +23,18 @@ ghost use Rattle.wgr_columns.specs.Decode.{tables_of};
 ghost use Rattle.wgr_opening.specs.Good.{IsGood};
 
 use crate::asked::Asked;
+use crate::dropped::{drop_after_failure, drop_after_fault, drop_if_unread};
 use crate::fault::{AskFault, Done, OpenFault, OrderFault};
 use crate::files::{self, Files};
 use crate::given::Render;
-use crate::loaded::{self, Networks, drop_after_failure, drop_after_fault};
+use crate::loaded::{self, Networks};
 use crate::{ask, census, list, order};
 use sqlite::{Alter, Connection};
 use std::alloc::Global;
 use std::marker::Model;
 use wgr_core::Command;
 use wgr_entries::tenant_of_token;
-use wgr_opening::check_register;
+use wgr_opening::{Leases, check_register};
 use wgr_orders::{Census, Order};
 use wgr_schema::make;
 use wgr_tables::Fault;
@@ -41,8 +42,10 @@ use wgr_tables::Fault;
 /// The networks of many tenants, in a database whose rows are consistent at all times.
 ///
 /// The [`NETWORKS_IN_MEMORY`](crate::NETWORKS_IN_MEMORY) most recently used networks stay in
-/// memory as their rows form them, so a request loads a network only where it isn't one of them. The
-/// first Add or Owner on such a network reads only the rows that it needs, and loads nothing. So do the [`FILES_IN_MEMORY`](crate::FILES_IN_MEMORY) most recently used servers' files.
+/// memory as their rows form them, so a request loads a network only where it isn't one of them. So do the
+/// [`FILES_IN_MEMORY`](crate::FILES_IN_MEMORY) most recently used servers' files. The first Add or Owner on a
+/// network that isn't in memory reads only the rows that it needs, and loads nothing; a moment before which
+/// no lease ends stays in memory for every network, so that Add needn't search for expired peers.
 ///
 /// Every contract names the database that the register is in, and the events that a stop at
 /// this moment may leave done: those that were answered by a fault since the last acknowledged change.
@@ -51,11 +54,14 @@ pub struct Register<S: Alter> {
     loaded: Option<Networks>,
     files: Option<Files>,
     asked: Option<Asked>,
+    leases: Option<Leases>,
 }
 
 impl<S: Alter> Model for Register<S> {
     ghost use Rattle.sqlite.specs.Held.{Held, held_code};
     ghost use Rattle.wgr_register.specs.Cached.{AreCurrent, files_of};
+    ghost use Rattle.wgr_opening.specs.Leases.{AreEnds};
+    ghost use Rattle.wgr_register.specs.Known.{known_end};
     ghost use Rattle.wgr_register.specs.Loaded.{AreFormed, Shows, entries_of};
     ghost use Rattle.wgr_register.specs.Standing.{IsAtRest};
 
@@ -65,7 +71,7 @@ impl<S: Alter> Model for Register<S> {
 
     ghost view = { λ r. r.conn };
 
-    ghost invariant = { λ r. IsAtRest S.Store r.conn × Shows S.Store r.conn (AreFormed (entries_of r.loaded)) × Shows S.Store r.conn (AreCurrent (files_of r.files)) };
+    ghost invariant = { λ r. IsAtRest S.Store r.conn × Shows S.Store r.conn (AreFormed (entries_of r.loaded)) × Shows S.Store r.conn (AreCurrent (files_of r.files)) × Shows S.Store r.conn (AreEnds (known_end r.leases)) };
 }
 
 impl<S: Alter> Register<S> {
@@ -93,6 +99,7 @@ impl<S: Alter> Register<S> {
                 loaded: None,
                 files: None,
                 asked: None,
+                leases: None,
             }),
             Err(fault) => Err(OpenFault {
                 fault,
@@ -122,11 +129,12 @@ impl<S: Alter> Register<S> {
         ensures idle { IfErr result (λ e. e.connection.in_transaction ≡ false) }
     {
         match check_register(alloc, &mut conn) {
-            Ok(()) => Ok(Register {
+            Ok(leases) => Ok(Register {
                 conn,
                 loaded: None,
                 files: None,
                 asked: None,
+                leases: Some(leases),
             }),
             Err(fault) => Err(OpenFault {
                 fault,
@@ -177,6 +185,7 @@ impl<S: Alter> Register<S> {
     {
         self.loaded = None;
         self.files = None;
+        self.leases = None;
         let found = tenant_of_token(&mut self.conn, &[0; 32]);
         is_fault_of_store(&found)
     }
@@ -190,6 +199,7 @@ impl<S: Alter> Register<S> {
             loaded: _loaded,
             files: _files,
             asked: _asked,
+            leases: _leases,
         } = self;
         conn
     }
@@ -207,10 +217,10 @@ impl<S: Alter> Register<S> {
             &mut self.conn,
             &mut self.loaded,
             &mut self.files,
+            &mut self.leases,
             order,
         );
-        drop_after_failure(&mut self.loaded, &ended);
-        files::drop_after_failure(&mut self.files, &ended);
+        drop_after_failure(&mut self.loaded, &mut self.files, &mut self.leases, &ended);
         ended
     }
 
@@ -239,6 +249,7 @@ impl<S: Alter> Register<S> {
             &mut self.conn,
             &mut self.loaded,
             &mut self.files,
+            &mut self.leases,
             &mut self.asked,
             digest,
             name,
@@ -246,8 +257,12 @@ impl<S: Alter> Register<S> {
             command,
             render,
         );
-        drop_after_fault(&mut self.loaded, &answered);
-        files::drop_after_fault(&mut self.files, &answered);
+        drop_after_fault(
+            &mut self.loaded,
+            &mut self.files,
+            &mut self.leases,
+            &answered,
+        );
         answered
     }
 
@@ -266,8 +281,12 @@ impl<S: Alter> Register<S> {
         ensures cause { IfFault (HasCause (state S.Store self.old) (state S.Store self.new)) result }
     {
         let answered = list::networks(alloc, &mut self.conn, digest, render);
-        drop_after_fault(&mut self.loaded, &answered);
-        files::drop_after_fault(&mut self.files, &answered);
+        drop_after_fault(
+            &mut self.loaded,
+            &mut self.files,
+            &mut self.leases,
+            &answered,
+        );
         answered
     }
 
@@ -282,8 +301,7 @@ impl<S: Alter> Register<S> {
         ensures cause { IfErr result (HasCause (state S.Store self.old) (state S.Store self.new)) }
     {
         let read = census::census(alloc, &mut self.conn);
-        loaded::drop_if_unread(&mut self.loaded, &read);
-        files::drop_if_unread(&mut self.files, &read);
+        drop_if_unread(&mut self.loaded, &mut self.files, &mut self.leases, &read);
         read
     }
 }

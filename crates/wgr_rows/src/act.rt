@@ -1,10 +1,12 @@
 //! Add and Owner on the rows of one network, which isn't loaded.
 ghost use Rattle.std.specs.Prelude.{◌≡◌, ◌≤◌, ◌+◌, ℕ, List, IfErr, IfOk, IfSome, Some, None, [], ◌∷◌, false, is_some, nat_eq, nat_lt, not, true, length};
 ghost use Rattle.std.specs.HashSet.{contains};
+ghost use Rattle.std.specs.List.{All};
 ghost use Rattle.sqlite.specs.Effect.{Database};
 ghost use Rattle.sqlite.specs.State.{HasCleanDisk, Survives};
 ghost use Rattle.sqlite.specs.Held.{state};
 ghost use Rattle.wgr_peers.specs.Limits.{max_number};
+ghost use Rattle.wgr_peers.specs.PeerIndex.{EndsFrom};
 ghost use Rattle.wgr_peers.specs.Peers.{expired};
 ghost use Rattle.wgr_core.specs.Change.{Fits, Meets};
 ghost use Rattle.wgr_core.specs.Network.{live_at, lowest_free};
@@ -70,11 +72,13 @@ fn has_room<S: Alter>(
 }
 
 // What the network has for a new peer with this key and this end of its lease, or why it may not join.
+// No lease of the network ends before `soonest`.
 fn admit_row<S: Alter>(
     alloc: Global,
     conn: &mut Connection<S>,
     network: u32,
     now: u64,
+    soonest: u64,
     key: &Key,
     until: LeaseEnd,
 ) -> Result<Admission, RowFault>
@@ -82,7 +86,8 @@ fn admit_row<S: Alter>(
     ensures idle { conn.new.in_transaction ≡ false }
     ensures stands { (db : Database) (pending : List Written) → Stands S.Store conn.old db pending → Stands S.Store conn.new db pending }
     ensures clean { HasCleanDisk (state S.Store conn.new) → HasCleanDisk (state S.Store conn.old) }
-    ensures found { OnNetwork S.Store conn.old network (λ n. HasCleanDisk (state S.Store conn.new) → Admits n now key.now until result) }
+    ensures found { OnNetwork S.Store conn.old network (λ n. HasCleanDisk (state S.Store conn.new) → All (EndsFrom soonest) n.peers → Admits n now key.now until result) }
+    ensures head { OnNetwork S.Store conn.old network (λ n. HasCleanDisk (state S.Store conn.new) → IfOk result (λ admission. IsHead admission.head n)) }
     ensures left { IfOk result (λ admission. admission.head.next ≤ max_number) }
     ensures survives { Survives (state S.Store conn.old) (state S.Store conn.new) (λ _. ⊥) }
     ensures cause { OnNetwork S.Store conn.old network (λ n. IfErr result (IfFails (HasCause (state S.Store conn.old) (state S.Store conn.new)))) }
@@ -97,7 +102,7 @@ fn admit_row<S: Alter>(
     if until.is_expired(now) {
         return Err(RowFault::Refused(Refusal::LeaseOver));
     }
-    let expired = expired_rows(alloc, conn, network, now)?;
+    let expired = expired_rows(alloc, conn, network, now, soonest)?;
     if !has_room(conn, network, &head, expired.as_slice())? {
         return Err(RowFault::Refused(Refusal::CapacityReached));
     }
@@ -164,16 +169,18 @@ fn joined(
 }
 
 /// What Add or Owner answers at this moment on the network that the rows of this id form, and what it
-/// changes, as `Network::act` answers on the network that they load. Nothing is written.
+/// changes, as `Network::act` answers on the network that they load. Nothing is written. No lease of the
+/// network ends before the moment `soonest`; 0 is such a moment of every network.
 ///
-/// It reads the rows that decide: the network's own, the one with the key, those of its expired peers,
-/// and, for the lowest free address, the held addresses up to the first gap. For Owner at most one row
+/// It reads the rows that decide: the network's own, the one with the key, those of its expired peers from
+/// `soonest` on, and, for the lowest free address, the held addresses up to the first gap. For Owner at most one row
 /// for each length of a prefix, and its peer's.
 pub fn row_act<S: Alter>(
     alloc: Global,
     conn: &mut Connection<S>,
     network: u32,
     now: u64,
+    soonest: u64,
     command: &Command,
 ) -> Result<(Reply, Option<Change>), RowFault>
     requires idle { conn.old.in_transaction ≡ false }
@@ -181,7 +188,7 @@ pub fn row_act<S: Alter>(
     ensures idle { conn.new.in_transaction ≡ false }
     ensures stands { (db : Database) (pending : List Written) → Stands S.Store conn.old db pending → Stands S.Store conn.new db pending }
     ensures clean { HasCleanDisk (state S.Store conn.new) → HasCleanDisk (state S.Store conn.old) }
-    ensures outcome { OnNetwork S.Store conn.old network (λ n. HasCleanDisk (state S.Store conn.new) → Meets n (as_acted result) (outcome_of n now command.now)) }
+    ensures outcome { OnNetwork S.Store conn.old network (λ n. HasCleanDisk (state S.Store conn.new) → All (EndsFrom soonest) n.peers → Meets n (as_acted result) (outcome_of n now command.now)) }
     ensures change { IfOk result (λ given. is_some given.1 ≡ not (is_reading command.now)) }
     ensures plain { IfOk result (λ given. is_plain given.0 ≡ true) }
     ensures survives { Survives (state S.Store conn.old) (state S.Store conn.new) (λ _. ⊥) }
@@ -195,7 +202,7 @@ pub fn row_act<S: Alter>(
             until,
             keepalive,
         } => {
-            let admission = admit_row(alloc, conn, network, now, key, *until)?;
+            let admission = admit_row(alloc, conn, network, now, soonest, key, *until)?;
             let address = place_row(alloc, conn, network, now, &admission, *address)?;
             let peer = Peer {
                 number: admission.head.next,

@@ -4,6 +4,7 @@ ghost use Rattle.std.specs.List.{All};
 ghost use Rattle.sqlite.specs.Effect.{Database};
 ghost use Rattle.sqlite.specs.State.{HasCleanDisk, Survives};
 ghost use Rattle.sqlite.specs.Held.{state};
+ghost use Rattle.wgr_peers.specs.PeerIndex.{EndsFrom};
 ghost use Rattle.wgr_peers.specs.Peers.{expired};
 ghost use Rattle.wgr_model.specs.Rows.{peer_id};
 ghost use Rattle.wgr_sql.specs.Causes.{HasCause};
@@ -67,21 +68,26 @@ fn numbers_of(alloc: Global, rows: &[Row], network: u32) -> Result<Vec<u32>, Fau
     Ok(numbers)
 }
 
-/// The numbers of the network's expired peers, rising.
+/// The numbers of the network's expired peers, rising. Before the moment `soonest`, before which none of its
+/// leases ends, it reads no row; 0 is such a moment of every network.
 pub fn expired_rows<S: Alter>(
     alloc: Global,
     conn: &mut Connection<S>,
     network: u32,
     now: u64,
+    soonest: u64,
 ) -> Result<Vec<u32>, Fault>
     requires idle { conn.old.in_transaction ≡ false }
     ensures idle { conn.new.in_transaction ≡ false }
     ensures stands { (db : Database) (pending : List Written) → Stands S.Store conn.old db pending → Stands S.Store conn.new db pending }
     ensures clean { HasCleanDisk (state S.Store conn.new) → HasCleanDisk (state S.Store conn.old) }
-    ensures found { OnNetwork S.Store conn.old network (λ n. HasCleanDisk (state S.Store conn.new) → IfOk result (λ numbers. numbers.items ≡ expired now n.peers)) }
+    ensures found { OnNetwork S.Store conn.old network (λ n. HasCleanDisk (state S.Store conn.new) → All (EndsFrom soonest) n.peers → IfOk result (λ numbers. numbers.items ≡ expired now n.peers)) }
     ensures survives { Survives (state S.Store conn.old) (state S.Store conn.new) (λ _. ⊥) }
     ensures cause { OnNetwork S.Store conn.old network (λ n. IfErr result (HasCause (state S.Store conn.old) (state S.Store conn.new))) }
 {
+    if now < soonest {
+        return Ok(Vec::new(alloc));
+    }
     let rows = over_rows(conn, network, now)?;
     numbers_of(alloc, rows.as_slice(), network)
 }

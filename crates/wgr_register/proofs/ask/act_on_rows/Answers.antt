@@ -1,4 +1,4 @@
-use Rattle.std.proofs.Common.{Err, Ok, subst, true≢false, sym, ◌∙◌, ap, not, refl, ◌≡◌}
+use Rattle.std.proofs.Common.{Err, Ok, subst, true≢false, sym, ◌∙◌, ap, not, refl}
 use Rattle.wgr_core.specs.Change.{Meets}
 use Rattle.wgr_core.specs.Outcome.{outcome_of}
 use Rattle.wgr_model.specs.Steps.{Ask}
@@ -8,34 +8,38 @@ use Rattle.wgr_rows.specs.Act.{as_acted}
 use Rattle.wgr_rows.specs.declared.fault.RowFault.{RowFault}
 use Rattle.wgr_register.specs.Loaded.{AreFormed, entries_of}
 use Rattle.wgr_register.proofs.AskLemmas.{acts_done, acts_late, at_found, refused_rows}
-use Rattle.wgr_register.proofs.LoadedLemmas.{committed_so, formed_others, found_formed, shown_so, shows_if, unless}
+use Rattle.wgr_register.proofs.LoadedLemmas.{committed_so, formed_others, found_formed, shown_so, unless}
 use Rattle.wgr_register.proofs.StandLemmas.{ask_if, at_more, at_read, late_ends, rows_undone_ends}
 use Rattle.wgr_register.proofs.CauseLemmas.{ask_stops, fault_handed, row_handed, row_weaker, stopped_after, stopped_clean, survives_any, survives_on}
 use Rattle.sqlite.specs.Held.{state}
 use Rattle.wgr_sql.specs.Causes.{HasCause, HasCauseOr}
 use Rattle.wgr_register.specs.Causes.{AskStops, StopsIf}
-use Rattle.wgr_sql.proofs.CauseLemmas.{cause_after, cause_weaker}
+use Rattle.wgr_sql.proofs.CauseLemmas.{cause_weaker}
 use Rattle.wgr_register.specs.Cached.{AreCurrent, files_of}
 use Rattle.wgr_register.proofs.CachedLemmas.{current_so}
+use Rattle.wgr_model.specs.Rows.{holding_of}
+use Rattle.wgr_opening.specs.Leases.{AreEnds}
+use Rattle.wgr_register.specs.Known.{known_end}
+use Rattle.wgr_register.proofs.KnownLemmas.{ends_so}
 use Rattle.wgr_register.proofs.ask.act_on_rows.Goals as goal
 
 -- ---- the command isn't done
 
 pub returns-in_err-reply-clause-ends : goal.returns-in_err-reply-clause-ends
-returns-in_err-reply-clause-ends g c db late digest name n at found =
+returns-in_err-reply-clause-ends g c db late digest name n at found are =
     let event = Ask digest name c.args.now c.args.command.now in
     ask_if g.S.Store g.R.Render.shown c.row_act.new.conn db late event c.args.now c.from_residual.result c.row_act.ensures.idle at.stands.sound at.consistent (λ clean.
     rows_undone_ends g.S.Store g.R.Render.shown c.row_act.new.conn db late event c.args.now c.from_residual.result c.in_err-reply.field-0.0 c.from_residual.ensures.1 (at_read g.S.Store c.args.conn.now c.row_act.new.conn db late (c.row_act.ensures.stands db) at)
     (λ refusal is. refused_rows (tables_of db) at.consistent digest name c.args.now c.args.command.now c.args.id n found refusal
     (subst (λ (w : RowFault). Meets n (as_acted (Err w)) (outcome_of n c.args.now c.args.command.now)) is
-    (at_found (tables_of db) digest name c.args.id n found c.args.now c.args.command.now (as_acted (Err c.in_err-reply.field-0.0)) (c.in_err-reply.ensures.outcome db at.pending found.row at.stands at.consistent found.there found.at clean)))))
+    (at_found (tables_of db) digest name c.args.id n found c.args.now c.args.command.now (as_acted (Err c.in_err-reply.field-0.0)) (c.in_err-reply.ensures.outcome db at.pending found.row at.stands at.consistent found.there found.at clean (c.soonest_end-soonest.ensures (tables_of db) (holding_of (tables_of db) found.row).network at.consistent are (found.row, found.there, found.at, refl)))))))
 
 pub returns-in_err-reply-clause-formed : goal.returns-in_err-reply-clause-formed
-returns-in_err-reply-clause-formed g c db late digest name n at found formed =
+returns-in_err-reply-clause-formed g c db late digest name n at found are formed =
     unless c.from_residual.result _ (shown_so g.S.Store c.row_act.new.conn db at.pending (AreFormed (entries_of c.args.loaded.now)) (c.row_act.ensures.stands db at.pending at.stands) formed)
 
 pub returns-in_err-reply-clause-current : goal.returns-in_err-reply-clause-current
-returns-in_err-reply-clause-current g c db late digest name n at found current =
+returns-in_err-reply-clause-current g c db late digest name n at found are current =
     unless c.from_residual.result _ (shown_so g.S.Store c.row_act.new.conn db at.pending (AreCurrent (files_of c.args.files.now)) (c.row_act.ensures.stands db at.pending at.stands) current)
 
 pub returns-in_err-reply-clause-cause : goal.returns-in_err-reply-clause-cause
@@ -43,7 +47,7 @@ returns-in_err-reply-clause-cause g c db late digest name n at found reads =
     row_handed (HasCause (state g.S.Store c.args.conn.now) (state g.S.Store c.row_act.new.conn)) c.from_residual.result c.in_err-reply.field-0.0 c.from_residual.ensures.1 (c.in_err-reply.ensures.cause db at.pending found.row at.stands at.consistent found.there found.at)
 
 pub returns-in_err-reply-clause-stops : goal.returns-in_err-reply-clause-stops
-returns-in_err-reply-clause-stops g c db late digest name n at found =
+returns-in_err-reply-clause-stops g c db late digest name n at found are =
     let P = AskStops (tables_of db) digest name c.args.now c.args.command.now in
     row_handed (HasCauseOr P (state g.S.Store c.args.conn.now) (state g.S.Store c.row_act.new.conn)) c.from_residual.result c.in_err-reply.field-0.0 c.from_residual.ensures.1
     (row_weaker P (state g.S.Store c.args.conn.now) (state g.S.Store c.row_act.new.conn) c.in_err-reply.field-0.0 (c.in_err-reply.ensures.cause db at.pending found.row at.stands at.consistent found.there found.at))
@@ -54,7 +58,7 @@ returns-in_err-reply-clause-survives g c = survives_any _ _ c.row_act.ensures.su
 -- ---- its text isn't made
 
 pub returns-in_err-text-clause-ends : goal.returns-in_err-text-clause-ends
-returns-in_err-text-clause-ends g c db late digest name n at found =
+returns-in_err-text-clause-ends g c db late digest name n at found are =
     let event = Ask digest name c.args.now c.args.command.now in
     late_ends g.S.Store g.R.Render.shown c.row_act.new.conn db late event c.args.now c.from_residual-in_err-text.result NoMemory c.from_residual-in_err-text.ensures.1
     (at_more g.S.Store c.row_act.new.conn db late event (at_read g.S.Store c.args.conn.now c.row_act.new.conn db late (c.row_act.ensures.stands db) at))
@@ -63,7 +67,7 @@ pub returns-in_err-text-clause-cause : goal.returns-in_err-text-clause-cause
 returns-in_err-text-clause-cause g c db late digest name n at found reads = fault_handed (HasCause (state g.S.Store c.args.conn.now) (state g.S.Store c.row_act.new.conn)) c.from_residual-in_err-text.result NoMemory c.from_residual-in_err-text.ensures.1 tt
 
 pub returns-in_err-text-clause-stops : goal.returns-in_err-text-clause-stops
-returns-in_err-text-clause-stops g c db late digest name n at found = fault_handed (HasCauseOr (AskStops (tables_of db) digest name c.args.now c.args.command.now) (state g.S.Store c.args.conn.now) (state g.S.Store c.row_act.new.conn)) c.from_residual-in_err-text.result NoMemory c.from_residual-in_err-text.ensures.1 tt
+returns-in_err-text-clause-stops g c db late digest name n at found are = fault_handed (HasCauseOr (AskStops (tables_of db) digest name c.args.now c.args.command.now) (state g.S.Store c.args.conn.now) (state g.S.Store c.row_act.new.conn)) c.from_residual-in_err-text.result NoMemory c.from_residual-in_err-text.ensures.1 tt
 
 pub returns-in_err-text-clause-survives : goal.returns-in_err-text-clause-survives
 returns-in_err-text-clause-survives g c = survives_any _ _ c.row_act.ensures.survives
@@ -71,11 +75,11 @@ returns-in_err-text-clause-survives g c = survives_any _ _ c.row_act.ensures.sur
 -- ---- its change isn't committed
 
 pub returns-in_err-commit_if-clause-ends : goal.returns-in_err-commit_if-clause-ends
-returns-in_err-commit_if-clause-ends g c db late digest name n at found =
+returns-in_err-commit_if-clause-ends g c db late digest name n at found are =
     let event = Ask digest name c.args.now c.args.command.now in
     let there = c.row_act.ensures.stands db at.pending at.stands in
     ask_if g.S.Store g.R.Render.shown c.commit_if.new.conn db late event c.args.now c.from_residual-in_err-commit_if.result c.commit_if.ensures.idle at.stands.sound at.consistent (λ clean.
-    let met = at_found (tables_of db) digest name c.args.id n found c.args.now c.args.command.now (Ok (c.in_ok-reply.reply, c.in_ok-reply.changes)) (c.in_ok-reply.ensures.outcome db at.pending found.row at.stands at.consistent found.there found.at (c.commit_if.ensures.clean clean)) in
+    let met = at_found (tables_of db) digest name c.args.id n found c.args.now c.args.command.now (Ok (c.in_ok-reply.reply, c.in_ok-reply.changes)) (c.in_ok-reply.ensures.outcome db at.pending found.row at.stands at.consistent found.there found.at (c.commit_if.ensures.clean clean) (c.soonest_end-soonest.ensures (tables_of db) (holding_of (tables_of db) found.row).network at.consistent are (found.row, found.there, found.at, refl))) in
     late_ends g.S.Store g.R.Render.shown c.commit_if.new.conn db late event c.args.now c.from_residual-in_err-commit_if.result c.in_err-commit_if.field-0.0 c.from_residual-in_err-commit_if.ensures.1
     (acts_late g.S.Store g.R.Render.shown c.commit_if.new.conn db at.pending late at.consistent at.steps digest name c.args.now c.args.command.now (c.forms_hold.ensures.asked, c.forms_hold.ensures.forms) c.args.id n found c.in_ok-reply.reply
     c.in_ok-reply.changes met (c.in_err-commit_if.ensures.fault db at.pending found.row there at.consistent found.there found.at)))
@@ -84,7 +88,7 @@ pub returns-in_err-commit_if-clause-cause : goal.returns-in_err-commit_if-clause
 returns-in_err-commit_if-clause-cause g c db late digest name n at found reads = absurd (true≢false (sym c.in_err-commit_if.ensures.changes ∙ c.in_ok-reply.ensures.change ∙ ap not reads))
 
 pub returns-in_err-commit_if-clause-stops : goal.returns-in_err-commit_if-clause-stops
-returns-in_err-commit_if-clause-stops g c db late digest name n at found =
+returns-in_err-commit_if-clause-stops g c db late digest name n at found are =
     let P = AskStops (tables_of db) digest name c.args.now c.args.command.now in
     let why = c.in_err-commit_if.field-0.0 in
     let old = state g.S.Store c.args.conn.now in
@@ -92,7 +96,7 @@ returns-in_err-commit_if-clause-stops g c db late digest name n at found =
     let new = state g.S.Store c.commit_if.new.conn in
     let there = c.row_act.ensures.stands db at.pending at.stands in
     stopped_clean P old new c.from_residual-in_err-commit_if.result (λ clean.
-    let met = at_found (tables_of db) digest name c.args.id n found c.args.now c.args.command.now (Ok (c.in_ok-reply.reply, c.in_ok-reply.changes)) (c.in_ok-reply.ensures.outcome db at.pending found.row at.stands at.consistent found.there found.at (c.commit_if.ensures.clean clean)) in
+    let met = at_found (tables_of db) digest name c.args.id n found c.args.now c.args.command.now (Ok (c.in_ok-reply.reply, c.in_ok-reply.changes)) (c.in_ok-reply.ensures.outcome db at.pending found.row at.stands at.consistent found.there found.at (c.commit_if.ensures.clean clean) (c.soonest_end-soonest.ensures (tables_of db) (holding_of (tables_of db) found.row).network at.consistent are (found.row, found.there, found.at, refl))) in
     stopped_after P old mid new c.from_residual-in_err-commit_if.result c.row_act.ensures.survives c.commit_if.ensures.survives
     (fault_handed (HasCauseOr P mid new) c.from_residual-in_err-commit_if.result why c.from_residual-in_err-commit_if.ensures.1
     (cause_weaker (StopsIf c.args.id c.in_ok-reply.changes (tables_of db)) P mid new
@@ -104,27 +108,41 @@ returns-in_err-commit_if-clause-survives g c = survives_on _ _ _ c.row_act.ensur
 -- ---- it is done
 
 pub returns-clause-ends : goal.returns-clause-ends
-returns-clause-ends g c db late digest name n at found clean =
+returns-clause-ends g c db late digest name n at found are clean =
     let there = c.row_act.ensures.stands db at.pending at.stands in
-    let met = at_found (tables_of db) digest name c.args.id n found c.args.now c.args.command.now (Ok (c.in_ok-reply.reply, c.in_ok-reply.changes)) (c.in_ok-reply.ensures.outcome db at.pending found.row at.stands at.consistent found.there found.at (c.commit_if.ensures.clean clean)) in
+    let met = at_found (tables_of db) digest name c.args.id n found c.args.now c.args.command.now (Ok (c.in_ok-reply.reply, c.in_ok-reply.changes)) (c.in_ok-reply.ensures.outcome db at.pending found.row at.stands at.consistent found.there found.at (c.commit_if.ensures.clean clean) (c.soonest_end-soonest.ensures (tables_of db) (holding_of (tables_of db) found.row).network at.consistent are (found.row, found.there, found.at, refl))) in
     acts_done g.S.Store g.R.Render.shown c.commit_if.new.conn db at.pending late at.consistent at.steps digest name c.args.now c.args.command.now (c.forms_hold.ensures.asked, c.forms_hold.ensures.forms) c.args.id n found c.in_ok-reply.reply
     c.in_ok-reply.changes c.in_ok-text.text.items c.in_ok-reply.ensures.change met (c.in_ok-text.ensures c.args.now n) (c.in_ok-commit_if.ensures.done db at.pending found.row there at.consistent found.there found.at clean) clean
 
 pub returns-clause-formed : goal.returns-clause-formed
-returns-clause-formed g c db late digest name n at found formed clean live =
+returns-clause-formed g c db late digest name n at found are formed clean live =
     let there = c.row_act.ensures.stands db at.pending at.stands in
-    let met = at_found (tables_of db) digest name c.args.id n found c.args.now c.args.command.now (Ok (c.in_ok-reply.reply, c.in_ok-reply.changes)) (c.in_ok-reply.ensures.outcome db at.pending found.row at.stands at.consistent found.there found.at (c.commit_if.ensures.clean clean)) in
+    let met = at_found (tables_of db) digest name c.args.id n found c.args.now c.args.command.now (Ok (c.in_ok-reply.reply, c.in_ok-reply.changes)) (c.in_ok-reply.ensures.outcome db at.pending found.row at.stands at.consistent found.there found.at (c.commit_if.ensures.clean clean) (c.soonest_end-soonest.ensures (tables_of db) (holding_of (tables_of db) found.row).network at.consistent are (found.row, found.there, found.at, refl))) in
     committed_so g.S.Store c.commit_if.new.conn db at.pending at.consistent digest name c.args.now c.args.command.now (c.forms_hold.ensures.asked, c.forms_hold.ensures.forms) c.args.id n found c.in_ok-reply.reply
     (entries_of c.args.loaded.now) (entries_of c.forget.new.loaded) (formed_others c.args.id (entries_of c.args.loaded.now) (tables_of db) formed) c.in_ok-reply.changes met
     (c.in_ok-commit_if.ensures.done db at.pending found.row there at.consistent found.there found.at clean) (λ t others own. c.forget.ensures t others) clean live
 
 pub returns-clause-current : goal.returns-clause-current
-returns-clause-current g c db late digest name n at found current clean live =
+returns-clause-current g c db late digest name n at found are current clean live =
     let there = c.row_act.ensures.stands db at.pending at.stands in
-    let met = at_found (tables_of db) digest name c.args.id n found c.args.now c.args.command.now (Ok (c.in_ok-reply.reply, c.in_ok-reply.changes)) (c.in_ok-reply.ensures.outcome db at.pending found.row at.stands at.consistent found.there found.at (c.commit_if.ensures.clean clean)) in
+    let met = at_found (tables_of db) digest name c.args.id n found c.args.now c.args.command.now (Ok (c.in_ok-reply.reply, c.in_ok-reply.changes)) (c.in_ok-reply.ensures.outcome db at.pending found.row at.stands at.consistent found.there found.at (c.commit_if.ensures.clean clean) (c.soonest_end-soonest.ensures (tables_of db) (holding_of (tables_of db) found.row).network at.consistent are (found.row, found.there, found.at, refl))) in
     current_so g.S.Store c.commit_if.new.conn db at.pending at.consistent digest name c.args.now c.args.command.now (c.forms_hold.ensures.asked, c.forms_hold.ensures.forms) c.args.id n found c.in_ok-reply.reply
     (files_of c.args.files.now) (files_of c.drop_changed.new.files) current c.in_ok-reply.changes met (c.in_ok-commit_if.ensures.done db at.pending found.row there at.consistent found.there found.at clean)
     (λ none. ap files_of (c.drop_changed.ensures.none none)) c.drop_changed.ensures.some clean live
 
 pub returns-clause-survives : goal.returns-clause-survives
 returns-clause-survives g c = survives_on _ _ _ c.row_act.ensures.survives c.commit_if.ensures.survives
+
+-- ---- what is known of the ends of leases
+
+pub returns-in_err-reply-clause-leases : goal.returns-in_err-reply-clause-leases
+returns-in_err-reply-clause-leases g c db late digest name n at found are =
+    unless c.from_residual.result _ (shown_so g.S.Store c.row_act.new.conn db at.pending (AreEnds (known_end c.args.leases.now)) (c.row_act.ensures.stands db at.pending at.stands) are)
+
+pub returns-clause-leases : goal.returns-clause-leases
+returns-clause-leases g c db late digest name n at found are clean live =
+    let there = c.row_act.ensures.stands db at.pending at.stands in
+    let met = at_found (tables_of db) digest name c.args.id n found c.args.now c.args.command.now (Ok (c.in_ok-reply.reply, c.in_ok-reply.changes)) (c.in_ok-reply.ensures.outcome db at.pending found.row at.stands at.consistent found.there found.at (c.commit_if.ensures.clean clean) (c.soonest_end-soonest.ensures (tables_of db) (holding_of (tables_of db) found.row).network at.consistent are (found.row, found.there, found.at, refl))) in
+    ends_so g.S.Store c.commit_if.new.conn db at.pending at.consistent digest name c.args.now c.args.command.now (c.forms_hold.ensures.asked, c.forms_hold.ensures.forms) c.args.id n found c.in_ok-reply.reply
+    (known_end c.args.leases.now) (known_end c.note.new.leases) c.end_after.result are c.note.ensures c.in_ok-reply.changes met (c.in_ok-commit_if.ensures.done db at.pending found.row there at.consistent found.there found.at clean)
+    (c.end_after.ensures n (c.soonest_end-soonest.ensures (tables_of db) n at.consistent are (found_formed (tables_of db) digest name c.args.id n found))) clean live

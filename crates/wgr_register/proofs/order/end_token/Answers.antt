@@ -5,7 +5,7 @@ use Rattle.wgr_tables.specs.Writes.{TokenLost}
 use Rattle.wgr_register.proofs.OrderLemmas.{no_such_token, token_ends}
 use Rattle.wgr_register.proofs.StandLemmas.{at_read, order_done, order_unread, order_unwritten}
 use Rattle.sqlite.specs.Held.{state}
-use Rattle.wgr_sql.proofs.SurvivesLemmas.{survives_next, survives_still}
+use Rattle.wgr_sql.proofs.SurvivesLemmas.{survives_still}
 use Rattle.wgr_register.specs.Causes.{OrderStops}
 use Rattle.wgr_register.proofs.OrderCauses.{unread_stops, unwritten_stops}
 use Rattle.wgr_entries.specs.Stops.{TokenStays}

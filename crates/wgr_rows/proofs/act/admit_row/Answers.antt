@@ -13,7 +13,7 @@ returns-in_err-head-clause-cause g c db pending w stood good here is =
     fault_told (HasCause (state g.S.Store c.args.conn.now) (state g.S.Store c.head_row.new.conn)) c.from_residual.result c.in_err-head.field-0.0 c.from_residual.ensures.1 (c.in_err-head.ensures.cause db pending w stood good here is)
 
 pub returns-then-eq-clause-found : goal.returns-then-eq-clause-found
-returns-then-eq-clause-found g c db pending w stood good here is clean =
+returns-then-eq-clause-found g c db pending w stood good here is clean ends =
     let n = (holding_of (tables_of db) w).network in
     let head = c.in_ok-head.ensures.found db pending w stood good here is clean in
     is_servers n c.args.now c.args.key.now c.args.until (ap (same_key c.args.key.now) (sym head.server) ∙ sym c.if-eq.ensures)
@@ -32,7 +32,7 @@ pub returns-in-Some-clause-stands : goal.returns-in-Some-clause-stands
 returns-in-Some-clause-stands g c db pending stood = c.key_row.ensures.stands db pending (c.head_row.ensures.stands db pending stood)
 
 pub returns-in-Some-clause-found : goal.returns-in-Some-clause-found
-returns-in-Some-clause-found g c db pending w stood good here is clean =
+returns-in-Some-clause-found g c db pending w stood good here is clean ends =
     let n = (holding_of (tables_of db) w).network in
     let head = c.in_ok-head.ensures.found db pending w stood good here is (c.key_row.ensures.clean clean) in
     let holder = rw c.in-Some.is at c.in_ok-number.ensures.found db pending w (c.head_row.ensures.stands db pending stood) good here is clean in
@@ -42,7 +42,7 @@ pub returns-then-is_expired-clause-stands : goal.returns-then-is_expired-clause-
 returns-then-is_expired-clause-stands g c db pending stood = c.key_row.ensures.stands db pending (c.head_row.ensures.stands db pending stood)
 
 pub returns-then-is_expired-clause-found : goal.returns-then-is_expired-clause-found
-returns-then-is_expired-clause-found g c db pending w stood good here is clean =
+returns-then-is_expired-clause-found g c db pending w stood good here is clean ends =
     let n = (holding_of (tables_of db) w).network in
     let head = c.in_ok-head.ensures.found db pending w stood good here is (c.key_row.ensures.clean clean) in
     let holder = rw c.in_default.is at c.in_ok-number.ensures.found db pending w (c.head_row.ensures.stands db pending stood) good here is clean in
@@ -76,7 +76,7 @@ pub returns-then-not-branch-clause-stands : goal.returns-then-not-branch-clause-
 returns-then-not-branch-clause-stands g c db pending stood = c.has_room.ensures.stands db pending (c.expired_rows.ensures.stands db pending (c.key_row.ensures.stands db pending (c.head_row.ensures.stands db pending stood)))
 
 pub returns-then-not-branch-clause-found : goal.returns-then-not-branch-clause-found
-returns-then-not-branch-clause-found g c db pending w stood good here is clean =
+returns-then-not-branch-clause-found g c db pending w stood good here is clean ends =
     let n = (holding_of (tables_of db) w).network in
     let at_key = c.head_row.ensures.stands db pending stood in
     let at_expired = c.key_row.ensures.stands db pending at_key in
@@ -85,7 +85,7 @@ returns-then-not-branch-clause-found g c db pending w stood good here is clean =
     let key_clean = c.expired_rows.ensures.clean expired_clean in
     let head = c.in_ok-head.ensures.found db pending w stood good here is (c.key_row.ensures.clean key_clean) in
     let holder = rw c.in_default.is at c.in_ok-number.ensures.found db pending w at_key good here is key_clean in
-    let over = c.in_ok-expired.ensures.found db pending w at_expired good here is expired_clean in
+    let over = c.in_ok-expired.ensures.found db pending w at_expired good here is expired_clean ends in
     let room = c.in_ok-has_room.ensures.found db pending w at_room good here is clean c.args.now head (c.as_slice.ensures.value ∙ over) in
     is_full n c.args.now c.args.key.now c.args.until (ap (same_key c.args.key.now) (sym head.server) ∙ sym c.if-eq.ensures) holder (sym c.if-is_expired.ensures) (sym room ∙ c.if-not-branch.true)
 
@@ -93,7 +93,7 @@ pub returns-then-head-gt-MAX_NUMBER-clause-stands : goal.returns-then-head-gt-MA
 returns-then-head-gt-MAX_NUMBER-clause-stands g c db pending stood = c.has_room.ensures.stands db pending (c.expired_rows.ensures.stands db pending (c.key_row.ensures.stands db pending (c.head_row.ensures.stands db pending stood)))
 
 pub returns-then-head-gt-MAX_NUMBER-clause-found : goal.returns-then-head-gt-MAX_NUMBER-clause-found
-returns-then-head-gt-MAX_NUMBER-clause-found g c db pending w stood good here is clean =
+returns-then-head-gt-MAX_NUMBER-clause-found g c db pending w stood good here is clean ends =
     let n = (holding_of (tables_of db) w).network in
     let at_key = c.head_row.ensures.stands db pending stood in
     let at_expired = c.key_row.ensures.stands db pending at_key in
@@ -102,7 +102,7 @@ returns-then-head-gt-MAX_NUMBER-clause-found g c db pending w stood good here is
     let key_clean = c.expired_rows.ensures.clean expired_clean in
     let head = c.in_ok-head.ensures.found db pending w stood good here is (c.key_row.ensures.clean key_clean) in
     let holder = rw c.in_default.is at c.in_ok-number.ensures.found db pending w at_key good here is key_clean in
-    let over = c.in_ok-expired.ensures.found db pending w at_expired good here is expired_clean in
+    let over = c.in_ok-expired.ensures.found db pending w at_expired good here is expired_clean ends in
     let room = c.in_ok-has_room.ensures.found db pending w at_room good here is clean c.args.now head (c.as_slice.ensures.value ∙ over) in
     is_spent n c.args.now c.args.key.now c.args.until (ap (same_key c.args.key.now) (sym head.server) ∙ sym c.if-eq.ensures) holder (sym c.if-is_expired.ensures) (sym room ∙ c.if-not-branch.false) (omega (arith, c.if-head-gt-MAX_NUMBER.true, head.next))
 
@@ -110,7 +110,7 @@ pub returns-clause-stands : goal.returns-clause-stands
 returns-clause-stands g c db pending stood = c.has_room.ensures.stands db pending (c.expired_rows.ensures.stands db pending (c.key_row.ensures.stands db pending (c.head_row.ensures.stands db pending stood)))
 
 pub returns-clause-found : goal.returns-clause-found
-returns-clause-found g c db pending w stood good here is clean =
+returns-clause-found g c db pending w stood good here is clean ends =
     let n = (holding_of (tables_of db) w).network in
     let at_key = c.head_row.ensures.stands db pending stood in
     let at_expired = c.key_row.ensures.stands db pending at_key in
@@ -119,6 +119,9 @@ returns-clause-found g c db pending w stood good here is clean =
     let key_clean = c.expired_rows.ensures.clean expired_clean in
     let head = c.in_ok-head.ensures.found db pending w stood good here is (c.key_row.ensures.clean key_clean) in
     let holder = rw c.in_default.is at c.in_ok-number.ensures.found db pending w at_key good here is key_clean in
-    let over = c.in_ok-expired.ensures.found db pending w at_expired good here is expired_clean in
+    let over = c.in_ok-expired.ensures.found db pending w at_expired good here is expired_clean ends in
     let room = c.in_ok-has_room.ensures.found db pending w at_room good here is clean c.args.now head (c.as_slice.ensures.value ∙ over) in
     (is_admitted n c.args.now c.args.key.now c.args.until (ap (same_key c.args.key.now) (sym head.server) ∙ sym c.if-eq.ensures) holder (sym c.if-is_expired.ensures) (sym room ∙ c.if-not-branch.false) (omega (arith, c.if-head-gt-MAX_NUMBER.false, head.next)), head, over)
+
+pub returns-clause-head : goal.returns-clause-head
+returns-clause-head g c db pending w stood good here is clean = c.in_ok-head.ensures.found db pending w stood good here is (c.key_row.ensures.clean (c.expired_rows.ensures.clean (c.has_room.ensures.clean clean)))

@@ -4,6 +4,8 @@ use Rattle.sqlite.specs.Held.{state}
 use Rattle.wgr_sql.specs.Causes.{HasCause}
 use Rattle.wgr_sql.specs.declared.fault.Fault.TheVariants.{Store}
 use Rattle.wgr_register.specs.Standing.{StandsAt}
+use Rattle.wgr_columns.specs.Decode.{tables_of}
+use Rattle.wgr_register.proofs.KnownLemmas.{none_known}
 use Rattle.wgr_register.proofs.StandLemmas.{at_read}
 use Rattle.wgr_register.proofs.register.Register.is_shut.Goals as goal
 
@@ -17,6 +19,7 @@ invariant_of-self g c = (
   },
   λ clean live. search rules,
   λ clean live. search rules,
+  λ clean live. none_known (tables_of (state g.S.Store c.tenant_of_token-found.new.conn).now),
 )
 
 pub returns-clause-stands : goal.returns-clause-stands

@@ -3,6 +3,8 @@ use Rattle.sqlite.specs.Held.{state}
 use Rattle.wgr_model.specs.Steps.{Networks}
 use Rattle.wgr_columns.specs.Decode.{tables_of}
 use Rattle.wgr_register.specs.Cached.{AreCurrent, files_of}
+use Rattle.wgr_opening.specs.Leases.{AreEnds}
+use Rattle.wgr_register.specs.Known.{known_end}
 use Rattle.wgr_register.specs.Loaded.{AreFormed, entries_of}
 use Rattle.wgr_register.specs.Standing.{StandsAt}
 use Rattle.wgr_register.proofs.LoadedLemmas.{known_so, unless_map}
@@ -26,7 +28,7 @@ invariant_of-self g c = (
       let stands = c.networks-answered.ensures.stands held.0 held.2.pending held.2.stands in
       let loaded = entries_of c.self.inside.loaded in
       let shown = tables_of (state g.S.Store c.networks-answered.new.conn).now in
-      c.drop_after_fault.ensures shown (unless_map c.networks-answered.result (IsTrue (state g.S.Store c.self.inside.conn).is_open) (AreFormed loaded shown)
+      c.drop_after_fault.ensures.formed shown (unless_map c.networks-answered.result (IsTrue (state g.S.Store c.self.inside.conn).is_open) (AreFormed loaded shown)
       (λ was_live. subst (λ d. AreFormed loaded (tables_of d)) (sym (stands.shows clean live)) (known_so g.S.Store c.self.inside.conn held.0 held.2.pending (AreFormed loaded) held.2.stands c.self.invariant.1 before was_live))
       (c.networks-answered.ensures.open clean)),
   λ clean live.
@@ -35,8 +37,17 @@ invariant_of-self g c = (
       let stands = c.networks-answered.ensures.stands held.0 held.2.pending held.2.stands in
       let files = files_of c.self.inside.files in
       let shown = tables_of (state g.S.Store c.networks-answered.new.conn).now in
-      c.drop_after_fault-2.ensures shown (unless_map c.networks-answered.result (IsTrue (state g.S.Store c.self.inside.conn).is_open) (AreCurrent files shown)
+      c.drop_after_fault.ensures.current shown (unless_map c.networks-answered.result (IsTrue (state g.S.Store c.self.inside.conn).is_open) (AreCurrent files shown)
       (λ was_live. subst (λ d. AreCurrent files (tables_of d)) (sym (stands.shows clean live)) (known_so g.S.Store c.self.inside.conn held.0 held.2.pending (AreCurrent files) held.2.stands c.self.invariant.2 before was_live))
+      (c.networks-answered.ensures.open clean)),
+  λ clean live.
+      let before = c.networks-answered.ensures.clean clean in
+      let held = c.self.invariant.0.somewhere before in
+      let stands = c.networks-answered.ensures.stands held.0 held.2.pending held.2.stands in
+      let ends = known_end c.self.inside.leases in
+      let shown = tables_of (state g.S.Store c.networks-answered.new.conn).now in
+      c.drop_after_fault.ensures.leases shown (unless_map c.networks-answered.result (IsTrue (state g.S.Store c.self.inside.conn).is_open) (AreEnds ends shown)
+      (λ was_live. subst (λ d. AreEnds ends (tables_of d)) (sym (stands.shows clean live)) (known_so g.S.Store c.self.inside.conn held.0 held.2.pending (AreEnds ends) held.2.stands c.self.invariant.3 before was_live))
       (c.networks-answered.ensures.open clean)),
 )
 

@@ -6,6 +6,8 @@ use Rattle.wgr_register.specs.Causes.{IfOrderFault, OrderStops}
 use Rattle.wgr_register.specs.Standing.{StandsAt}
 use Rattle.wgr_columns.specs.Decode.{tables_of}
 use Rattle.wgr_register.specs.Cached.{AreCurrent, files_of}
+use Rattle.wgr_opening.specs.Leases.{AreEnds}
+use Rattle.wgr_register.specs.Known.{known_end}
 use Rattle.wgr_register.specs.Loaded.{AreFormed, Shows, entries_of}
 use Rattle.wgr_register.proofs.LoadedLemmas.{known_so}
 use Rattle.wgr_register.proofs.StayLemmas.{undone_then, unless_undone}
@@ -27,7 +29,7 @@ invariant_of-self g c = (
       let kept = entries_of c.operate-ended.new.loaded in
       let ended = c.operate-ended.result in
       let shown = tables_of (state g.S.Store c.operate-ended.new.conn).now in
-      c.drop_after_failure.ensures shown (undone_then ended (Shows g.S.Store c.operate-ended.new.conn (AreFormed kept)) (AreFormed kept shown) (λ shows. unless_undone ended (AreFormed kept shown) (shows clean live))
+      c.drop_after_failure.ensures.formed shown (undone_then ended (Shows g.S.Store c.operate-ended.new.conn (AreFormed kept)) (AreFormed kept shown) (λ shows. unless_undone ended (AreFormed kept shown) (shows clean live))
       (undone_then ended (IsTrue (state g.S.Store c.self.inside.conn).is_open) (Shows g.S.Store c.operate-ended.new.conn (AreFormed kept))
       (λ was_live. c.operate-ended.ensures.formed held.0 held.1 held.2 (known_so g.S.Store c.self.inside.conn held.0 held.2.pending (AreFormed loaded) held.2.stands c.self.invariant.1 before was_live))
       (c.operate-ended.ensures.open clean))),
@@ -38,9 +40,20 @@ invariant_of-self g c = (
       let kept = files_of c.operate-ended.new.files in
       let ended = c.operate-ended.result in
       let shown = tables_of (state g.S.Store c.operate-ended.new.conn).now in
-      c.drop_after_failure-2.ensures shown (undone_then ended (Shows g.S.Store c.operate-ended.new.conn (AreCurrent kept)) (AreCurrent kept shown) (λ shows. unless_undone ended (AreCurrent kept shown) (shows clean live))
+      c.drop_after_failure.ensures.current shown (undone_then ended (Shows g.S.Store c.operate-ended.new.conn (AreCurrent kept)) (AreCurrent kept shown) (λ shows. unless_undone ended (AreCurrent kept shown) (shows clean live))
       (undone_then ended (IsTrue (state g.S.Store c.self.inside.conn).is_open) (Shows g.S.Store c.operate-ended.new.conn (AreCurrent kept))
       (λ was_live. c.operate-ended.ensures.current held.0 held.1 held.2 (known_so g.S.Store c.self.inside.conn held.0 held.2.pending (AreCurrent files) held.2.stands c.self.invariant.2 before was_live))
+      (c.operate-ended.ensures.open clean))),
+  λ clean live.
+      let before = c.operate-ended.ensures.clean clean in
+      let held = c.self.invariant.0.somewhere before in
+      let ends = known_end c.self.inside.leases in
+      let kept = known_end c.operate-ended.new.leases in
+      let ended = c.operate-ended.result in
+      let shown = tables_of (state g.S.Store c.operate-ended.new.conn).now in
+      c.drop_after_failure.ensures.leases shown (undone_then ended (Shows g.S.Store c.operate-ended.new.conn (AreEnds kept)) (AreEnds kept shown) (λ shows. unless_undone ended (AreEnds kept shown) (shows clean live))
+      (undone_then ended (IsTrue (state g.S.Store c.self.inside.conn).is_open) (Shows g.S.Store c.operate-ended.new.conn (AreEnds kept))
+      (λ was_live. c.operate-ended.ensures.leases held.0 held.1 held.2 (known_so g.S.Store c.self.inside.conn held.0 held.2.pending (AreEnds ends) held.2.stands c.self.invariant.3 before was_live))
       (c.operate-ended.ensures.open clean))),
 )
 

@@ -5,17 +5,19 @@ use Rattle.wgr_sql.proofs.ResultLemmas.{if_ok}
 use Rattle.wgr_columns.specs.Decode.{tables_of}
 use Rattle.wgr_columns.specs.LaidOut.{Laid}
 use Rattle.wgr_opening.specs.Good.{HasTables, IsGood, StoresNetwork}
+use Rattle.wgr_opening.specs.Leases.{end_in}
+use Rattle.wgr_opening.proofs.LeaseLemmas.{both_told, ends_formed}
 use Rattle.wgr_opening.proofs.GoodLemmas.{all_told}
 use Rattle.wgr_opening.proofs.JoinLemmas.{is_good, register, stands_read, cause_if_clean, ids_apart}
 use Rattle.wgr_sql.specs.Causes.{HasCause}
 use Rattle.wgr_sql.proofs.CauseLemmas.{handed}
 use Rattle.wgr_checks.proofs.WalkCauses.{walk_cause}
-use Rattle.wgr_opening.proofs.check.rows_are_good.Goals as goal
+use Rattle.wgr_opening.proofs.check.good_leases.Goals as goal
 
 pub returns-clause-good : goal.returns-clause-good
 returns-clause-good g c clean first =
     let old = state g.S.Store c.args.conn.now in
-    let before = c.networks_are_stored.ensures.clean clean in
+    let before = c.stored_leases.ensures.clean clean in
     let laid : Laid old = λ live. (first live).0 in
     let found = subst (λ o. IfSome o (λ x. IsTrue old.is_open × HasTables old.now.trees x.items)) c.in-Some.is (c.in_ok-networks.ensures.some before laid) in
     let live = found.0 in
@@ -24,17 +26,15 @@ returns-clause-good g c clean first =
     let stood = stands_read g.S.Store c.args.conn.now c.read_tables.new.conn c.requires.idle c.read_tables.ensures.idle live (register old.now (first live).0 (first live).1 sound ids found.1)
     (c.is_autocommit-settled.ensures.settled (c.is_autocommit-settled.ensures.value ∙ ap not c.requires.idle)) (λ trees shown may. g.met.S.Store.settled c.args.conn.now.store trees shown may)
     (c.read_tables.ensures.kept (λ _. laid)) c.read_tables.ensures.survives in
-    if_ok c.networks_are_stored.result _ _ (λ is told so. (
-      live,
-      is_good old.now (first live).0 (first live).1 sound ids found.1 (subst (AllByRecursion (StoresNetwork (tables_of old.now))) c.as_slice.ensures.value (told.0 so)),
-      c.networks_are_stored.ensures.stands old.now [] stood,
-    )) (c.networks_are_stored.ensures.answer old.now [] stood clean)
+    both_told c.stored_leases.result (AllByRecursion (StoresNetwork (tables_of old.now)) c.as_slice.result.now) _ _ (c.stored_leases.ensures.answer old.now [] stood clean) (c.stored_leases.ensures.ends old.now [] stood clean) (λ so leases stored.
+    let good = is_good old.now (first live).0 (first live).1 sound ids found.1 (subst (AllByRecursion (StoresNetwork (tables_of old.now))) c.as_slice.ensures.value so) in
+    (live, good, c.stored_leases.ensures.stands old.now [] stood, ends_formed (end_in leases) (tables_of old.now) good.consistent stored))
 
 pub returns-clause-kept : goal.returns-clause-kept
 returns-clause-kept g c version clean shown =
     let old = state g.S.Store c.args.conn.now in
     let first = version clean in
-    let before = c.networks_are_stored.ensures.clean clean in
+    let before = c.stored_leases.ensures.clean clean in
     let laid : Laid old = λ live. (first live).0 in
     let found = subst (λ o. IfSome o (λ x. IsTrue old.is_open × HasTables old.now.trees x.items)) c.in-Some.is (c.in_ok-networks.ensures.some before laid) in
     let live = found.0 in
@@ -43,7 +43,7 @@ returns-clause-kept g c version clean shown =
     let stood = stands_read g.S.Store c.args.conn.now c.read_tables.new.conn c.requires.idle c.read_tables.ensures.idle live (register old.now (first live).0 (first live).1 sound ids found.1)
     (c.is_autocommit-settled.ensures.settled (c.is_autocommit-settled.ensures.value ∙ ap not c.requires.idle)) (λ trees open_then may. g.met.S.Store.settled c.args.conn.now.store trees open_then may)
     (c.read_tables.ensures.kept (λ _. laid)) c.read_tables.ensures.survives in
-    (live, (c.networks_are_stored.ensures.stands old.now [] stood).shows clean shown)
+    (live, (c.stored_leases.ensures.stands old.now [] stood).shows clean shown)
 
 pub returns-in_default-clause-only : goal.returns-in_default-clause-only
 returns-in_default-clause-only g c clean first =
@@ -55,7 +55,7 @@ returns-in_default-clause-only g c clean first =
 pub returns-clause-only : goal.returns-clause-only
 returns-clause-only g c clean first =
     let old = state g.S.Store c.args.conn.now in
-    let before = c.networks_are_stored.ensures.clean clean in
+    let before = c.stored_leases.ensures.clean clean in
     let laid : Laid old = λ live. (first live).0 in
     let found = subst (λ o. IfSome o (λ x. IsTrue old.is_open × HasTables old.now.trees x.items)) c.in-Some.is (c.in_ok-networks.ensures.some before laid) in
     let live = found.0 in
@@ -64,10 +64,10 @@ returns-clause-only g c clean first =
     let stood = stands_read g.S.Store c.args.conn.now c.read_tables.new.conn c.requires.idle c.read_tables.ensures.idle live (register old.now (first live).0 (first live).1 sound ids found.1)
     (c.is_autocommit-settled.ensures.settled (c.is_autocommit-settled.ensures.value ∙ ap not c.requires.idle)) (λ trees shown may. g.met.S.Store.settled c.args.conn.now.store trees shown may)
     (c.read_tables.ensures.kept (λ _. laid)) c.read_tables.ensures.survives in
-    if_ok c.networks_are_stored.result _ _ (λ is told. (
+    if_ok c.stored_leases.result _ _ (λ is told. (
       live,
       λ good. told.1 (subst (AllByRecursion (StoresNetwork (tables_of old.now))) (sym c.as_slice.ensures.value) (all_told old.now good ids found.1.there.ids)),
-    )) (c.networks_are_stored.ensures.answer old.now [] stood clean)
+    )) (c.stored_leases.ensures.answer old.now [] stood clean)
 
 pub returns-in_err-networks-clause-cause : goal.returns-in_err-networks-clause-cause
 returns-in_err-networks-clause-cause g c version =
@@ -77,10 +77,10 @@ pub returns-clause-cause : goal.returns-clause-cause
 returns-clause-cause g c version =
     let old = state g.S.Store c.args.conn.now in
     let mid = state g.S.Store c.read_tables.new.conn in
-    let new = state g.S.Store c.networks_are_stored.new.conn in
-    cause_if_clean old new c.networks_are_stored.result (λ clean.
+    let new = state g.S.Store c.stored_leases.new.conn in
+    cause_if_clean old new c.stored_leases.result (λ clean.
     let first = version clean in
-    let before = c.networks_are_stored.ensures.clean clean in
+    let before = c.stored_leases.ensures.clean clean in
     let laid : Laid old = λ live. (first live).0 in
     let found = subst (λ o. IfSome o (λ x. IsTrue old.is_open × HasTables old.now.trees x.items)) c.in-Some.is (c.in_ok-networks.ensures.some before laid) in
     let live = found.0 in
@@ -89,4 +89,4 @@ returns-clause-cause g c version =
     let stood = stands_read g.S.Store c.args.conn.now c.read_tables.new.conn c.requires.idle c.read_tables.ensures.idle live (register old.now (first live).0 (first live).1 sound ids found.1)
     (c.is_autocommit-settled.ensures.settled (c.is_autocommit-settled.ensures.value ∙ ap not c.requires.idle)) (λ trees open_then may. g.met.S.Store.settled c.args.conn.now.store trees open_then may)
     (c.read_tables.ensures.kept (λ _. laid)) c.read_tables.ensures.survives in
-    walk_cause old mid new c.read_tables.ensures.survives c.networks_are_stored.ensures.survives c.networks_are_stored.result (c.networks_are_stored.ensures.cause old.now [] stood (ids_apart old.now ids found.1)))
+    walk_cause old mid new c.read_tables.ensures.survives c.stored_leases.ensures.survives c.stored_leases.result (c.stored_leases.ensures.cause old.now [] stood (ids_apart old.now ids found.1)))

@@ -6,7 +6,8 @@ use Rattle.wgr_columns.specs.Decode.{tables_of}
 use Rattle.wgr_tables.specs.Standing.{Stands}
 use Rattle.wgr_tables.specs.Writes.{Written}
 use Rattle.wgr_opening.specs.Good.{StoresNetwork}
-use Rattle.wgr_opening.proofs.stored.networks_are_stored.Given as goal
+use Rattle.wgr_opening.specs.Leases.{AreStoredEnds, end_in}
+use Rattle.wgr_opening.proofs.stored.stored_leases.Given as goal
 
 abbrev pub invariant-loop-network : goal.invariant-loop-network
 invariant-loop-network g l = (l.conn.in_transaction ≡ false)
@@ -14,3 +15,4 @@ invariant-loop-network g l = (l.conn.in_transaction ≡ false)
     × (HasCleanDisk (state g.S.Store l.conn) → HasCleanDisk (state g.S.Store l.initial.conn))
     × ((db : Database) (pending : List Written) → Stands g.S.Store l.initial.conn db pending → HasCleanDisk (state g.S.Store l.conn) → (k : ℕ) → k < l.network-index → StoresNetwork (tables_of db) (slice_index_or l.networks k 0))
     × Survives (state g.S.Store l.initial.conn) (state g.S.Store l.conn) (λ _. ⊥)
+    × ((db : Database) (pending : List Written) → Stands g.S.Store l.initial.conn db pending → HasCleanDisk (state g.S.Store l.conn) → AreStoredEnds (end_in l.leases) (tables_of db))
