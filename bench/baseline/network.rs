@@ -463,6 +463,11 @@ impl Network {
 }
 
 impl Change {
+    /// When the first lease of the peers that come or take another's place ends; nothing where none does.
+    pub fn soonest_end(&self) -> Option<i64> {
+        self.peers.iter().map(|peer| peer.until).filter(|end| *end != 0).min()
+    }
+
     /// Writes the change of the network of this id in one commit.
     pub fn commit(&self, db: &mut Connection, id: u32) {
         db.commit(|db| {

@@ -9,6 +9,7 @@ use crate::prefix::Prefix;
 use crate::rows;
 use crate::sha256;
 use crate::sqlite::Connection;
+use std::collections::HashMap;
 
 struct Request<'a> {
     method: &'a str,
@@ -36,12 +37,14 @@ struct ServerFile {
 }
 
 /// A register, and the networks and servers' files that were last asked of, the latest at the end. Of networks
-/// that weren't loaded, the ids of those whose rows were asked last, once each.
+/// that weren't loaded, the ids of those whose rows were asked last, once each. And for each network that has leases
+/// a moment before which none of them ends.
 pub struct Office {
     db: Connection,
     loaded: Vec<Network>,
     files: Vec<ServerFile>,
     asked_once: Vec<u32>,
+    soonest_ends: HashMap<u32, i64>,
 }
 
 /// The reply of a command, and what it changes.
@@ -256,13 +259,14 @@ fn act(network: &Network, now: i64, request: &Request, rest: &[&str]) -> Outcome
     }
 }
 
-/// What a new peer or the owner of an address is answered by the rows of the network of this id.
-fn act_on_rows(db: &mut Connection, id: u32, now: i64, request: &Request, rest: &[&str]) -> Outcome {
+/// What a new peer or the owner of an address is answered by the rows of the network of this id, of which no lease
+/// ends before `soonest`.
+fn act_on_rows(db: &mut Connection, id: u32, now: i64, soonest: i64, request: &Request, rest: &[&str]) -> Outcome {
     if let ["owner", address] = rest {
         let number = rows::owner(db, id, now, &prefix_of(address))?;
         return Ok((json(pages::owner(number)), None));
     }
-    let change = rows::add(db, id, now, wanted(request.body, now))?;
+    let change = rows::add(db, id, now, soonest, wanted(request.body, now))?;
     done(json(pages::peer(&change.peers[0], &[])), change)
 }
 
@@ -288,8 +292,9 @@ impl ServerFile {
 }
 
 impl Office {
-    pub fn new(db: Connection) -> Office {
-        Office { db, loaded: Vec::new(), files: Vec::new(), asked_once: Vec::new() }
+    pub fn new(mut db: Connection) -> Office {
+        let soonest_ends = rows::soonest_ends(&mut db);
+        Office { db, loaded: Vec::new(), files: Vec::new(), asked_once: Vec::new(), soonest_ends }
     }
 
     /// The network of this id: the one in memory, or else what its rows form.
@@ -329,12 +334,21 @@ impl Office {
         before.is_none()
     }
 
+    /// Notes the ends of leases that a change of the network of this id has set.
+    fn note_ends(&mut self, id: u32, change: &Change) {
+        if let Some(end) = change.soonest_end() {
+            let soonest = self.soonest_ends.entry(id).or_insert(end);
+            *soonest = end.min(*soonest);
+        }
+    }
+
     /// The reply of what was decided on the network of this id; what it changes is committed.
     fn settle(&mut self, id: u32, decided: Outcome) -> (Reply, Option<Change>) {
         match decided {
             Ok((reply, Some(change))) => {
                 self.files.retain(|file| file.id != id);
                 change.commit(&mut self.db, id);
+                self.note_ends(id, &change);
                 (reply, Some(change))
             }
             Ok(read) => read,
@@ -348,7 +362,8 @@ impl Office {
             return file(self.server_file(id, *form == "quick", now));
         }
         if self.asks_rows(id, request, rest) {
-            let decided = act_on_rows(&mut self.db, id, now, request, rest);
+            let soonest = self.soonest_ends.get(&id).copied().unwrap_or(i64::MAX);
+            let decided = act_on_rows(&mut self.db, id, now, soonest, request, rest);
             return self.settle(id, decided).0;
         }
         let mut network = self.take(id);

@@ -1,16 +1,23 @@
 //! A new peer, and the owner of an address, in a network that isn't loaded: only the rows that each needs are read.
 //!
 //! The statements are those of `wgr`, but for its columns of NULL, and for a plus that keeps the C library from an
-//! index: it reads a range of rowids then, as `wgr` does.
+//! index: it reads a range of rowids then, as `wgr` does. When leases end is read by a statement of its own: `wgr`
+//! learns it as it tests all rows.
 
 use crate::network::{allowed_at, family_value, number_of, peer_at, peer_id, settled};
 use crate::network::{Change, Network, Refusal, Wanted};
 use crate::prefix::Prefix;
 use crate::sqlite::{Connection, Value};
-use std::collections::HashSet;
+use std::collections::{HashMap, HashSet};
 
 fn word(number: u32) -> Value<'static> {
     Value::Int(i64::from(number))
+}
+
+/// When the first lease of each network ends, by the network's id. Networks where no lease ends aren't there.
+pub fn soonest_ends(db: &mut Connection) -> HashMap<u32, i64> {
+    let sql = "SELECT network, min(until) FROM peer WHERE until > 0 GROUP BY network";
+    db.rows(sql, &[], |row| (row.int(0) as u32, row.int(1))).into_iter().collect()
 }
 
 /// The number of the live peer that has this key.
@@ -87,14 +94,15 @@ fn prefix_holder(db: &mut Connection, network: u32, now: i64, prefix: &Prefix) -
     peer.first().expect("a peer").is_live(now).then_some(number)
 }
 
-/// A new peer, which gets the lowest free address. The expired peers go.
-pub fn add(db: &mut Connection, id: u32, now: i64, wanted: Wanted) -> Result<Change, Refusal> {
+/// A new peer, which gets the lowest free address. The expired peers go; before `soonest` no lease of the network
+/// ends, so none is looked for.
+pub fn add(db: &mut Connection, id: u32, now: i64, soonest: i64, wanted: Wanted) -> Result<Change, Refusal> {
     let network = settled(db, id);
     assert!(wanted.key != network.server, "a refusal");
     if let Some(number) = key_holder(db, id, now, &wanted.key) {
         return Err(Refusal::KeyHeld(number));
     }
-    let expired = expired(db, id, network.next, now);
+    let expired = if now < soonest { Vec::new() } else { expired(db, id, network.next, now) };
     // There are fewer peers than numbers were given.
     let has_room = network.next as usize <= network.capacity
         || count(db, id, network.next) - expired.len() < network.capacity;
