@@ -62,5 +62,14 @@ class Plans(unittest.TestCase):
                 plan = plan_of(link, statement.replace("network = ?1 AND id >= ", "+network = ?1 AND id >= "))
                 with self.subTest(statement):
                     self.assertEqual([line for line in plan if "TEMP B-TREE" in line or line.startswith("SCAN")], [], plan)
-            # Peers by key, by number, those whose leases are over, and their count; a prefix, and those in the pool.
-            self.assertEqual(len(texts), 6)
+            # Peers by key, by number, those whose leases are over, and their count; a prefix, and those in the pool,
+            # with the peers to which they lead and without.
+            self.assertEqual(len(texts), 7)
+
+    def test_prefixes_alone_are_read_from_their_key(self):
+        with tempfile.TemporaryDirectory() as folder:
+            link = sqlite3.connect(make_register(folder))
+            self.addCleanup(link.close)
+            texts = [it for crate, _, it in statements() if crate == ROWS and "lo >= " in it and "peer" not in it]
+            self.assertEqual(len(texts), 1)
+            self.assertIn("USING COVERING INDEX", " ".join(plan_of(link, texts[0])))

@@ -113,7 +113,7 @@ fn family_of(number: i64) -> Family {
 }
 
 /// The prefix in three columns of a row.
-fn prefix_at(row: &Row, at: i32) -> Prefix {
+pub fn prefix_at(row: &Row, at: i32) -> Prefix {
     let prefix = Prefix {
         family: family_of(row.int(at)),
         number: u128::from_be_bytes(row.array(at + 1)),

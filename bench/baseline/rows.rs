@@ -4,7 +4,7 @@
 //! index: it reads a range of rowids then, as `wgr` does. When leases end is read by a statement of its own: `wgr`
 //! learns it as it tests all rows.
 
-use crate::network::{allowed_at, family_value, number_of, peer_at, peer_id, settled};
+use crate::network::{allowed_at, family_value, number_of, peer_at, peer_id, prefix_at, settled};
 use crate::network::{Change, Network, Refusal, Wanted};
 use crate::prefix::Prefix;
 use crate::sqlite::{Connection, Value};
@@ -46,12 +46,18 @@ fn count(db: &mut Connection, network: u32, next: u32) -> usize {
 }
 
 /// The lowest address that the pool may give and that neither a peer nor a route in the pool has, but for those of
-/// the expired peers. Rows are read up to the first gap.
+/// the expired peers. Rows are read up to the first gap. Where nobody is expired, it doesn't matter to which peer a
+/// row leads, so that the key alone is read.
 fn lowest_free(db: &mut Connection, network: &Network, expired: &[u32]) -> Option<Prefix> {
     let expired: HashSet<u32> = expired.iter().copied().collect();
     let mut free = network.first_address();
+    let sql = if expired.is_empty() {
+        "SELECT network, family, lo, length FROM allowed WHERE network = ?1 AND family = ?2 AND lo >= ?3 AND lo <= ?4 AND length >= ?5 ORDER BY lo, length"
+    } else {
+        "SELECT network, family, lo, length, hi, peer, kind FROM allowed WHERE network = ?1 AND family = ?2 AND lo >= ?3 AND lo <= ?4 AND length >= ?5 ORDER BY lo, length"
+    };
     db.walk(
-        "SELECT network, family, lo, length, hi, peer, kind FROM allowed WHERE network = ?1 AND family = ?2 AND lo >= ?3 AND lo <= ?4 AND length >= ?5 ORDER BY lo, length",
+        sql,
         &[
             word(network.id),
             family_value(network.pool.family),
@@ -60,7 +66,8 @@ fn lowest_free(db: &mut Connection, network: &Network, expired: &[u32]) -> Optio
             word(network.pool.length),
         ],
         |row| {
-            let (held, number) = allowed_at(row, network.id);
+            // No peer has the number 0.
+            let (held, number) = if expired.is_empty() { (prefix_at(row, 1), 0) } else { allowed_at(row, network.id) };
             if held.number > free {
                 return false;
             }

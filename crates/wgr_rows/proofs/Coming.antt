@@ -27,12 +27,12 @@ use Rattle.wgr_model.specs.Laws.{Has}
 use Rattle.wgr_model.proofs.OrderLemmas.{from_filter}
 use Rattle.wgr_model.proofs.SameLemmas.{has_permutation}
 use Rattle.wgr_columns.specs.Decode.{IsRegister, allowed_in, tables_of}
-use Rattle.wgr_rows.specs.Holding.{brief, hold_params, holds_in, holds_text, is_hold, last_number, staying, to_come}
+use Rattle.wgr_rows.specs.Holding.{Hold, brief, hold_params, holds_in, holds_text, is_hold, is_passed_over, last_number, staying, to_come}
 use Rattle.wgr_rows.specs.declared.progress.Progress.{Progress}
 use Rattle.wgr_rows.specs.declared.progress.Progress.TheVariants.{Running}
 use Rattle.wgr_rows.specs.Telling.{IsGood, IsToldTo}
 use Rattle.wgr_rows.proofs.Meaning.{query_ends}
-use Rattle.wgr_rows.proofs.HoldLemmas.{holds_are, holds_sorted, holds_listed}
+use Rattle.wgr_rows.proofs.HoldLemmas.{held, held_read, holds_are, holds_sorted, holds_listed}
 
 module _ {X Y : Type 0} (f : X → Y) where
   drop_there : (front : List X) (x : X) (tail : List X) → drop (length front) (map f ((front ++ x ∷ []) ++ tail)) ≡ f x ∷ drop (suc (length front)) (map f ((front ++ x ∷ []) ++ tail))
@@ -69,14 +69,14 @@ later family a (b ∷ bs) is same up =
     let begin = ap first_rank alike in
     (omega (arith, low, begin), later family a bs is same.1 up.1)
 
-abbrev pub spans : ℕ → List AllowedRow → List Span
-spans network rows = map (λ x. x.0) (map (brief network) rows)
+abbrev pub spans : List Hold → List Span
+spans holds = map (λ x. x.0) holds
 
-rises_from : (network : ℕ) (family : Family) (floor : ℕ) (rows : List AllowedRow) → AllByRecursion (λ a. a.prefix.address.family ≡ family) rows → AllByRecursion (λ a. floor ≤ rank a.prefix.address) rows
-    → IsStrictlySortedBy prefix_cmp (map (λ a. prefix_key a.prefix) rows) → RisesFrom floor (spans network rows)
+rises_from : (shows_peers : Bool) (network : ℕ) (family : Family) (floor : ℕ) (rows : List AllowedRow) → AllByRecursion (λ a. a.prefix.address.family ≡ family) rows → AllByRecursion (λ a. floor ≤ rank a.prefix.address) rows
+    → IsStrictlySortedBy prefix_cmp (map (λ a. prefix_key a.prefix) rows) → RisesFrom floor (spans (map (brief shows_peers network) rows))
 unfolding IsStrictlySortedBy
-rises_from network family floor [] same from up = tt
-rises_from network family floor (a ∷ rows) same from up = (from.0, rises_from network family (rank a.prefix.address) rows same.1 (later family a rows same.0 same.1 up.0) up.1)
+rises_from shows_peers network family floor [] same from up = tt
+rises_from shows_peers network family floor (a ∷ rows) same from up = (from.0, rises_from shows_peers network family (rank a.prefix.address) rows same.1 (later family a rows same.0 same.1 up.0) up.1)
 
 all_from : {A : Type 0} (P : A → Type 0) (xs : List A) → ((a : A) → Has xs a → P a) → AllByRecursion P xs
 all_from P [] h = tt
@@ -95,113 +95,134 @@ pool_high p is fits =
 
 -- ---- a query that runs
 
-module _ {S : Type 0} (g : Ghosts S) (h : Held S) (register : IsRegister (state g h).now) (keyed : AreKeyed (tables_of (state g h).now)) (network : ℕ) (pool : PrefixValue) (low : pool.address.number < 2 ^ 128) (high : last_number pool < 2 ^ 128) where
-  abbrev holds : List AllowedRow
-  holds = holds_in (tables_of (state g h).now) network pool
+module _ {S : Type 0} (g : Ghosts S) (h : Held S) (shows_peers : Bool) (register : IsRegister (state g h).now) (keyed : AreKeyed (tables_of (state g h).now)) (network : ℕ) (pool : PrefixValue) (low : pool.address.number < 2 ^ 128) (high : last_number pool < 2 ^ 128) where
+  abbrev text : List ℕ
+  text = holds_text shows_peers
+
+  abbrev params : Row
+  params = hold_params network pool
+
+  abbrev read : Row → Hold
+  read row = brief shows_peers network (allowed_in row)
+
+  abbrev holds : List Hold
+  holds = map (brief shows_peers network) (holds_in (tables_of (state g h).now) network pool)
+
+  holds_read : (new : State) (rows : List Row) → Shown text params (state g h) new rows → holds ≡ map read rows
+  holds_read new rows shown =
+      ap (map (brief shows_peers network)) (holds_are shows_peers (state g h) new register network pool low high rows shown keyed) ∙ held_read shows_peers (state g h) new register network pool low high rows shown
 
   unchanged : IsTrue (state g h).is_open → IsUnchanged (state g h) (state g h)
   unchanged live = (record { was_open = live; is_open = live; now_is = refl; committed_is = refl; mode = refl }, record { changes = refl; last_rowid = refl }, refl)
 
   -- rows that were given go on to all of them
-  pub goes_on : (front : List Row) → HasGiven g holds_text (hold_params network pool) h front → (tail : List Row) × Shown holds_text (hold_params network pool) (state g h) (state g h) (front ++ tail)
+  pub goes_on : (front : List Row) → HasGiven g text params h front → (tail : List Row) × Shown text params (state g h) (state g h) (front ++ tail)
   unfolding HasGiven
   goes_on front given =
       let s = state g h in
-      begins_shown holds_text (hold_params network pool) s s front (given_begin g holds_text (hold_params network pool) h front given) (unchanged given.0.is_open) (λ c db it source. query_ends s.now.schema register.others register.schema_is c it.is db _)
+      begins_shown text params s s front (given_begin g text params h front given) (unchanged given.0.is_open) (λ c db it source. query_ends s.now.schema register.others register.schema_is shows_peers c it.is db _)
 
-  pub row_given : (front : List Row) (row : Row) → HasGiven g holds_text (hold_params network pool) h (front ++ row ∷ []) → drop (length front) holds ≡ allowed_in row ∷ drop (suc (length front)) holds
+  pub row_given : (front : List Row) (row : Row) → HasGiven g text params h (front ++ row ∷ []) → drop (length front) holds ≡ read row ∷ drop (suc (length front)) holds
   row_given front row given =
       let on = goes_on (front ++ row ∷ []) given in
-      let are = holds_are (state g h) (state g h) register network pool low high ((front ++ row ∷ []) ++ on.0) on.1 keyed in
-      subst (λ l. drop (length front) l ≡ allowed_in row ∷ drop (suc (length front)) l) (sym are) (drop_there allowed_in front row on.0)
+      let are = holds_read (state g h) ((front ++ row ∷ []) ++ on.0) on.1 in
+      subst (λ l. drop (length front) l ≡ read row ∷ drop (suc (length front)) l) (sym are) (drop_there read front row on.0)
 
-  pub none_left : (new : State) (front : List Row) → Shown holds_text (hold_params network pool) (state g h) new front → drop (length front) holds ≡ []
-  none_left new front shown = ap (drop (length front)) (holds_are (state g h) new register network pool low high front shown keyed) ∙ drop_all allowed_in front
+  pub none_left : (new : State) (front : List Row) → Shown text params (state g h) new front → drop (length front) holds ≡ []
+  none_left new front shown = ap (drop (length front)) (holds_read new front shown) ∙ drop_all read front
 
   -- they rise from the first on
-  pub begins : HasGiven g holds_text (hold_params network pool) h [] → RisesFrom 0 (spans network holds)
+  pub begins : HasGiven g text params h [] → RisesFrom 0 (spans holds)
   begins given =
       let on = goes_on [] given in
       let s = state g h in
-      let are = holds_are s s register network pool low high on.0 on.1 keyed in
-      let up = holds_sorted s s register network pool low high on.0 on.1 keyed in
+      let rows = held shows_peers s s register network pool low high on.0 on.1 in
+      let are = holds_are shows_peers s s register network pool low high on.0 on.1 keyed in
+      let up = holds_sorted shows_peers s s register network pool low high on.0 on.1 keyed in
       let q = is_hold network pool in
-      let listed = holds_listed s s register network pool low high on.0 on.1 in
-      let same : AllByRecursion (λ (a : AllowedRow). a.prefix.address.family ≡ pool.address.family) (map allowed_in on.0) = all_from _ _ (λ a k.
+      let listed = holds_listed shows_peers s s register network pool low high on.0 on.1 in
+      let same : AllByRecursion (λ (a : AllowedRow). a.prefix.address.family ≡ pool.address.family) rows = all_from _ _ (λ a k.
       let it = from_filter q (tables_of s.now).allowed a (has_permutation _ _ a (IsPermutation-sym _ _ listed) k) in
       one_family a.prefix.address.family pool.address.family (eqb-true _ _ (both _ _ (both _ _ it.1).1).0)) in
-      subst (λ l. RisesFrom 0 (spans network l)) (sym are) (rises_from network pool.address.family 0 (map allowed_in on.0) same (all_from _ _ (λ a k. omega arith)) up)
+      subst (λ l. RisesFrom 0 (spans (map (brief shows_peers network) l))) (sym are) (rises_from shows_peers network pool.address.family 0 rows same (all_from _ _ (λ a k. omega arith)) up)
 
 -- ---- one row more
 
 pub good_back : (a b : State) → Survives a b (λ _. ⊥) → IsUnchanged a b → IsGood b → IsGood a
 good_back a b survives same good = (omega (arith, survives.clean, good.0), λ live. subst (λ (d : Database). IsRegister d × AreKeyed (tables_of d)) same.0.now_is (good.1 same.0.is_open))
 
-module _ {S : Type 0} (g : Ghosts S) (old new : Held S) (same : IsUnchanged (state g old) (state g new)) (good : IsGood (state g new)) (network : ℕ) (pool : PrefixValue) (is : IsPrefix pool) (fits : IsAddr pool.address) (taken : ℕ) (last : Option AddrValue) (told : IsToldTo g old network pool taken last) where
-  abbrev had : List AllowedRow
-  had = drop taken (holds_in (tables_of (state g old).now) network pool)
+module _ {S : Type 0} (g : Ghosts S) (old new : Held S) (same : IsUnchanged (state g old) (state g new)) (good : IsGood (state g new)) (shows_peers : Bool) (network : ℕ) (pool : PrefixValue) (is : IsPrefix pool) (fits : IsAddr pool.address) (taken : ℕ) (last : Option AddrValue) (told : IsToldTo g old shows_peers network pool taken last) where
+  abbrev holds_of : Database → List Hold
+  holds_of d = map (brief shows_peers network) (holds_in (tables_of d) network pool)
+
+  abbrev had : List Hold
+  had = drop taken (holds_of (state g old).now)
 
   -- what is left after one row more
-  abbrev left : List AllowedRow
-  left = drop (taken + 1) (holds_in (tables_of (state g new).now) network pool)
+  abbrev left : List Hold
+  left = drop (taken + 1) (holds_of (state g new).now)
 
-  pub parts : (row : Row) → HasGiven g holds_text (hold_params network pool) new (told.given ++ row ∷ []) → had ≡ allowed_in row ∷ left
+  abbrev HaveGiven : Row → Type 0
+  HaveGiven row = HasGiven g (holds_text shows_peers) (hold_params network pool) new (told.given ++ row ∷ [])
+
+  pub parts : (row : Row) → HaveGiven row → had ≡ brief shows_peers network (allowed_in row) ∷ left
   parts row given =
       let r = good.1 same.0.is_open in
-      let it = row_given g new r.0 r.1 network pool (pool_low pool fits) (pool_high pool is fits) told.given row given in
+      let it = row_given g new shows_peers r.0 r.1 network pool (pool_low pool fits) (pool_high pool is fits) told.given row given in
+      let first = brief shows_peers network (allowed_in row) in
       let one : suc taken ≡ taken + 1 = omega arith in
-      subst (λ (d : Database). drop taken (holds_in (tables_of d) network pool) ≡ allowed_in row ∷ left) same.0.now_is
-      (subst (λ n. drop taken (holds_in (tables_of (state g new).now) network pool) ≡ allowed_in row ∷ drop n (holds_in (tables_of (state g new).now) network pool)) one
-      (subst (λ n. drop n (holds_in (tables_of (state g new).now) network pool) ≡ allowed_in row ∷ drop (suc n) (holds_in (tables_of (state g new).now) network pool)) told.count it))
+      subst (λ (d : Database). drop taken (holds_of d) ≡ first ∷ left) same.0.now_is
+      (subst (λ n. drop taken (holds_of (state g new).now) ≡ first ∷ drop n (holds_of (state g new).now)) one
+      (subst (λ n. drop n (holds_of (state g new).now) ≡ first ∷ drop (suc n) (holds_of (state g new).now)) told.count it))
 
-  pub first_is : (row : Row) (hold : Span × ℕ) → HasGiven g holds_text (hold_params network pool) new (told.given ++ row ∷ []) → hold ≡ brief network (allowed_in row) → map (brief network) had ≡ hold ∷ map (brief network) left
-  first_is row hold given is = ap (map (brief network)) (parts row given) ∙ ap (λ x. x ∷ map (brief network) left) (sym is)
+  pub first_is : (row : Row) (hold : Hold) → HaveGiven row → hold ≡ brief shows_peers network (allowed_in row) → had ≡ hold ∷ left
+  first_is row hold given is = parts row given ∙ ap (λ x. x ∷ left) (sym is)
 
-  pub told_next : (row : Row) (hold : Span × ℕ) → HasGiven g holds_text (hold_params network pool) new (told.given ++ row ∷ []) → hold ≡ brief network (allowed_in row) → IsToldTo g new network pool (taken + 1) (Some hold.0.lo)
+  pub told_next : (row : Row) (hold : Hold) → HaveGiven row → hold ≡ brief shows_peers network (allowed_in row) → IsToldTo g new shows_peers network pool (taken + 1) (Some hold.0.lo)
   told_next row hold given is = record {
     given = told.given ++ row ∷ [];
     runs = given;
     count = longer told.given row ∙ ap (λ n. n + 1) told.count;
-    rises = subst (λ (x : Span × ℕ). RisesFrom (rank x.0.lo) (spans network left)) (sym is) (subst (λ l. RisesFrom (reached last) (spans network l)) (parts row given) told.rises).1;
+    rises = subst (λ (x : Hold). RisesFrom (rank x.0.lo) (spans left)) (sym is) (subst (λ l. RisesFrom (reached last) (spans l)) (parts row given) told.rises).1;
   }
     where
       longer : (xs : List Row) (x : Row) → length (xs ++ x ∷ []) ≡ length xs + 1
       longer [] x = refl
       longer (y ∷ xs) x = let e = longer xs x in omega (arith, e)
 
-  pub last_was : Shown holds_text (hold_params network pool) (state g old) (state g new) told.given → map (brief network) had ≡ []
+  pub last_was : Shown (holds_text shows_peers) (hold_params network pool) (state g old) (state g new) told.given → had ≡ []
   last_was shown =
       let r = subst (λ (d : Database). IsRegister d × AreKeyed (tables_of d)) same.0.now_is (good.1 same.0.is_open) in
-      let it = none_left g old r.0 r.1 network pool (pool_low pool fits) (pool_high pool is fits) (state g new) told.given shown in
-      ap (map (brief network)) (subst (λ n. drop n (holds_in (tables_of (state g old).now) network pool) ≡ []) told.count it)
+      let it = none_left g old shows_peers r.0 r.1 network pool (pool_low pool fits) (pool_high pool is fits) (state g new) told.given shown in
+      subst (λ n. drop n (holds_of (state g old).now) ≡ []) told.count it
 
 -- what is to come of a reading that runs
-pub come_as : (at : Progress) (t : Tables) (network : ℕ) (pool : PrefixValue) (taken : ℕ) (ys : List (Span × ℕ)) → at ≡ Running → to_come Running t network pool taken ≡ ys → to_come at t network pool taken ≡ ys
-come_as at t network pool taken ys is come = subst (λ (a : Progress). to_come a t network pool taken ≡ ys) (sym is) come
+pub come_as : (shows_peers : Bool) (at : Progress) (t : Tables) (network : ℕ) (pool : PrefixValue) (taken : ℕ) (ys : List Hold) → at ≡ Running → to_come shows_peers Running t network pool taken ≡ ys → to_come shows_peers at t network pool taken ≡ ys
+come_as shows_peers at t network pool taken ys is come = subst (λ (a : Progress). to_come shows_peers a t network pool taken ≡ ys) (sym is) come
 
 -- one that leads to an expired peer adds nothing
-pub passed_over : (expired : ℕ → Bool) (xs ys : List (Span × ℕ)) (h : Span × ℕ) → xs ≡ h ∷ ys → expired h.1 ≡ true → staying expired xs ≡ staying expired ys
+pub passed_over : (expired : ℕ → Bool) (xs ys : List Hold) (h : Hold) → xs ≡ h ∷ ys → is_passed_over expired h.1 ≡ true → staying expired xs ≡ staying expired ys
 passed_over expired xs ys h is gone = ap (staying expired) is ∙ ap (λ b. if b then staying expired ys else h.0 ∷ staying expired ys) gone
 
 -- ---- the start
 
-pub is_open : {S : Type 0} (g : Ghosts S) (h : Held S) (params : Row) (front : List Row) → HasGiven g holds_text params h front → IsTrue (state g h).is_open
+pub is_open : {S : Type 0} (g : Ghosts S) (h : Held S) (query : List ℕ) (values : Row) (front : List Row) → HasGiven g query values h front → IsTrue (state g h).is_open
 unfolding HasGiven
-is_open g h params front given = given.0.is_open
+is_open g h query values front given = given.0.is_open
 
 -- a query that has given nothing yet has all to give
-pub told_first : {S : Type 0} (g : Ghosts S) (h : Held S) (network : ℕ) (pool : PrefixValue) → IsPrefix pool → IsAddr pool.address → HasGiven g holds_text (hold_params network pool) h [] → IsGood (state g h) → IsToldTo g h network pool 0 None
-told_first g h network pool is fits given good =
-    let r = good.1 (is_open g h (hold_params network pool) [] given) in
-    record { given = []; runs = given; count = refl; rises = begins g h r.0 r.1 network pool (pool_low pool fits) (pool_high pool is fits) given }
+pub told_first : {S : Type 0} (g : Ghosts S) (h : Held S) (shows_peers : Bool) (network : ℕ) (pool : PrefixValue) → IsPrefix pool → IsAddr pool.address → HasGiven g (holds_text shows_peers) (hold_params network pool) h [] → IsGood (state g h) → IsToldTo g h shows_peers network pool 0 None
+told_first g h shows_peers network pool is fits given good =
+    let r = good.1 (is_open g h (holds_text shows_peers) (hold_params network pool) [] given) in
+    record { given = []; runs = given; count = refl; rises = begins g h shows_peers r.0 r.1 network pool (pool_low pool fits) (pool_high pool is fits) given }
 
 -- the holding rows are those of the table, in their order
-pub holds_moved : {S : Type 0} (g : Ghosts S) (h : Held S) (network : ℕ) (pool : PrefixValue) → IsPrefix pool → IsAddr pool.address → HasGiven g holds_text (hold_params network pool) h [] → IsGood (state g h)
+pub holds_moved : {S : Type 0} (g : Ghosts S) (h : Held S) (shows_peers : Bool) (network : ℕ) (pool : PrefixValue) → IsPrefix pool → IsAddr pool.address → HasGiven g (holds_text shows_peers) (hold_params network pool) h [] → IsGood (state g h)
     → IsPermutation (filter (is_hold network pool) (tables_of (state g h).now).allowed) (holds_in (tables_of (state g h).now) network pool)
-holds_moved g h network pool is fits given good =
-    let r = good.1 (is_open g h (hold_params network pool) [] given) in
+holds_moved g h shows_peers network pool is fits given good =
+    let r = good.1 (is_open g h (holds_text shows_peers) (hold_params network pool) [] given) in
     let low = pool_low pool fits in
     let high = pool_high pool is fits in
     let s = state g h in
-    let on = goes_on g h r.0 r.1 network pool low high [] given in
-    subst (IsPermutation (filter (is_hold network pool) (tables_of s.now).allowed)) (sym (holds_are s s r.0 network pool low high on.0 on.1 r.1)) (holds_listed s s r.0 network pool low high on.0 on.1)
+    let on = goes_on g h shows_peers r.0 r.1 network pool low high [] given in
+    subst (IsPermutation (filter (is_hold network pool) (tables_of s.now).allowed)) (sym (holds_are shows_peers s s r.0 network pool low high on.0 on.1 r.1)) (holds_listed shows_peers s s r.0 network pool low high on.0 on.1)

@@ -36,15 +36,16 @@ params_are network p lo hi ends =
 
 module _ {S : Type 0} (g : Ghosts S) (old : Held S) (db : Database) (pending : List Written) (stood : Stands g old db pending) where
   -- a query that doesn't begin
-  pub failed_stands : (new : Held S) (params : Row) (quiet : IsQuiet (state g old)) → Survives (state g old) (state g new) (CommitsShowing holds_text params (state g old)) → new.in_transaction ≡ false
-      → (HasCleanDisk (state g new) → (e : Error) × FailsToQuery holds_text params (state g old) (state g new) e) → Stands g new db pending
-  failed_stands new params quiet survives idle failed =
+  pub failed_stands : (shows_peers : Bool) (new : Held S) (params : Row) (quiet : IsQuiet (state g old)) → Survives (state g old) (state g new) (CommitsShowing (holds_text shows_peers) params (state g old)) → new.in_transaction ≡ false
+      → (HasCleanDisk (state g new) → (e : Error) × FailsToQuery (holds_text shows_peers) params (state g old) (state g new) e) → Stands g new db pending
+  failed_stands shows_peers new params quiet survives idle failed =
       stands_kept IsRegister Writes g old new db pending stood (λ clean live.
       let f = failed clean in
       let before : HasCleanDisk (state g old) = omega (arith, survives.clean, clean) in
-      let was = query_open holds_text params (state g old) (state g new) (λ (rows : List Row). rows) (Err f.0) tt (inl f.1) live in
-      let plain = plain_at IsRegister Writes g old db pending (schema_with stood.sound.others) holds_text stood.sound.schema_is stood before was (holds_ask stood.sound.others).means.plain in
-      (was, fails_same holds_text params (state g old) (state g new) plain quiet f.0 f.1 live)) idle (commits_nothing params (state g old) (state g new) survives)
+      let text = holds_text shows_peers in
+      let was = query_open text params (state g old) (state g new) (λ (rows : List Row). rows) (Err f.0) tt (inl f.1) live in
+      let plain = plain_at IsRegister Writes g old db pending (schema_with stood.sound.others) text stood.sound.schema_is stood before was (holds_ask stood.sound.others shows_peers).means.plain in
+      (was, fails_same text params (state g old) (state g new) plain quiet f.0 f.1 live)) idle (commits_nothing shows_peers params (state g old) (state g new) survives)
 
   -- what stays stands
   pub stays_stands : (new : Held S) → IsQuiet (state g old) → Stays g old new → Stands g new db pending
@@ -55,19 +56,19 @@ module _ {S : Type 0} (g : Ghosts S) (old : Held S) (db : Database) (pending : L
   stands_good keyed clean = (clean, λ live. subst (λ (d : Database). IsRegister d × AreKeyed (tables_of d)) (sym (stood.shows clean live)) (stood.sound, keyed))
 
 -- a query that begins
-pub begun_stays : {S : Type 0} (g : Ghosts S) (old new : Held S) (params : Row) → (old.in_transaction ≡ false → new.in_transaction ≡ false) → Survives (state g old) (state g new) (CommitsShowing holds_text params (state g old))
-    → (HasCleanDisk (state g new) → HasBegun g holds_text params old new) → Stays g old new
-begun_stays g old new params mode survives started = (
+pub begun_stays : {S : Type 0} (g : Ghosts S) (shows_peers : Bool) (text : List ℕ) → text ≡ holds_text shows_peers → (old new : Held S) (params : Row) → (old.in_transaction ≡ false → new.in_transaction ≡ false) → Survives (state g old) (state g new) (CommitsShowing text params (state g old))
+    → (HasCleanDisk (state g new) → HasBegun g text params old new) → Stays g old new
+begun_stays g shows_peers text is old new params mode survives started = (
   mode,
-  commits_nothing params (state g old) (state g new) survives,
-  (λ quiet clean live. let it = (begun g params old new (started clean)).1.0 in (it.was_open, it.now_is, it.committed_is)),
+  commits_nothing shows_peers params (state g old) (state g new) (subst (λ t. Survives (state g old) (state g new) (CommitsShowing t params (state g old))) is survives),
+  (λ quiet clean live. let it = (begun shows_peers g params old new (subst (λ t. HasBegun g t params old new) is (started clean))).1.0 in (it.was_open, it.now_is, it.committed_is)),
 )
 
 -- what was found by the rows that the connection shows was found by those of the register
-pub found_in : {E : Type 0} (pool : PrefixValue) (expired : ℕ → Bool) (shown db : Database) (network : ℕ) (r : Result (Option AddrValue) E) → shown ≡ db
-    → IfOk r (λ found. MatchOption found (IsFull pool (staying expired (to_come Running (tables_of shown) network pool 0))) (IsLowestFree pool (staying expired (to_come Running (tables_of shown) network pool 0))))
-    → IfOk r (λ found. MatchOption found (IsFull pool (staying expired (to_come Running (tables_of db) network pool 0))) (IsLowestFree pool (staying expired (to_come Running (tables_of db) network pool 0))))
-found_in pool expired shown db network r is = subst (λ (d : Database). IfOk r (λ found. MatchOption found (IsFull pool (staying expired (to_come Running (tables_of d) network pool 0))) (IsLowestFree pool (staying expired (to_come Running (tables_of d) network pool 0))))) is
+pub found_in : {E : Type 0} (shows_peers : Bool) (pool : PrefixValue) (expired : ℕ → Bool) (shown db : Database) (network : ℕ) (r : Result (Option AddrValue) E) → shown ≡ db
+    → IfOk r (λ found. MatchOption found (IsFull pool (staying expired (to_come shows_peers Running (tables_of shown) network pool 0))) (IsLowestFree pool (staying expired (to_come shows_peers Running (tables_of shown) network pool 0))))
+    → IfOk r (λ found. MatchOption found (IsFull pool (staying expired (to_come shows_peers Running (tables_of db) network pool 0))) (IsLowestFree pool (staying expired (to_come shows_peers Running (tables_of db) network pool 0))))
+found_in shows_peers pool expired shown db network r is = subst (λ (d : Database). IfOk r (λ found. MatchOption found (IsFull pool (staying expired (to_come shows_peers Running (tables_of d) network pool 0))) (IsLowestFree pool (staying expired (to_come shows_peers Running (tables_of d) network pool 0))))) is
 
 -- where the register stands, the rows are sound
 pub stands_sound : {S : Type 0} (g : Ghosts S) (old : Held S) (db : Database) (pending : List Written) → Stands g old db pending → (network : ℕ) (pool : PrefixValue) (w : NetworkRow) → AreConsistent (tables_of db) → Has (tables_of db).networks w → w.id ≡ network → w.pool ≡ pool → IsQuiet (state g old)

@@ -88,12 +88,12 @@ module _ (network : ℕ) (pool : PrefixValue) (is : IsPrefix pool) where
 -- ---- spans that stay
 
 module _ (ex : ℕ → Bool) (network : ℕ) where
-  held_some : (rows : List AllowedRow) (b : AddrValue) → IsHeld (staying ex (map (brief network) rows)) b → (a : AllowedRow) × Has rows a × (ex (number_in network a.peer) ≡ false) × IsWithin (span_of a.prefix) b
+  held_some : (rows : List AllowedRow) (b : AddrValue) → IsHeld (staying ex (map (brief true network) rows)) b → (a : AllowedRow) × Has rows a × (ex (number_in network a.peer) ≡ false) × IsWithin (span_of a.prefix) b
   held_some [] b h = elim h [ ]
   held_some (a ∷ rows) b h = go (ex (number_in network a.peer)) refl h (held_some rows b)
     where
       rest : List Span
-      rest = staying ex (map (brief network) rows)
+      rest = staying ex (map (brief true network) rows)
 
       go : (e : Bool) → ex (number_in network a.peer) ≡ e → IsHeld (if e then rest else span_of a.prefix ∷ rest) b → (IsHeld rest b → (x : AllowedRow) × Has rows x × (ex (number_in network x.peer) ≡ false) × IsWithin (span_of x.prefix) b)
           → (x : AllowedRow) × Has (a ∷ rows) x × (ex (number_in network x.peer) ≡ false) × IsWithin (span_of x.prefix) b
@@ -101,14 +101,14 @@ module _ (ex : ℕ → Bool) (network : ℕ) where
       go false is (inl within) later = (a, inl refl, is, within)
       go false is (inr h) later = let it = later h in (it.0, inr it.1, it.2, it.3)
 
-  some_held : (rows : List AllowedRow) (a : AllowedRow) (b : AddrValue) → Has rows a → ex (number_in network a.peer) ≡ false → IsWithin (span_of a.prefix) b → IsHeld (staying ex (map (brief network) rows)) b
+  some_held : (rows : List AllowedRow) (a : AllowedRow) (b : AddrValue) → Has rows a → ex (number_in network a.peer) ≡ false → IsWithin (span_of a.prefix) b → IsHeld (staying ex (map (brief true network) rows)) b
   some_held [] a b h lasts within = elim h [ ]
   some_held (x ∷ rows) a b (inl is) lasts within =
       let here : ex (number_in network x.peer) ≡ false = ap (λ (y : AllowedRow). ex (number_in network y.peer)) is ∙ lasts in
-      subst (λ e. IsHeld (if e then staying ex (map (brief network) rows) else span_of x.prefix ∷ staying ex (map (brief network) rows)) b) (sym here) (inl (subst (λ (y : AllowedRow). IsWithin (span_of y.prefix) b) (sym is) within))
+      subst (λ e. IsHeld (if e then staying ex (map (brief true network) rows) else span_of x.prefix ∷ staying ex (map (brief true network) rows)) b) (sym here) (inl (subst (λ (y : AllowedRow). IsWithin (span_of y.prefix) b) (sym is) within))
   some_held (x ∷ rows) a b (inr h) lasts within = go (ex (number_in network x.peer)) (some_held rows a b h lasts within)
     where
-      go : (e : Bool) → IsHeld (staying ex (map (brief network) rows)) b → IsHeld (if e then staying ex (map (brief network) rows) else span_of x.prefix ∷ staying ex (map (brief network) rows)) b
+      go : (e : Bool) → IsHeld (staying ex (map (brief true network) rows)) b → IsHeld (if e then staying ex (map (brief true network) rows) else span_of x.prefix ∷ staying ex (map (brief true network) rows)) b
       go true later = later
       go false later = inr later
 
@@ -166,7 +166,7 @@ module _ (t : Tables) (is : AreConsistent t) (w : NetworkRow) (hw : Has t.networ
     lasts : (i : ℕ) → not (is_among removed i) ≡ true → ex i ≡ false
     lasts i e = tells i ∙ not_true (is_among removed i) e
 
-    to_held : IsHeld (staying ex (map (brief w.id) rows)) b → is_held left b ≡ true
+    to_held : IsHeld (staying ex (map (brief true w.id) rows)) b → is_held left b ≡ true
     to_held h =
         let a = held_some ex w.id rows b h in
         let it = from_filter (is_hold w.id w.pool) t.allowed a.0 (has_permutation rows (filter (is_hold w.id w.pool) t.allowed) a.0 (IsPermutation-sym _ _ same) a.1) in
@@ -190,10 +190,10 @@ module _ (t : Tables) (is : AreConsistent t) (w : NetworkRow) (hw : Has t.networ
               or_right (is_own left.peers b) (list_any in_route left.routes) (has_any in_route left.routes r (in_filter (λ q. not (is_among removed q.1)) n.routes r x.1 keeps) (ap₂ (λ x y. x && y) covered inside))
         ]
 
-    put : (a : AllowedRow) → Has t.allowed a → is_hold w.id w.pool a ≡ true → ex (number_in w.id a.peer) ≡ false → IsWithin (span_of a.prefix) b → IsHeld (staying ex (map (brief w.id) rows)) b
+    put : (a : AllowedRow) → Has t.allowed a → is_hold w.id w.pool a ≡ true → ex (number_in w.id a.peer) ≡ false → IsWithin (span_of a.prefix) b → IsHeld (staying ex (map (brief true w.id) rows)) b
     put a ha hold last within = some_held ex w.id rows a b (has_permutation (filter (is_hold w.id w.pool) t.allowed) rows a same (in_filter (is_hold w.id w.pool) t.allowed a ha hold)) last within
 
-    of_held : is_held left b ≡ true → IsHeld (staying ex (map (brief w.id) rows)) b
+    of_held : is_held left b ≡ true → IsHeld (staying ex (map (brief true w.id) rows)) b
     of_held h = elim (or_cases (is_own left.peers b) (list_any in_route left.routes) h) [
       | inl own ↦
           let x = any_has (λ p. same_address p.address b) left.peers own in
@@ -211,23 +211,32 @@ module _ (t : Tables) (is : AreConsistent t) (w : NetworkRow) (hw : Has t.networ
     ]
 
     -- the spans of the rows that stay have just the addresses that the live network holds
-    pub holds_are_held : (is_held (live_at n now) b ≡ true) ↔ IsHeld (staying ex (map (brief w.id) rows)) b
-    holds_are_held = subst (λ (m : NetworkValue). (is_held m b ≡ true) ↔ IsHeld (staying ex (map (brief w.id) rows)) b) (without_expired n now own_rules) (of_held, to_held)
+    pub holds_are_held : (is_held (live_at n now) b ≡ true) ↔ IsHeld (staying ex (map (brief true w.id) rows)) b
+    holds_are_held = subst (λ (m : NetworkValue). (is_held m b ≡ true) ↔ IsHeld (staying ex (map (brief true w.id) rows)) b) (without_expired n now own_rules) (of_held, to_held)
+
+-- rows that don't show their peers have the same spans, where no peer is expired
+staying_as : (shows_peers : Bool) (ex : ℕ → Bool) → (shows_peers ≡ false → (i : ℕ) → ex i ≡ false) → (network : ℕ) (rows : List AllowedRow) → staying ex (map (brief shows_peers network) rows) ≡ staying ex (map (brief true network) rows)
+staying_as true ex none network rows = refl
+staying_as false ex none network [] = refl
+staying_as false ex none network (a ∷ rows) =
+    let rest = staying ex (map (brief true network) rows) in
+    ap (λ l. span_of a.prefix ∷ l) (staying_as false ex none network rows) ∙ ap (λ b. if b then rest else span_of a.prefix ∷ rest) (sym (none refl (number_in network a.peer)))
 
 -- what is lowest of the free addresses by the rows is so of the live network
-lowest_is : (t : Tables) (is : AreConsistent t) (w : NetworkRow) (hw : Has t.networks w) (now : ℕ) (ex : ℕ → Bool) → ((i : ℕ) → ex i ≡ is_among (expired now (holding_of t w).network.peers) i)
+lowest_is : (shows_peers : Bool) (t : Tables) (is : AreConsistent t) (w : NetworkRow) (hw : Has t.networks w) (now : ℕ) (ex : ℕ → Bool) → (shows_peers ≡ false → (i : ℕ) → ex i ≡ false) → ((i : ℕ) → ex i ≡ is_among (expired now (holding_of t w).network.peers) i)
     → IsPermutation (filter (is_hold w.id w.pool) t.allowed) (holds_in t w.id w.pool) → (o : Option AddrValue)
-    → MatchOption o (IsFull w.pool (staying ex (to_come Running t w.id w.pool 0))) (IsLowestFree w.pool (staying ex (to_come Running t w.id w.pool 0))) → o ≡ lowest_free (live_at (holding_of t w).network now)
-lowest_is t is w hw now ex tells same o found =
-    found_is w.pool (is_held (live_at (holding_of t w).network now)) (staying ex (map (brief w.id) (holds_in t w.id w.pool))) o (rules t is w hw).pool (λ b fits. holds_are_held t is w hw now ex tells (holds_in t w.id w.pool) same b fits) found
+    → MatchOption o (IsFull w.pool (staying ex (to_come shows_peers Running t w.id w.pool 0))) (IsLowestFree w.pool (staying ex (to_come shows_peers Running t w.id w.pool 0))) → o ≡ lowest_free (live_at (holding_of t w).network now)
+lowest_is shows_peers t is w hw now ex none tells same o found =
+    let found' = subst (λ l. MatchOption o (IsFull w.pool l) (IsLowestFree w.pool l)) (staying_as shows_peers ex none w.id (holds_in t w.id w.pool)) found in
+    found_is w.pool (is_held (live_at (holding_of t w).network now)) (staying ex (map (brief true w.id) (holds_in t w.id w.pool))) o (rules t is w hw).pool (λ b fits. holds_are_held t is w hw now ex tells (holds_in t w.id w.pool) same b fits) found'
 
-pub lowest_at : (ex : ℕ → Bool) (shown db : Database) → shown ≡ db → (network : ℕ) (p pool : PrefixValue) → p ≡ pool → (w : NetworkRow) → w.id ≡ network → w.pool ≡ pool → (is : AreConsistent (tables_of db)) → Has (tables_of db).networks w → (now : ℕ)
+pub lowest_at : (shows_peers : Bool) (ex : ℕ → Bool) → (shows_peers ≡ false → (i : ℕ) → ex i ≡ false) → (shown db : Database) → shown ≡ db → (network : ℕ) (p pool : PrefixValue) → p ≡ pool → (w : NetworkRow) → w.id ≡ network → w.pool ≡ pool → (is : AreConsistent (tables_of db)) → Has (tables_of db).networks w → (now : ℕ)
     → ((i : ℕ) → ex i ≡ is_among (expired now (holding_of (tables_of db) w).network.peers) i)
     → IsPermutation (filter (is_hold network p) (tables_of shown).allowed) (holds_in (tables_of shown) network p) → (o : Option AddrValue)
-    → MatchOption o (IsFull pool (staying ex (to_come Running (tables_of db) network pool 0))) (IsLowestFree pool (staying ex (to_come Running (tables_of db) network pool 0))) → o ≡ lowest_free (live_at (holding_of (tables_of db) w).network now)
-lowest_at ex shown db shows network p pool same w id is_pool is here now tells moved o found =
+    → MatchOption o (IsFull pool (staying ex (to_come shows_peers Running (tables_of db) network pool 0))) (IsLowestFree pool (staying ex (to_come shows_peers Running (tables_of db) network pool 0))) → o ≡ lowest_free (live_at (holding_of (tables_of db) w).network now)
+lowest_at shows_peers ex none shown db shows network p pool same w id is_pool is here now tells moved o found =
     let moved' = subst (λ (d : Database). IsPermutation (filter (is_hold network p) (tables_of d).allowed) (holds_in (tables_of d) network p)) shows moved in
     let t = tables_of db in
     let moved'' : IsPermutation (filter (is_hold w.id w.pool) t.allowed) (holds_in t w.id w.pool) = subst₂ (λ i q. IsPermutation (filter (is_hold i q) t.allowed) (holds_in t i q)) (sym id) (same ∙ sym is_pool) moved' in
-    let found' = subst₂ (λ i q. MatchOption o (IsFull q (staying ex (to_come Running t i q 0))) (IsLowestFree q (staying ex (to_come Running t i q 0)))) (sym id) (sym is_pool) found in
-    lowest_is t is w here now ex tells moved'' o found'
+    let found' = subst₂ (λ i q. MatchOption o (IsFull q (staying ex (to_come shows_peers Running t i q 0))) (IsLowestFree q (staying ex (to_come shows_peers Running t i q 0)))) (sym id) (sym is_pool) found in
+    lowest_is shows_peers t is w here now ex none tells moved'' o found'

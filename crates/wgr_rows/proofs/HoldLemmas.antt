@@ -1,5 +1,5 @@
 -- What the query shows are the holding rows, in the order of their prefixes.
-use Rattle.std.proofs.Common.{◌≡◌, ℕ, zero, suc, pos, ◌+◌, ◌<◌, ◌^◌, ◌⊎◌, true, false, ◌&&◌, nat_eq, nat_le, List, [], ◌∷◌, map, filter, length, get_or, Ordering, Less, Equal, Greater, is_lt, IsPermutation, inl, inr, refl, sym, ap, ap₂, subst, ◌∙◌, arith, true≢false, eqb-true}
+use Rattle.std.proofs.Common.{◌≡◌, ℕ, zero, suc, pos, ◌+◌, ◌<◌, ◌^◌, ◌⊎◌, Bool, true, false, ◌&&◌, nat_eq, nat_le, List, [], ◌∷◌, map, filter, length, get_or, Ordering, Less, Equal, Greater, is_lt, IsPermutation, inl, inr, refl, sym, ap, ap₂, subst, ◌∙◌, arith, true≢false, eqb-true}
 use Rattle.std.specs.Prelude.{⊤}
 use Rattle.std.specs.List.{AllByRecursion, AllPairs, IsDistinct, list_all}
 use Rattle.std.specs.List.Sorted.{IsStrictlySortedBy}
@@ -32,21 +32,19 @@ use Rattle.wgr_model.proofs.GatherLemmas.{eqb_self, in_filter, in_sorted, prefix
 use Rattle.wgr_model.proofs.KeptLemmas.{distinct_filter}
 use Rattle.wgr_model.proofs.OrderLemmas.{from_filter}
 use Rattle.wgr_model.proofs.SameLemmas.{has_permutation}
-use Rattle.wgr_sql.specs.Effects.{Lists}
+use Rattle.wgr_sql.specs.Effects.{Lists, passing}
 use Rattle.wgr_sql.proofs.Answers.{answers, map-both}
 use Rattle.wgr_sql.proofs.KeyedLemmas.{has_moved}
-use Rattle.wgr_sql.proofs.RowLemmas.{equal_nats}
+use Rattle.wgr_sql.proofs.RowLemmas.{equal_nats, map_filter}
 use Rattle.wgr_sql.proofs.TableLemmas.{unmapped}
 use Rattle.wgr_sql.proofs.Values.{and_true}
 use Rattle.wgr_columns.specs.Layout.{schema_with}
 use Rattle.wgr_columns.specs.Decode.{IsRegister, allowed_in, bytes_at, bytes_of, family_of, number_at, number_of, tables_of}
-use Rattle.wgr_tables.proofs.ListedLemmas.{listed}
 use Rattle.wgr_columns.proofs.Statements.{rising}
-use Rattle.wgr_tables.proofs.Meanings.{allowed_places}
 use Rattle.wgr_tables.proofs.RouteRests.{allowed_sym}
 use Rattle.wgr_checks.proofs.TenantLemmas.{as_naturals}
-use Rattle.wgr_rows.specs.Holding.{hold_params, holds_in, holds_text, is_hold, last_number}
-use Rattle.wgr_rows.proofs.Meaning.{hold_names, holds_ask, of_holds}
+use Rattle.wgr_rows.specs.Holding.{brief, hold_params, holds_in, holds_text, is_hold, last_number}
+use Rattle.wgr_rows.proofs.Meaning.{hold_places, holds_ask, of_holds}
 use Rattle.wgr_rows.proofs.Spelled.{at_least, from_spelled, read_small, spelled_cmp, to_spelled}
 
 -- two rows of a network with one prefix have one key
@@ -73,7 +71,12 @@ place_there [] k d low = absurd (omega (arith, low))
 place_there (x ∷ xs) zero d low = inl refl
 place_there (x ∷ xs) (suc k) d low = inr (place_there xs k d (omega (arith, low)))
 
-module _ (old new : State) (register : IsRegister old.now) (network : ℕ) (pool : PrefixValue) (low : pool.address.number < 2 ^ 128) (high : last_number pool < 2 ^ 128) (rows : List Row) (shown : Shown holds_text (hold_params network pool) old new rows) where
+-- what is read of a row that is shown is what is read of the row in the table
+as_there : (shows_peers : Bool) (network : ℕ) (params r : Row) → brief shows_peers network (allowed_in (eval_all (hold_places shows_peers) (params ∷ r ∷ []))) ≡ brief shows_peers network (allowed_in r)
+as_there true network params r = refl
+as_there false network params r = refl
+
+module _ (shows_peers : Bool) (old new : State) (register : IsRegister old.now) (network : ℕ) (pool : PrefixValue) (low : pool.address.number < 2 ^ 128) (high : last_number pool < 2 ^ 128) (rows : List Row) (shown : Shown (holds_text shows_peers) (hold_params network pool) old new rows) where
   abbrev params : Row
   params = hold_params network pool
 
@@ -102,16 +105,31 @@ module _ (old new : State) (register : IsRegister old.now) (network : ℕ) (pool
       let five : is_true (binary (Compare Ge Binary) (column r 4) (Int (pos pool.length))) ≡ nat_le pool.length (number_at r 4) = ap (λ v. is_true (binary (Compare Ge Binary) v (Int (pos pool.length)))) (length_is r here) ∙ at_least (number_at r 4) pool.length in
       λ k. one k && (two k && (three k && (four k && (and_true (is_true (binary (Compare Ge Binary) (column r 4) (Int (pos pool.length)))) ∙ five) k)))
 
-  pub holds_listed : IsPermutation (filter (is_hold network pool) (tables_of old.now).allowed) (map allowed_in rows)
-  holds_listed = listed old new register holds_text params 10 of_holds allowed_places (rising 3 ∷ rising 4 ∷ []) hold_names (holds_ask register.others) rows shown allowed_in (is_hold network pool) (λ r. refl) passes
-
-  listing : Lists of_holds allowed_places (rising 3 ∷ rising 4 ∷ []) params table rows
+  pub listing : Lists of_holds (hold_places shows_peers) (rising 3 ∷ rising 4 ∷ []) params table rows
   listing =
-      let asks = holds_ask register.others in
-      answers 10 of_holds allowed_places (rising 3 ∷ rising 4 ∷ []) old.now.trees params rows (reads_as holds_text params old new (schema_with register.others) register.schema_is _ asks.means.command_is asks.means.plain asks.unlisted rows shown).answer
+      let asks = holds_ask register.others shows_peers in
+      answers 10 of_holds (hold_places shows_peers) (rising 3 ∷ rising 4 ∷ []) old.now.trees params rows (reads_as (holds_text shows_peers) params old new (schema_with register.others) register.schema_is _ asks.means.command_is asks.means.plain asks.unlisted rows shown).answer
 
-  all_read : map allowed_in rows ≡ map allowed_in listing.chosen
-  all_read = ap (map allowed_in) listing.shown ∙ map-both (λ r. eval_all allowed_places (params ∷ r ∷ [])) allowed_in listing.chosen
+  -- the table's rows that are shown, in their order
+  abbrev pub held : List AllowedRow
+  held = map allowed_in listing.chosen
+
+  pub held_read : map (brief shows_peers network) held ≡ map (λ r. brief shows_peers network (allowed_in r)) rows
+  held_read =
+      let read = λ (r : Row). brief shows_peers network (allowed_in r) in
+      map-both allowed_in (brief shows_peers network) listing.chosen
+      ∙ sym (λ k. map (λ r. as_there shows_peers network params r k) listing.chosen)
+      ∙ sym (map-both (λ r. eval_all (hold_places shows_peers) (params ∷ r ∷ [])) read listing.chosen)
+      ∙ ap (map read) (sym listing.shown)
+
+  pub holds_listed : IsPermutation (filter (is_hold network pool) (tables_of old.now).allowed) held
+  holds_listed =
+      let q = is_hold network pool in
+      let typed : map allowed_in (passing of_holds params table) ≡ filter q (map allowed_in table) = map_filter allowed_in (λ r. list_all (holds (params ∷ r ∷ [])) of_holds) q table passes in
+      subst (λ x. IsPermutation x held) typed (IsPermutation-map allowed_in _ _ listing.same)
+
+  pub as_many : length held ≡ length rows
+  as_many = length-map listing.chosen allowed_in ∙ sym (length-map listing.chosen (λ r. eval_all (hold_places shows_peers) (params ∷ r ∷ []))) ∙ ap length (sym listing.shown)
 
   abbrev pub IsChosen : Row → Type 0
   IsChosen r = there.Has table r × (is_hold network pool (allowed_in r) ≡ true)
@@ -122,9 +140,9 @@ module _ (old new : State) (register : IsRegister old.now) (network : ℕ) (pool
       (it.0, sym (passes r it.0) ∙ it.1)
 
   -- what is true of each that is chosen, as it is shown, is true of each row
-  pub chosen_each : (P : Row → Type 0) → ((x : Row) → IsChosen x → P (eval_all allowed_places (params ∷ x ∷ []))) → (r : Row) → there.Has rows r → P r
+  pub chosen_each : (P : Row → Type 0) → ((x : Row) → IsChosen x → P (eval_all (hold_places shows_peers) (params ∷ x ∷ []))) → (r : Row) → there.Has rows r → P r
   chosen_each P each r here =
-      let it = unmapped (λ x. eval_all allowed_places (params ∷ x ∷ [])) listing.chosen r (subst (λ l. there.Has l r) listing.shown here) in
+      let it = unmapped (λ x. eval_all (hold_places shows_peers) (params ∷ x ∷ [])) listing.chosen r (subst (λ l. there.Has l r) listing.shown here) in
       subst P (sym it.2) (each it.0 (chosen_is it.0 it.1))
 
   abbrev key_in : Row → ℕ × ℕ × ℕ
@@ -142,9 +160,8 @@ module _ (old new : State) (register : IsRegister old.now) (network : ℕ) (pool
       ∙ sym (ap (λ o. ordering_then o (ordering_then (nat_cmp (number_of (bytes_at x 3)) (number_of (bytes_at y 3))) (nat_cmp (number_at x 4) (number_at y 4)))) tie)
 
   module _ (keyed : AreKeyed (tables_of old.now)) where
-    apart : IsDistinct same_allowed (map allowed_key (map allowed_in listing.chosen))
-    apart = subst (λ l. IsDistinct same_allowed (map allowed_key l)) all_read
-        (IsDistinct-IsPermutation same_allowed allowed_sym _ _ (IsPermutation-map allowed_key _ _ holds_listed) (distinct_filter same_allowed allowed_key (is_hold network pool) (tables_of old.now).allowed keyed.allowed_keys))
+    apart : IsDistinct same_allowed (map allowed_key held)
+    apart = IsDistinct-IsPermutation same_allowed allowed_sym _ _ (IsPermutation-map allowed_key _ _ holds_listed) (distinct_filter same_allowed allowed_key (is_hold network pool) (tables_of old.now).allowed keyed.allowed_keys)
 
     abbrev IsNext : Row → Row → Type 0
     IsNext x y = prefix_cmp (key_in x) (key_in y) ≡ Less
@@ -169,18 +186,17 @@ module _ (old new : State) (register : IsRegister old.now) (network : ℕ) (pool
           | inr tie ↦ absurd (true≢false (sym (key_tells network (allowed_in x) (allowed_in y) (both _ _ here.1).0 (both _ _ here'.1).0 (prefix_exact (key_in x) (key_in y) tie)) ∙ other))
         ]
 
-    pub holds_sorted : IsStrictlySortedBy prefix_cmp (map (λ a. prefix_key a.prefix) (map allowed_in rows))
+    pub holds_sorted : IsStrictlySortedBy prefix_cmp (map (λ a. prefix_key a.prefix) held)
     holds_sorted =
         let pairs : AllPairs IsNext listing.chosen = pairs_from_adjacent IsNext listing.chosen (λ x y z. prefix_total.trans (key_in x) (key_in y) (key_in z)) next in
-        subst (λ l. IsStrictlySortedBy prefix_cmp (map (λ (a : AllowedRow). prefix_key a.prefix) l)) (sym all_read)
-        (subst (IsStrictlySortedBy prefix_cmp) (sym (map-both allowed_in (λ a. prefix_key a.prefix) listing.chosen)) (in_sorted prefix_cmp key_in IsNext (λ _. ⊤) (λ x y _ _ is. is) listing.chosen (everywhere listing.chosen) pairs))
+        subst (IsStrictlySortedBy prefix_cmp) (sym (map-both allowed_in (λ a. prefix_key a.prefix) listing.chosen)) (in_sorted prefix_cmp key_in IsNext (λ _. ⊤) (λ x y _ _ is. is) listing.chosen (everywhere listing.chosen) pairs)
 
     -- the rows are all that the tables have, in their order
-    pub holds_are : holds_in (tables_of old.now) network pool ≡ map allowed_in rows
+    pub holds_are : holds_in (tables_of old.now) network pool ≡ held
     holds_are =
         let t = tables_of old.now in
         let q = is_hold network pool in
-        let xs = map allowed_in rows in
+        let xs = held in
         collected prefix_cmp prefix_total prefix_exact (λ a. prefix_key a.prefix) q (λ a. prefix_key a.prefix) (λ a. a) (λ a. a) allowed_key same_allowed t.allowed xs
         (λ a b x y e. key_tells network a b (both _ _ x).0 (both _ _ y).0 e) keyed.allowed_keys holds_sorted
         (λ v k. let it = from_filter q t.allowed v (has_permutation xs (filter q t.allowed) v (IsPermutation-sym _ _ holds_listed) k) in (it.0, it.1, refl, refl))

@@ -1,6 +1,5 @@
 -- A row that holds, where the rows are consistent, has its prefix and the id of its peer.
-use Rattle.std.proofs.Common.{◌≡◌, ◌<◌, ◌^◌, ◌++◌, ◌≤◌, ℕ, pos, List, [], ◌∷◌, map, length, nat_eq, inl, inr, refl, sym, ap, ◌∙◌, arith, eqb-true, length-append}
-use Rattle.std.proofs.Math.ListN.{length-map}
+use Rattle.std.proofs.Common.{◌≡◌, ◌<◌, ◌^◌, ◌++◌, ◌≤◌, ℕ, Bool, true, false, pos, List, [], ◌∷◌, length, nat_eq, inl, inr, refl, sym, ap, subst, ◌∙◌, arith, eqb-true, length-append}
 use Rattle.sqlite.specs.declared.types.Value.TheVariants.{Int}
 use Rattle.sqlite.specs.Order.{Row}
 use Rattle.sqlite.specs.Given.{HasGiven}
@@ -16,21 +15,25 @@ use Rattle.wgr_model.specs.Laws.{Has}
 use Rattle.wgr_model.specs.Rows.{peer_id}
 use Rattle.wgr_columns.specs.Decode.{IsRegister, allowed_in, number_at, tables_of}
 use Rattle.wgr_columns.specs.Fields.{IsPeerIdAt, IsPrefixAt}
-use Rattle.wgr_tables.proofs.Meanings.{allowed_places}
 use Rattle.wgr_rows.specs.Holding.{hold_params, holds_text, last_number, max_holds}
 use Rattle.wgr_rows.specs.Stopping.{HavePool}
-use Rattle.wgr_rows.proofs.HoldLemmas.{IsChosen, chosen_each, holds_listed}
+use Rattle.wgr_rows.proofs.HoldLemmas.{IsChosen, as_many, chosen_each, held, holds_listed}
+use Rattle.wgr_rows.proofs.Meaning.{hold_places}
 use Rattle.wgr_rows.proofs.HeldLemmas.{leads_to, masked_row}
 use Rattle.wgr_rows.proofs.Coming.{goes_on, pool_high, pool_low}
 use Rattle.wgr_rows.proofs.FewLemmas.{few_holds}
 use Rattle.wgr_rows.proofs.OwnRows.{among}
 
-module _ (old new : State) (register : IsRegister old.now) (network : ℕ) (pool : PrefixValue) (low : pool.address.number < 2 ^ 128) (high : last_number pool < 2 ^ 128) (rows : List Row) (shown : Shown holds_text (hold_params network pool) old new rows) (have : HavePool (tables_of old.now) network pool) where
-  abbrev chosen : Row → Type 0
-  chosen = IsChosen old new register network pool low high rows shown
+-- a row has its prefix, and the id of its peer, if that is shown
+abbrev pub IsRead : Bool → ℕ → Row → Type 0
+IsRead shows_peers network r = IsPrefixAt r 2 × (shows_peers ≡ true → IsPeerIdAt r 6 network)
 
-  abbrev as_shown : Row → Row
-  as_shown x = eval_all allowed_places (hold_params network pool ∷ x ∷ [])
+module _ (shows_peers : Bool) (old new : State) (register : IsRegister old.now) (network : ℕ) (pool : PrefixValue) (low : pool.address.number < 2 ^ 128) (high : last_number pool < 2 ^ 128) (rows : List Row) (shown : Shown (holds_text shows_peers) (hold_params network pool) old new rows) (have : HavePool (tables_of old.now) network pool) where
+  abbrev chosen : Row → Type 0
+  chosen = IsChosen shows_peers old new register network pool low high rows shown
+
+  abbrev as_shown : Bool → Row → Row
+  as_shown all x = eval_all (hold_places all) (hold_params network pool ∷ x ∷ [])
 
   there_is : (x : Row) → chosen x → Has (tables_of old.now).allowed (allowed_in x)
   there_is x is = among allowed_in (old.now.trees 10) x is.0
@@ -38,8 +41,8 @@ module _ (old new : State) (register : IsRegister old.now) (network : ℕ) (pool
   own : (x : Row) → chosen x → (allowed_in x).network ≡ have.row.id
   own x is = eqb-true (allowed_in x).network network (and_true (nat_eq (allowed_in x).network network) _ is.1).0 ∙ sym have.id_is
 
-  prefix_read : (x : Row) → chosen x → IsPrefixAt (as_shown x) 2
-  prefix_read x is =
+  prefix_there : (x : Row) → chosen x → IsPrefixAt (as_shown true x) 2
+  prefix_there x is =
       let w = register.written.allowed in
       let masked = masked_row (tables_of old.now) have.consistent have.row have.there (allowed_in x) (there_is x is) (own x is) in
       record {
@@ -48,37 +51,46 @@ module _ (old new : State) (register : IsRegister old.now) (network : ℕ) (pool
         prefix = masked.1;
       }
 
-  peer_read : (x : Row) → chosen x → IsPeerIdAt (as_shown x) 6 network
+  -- the columns of the prefix are the same whether the peer is shown or not
+  prefix_read : (all : Bool) (x : Row) → chosen x → IsPrefixAt (as_shown all x) 2
+  prefix_read true x is = prefix_there x is
+  prefix_read false x is = let it = prefix_there x is in record { address = record { family_is = it.address.family_is; spelled = it.address.spelled; fits = it.address.fits }; length = it.length; prefix = it.prefix }
+
+  peer_read : (x : Row) → chosen x → IsPeerIdAt (as_shown true x) 6 network
   peer_read x is =
       let leads = leads_to (tables_of old.now) have.consistent have.row have.there (allowed_in x) (there_is x is) (own x is) in
       let id : number_at x 6 ≡ peer_id network leads.0 = leads.2 ∙ ap (λ i. peer_id i leads.0) have.id_is in
       (leads.0, leads.1, register.written.allowed.numbers_are x is.0 6 (inr (inr (inr (inl refl)))) ∙ ap (λ n. Int (pos n)) id)
 
-  rows_read : (r : Row) → there.Has rows r → IsPrefixAt r 2 × IsPeerIdAt r 6 network
-  rows_read = chosen_each old new register network pool low high rows shown (λ r. IsPrefixAt r 2 × IsPeerIdAt r 6 network) (λ x is. (prefix_read x is, peer_read x is))
+  peer_shown : (x : Row) → chosen x → shows_peers ≡ true → IsPeerIdAt (as_shown shows_peers x) 6 network
+  peer_shown x is shows = subst (λ b. IsPeerIdAt (as_shown b x) 6 network) (sym shows) (peer_read x is)
+
+  rows_read : (r : Row) → there.Has rows r → IsRead shows_peers network r
+  rows_read = chosen_each shows_peers old new register network pool low high rows shown (IsRead shows_peers network) (λ x is. (prefix_read shows_peers x is, peer_shown x is))
 
 -- ---- rows that were given so far
 
-module _ {S : Type 0} (g : Ghosts S) (h : Held S) (register : IsRegister (state g h).now) (network : ℕ) (pool : PrefixValue) (is : IsPrefix pool) (fits : IsAddr pool.address) (have : HavePool (tables_of (state g h).now) network pool)
-    (front : List Row) (given : HasGiven g holds_text (hold_params network pool) h front) where
+module _ {S : Type 0} (g : Ghosts S) (h : Held S) (shows_peers : Bool) (register : IsRegister (state g h).now) (network : ℕ) (pool : PrefixValue) (is : IsPrefix pool) (fits : IsAddr pool.address) (have : HavePool (tables_of (state g h).now) network pool)
+    (front : List Row) (given : HasGiven g (holds_text shows_peers) (hold_params network pool) h front) where
   low : pool.address.number < 2 ^ 128
   low = pool_low pool fits
 
   high : last_number pool < 2 ^ 128
   high = pool_high pool is fits
 
-  all : (tail : List Row) × Shown holds_text (hold_params network pool) (state g h) (state g h) (front ++ tail)
-  all = goes_on g h register have.consistent.rows.keyed network pool low high front given
+  all : (tail : List Row) × Shown (holds_text shows_peers) (hold_params network pool) (state g h) (state g h) (front ++ tail)
+  all = goes_on g h shows_peers register have.consistent.rows.keyed network pool low high front given
 
   -- they are no more than a network may have
   pub few_given : length front ≤ max_holds
   few_given =
       let rows = front ++ all.0 in
-      let few = few_holds (tables_of (state g h).now) network pool have (map allowed_in rows) (holds_listed (state g h) (state g h) register network pool low high rows all.1) in
-      let long = length-map rows allowed_in in
+      let s = state g h in
+      let few = few_holds (tables_of s.now) network pool have (held shows_peers s s register network pool low high rows all.1) (holds_listed shows_peers s s register network pool low high rows all.1) in
+      let long = as_many shows_peers s s register network pool low high rows all.1 in
       let both = length-append front all.0 in
       omega (arith, few, long, both)
 
-  -- and each has its prefix and the id of its peer
-  pub given_read : (r : Row) → there.Has front r → IsPrefixAt r 2 × IsPeerIdAt r 6 network
-  given_read r here = rows_read (state g h) (state g h) register network pool low high (front ++ all.0) all.1 have r (has_left front all.0 r here)
+  -- and each is read
+  pub given_read : (r : Row) → there.Has front r → IsRead shows_peers network r
+  given_read r here = rows_read shows_peers (state g h) (state g h) register network pool low high (front ++ all.0) all.1 have r (has_left front all.0 r here)

@@ -16,7 +16,6 @@ use Rattle.sqlite.specs.Store.{Ghosts}
 use Rattle.sqlite_rules.proofs.ListLemmas.{has_right}
 use Rattle.sqlite_tied.specs.Compute.{everything}
 use Rattle.wgr_text.specs.Prefix.{AddrValue, PrefixValue, IsAddr, IsPrefix, rank}
-use Rattle.wgr_text.specs.declared.prefix.Span.{Span}
 use Rattle.wgr_pool.specs.Spans.{RisesFrom, reached}
 use Rattle.wgr_pool.specs.declared.allot.Stop.{Stop}
 use Rattle.wgr_model.specs.Rows.{AreKeyed}
@@ -28,7 +27,7 @@ use Rattle.wgr_columns.specs.Decode.{IsRegister, allowed_in, tables_of}
 use Rattle.wgr_columns.specs.Fields.{IsPeerIdAt, IsPrefixAt}
 use Rattle.wgr_columns.specs.Layout.{Others, schema_with}
 use Rattle.wgr_columns.proofs.Statements.{never_refused}
-use Rattle.wgr_rows.specs.Holding.{brief, hold_params, holds_text, max_holds}
+use Rattle.wgr_rows.specs.Holding.{Hold, brief, hold_params, holds_text, max_holds}
 use Rattle.wgr_rows.specs.Stopping.{Blames, HavePool, IsSound, fault_at}
 use Rattle.wgr_rows.specs.Telling.{IsGood, IsToldTo, Tells}
 use Rattle.wgr_rows.specs.declared.progress.Progress.{Progress}
@@ -75,12 +74,13 @@ good_of network pool s clean sound = (clean, λ live. let it = sound.1 live in (
 
 -- ---- the query is answered
 
-pub holds_answered : (others : Others) (network : ℕ) (pool : PrefixValue) → IsAnswered (schema_with others) holds_text (hold_params network pool)
+pub holds_answered : (others : Others) (shows_peers : Bool) (network : ℕ) (pool : PrefixValue) → IsAnswered (schema_with others) (holds_text shows_peers) (hold_params network pool)
 unfolding understood everything
-holds_answered others network pool = record { given = (refl, refl, omega arith, refl); unlisted = refl; plain = λ limit trees e refused. never_refused _ refl limit (trees 10) refused }
+holds_answered others true network pool = record { given = (refl, refl, omega arith, refl); unlisted = refl; plain = λ limit trees e refused. never_refused _ refl limit (trees 10) refused }
+holds_answered others false network pool = record { given = (refl, refl, omega arith, refl); unlisted = refl; plain = λ limit trees e refused. never_refused _ refl limit (trees 10) refused }
 
-answered_at : (db : Database) → IsRegister db → (network : ℕ) (pool : PrefixValue) → IsAnswered db.schema holds_text (hold_params network pool)
-answered_at db register network pool = subst (λ (s : Schema). IsAnswered s holds_text (hold_params network pool)) (sym register.schema_is) (holds_answered register.others network pool)
+answered_at : (shows_peers : Bool) (db : Database) → IsRegister db → (network : ℕ) (pool : PrefixValue) → IsAnswered db.schema (holds_text shows_peers) (hold_params network pool)
+answered_at shows_peers db register network pool = subst (λ (s : Schema). IsAnswered s (holds_text shows_peers) (hold_params network pool)) (sym register.schema_is) (holds_answered register.others shows_peers network pool)
 
 abbrev Told : Fault → Error → Type 0
 Told f e = (f ≡ NoMemory) ↔ (e ≡ SqliteFailure OutOfMemory)
@@ -90,20 +90,20 @@ hindered_by old new e f told is (inl memory) = absurd (let e = sym is ∙ told.1
 hindered_by old new e f told is (inr hindered) = hindered
 
 -- the query didn't begin
-pub begin_cause : (network : ℕ) (pool : PrefixValue) (old new : State) (e : Error) (f : Fault) → Told f e → (HasCleanDisk new → IsSound network pool old) → (HasCleanDisk new → FailsToQuery holds_text (hold_params network pool) old new e) → HasCause old new f
-begin_cause network pool old new e f told known fails = cause_unless old new f (λ why clean free. either old.is_open refl why clean free)
+pub begin_cause : (shows_peers : Bool) (network : ℕ) (pool : PrefixValue) (old new : State) (e : Error) (f : Fault) → Told f e → (HasCleanDisk new → IsSound network pool old) → (HasCleanDisk new → FailsToQuery (holds_text shows_peers) (hold_params network pool) old new e) → HasCause old new f
+begin_cause shows_peers network pool old new e f told known fails = cause_unless old new f (λ why clean free. either old.is_open refl why clean free)
   where
     either : (b : Bool) → old.is_open ≡ b → f ≡ Store → HasCleanDisk new → (IsHindered old new → ⊥) → ⊥
     either false shut why clean free = free (inr (inl shut))
-    either true live why clean free = free (hindered_by old new e f told why (query_hindered holds_text (hold_params network pool) old new (answered_at old.now ((known clean).1 live).0 network pool) e (inl (fails clean))))
+    either true live why clean free = free (hindered_by old new e f told why (query_hindered (holds_text shows_peers) (hold_params network pool) old new (answered_at shows_peers old.now ((known clean).1 live).0 network pool) e (inl (fails clean))))
 
-module _ {S : Type 0} (g : Ghosts S) (network : ℕ) (pool : PrefixValue) (is : IsPrefix pool) (fits : IsAddr pool.address) (taken : ℕ) (last : Option AddrValue) (at : Progress) (running : at ≡ Running) (old : Held S) (tells : ∥ Tells g old network pool taken last at ∥₁) where
+module _ {S : Type 0} (g : Ghosts S) (shows_peers : Bool) (network : ℕ) (pool : PrefixValue) (is : IsPrefix pool) (fits : IsAddr pool.address) (taken : ℕ) (last : Option AddrValue) (at : Progress) (running : at ≡ Running) (old : Held S) (tells : ∥ Tells g old shows_peers network pool taken last at ∥₁) where
   -- what is told, where only the rows' soundness is known
-  with_told : (HasCleanDisk (state g old)) → IsSound network pool (state g old) → (IsToldTo g old network pool taken last → ⊥) → ⊥
+  with_told : (HasCleanDisk (state g old)) → IsSound network pool (state g old) → (IsToldTo g old shows_peers network pool taken last → ⊥) → ⊥
   with_told clean sound never = ∥∥₁_elim tells no_two (λ t. never (t running (good_of network pool (state g old) clean sound)))
 
-  live_given : (h : Held S) (given : List Row) → HasGiven g holds_text (hold_params network pool) h given → IsTrue (state g h).is_open
-  live_given h given runs = is_open g h (hold_params network pool) given runs
+  live_given : (h : Held S) (given : List Row) → HasGiven g (holds_text shows_peers) (hold_params network pool) h given → IsTrue (state g h).is_open
+  live_given h given runs = is_open g h (holds_text shows_peers) (hold_params network pool) given runs
 
   -- there are no more rows than a network may have
   pub limit_cause : max_holds < taken → (HasCleanDisk (state g old) → IsSound network pool (state g old)) → HasCause (state g old) (state g old) Store
@@ -111,7 +111,7 @@ module _ {S : Type 0} (g : Ghosts S) (network : ℕ) (pool : PrefixValue) (is : 
       let sound = known clean in
       with_told clean sound (λ told.
       let it = sound.1 (live_given old told.given told.runs) in
-      let few = few_given g old it.0 network pool is fits it.1 told.given told.runs in
+      let few = few_given g old shows_peers it.0 network pool is fits it.1 told.given told.runs in
       let count = told.count in
       omega (arith, high, few, count)))
 
@@ -126,11 +126,11 @@ module _ {S : Type 0} (g : Ghosts S) (network : ℕ) (pool : PrefixValue) (is : 
         with_told (clean_before clean) sound (λ told.
         let it = sound.1 (live_given old told.given told.runs) in
         free (hindered_by (state g old) (state g new) e f told_as why
-        (query_hindered holds_text (hold_params network pool) (state g old) (state g new) (answered_at (state g old).now it.0 network pool) e (inl (fails clean holds_text (hold_params network pool) told.given told.runs))))))
+        (query_hindered (holds_text shows_peers) (hold_params network pool) (state g old) (state g new) (answered_at shows_peers (state g old).now it.0 network pool) e (inl (fails clean (holds_text shows_peers) (hold_params network pool) told.given told.runs))))))
 
-    module _ (row : Row) (same : HasCleanDisk (state g new) → IsUnchanged (state g old) (state g new)) (gives : HasCleanDisk (state g new) → (given : List Row) → HasGiven g holds_text (hold_params network pool) old given → HasGiven g holds_text (hold_params network pool) new (given ++ row ∷ [])) where
+    module _ (row : Row) (same : HasCleanDisk (state g new) → IsUnchanged (state g old) (state g new)) (gives : HasCleanDisk (state g new) → (given : List Row) → HasGiven g (holds_text shows_peers) (hold_params network pool) old given → HasGiven g (holds_text shows_peers) (hold_params network pool) new (given ++ row ∷ [])) where
       -- a row that was given isn't refused
-      pub row_cause : (IsPrefixAt row 2 → IsPeerIdAt row 6 network → ⊥) → (HasCleanDisk (state g new) → IsSound network pool (state g old)) → HasCause (state g old) (state g new) Store
+      pub row_cause : (IsPrefixAt row 2 → (shows_peers ≡ true → IsPeerIdAt row 6 network) → ⊥) → (HasCleanDisk (state g new) → IsSound network pool (state g old)) → HasCause (state g old) (state g new) Store
       row_cause refused known = cause_unless (state g old) (state g new) Store (λ _ clean free.
           let sound = known clean in
           with_told (clean_before clean) sound (λ told.
@@ -138,16 +138,16 @@ module _ {S : Type 0} (g : Ghosts S) (network : ℕ) (pool : PrefixValue) (is : 
           let now_is = (same clean).0.now_is in
           let register = subst IsRegister (sym now_is) it.0 in
           let have = subst (λ (d : Database). HavePool (tables_of d) network pool) (sym now_is) it.1 in
-          let read = given_read g new register network pool is fits have (told.given ++ row ∷ []) (gives clean told.given told.runs) row (has_right told.given (row ∷ []) row (inl refl)) in
+          let read = given_read g new shows_peers register network pool is fits have (told.given ++ row ∷ []) (gives clean told.given told.runs) row (has_right told.given (row ∷ []) row (inl refl)) in
           refused read.0 read.1))
 
       -- and none begins below the one before it
-      pub order_cause : (hold : Span × ℕ) → hold ≡ brief network (allowed_in row) → (reached last ≤ rank hold.0.lo → ⊥) → (HasCleanDisk (state g new) → IsSound network pool (state g old)) → HasCause (state g old) (state g new) Store
+      pub order_cause : (hold : Hold) → hold ≡ brief shows_peers network (allowed_in row) → (reached last ≤ rank hold.0.lo → ⊥) → (HasCleanDisk (state g new) → IsSound network pool (state g old)) → HasCause (state g old) (state g new) Store
       order_cause hold hold_is below known = cause_unless (state g old) (state g new) Store (λ _ clean free.
           let sound = known clean in
           with_told (clean_before clean) sound (λ told.
           let it = sound.1 (live_given old told.given told.runs) in
           let now_is = (same clean).0.now_is in
           let good : IsGood (state g new) = (clean, λ live. subst (λ (d : Database). IsRegister d × AreKeyed (tables_of d)) (sym now_is) (it.0, it.1.consistent.rows.keyed)) in
-          let up = (subst (λ l. RisesFrom (reached last) (spans network l)) (parts g old new (same clean) good network pool is fits taken last told row (gives clean told.given told.runs)) told.rises).0 in
-          below (subst (λ (x : Span × ℕ). reached last ≤ rank x.0.lo) (sym hold_is) up)))
+          let up = (subst (λ l. RisesFrom (reached last) (spans l)) (parts g old new (same clean) good shows_peers network pool is fits taken last told row (gives clean told.given told.runs)) told.rises).0 in
+          below (subst (λ (x : Hold). reached last ≤ rank x.0.lo) (sym hold_is) up)))

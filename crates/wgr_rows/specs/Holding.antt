@@ -1,5 +1,5 @@
 -- The rows that hold addresses of a network's pool, in the order of their prefixes.
-use Rattle.std.specs.Prelude.{◌≡◌, ℕ, pos, ◌+◌, ◌-◌, Bool, ◌&&◌, nat_eq, nat_le, if◌then◌else◌, List, [], ◌∷◌, map, filter, drop, codes, Option, Some, None}
+use Rattle.std.specs.Prelude.{◌≡◌, ℕ, pos, ◌+◌, ◌-◌, Bool, true, false, ◌&&◌, nat_eq, nat_le, if◌then◌else◌, List, [], ◌∷◌, map, filter, drop, codes, Option, Some, None}
 use Rattle.sqlite_value.specs.Order.{Row}
 use Rattle.sqlite.specs.declared.types.Value.TheVariants.{Int, Blob}
 use Rattle.wgr_text.specs.declared.prefix.Span.{Span}
@@ -27,29 +27,38 @@ is_hold network pool a =
 abbrev pub holds_in : Tables → ℕ → PrefixValue → List AllowedRow
 holds_in t network pool = in_order prefix_cmp (map (λ a. (prefix_key a.prefix, a)) (filter (is_hold network pool) t.allowed))
 
--- the statement that shows them, and its parameters
-abbrev pub holds_text : List ℕ
-holds_text = codes "SELECT NULL, network, family, lo, length, hi, peer, kind FROM allowed WHERE network = ?1 AND family = ?2 AND lo >= ?3 AND lo <= ?4 AND length >= ?5 ORDER BY lo, length"
+-- the statement that shows them, with the peers to which they lead or without, and its parameters
+abbrev pub holds_text : Bool → List ℕ
+holds_text true = codes "SELECT NULL, network, family, lo, length, hi, peer, kind FROM allowed WHERE network = ?1 AND family = ?2 AND lo >= ?3 AND lo <= ?4 AND length >= ?5 ORDER BY lo, length"
+holds_text false = codes "SELECT NULL, network, family, lo, length FROM allowed WHERE network = ?1 AND family = ?2 AND lo >= ?3 AND lo <= ?4 AND length >= ?5 ORDER BY lo, length"
 
 abbrev pub hold_params : ℕ → PrefixValue → Row
 hold_params network pool = Int (pos network) ∷ Int (pos (family_number pool.address.family)) ∷ Blob (bytes_of pool.address.number) ∷ Blob (bytes_of (last_number pool)) ∷ Int (pos pool.length) ∷ []
 
--- the addresses of a row's prefix, and the number of the peer to which it leads
-abbrev pub brief : ℕ → AllowedRow → Span × ℕ
-brief network a = (span_of a.prefix, number_in network a.peer)
+-- the addresses of a row's prefix, and the number of the peer to which it leads, if it is shown
+abbrev pub Hold : Type 0
+Hold = Span × Option ℕ
+
+abbrev pub brief : Bool → ℕ → AllowedRow → Hold
+brief shows_peers network a = (span_of a.prefix, if shows_peers then Some (number_in network a.peer) else None)
 
 -- what a reading that took so many rows has still to give
-abbrev pub to_come : Progress → Tables → ℕ → PrefixValue → ℕ → List (Span × ℕ)
-to_come Running t network pool taken = map (brief network) (drop taken (holds_in t network pool))
-to_come Done t network pool taken = []
-to_come (Stopped why) t network pool taken = []
+abbrev pub to_come : Bool → Progress → Tables → ℕ → PrefixValue → ℕ → List Hold
+to_come shows_peers Running t network pool taken = drop taken (map (brief shows_peers network) (holds_in t network pool))
+to_come shows_peers Done t network pool taken = []
+to_come shows_peers (Stopped why) t network pool taken = []
+
+-- whether a row leads to an expired peer; one that doesn't show its peer leads to none
+abbrev pub is_passed_over : (ℕ → Bool) → Option ℕ → Bool
+is_passed_over expired None = false
+is_passed_over expired (Some number) = expired number
 
 -- the spans of those that lead to peers that stay
-abbrev pub staying : (ℕ → Bool) → List (Span × ℕ) → List Span
+abbrev pub staying : (ℕ → Bool) → List Hold → List Span
 staying expired [] = []
-staying expired (h ∷ holds) = if expired h.1 then staying expired holds else h.0 ∷ staying expired holds
+staying expired (h ∷ holds) = if is_passed_over expired h.1 then staying expired holds else h.0 ∷ staying expired holds
 
 -- a call that gave `given` took the first of what was to come
-abbrev pub TakesFirst : List (Span × ℕ) → Option (Span × ℕ) → List (Span × ℕ) → Type 0
+abbrev pub TakesFirst : List Hold → Option Hold → List Hold → Type 0
 TakesFirst old None new = (old ≡ []) × (new ≡ [])
 TakesFirst old (Some h) new = old ≡ h ∷ new

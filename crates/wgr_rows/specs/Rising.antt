@@ -11,23 +11,23 @@ use Rattle.wgr_pool.specs.Rising.{RisesFrom-prop}
 use Rattle.wgr_columns.specs.Decode.{tables_of}
 use Rattle.wgr_rows.specs.declared.progress.Progress.{Progress}
 use Rattle.wgr_rows.specs.declared.progress.Progress.TheVariants.{Running, Done, Stopped}
-use Rattle.wgr_rows.specs.Holding.{staying, to_come}
+use Rattle.wgr_rows.specs.Holding.{Hold, is_passed_over, staying, to_come}
 use Rattle.wgr_rows.specs.Telling.{IsGood, Tells}
 
 from_lower : (low high : ℕ) (spans : List Span) → low ≤ high → RisesFrom high spans → RisesFrom low spans
 from_lower low high [] le up = tt
 from_lower low high (s ∷ spans) le up = let first = up.0 in (omega (arith, le, first), up.1)
 
-staying_rise : (expired : ℕ → Bool) (floor : ℕ) (holds : List (Span × ℕ)) → RisesFrom floor (map (λ x. x.0) holds) → RisesFrom floor (staying expired holds)
+staying_rise : (expired : ℕ → Bool) (floor : ℕ) (holds : List Hold) → RisesFrom floor (map (λ x. x.0) holds) → RisesFrom floor (staying expired holds)
 staying_rise expired floor [] up = tt
-staying_rise expired floor (h ∷ holds) up = go (expired h.1) (staying_rise expired (rank h.0.lo) holds up.1)
+staying_rise expired floor (h ∷ holds) up = go (is_passed_over expired h.1) (staying_rise expired (rank h.0.lo) holds up.1)
   where
     go : (b : Bool) → RisesFrom (rank h.0.lo) (staying expired holds) → RisesFrom floor (if b then staying expired holds else h.0 ∷ staying expired holds)
     go true later = from_lower floor (rank h.0.lo) (staying expired holds) up.0 later
     go false later = (up.0, later)
 
-pub told_rise : {S : Type 0} (g : Ghosts S) (h : Held S) (network : ℕ) (pool : PrefixValue) (taken : ℕ) (last : Option AddrValue) (at : Progress) (expired : ℕ → Bool) → ∥ Tells g h network pool taken last at ∥₁ → IsGood (state g h)
-    → RisesFrom (reached last) (staying expired (to_come at (tables_of (state g h).now) network pool taken))
-told_rise g h network pool taken last Running expired told good = ∥∥₁_elim told (RisesFrom-prop (reached last) _) (λ tells. staying_rise expired (reached last) (to_come Running (tables_of (state g h).now) network pool taken) (tells refl good).rises)
-told_rise g h network pool taken last Done expired told good = tt
-told_rise g h network pool taken last (Stopped why) expired told good = tt
+pub told_rise : {S : Type 0} (g : Ghosts S) (h : Held S) (shows_peers : Bool) (network : ℕ) (pool : PrefixValue) (taken : ℕ) (last : Option AddrValue) (at : Progress) (expired : ℕ → Bool) → ∥ Tells g h shows_peers network pool taken last at ∥₁ → IsGood (state g h)
+    → RisesFrom (reached last) (staying expired (to_come shows_peers at (tables_of (state g h).now) network pool taken))
+told_rise g h shows_peers network pool taken last Running expired told good = ∥∥₁_elim told (RisesFrom-prop (reached last) _) (λ tells. staying_rise expired (reached last) (to_come shows_peers Running (tables_of (state g h).now) network pool taken) (tells refl good).rises)
+told_rise g h shows_peers network pool taken last Done expired told good = tt
+told_rise g h shows_peers network pool taken last (Stopped why) expired told good = tt

@@ -1,5 +1,5 @@
 -- What a reading of holding rows knows.
-use Rattle.std.specs.Prelude.{◌≡◌, ℕ, IsTrue, List, length, map, Option}
+use Rattle.std.specs.Prelude.{◌≡◌, ℕ, Bool, IsTrue, List, length, map, Option}
 use Rattle.sqlite_value.specs.Order.{Row}
 use Rattle.sqlite.specs.State.{State, HasCleanDisk}
 use Rattle.sqlite.specs.Store.{Ghosts}
@@ -18,11 +18,11 @@ abbrev pub IsGood : State → Type 0
 IsGood s = HasCleanDisk s × (IsTrue s.is_open → IsRegister s.now × AreKeyed (tables_of s.now))
 
 -- the query runs and has given so many rows; what is to come begins no lower than `last`
-pub record IsToldTo {S : Type 0} (g : Ghosts S) (h : Held S) (network : ℕ) (pool : PrefixValue) (taken : ℕ) (last : Option AddrValue) : Type 0 where
+pub record IsToldTo {S : Type 0} (g : Ghosts S) (h : Held S) (shows_peers : Bool) (network : ℕ) (pool : PrefixValue) (taken : ℕ) (last : Option AddrValue) : Type 0 where
   pub given : List Row
-  pub runs : HasGiven g holds_text (hold_params network pool) h given
+  pub runs : HasGiven g (holds_text shows_peers) (hold_params network pool) h given
   pub count : length given ≡ taken
-  pub rises : RisesFrom (reached last) (map (λ x. x.0) (to_come Running (tables_of (state g h).now) network pool taken))
+  pub rises : RisesFrom (reached last) (map (λ x. x.0) (to_come shows_peers Running (tables_of (state g h).now) network pool taken))
 
-abbrev pub Tells : {S : Type 0} → Ghosts S → Held S → ℕ → PrefixValue → ℕ → Option AddrValue → Progress → Type 0
-Tells g h network pool taken last at = at ≡ Running → IsGood (state g h) → IsToldTo g h network pool taken last
+abbrev pub Tells : {S : Type 0} → Ghosts S → Held S → Bool → ℕ → PrefixValue → ℕ → Option AddrValue → Progress → Type 0
+Tells g h shows_peers network pool taken last at = at ≡ Running → IsGood (state g h) → IsToldTo g h shows_peers network pool taken last

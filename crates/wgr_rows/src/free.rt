@@ -10,6 +10,7 @@ ghost use Rattle.wgr_sql.specs.Causes.{HasCause};
 ghost use Rattle.wgr_tables.specs.Writes.{Written};
 ghost use Rattle.wgr_tables.specs.Standing.{Stands};
 ghost use Rattle.wgr_rows.specs.Directed.{OnNetwork};
+ghost use Rattle.wgr_rows.specs.Holding.{holds_text};
 
 use crate::holds::lowest_in;
 use sqlite::types::ValueRef;
@@ -19,6 +20,18 @@ use wgr_columns::{bytes_of, family_value, number_value};
 use wgr_pool::Pool;
 use wgr_sql::{Fault, fault_of};
 use wgr_text::Addr;
+
+// The statement for the rows that hold addresses of a pool, in the order of their prefixes. Without their
+// peers, they are read from the primary key alone, and no row of the table is looked up.
+fn holds_text(shows_peers: bool) -> &'static str
+    ensures { result.now ≡ holds_text shows_peers }
+{
+    if shows_peers {
+        "SELECT NULL, network, family, lo, length, hi, peer, kind FROM allowed WHERE network = ?1 AND family = ?2 AND lo >= ?3 AND lo <= ?4 AND length >= ?5 ORDER BY lo, length"
+    } else {
+        "SELECT NULL, network, family, lo, length FROM allowed WHERE network = ?1 AND family = ?2 AND lo >= ?3 AND lo <= ?4 AND length >= ?5 ORDER BY lo, length"
+    }
+}
 
 /// The lowest address of the pool that may be given and that no row of the network holds, except the
 /// rows that lead to the peers of the numbers in `expired`. It is read outside of a transaction.
@@ -43,9 +56,10 @@ pub fn free_row<S: Alter>(
     let first = bytes_of(span.lo.number());
     let last = bytes_of(span.hi.number());
     let length = u32::from(prefix.length());
+    let shows_peers = !expired.is_empty();
     let _settled = conn.is_autocommit();
     let mut rows = match conn.query(
-        "SELECT NULL, network, family, lo, length, hi, peer, kind FROM allowed WHERE network = ?1 AND family = ?2 AND lo >= ?3 AND lo <= ?4 AND length >= ?5 ORDER BY lo, length",
+        holds_text(shows_peers),
         &[
             number_value(network),
             family_value(span.lo.family()),
@@ -57,5 +71,5 @@ pub fn free_row<S: Alter>(
         Ok(rows) => rows,
         Err(error) => return Err(fault_of(error)),
     };
-    lowest_in(&mut rows, network, pool, expired)
+    lowest_in(&mut rows, shows_peers, network, pool, expired)
 }

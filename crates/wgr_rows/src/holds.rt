@@ -10,7 +10,7 @@ ghost use Rattle.sqlite.specs.Held.{state};
 ghost use Rattle.wgr_sql.specs.Causes.{HasCause};
 ghost use Rattle.wgr_columns.specs.Decode.{tables_of};
 ghost use Rattle.wgr_rows.specs.declared.progress.Progress.TheVariants.{Running, Stopped};
-ghost use Rattle.wgr_rows.specs.Holding.{TakesFirst, max_holds, to_come, staying};
+ghost use Rattle.wgr_rows.specs.Holding.{TakesFirst, is_passed_over, max_holds, to_come, staying};
 ghost use Rattle.wgr_rows.specs.Rising.{told_rise};
 ghost use Rattle.wgr_rows.specs.Staying.{Stays};
 ghost use Rattle.wgr_rows.specs.Stopping.{Blames, IsSound, Leaves, fault_at};
@@ -40,10 +40,11 @@ fn stop_of(fault: Fault) -> Stop
 }
 
 /// The spans of the addresses that a network's rows hold, read row by row. Rows that lead to the
-/// peers of the numbers in `expired` are passed over.
+/// peers of the numbers in `expired` are passed over, if the rows show their peers.
 #[derive(Drop)]
 pub struct HoldRows<'r, 'conn, 'a, S: Alter> {
     rows: &'r mut Rows<'conn, S>,
+    shows_peers: bool,
     network: u32,
     pool: Prefix,
     expired: &'a HashSet<u32>,
@@ -53,12 +54,12 @@ pub struct HoldRows<'r, 'conn, 'a, S: Alter> {
     last: Option<Addr>,
     at: Progress,
     ghost in_range: { taken ≤ max_holds + 1 },
-    ghost told: { ∥ Tells S.Store rows.now.conn.now network pool taken last at ∥₁ },
+    ghost told: { ∥ Tells S.Store rows.now.conn.now shows_peers network pool taken last at ∥₁ },
 }
 
 impl<'r, 'conn, 'a, S: Alter> HoldRows<'r, 'conn, 'a, S> {
     /// The span of the next row, and the number of the peer to which it leads.
-    fn next_row(&mut self) -> Result<Option<(Span, u32)>, Stop>
+    fn next_row(&mut self) -> Result<Option<(Span, Option<u32>)>, Stop>
         ensures same_rows { self.new.rows.ghost_name ≡ self.old.rows.ghost_name }
         ensures same_reference { self.new.rows.now.conn.ghost_name ≡ self.old.rows.now.conn.ghost_name }
         ensures stays { Stays S.Store self.old.rows.now.conn.now self.new.rows.now.conn.now }
@@ -66,7 +67,7 @@ impl<'r, 'conn, 'a, S: Alter> HoldRows<'r, 'conn, 'a, S> {
         ensures falls { IfOk result (λ given. IfSome given (λ _. self.old.taken < self.new.taken)) }
         ensures floor { reached self.old.last ≤ reached self.new.last }
         ensures rises { IfOk result (λ given. IfSome given (λ h. (reached self.old.last ≤ rank h.0.lo) × (reached self.new.last ≡ rank h.0.lo))) }
-        ensures first { IsGood (state S.Store self.new.rows.now.conn.now) → IfOk result (λ given. TakesFirst (to_come self.old.at (tables_of (state S.Store self.old.rows.now.conn.now).now) self.old.network self.old.pool self.old.taken) given (to_come self.new.at (tables_of (state S.Store self.new.rows.now.conn.now).now) self.new.network self.new.pool self.new.taken)) }
+        ensures first { IsGood (state S.Store self.new.rows.now.conn.now) → IfOk result (λ given. TakesFirst (to_come self.old.shows_peers self.old.at (tables_of (state S.Store self.old.rows.now.conn.now).now) self.old.network self.old.pool self.old.taken) given (to_come self.new.shows_peers self.new.at (tables_of (state S.Store self.new.rows.now.conn.now).now) self.new.network self.new.pool self.new.taken)) }
         ensures stops { IfErr result (λ why. self.new.at ≡ Stopped why) }
         ensures was_good { IsGood (state S.Store self.new.rows.now.conn.now) → OnOk result (IsGood (state S.Store self.old.rows.now.conn.now)) }
         ensures blames { Blames self.old.network self.old.pool (state S.Store self.old.rows.now.conn.now) self.old.at (state S.Store self.new.rows.now.conn.now) self.new.at }
@@ -91,7 +92,7 @@ impl<'r, 'conn, 'a, S: Alter> HoldRows<'r, 'conn, 'a, S> {
             self.at = Progress::Done;
             return Ok(None);
         };
-        let Some((span, number)) = hold_in(row, self.network) else {
+        let Some((span, number)) = hold_in(row, self.network, self.shows_peers) else {
             return Err(Stop::Store);
         };
         if !is_from(self.last, &span.lo) {
@@ -102,10 +103,20 @@ impl<'r, 'conn, 'a, S: Alter> HoldRows<'r, 'conn, 'a, S> {
         self.at = Progress::Running;
         Ok(Some((span, number)))
     }
+
+    /// Whether a row leads to an expired peer, by its peer's number.
+    fn is_passed_over(&self, number: Option<u32>) -> bool
+        ensures { result ≡ is_passed_over (contains nat_eq self.now.expired.now) number }
+    {
+        match number {
+            Some(number) => self.expired.contains(&number),
+            None => false,
+        }
+    }
 }
 
 impl<S: Alter> Holds for HoldRows<'_, '_, '_, S> {
-    ghost rest = { λ s. staying (contains nat_eq s.expired.now) (to_come s.at (tables_of (state S.Store s.rows.now.conn.now).now) s.network s.pool s.taken) };
+    ghost rest = { λ s. staying (contains nat_eq s.expired.now) (to_come s.shows_peers s.at (tables_of (state S.Store s.rows.now.conn.now).now) s.network s.pool s.taken) };
 
     ghost honest = { λ s. IsGood (state S.Store s.rows.now.conn.now) };
 
@@ -119,14 +130,14 @@ impl<S: Alter> Holds for HoldRows<'_, '_, '_, S> {
 
     fn next_hold(&mut self) -> Result<Option<Span>, Stop> {
         while let Some((span, number)) = self.next_row()? {
-            if !self.expired.contains(&number) {
+            if !self.is_passed_over(number) {
                 return Ok(Some(span));
             }
         }
         Ok(None)
     }
 
-    ghost in_order = { λ s good. told_rise S.Store.own s.rows.now.conn.now s.network s.pool s.taken s.last s.at (contains nat_eq s.expired.now) s.told good };
+    ghost in_order = { λ s good. told_rise S.Store.own s.rows.now.conn.now s.shows_peers s.network s.pool s.taken s.last s.at (contains nat_eq s.expired.now) s.told good };
 
     ghost keeps_itself = { λ s. (refl, refl, leaves_itself S.Store.own s.rows.now.conn.now s.network s.pool s.at) };
 
@@ -147,20 +158,22 @@ fn fault_at(stop: Stop) -> Fault
 /// are about to show.
 pub(crate) fn lowest_in<S: Alter>(
     rows: &mut Rows<'_, S>,
+    shows_peers: bool,
     network: u32,
     pool: &Pool,
     expired: &HashSet<u32>,
 ) -> Result<Option<Addr>, Fault>
-    requires told { Tells S.Store rows.old.conn.now network pool.now 0 None Running }
+    requires told { Tells S.Store rows.old.conn.now shows_peers network pool.now 0 None Running }
     ensures same_reference { rows.new.conn.ghost_name ≡ rows.old.conn.ghost_name }
     ensures stays { Stays S.Store rows.old.conn.now rows.new.conn.now }
     ensures lowest { IsGood (state S.Store rows.new.conn.now)
-        → IfOk result (λ found. MatchOption found (IsFull pool.now (staying (contains nat_eq expired.now) (to_come Running (tables_of (state S.Store rows.old.conn.now).now) network pool.now 0)))
-        (IsLowestFree pool.now (staying (contains nat_eq expired.now) (to_come Running (tables_of (state S.Store rows.old.conn.now).now) network pool.now 0)))) }
+        → IfOk result (λ found. MatchOption found (IsFull pool.now (staying (contains nat_eq expired.now) (to_come shows_peers Running (tables_of (state S.Store rows.old.conn.now).now) network pool.now 0)))
+        (IsLowestFree pool.now (staying (contains nat_eq expired.now) (to_come shows_peers Running (tables_of (state S.Store rows.old.conn.now).now) network pool.now 0)))) }
     ensures cause { (HasCleanDisk (state S.Store rows.new.conn.now) → IsSound network pool.now (state S.Store rows.old.conn.now)) → IfErr result (HasCause (state S.Store rows.old.conn.now) (state S.Store rows.new.conn.now)) }
 {
     let mut holds = HoldRows {
         rows,
+        shows_peers,
         network,
         pool: pool.prefix(),
         expired,
@@ -183,12 +196,12 @@ fn lowest_held<S: Alter>(
     ensures same_reference { holds.new.rows.now.conn.ghost_name ≡ holds.old.rows.now.conn.ghost_name }
     ensures stays { Stays S.Store holds.old.rows.now.conn.now holds.new.rows.now.conn.now }
     ensures lowest { IsGood (state S.Store holds.new.rows.now.conn.now)
-        → IfOk result (λ found. MatchOption found (IsFull pool.now (staying (contains nat_eq holds.old.expired.now) (to_come holds.old.at (tables_of (state S.Store holds.old.rows.now.conn.now).now) holds.old.network holds.old.pool holds.old.taken)))
-        (IsLowestFree pool.now (staying (contains nat_eq holds.old.expired.now) (to_come holds.old.at (tables_of (state S.Store holds.old.rows.now.conn.now).now) holds.old.network holds.old.pool holds.old.taken)))) }
+        → IfOk result (λ found. MatchOption found (IsFull pool.now (staying (contains nat_eq holds.old.expired.now) (to_come holds.old.shows_peers holds.old.at (tables_of (state S.Store holds.old.rows.now.conn.now).now) holds.old.network holds.old.pool holds.old.taken)))
+        (IsLowestFree pool.now (staying (contains nat_eq holds.old.expired.now) (to_come holds.old.shows_peers holds.old.at (tables_of (state S.Store holds.old.rows.now.conn.now).now) holds.old.network holds.old.pool holds.old.taken)))) }
     ensures taken { IsGood (state S.Store holds.new.rows.now.conn.now)
-        → IfOk result (λ found. IfSome found (StopsAt (staying (contains nat_eq holds.old.expired.now) (to_come holds.old.at (tables_of (state S.Store holds.old.rows.now.conn.now).now) holds.old.network holds.old.pool holds.old.taken)) (staying (contains nat_eq holds.new.expired.now) (to_come holds.new.at (tables_of (state S.Store holds.new.rows.now.conn.now).now) holds.new.network holds.new.pool holds.new.taken)))) }
+        → IfOk result (λ found. IfSome found (StopsAt (staying (contains nat_eq holds.old.expired.now) (to_come holds.old.shows_peers holds.old.at (tables_of (state S.Store holds.old.rows.now.conn.now).now) holds.old.network holds.old.pool holds.old.taken)) (staying (contains nat_eq holds.new.expired.now) (to_come holds.new.shows_peers holds.new.at (tables_of (state S.Store holds.new.rows.now.conn.now).now) holds.new.network holds.new.pool holds.new.taken)))) }
     ensures filled { IsGood (state S.Store holds.new.rows.now.conn.now)
-        → IfOk result (λ found. IfNone found (IsFilledBy pool.now (staying (contains nat_eq holds.old.expired.now) (to_come holds.old.at (tables_of (state S.Store holds.old.rows.now.conn.now).now) holds.old.network holds.old.pool holds.old.taken)) (staying (contains nat_eq holds.new.expired.now) (to_come holds.new.at (tables_of (state S.Store holds.new.rows.now.conn.now).now) holds.new.network holds.new.pool holds.new.taken)))) }
+        → IfOk result (λ found. IfNone found (IsFilledBy pool.now (staying (contains nat_eq holds.old.expired.now) (to_come holds.old.shows_peers holds.old.at (tables_of (state S.Store holds.old.rows.now.conn.now).now) holds.old.network holds.old.pool holds.old.taken)) (staying (contains nat_eq holds.new.expired.now) (to_come holds.new.shows_peers holds.new.at (tables_of (state S.Store holds.new.rows.now.conn.now).now) holds.new.network holds.new.pool holds.new.taken)))) }
     ensures cause { holds.old.at ≡ Running → (HasCleanDisk (state S.Store holds.new.rows.now.conn.now) → IsSound holds.old.network holds.old.pool (state S.Store holds.old.rows.now.conn.now)) → IfErr result (HasCause (state S.Store holds.old.rows.now.conn.now) (state S.Store holds.new.rows.now.conn.now)) }
 {
     match lowest_free(pool, holds) {

@@ -1,5 +1,6 @@
-use Rattle.std.proofs.Common.{rules, ◌≡◌, None, nat_eq, IsTrue, IfErr, sym, subst, ◌∙◌, arith}
-use Rattle.std.specs.HashSet.{contains}
+use Rattle.std.proofs.Common.{rules, ◌≡◌, ◌↔◌, None, ℕ, Bool, true, false, not, List, [], ◌∷◌, length, nat_eq, IsTrue, IfErr, refl, sym, subst, ◌∙◌, arith, true≢false}
+use Rattle.std.specs.HashSet.{HashSet, contains, hash_set_len}
+use Rattle.std.specs.List.{list_any}
 use Rattle.sqlite.specs.Given.{HasBegun}
 use Rattle.sqlite.specs.Held.{state}
 use Rattle.sqlite.specs.State.{FailsToQuery, HasCleanDisk, Survives}
@@ -18,38 +19,50 @@ use Rattle.wgr_rows.proofs.StopLemmas.{begin_cause}
 use Rattle.wgr_checks.proofs.WalkCauses.{walk_cause}
 use Rattle.wgr_rows.proofs.free.free_row.Goals as goal
 
+-- a set without elements has none
+none_in : {H : Type 0} (s : HashSet ℕ H) (empty : Bool) → IsTrue empty ↔ (hash_set_len s ≡ 0) → not empty ≡ false → (i : ℕ) → contains nat_eq s i ≡ false
+none_in s true is e i = none_among s.keys i (is.0 refl)
+  where
+    none_among : (keys : List ℕ) (i : ℕ) → length keys ≡ 0 → list_any (nat_eq i) keys ≡ false
+    none_among [] i e = refl
+    none_among (k ∷ keys) i e = absurd (omega (arith, e))
+none_in s false is e i = absurd (true≢false e)
+
 pub returns-in-Err-clause-stands : goal.returns-in-Err-clause-stands
 returns-in-Err-clause-stands g c db pending stood =
     let old = c.args.conn.now in
     let new = c.query.follows.lender-at-none in
-    let held = rw c.in-Err.is at c.query.follows.holds-at-none in
+    let held = rw (c.in-Err.is, c.holds_text.ensures) at c.query.follows.holds-at-none in
     let yes : IsTrue c.is_autocommit-settled.result = rw (c.is_autocommit-settled.ensures.value, c.requires.idle) in
-    failed_stands g.S.Store old db pending stood new _ (c.is_autocommit-settled.ensures.settled yes) held.survives (held.mode c.requires.idle) (λ clean. (c.in-Err.error, held.err clean))
+    failed_stands g.S.Store old db pending stood (not c.is_empty-shows_peers.result) new _ (c.is_autocommit-settled.ensures.settled yes) held.survives (held.mode c.requires.idle) (λ clean. (c.in-Err.error, held.err clean))
 
 pub lowest_in-requires : goal.lowest_in-requires
 lowest_in-requires g c = record {
   told = λ _ good.
+      let shows_peers = not c.is_empty-shows_peers.result in
       let mid = c.in-Ok.rows.conn.now in
       let p = c.prefix-prefix.result in
-      let started = rw (c.number_value.ensures, c.family_value.ensures, c.family.ensures.value, c.bytes_of-first.ensures, c.number.ensures.value, c.bytes_of-last.ensures, c.number-2.ensures.value, c.number_value-2.ensures, c.from-length.ensures, c.length.ensures.value) at (c.in-Ok.ensures.begun good.0) in
-      let here = subst (λ params. HasBegun g.S.Store holds_text params c.args.conn.now mid) (params_are c.args.network p c.span-span.result.lo c.span-span.result.hi c.span-span.ensures.ends) started in
-      subst (λ (q : PrefixValue). IsToldTo g.S.Store mid c.args.network q 0 None) c.prefix-prefix.ensures.value
-      (told_first g.S.Store mid c.args.network p c.rules_hold.ensures.prefix c.rules_hold.ensures.address (begun g.S.Store (hold_params c.args.network p) c.args.conn.now mid here).0 good);
+      let started = rw (c.holds_text.ensures, c.number_value.ensures, c.family_value.ensures, c.family.ensures.value, c.bytes_of-first.ensures, c.number.ensures.value, c.bytes_of-last.ensures, c.number-2.ensures.value, c.number_value-2.ensures, c.from-length.ensures, c.length.ensures.value) at (c.in-Ok.ensures.begun good.0) in
+      let here = subst (λ params. HasBegun g.S.Store (holds_text shows_peers) params c.args.conn.now mid) (params_are c.args.network p c.span-span.result.lo c.span-span.result.hi c.span-span.ensures.ends) started in
+      subst (λ (q : PrefixValue). IsToldTo g.S.Store mid shows_peers c.args.network q 0 None) c.prefix-prefix.ensures.value
+      (told_first g.S.Store mid shows_peers c.args.network p c.rules_hold.ensures.prefix c.rules_hold.ensures.address (begun shows_peers g.S.Store (hold_params c.args.network p) c.args.conn.now mid here).0 good);
 }
 
 pub returns-clause-stands : goal.returns-clause-stands
 returns-clause-stands g c db pending stood =
+    let shows_peers = not c.is_empty-shows_peers.result in
     let old = c.args.conn.now in
     let mid = c.in-Ok.rows.conn.now in
     let end = c.lowest_in.new.rows.conn.now in
     let same : end ≡ c.conn-2-1.given.0 = search rules in
     let yes : IsTrue c.is_autocommit-settled.result = rw (c.is_autocommit-settled.ensures.value, c.requires.idle) in
-    let first = begun_stays g.S.Store old mid _ c.in-Ok.ensures.mode c.in-Ok.ensures.survives c.in-Ok.ensures.begun in
+    let first = begun_stays g.S.Store shows_peers _ c.holds_text.ensures old mid _ c.in-Ok.ensures.mode c.in-Ok.ensures.survives c.in-Ok.ensures.begun in
     subst (λ h. Stands g.S.Store h db pending) same (stays_stands g.S.Store old db pending stood end (c.is_autocommit-settled.ensures.settled yes) (stays_on g.S.Store old mid end first c.lowest_in.ensures.stays))
 
 pub returns-clause-found : goal.returns-clause-found
 returns-clause-found g c db pending w stood is here id clean =
     let keyed = is.rows.keyed in
+    let shows_peers = not c.is_empty-shows_peers.result in
     let old = c.args.conn.now in
     let mid = c.in-Ok.rows.conn.now in
     let end = c.lowest_in.new.rows.conn.now in
@@ -57,32 +70,33 @@ returns-clause-found g c db pending w stood is here id clean =
     let late : HasCleanDisk (state g.S.Store end) = subst (λ h. HasCleanDisk (state g.S.Store h)) (sym same) clean in
     let before : HasCleanDisk (state g.S.Store mid) = omega (arith, c.lowest_in.ensures.stays.1.clean, late) in
     let start : HasCleanDisk (state g.S.Store old) = omega (arith, c.in-Ok.ensures.survives.clean, before) in
-    let rests = (begun g.S.Store _ old mid (c.in-Ok.ensures.begun before)).1.0 in
+    let p = c.prefix-prefix.result in
+    let started = rw (c.holds_text.ensures, c.number_value.ensures, c.family_value.ensures, c.family.ensures.value, c.bytes_of-first.ensures, c.number.ensures.value, c.bytes_of-last.ensures, c.number-2.ensures.value, c.number_value-2.ensures, c.from-length.ensures, c.length.ensures.value) at (c.in-Ok.ensures.begun before) in
+    let begins = subst (λ params. HasBegun g.S.Store (holds_text shows_peers) params old mid) (params_are c.args.network p c.span-span.result.lo c.span-span.result.hi c.span-span.ensures.ends) started in
+    let rests = (begun shows_peers g.S.Store _ old mid begins).1.0 in
     let shows : (state g.S.Store mid).now ≡ db = rests.now_is ∙ stood.shows start rests.was_open in
     let yes : IsTrue c.is_autocommit-settled.result = rw (c.is_autocommit-settled.ensures.value, c.requires.idle) in
-    let first = begun_stays g.S.Store old mid _ c.in-Ok.ensures.mode c.in-Ok.ensures.survives c.in-Ok.ensures.begun in
+    let first = begun_stays g.S.Store shows_peers _ c.holds_text.ensures old mid _ c.in-Ok.ensures.mode c.in-Ok.ensures.survives c.in-Ok.ensures.begun in
     let stood' = stays_stands g.S.Store old db pending stood end (c.is_autocommit-settled.ensures.settled yes) (stays_on g.S.Store old mid end first c.lowest_in.ensures.stays) in
     let good = stands_good g.S.Store end db pending stood' keyed late in
-    let found = found_in c.args.pool.now (contains nat_eq c.args.expired.now) (state g.S.Store mid).now db c.args.network c.lowest_in.result shows (c.lowest_in.ensures.lowest good) in
-    let p = c.prefix-prefix.result in
-    let started = rw (c.number_value.ensures, c.family_value.ensures, c.family.ensures.value, c.bytes_of-first.ensures, c.number.ensures.value, c.bytes_of-last.ensures, c.number-2.ensures.value, c.number_value-2.ensures, c.from-length.ensures, c.length.ensures.value) at (c.in-Ok.ensures.begun before) in
-    let begins = subst (λ params. HasBegun g.S.Store holds_text params old mid) (params_are c.args.network p c.span-span.result.lo c.span-span.result.hi c.span-span.ensures.ends) started in
+    let found = found_in shows_peers c.args.pool.now (contains nat_eq c.args.expired.now) (state g.S.Store mid).now db c.args.network c.lowest_in.result shows (c.lowest_in.ensures.lowest good) in
     let stood_mid = stays_stands g.S.Store old db pending stood mid (c.is_autocommit-settled.ensures.settled yes) first in
-    let moved = holds_moved g.S.Store mid c.args.network p c.rules_hold.ensures.prefix c.rules_hold.ensures.address (begun g.S.Store (hold_params c.args.network p) old mid begins).0 (stands_good g.S.Store mid db pending stood_mid keyed before) in
-    if_ok c.lowest_in.result _ _ (λ o m now pool tells. lowest_at (contains nat_eq c.args.expired.now) (state g.S.Store mid).now db shows c.args.network p c.args.pool.now c.prefix-prefix.ensures.value w id (sym pool) is here now tells moved o m) found
+    let moved = holds_moved g.S.Store mid shows_peers c.args.network p c.rules_hold.ensures.prefix c.rules_hold.ensures.address (begun shows_peers g.S.Store (hold_params c.args.network p) old mid begins).0 (stands_good g.S.Store mid db pending stood_mid keyed before) in
+    if_ok c.lowest_in.result _ _ (λ o m now pool tells. lowest_at shows_peers (contains nat_eq c.args.expired.now) (none_in c.args.expired.now c.is_empty-shows_peers.result c.is_empty-shows_peers.ensures) (state g.S.Store mid).now db shows c.args.network p c.args.pool.now c.prefix-prefix.ensures.value w id (sym pool) is here now tells moved o m) found
 
 pub returns-in-Err-clause-survives : goal.returns-in-Err-clause-survives
 returns-in-Err-clause-survives g c =
-    let held = rw c.in-Err.is at c.query.follows.holds-at-none in
-    commits_nothing _ (state g.S.Store c.args.conn.now) (state g.S.Store c.query.follows.lender-at-none) held.survives
+    let held = rw (c.in-Err.is, c.holds_text.ensures) at c.query.follows.holds-at-none in
+    commits_nothing (not c.is_empty-shows_peers.result) _ (state g.S.Store c.args.conn.now) (state g.S.Store c.query.follows.lender-at-none) held.survives
 
 pub returns-clause-survives : goal.returns-clause-survives
 returns-clause-survives g c =
+    let shows_peers = not c.is_empty-shows_peers.result in
     let old = c.args.conn.now in
     let mid = c.in-Ok.rows.conn.now in
     let end = c.lowest_in.new.rows.conn.now in
     let same : end ≡ c.conn-2-1.given.0 = search rules in
-    let first = begun_stays g.S.Store old mid _ c.in-Ok.ensures.mode c.in-Ok.ensures.survives c.in-Ok.ensures.begun in
+    let first = begun_stays g.S.Store shows_peers _ c.holds_text.ensures old mid _ c.in-Ok.ensures.mode c.in-Ok.ensures.survives c.in-Ok.ensures.begun in
     subst (λ h. Survives (state g.S.Store old) (state g.S.Store h) (λ _. ⊥)) same (stays_on g.S.Store old mid end first c.lowest_in.ensures.stays).1
 
 pub returns-in-Err-clause-cause : goal.returns-in-Err-clause-cause
@@ -90,24 +104,25 @@ returns-in-Err-clause-cause g c db pending w stood is here id pool =
     let old = c.args.conn.now in
     let new = c.query.follows.lender-at-none in
     let p = c.prefix-prefix.result in
-    let held = rw (c.in-Err.is, c.number_value.ensures, c.family_value.ensures, c.family.ensures.value, c.bytes_of-first.ensures, c.number.ensures.value, c.bytes_of-last.ensures, c.number-2.ensures.value, c.number_value-2.ensures, c.from-length.ensures, c.length.ensures.value) at c.query.follows.holds-at-none in
+    let held = rw (c.in-Err.is, c.holds_text.ensures, c.number_value.ensures, c.family_value.ensures, c.family.ensures.value, c.bytes_of-first.ensures, c.number.ensures.value, c.bytes_of-last.ensures, c.number-2.ensures.value, c.number_value-2.ensures, c.from-length.ensures, c.length.ensures.value) at c.query.follows.holds-at-none in
     let params = params_are c.args.network p c.span-span.result.lo c.span-span.result.hi c.span-span.ensures.ends in
     let yes : IsTrue c.is_autocommit-settled.result = rw (c.is_autocommit-settled.ensures.value, c.requires.idle) in
-    begin_cause c.args.network p (state g.S.Store old) (state g.S.Store new) c.in-Err.error c.fault_of.result c.fault_of.ensures
+    begin_cause (not c.is_empty-shows_peers.result) c.args.network p (state g.S.Store old) (state g.S.Store new) c.in-Err.error c.fault_of.result c.fault_of.ensures
     (λ clean. stands_sound g.S.Store old db pending stood c.args.network p w is here id (sym pool ∙ sym c.prefix-prefix.ensures.value) (c.is_autocommit-settled.ensures.settled yes) (omega (arith, held.survives.clean, clean)))
-    (λ clean. subst (λ values. FailsToQuery holds_text values (state g.S.Store old) (state g.S.Store new) c.in-Err.error) params (held.err clean))
+    (λ clean. subst (λ values. FailsToQuery (holds_text (not c.is_empty-shows_peers.result)) values (state g.S.Store old) (state g.S.Store new) c.in-Err.error) params (held.err clean))
 
 pub returns-clause-cause : goal.returns-clause-cause
 returns-clause-cause g c db pending w stood is here id pool =
+    let shows_peers = not c.is_empty-shows_peers.result in
     let old = c.args.conn.now in
     let mid = c.in-Ok.rows.conn.now in
     let end = c.lowest_in.new.rows.conn.now in
     let same : end ≡ c.conn-2-1.given.0 = search rules in
     let yes : IsTrue c.is_autocommit-settled.result = rw (c.is_autocommit-settled.ensures.value, c.requires.idle) in
-    let first = begun_stays g.S.Store old mid _ c.in-Ok.ensures.mode c.in-Ok.ensures.survives c.in-Ok.ensures.begun in
+    let first = begun_stays g.S.Store shows_peers _ c.holds_text.ensures old mid _ c.in-Ok.ensures.mode c.in-Ok.ensures.survives c.in-Ok.ensures.begun in
     subst (λ h. IfErr c.lowest_in.result (HasCause (state g.S.Store old) (state g.S.Store h))) same
     (walk_cause (state g.S.Store old) (state g.S.Store mid) (state g.S.Store end) first.1 c.lowest_in.ensures.stays.1 c.lowest_in.result (c.lowest_in.ensures.cause (λ late.
     let before : HasCleanDisk (state g.S.Store mid) = omega (arith, c.lowest_in.ensures.stays.1.clean, late) in
     let start : HasCleanDisk (state g.S.Store old) = omega (arith, c.in-Ok.ensures.survives.clean, before) in
     let sound = stands_sound g.S.Store old db pending stood c.args.network c.args.pool.now w is here id (sym pool) (c.is_autocommit-settled.ensures.settled yes) start in
-    shown_sound c.args.network c.args.pool.now (state g.S.Store old) (state g.S.Store mid) (begun g.S.Store _ old mid (c.in-Ok.ensures.begun before)).1 sound)))
+    shown_sound c.args.network c.args.pool.now (state g.S.Store old) (state g.S.Store mid) (begun shows_peers g.S.Store _ old mid (rw c.holds_text.ensures at (c.in-Ok.ensures.begun before))).1 sound)))

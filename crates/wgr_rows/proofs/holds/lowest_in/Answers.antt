@@ -7,5 +7,5 @@ use Rattle.wgr_rows.proofs.holds.lowest_in.Goals as goal
 pub invariant_of-holds : goal.invariant_of-holds
 invariant_of-holds g c = record {
   in_range = omega arith;
-  told = ∣ subst (λ (p : PrefixValue). Tells g.S.Store c.args.rows.now.conn.now c.args.network p 0 None Running) (sym c.prefix.ensures.value) c.requires.told ∣₁;
+  told = ∣ subst (λ (p : PrefixValue). Tells g.S.Store c.args.rows.now.conn.now c.args.shows_peers c.args.network p 0 None Running) (sym c.prefix.ensures.value) c.requires.told ∣₁;
 }

@@ -2,13 +2,13 @@ use Rattle.std.proofs.Common.{rules, ◌≡◌, ◌<◌, true, nat_eq, sym, ap, 
 use Rattle.std.specs.HashSet.{contains}
 use Rattle.sqlite.specs.Held.{state}
 use Rattle.wgr_columns.specs.Decode.{tables_of}
-use Rattle.wgr_rows.specs.Holding.{staying, to_come}
+use Rattle.wgr_rows.specs.Holding.{is_passed_over, staying, to_come}
 use Rattle.wgr_rows.specs.Left.{leaves_on}
 use Rattle.wgr_rows.proofs.Coming.{passed_over}
 use Rattle.wgr_rows.proofs.holds.HoldRowsHolds.next_hold.Goals as goal
 
-pub returns-then-not-contains-clause-was_honest : goal.returns-then-not-contains-clause-was_honest
-returns-then-not-contains-clause-was_honest g c good = (c.loop-span.invariant.6 (c.in_ok-span.ensures.was_good good)).0
+pub returns-then-not-is_passed_over-clause-was_honest : goal.returns-then-not-is_passed_over-clause-was_honest
+returns-then-not-is_passed_over-clause-was_honest g c good = (c.loop-span.invariant.6 (c.in_ok-span.ensures.was_good good)).0
 
 pub returns-clause-was_honest : goal.returns-clause-was_honest
 returns-clause-was_honest g c good = (c.loop-span.invariant.6 (c.in_ok-span.ensures.was_good good)).0
@@ -29,6 +29,6 @@ loop-span-preserved g c =
       (λ good.
           let it = c.loop-span.invariant.6 (c.in_ok-span.ensures.was_good good) in
           let took = rw c.in-Some.is at (c.in_ok-span.ensures.first good) in
-          let here : contains nat_eq mid.expired.now c.in-Some.number ≡ true = search rules in
-          (it.0, it.1 ∙ passed_over (contains nat_eq mid.expired.now) _ _ _ took here ∙ ap (λ e. staying (contains nat_eq e) (to_come new.at (tables_of (state g.S.Store new.rows.now.conn.now).now) new.network new.pool new.taken)) (sym c.next_row.ensures.settings.2))),
+          let here : is_passed_over (contains nat_eq mid.expired.now) c.in-Some.number ≡ true = search rules in
+          (it.0, it.1 ∙ passed_over (contains nat_eq mid.expired.now) _ _ _ took here ∙ ap (λ e. staying (contains nat_eq e) (to_come new.shows_peers new.at (tables_of (state g.S.Store new.rows.now.conn.now).now) new.network new.pool new.taken)) (sym c.next_row.ensures.settings.2))),
     )
