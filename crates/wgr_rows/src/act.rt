@@ -1,6 +1,5 @@
 //! Add and Owner on the rows of one network, which isn't loaded.
-ghost use Rattle.std.specs.Prelude.{◌≡◌, ◌≤◌, ◌+◌, ℕ, List, IfErr, IfOk, IfSome, Some, None, [], ◌∷◌, false, is_some, nat_eq, nat_lt, not, true, length};
-ghost use Rattle.std.specs.HashSet.{contains};
+ghost use Rattle.std.specs.Prelude.{◌≡◌, ◌≤◌, ◌+◌, ℕ, List, IfErr, IfOk, Some, None, [], ◌∷◌, false, is_some, nat_lt, not, true, length};
 ghost use Rattle.std.specs.List.{All};
 ghost use Rattle.sqlite.specs.Effect.{Database};
 ghost use Rattle.sqlite.specs.State.{HasCleanDisk, Survives};
@@ -8,8 +7,8 @@ ghost use Rattle.sqlite.specs.Held.{state};
 ghost use Rattle.wgr_peers.specs.Limits.{max_number};
 ghost use Rattle.wgr_peers.specs.PeerIndex.{EndsFrom};
 ghost use Rattle.wgr_peers.specs.Peers.{expired};
-ghost use Rattle.wgr_core.specs.Change.{Fits, Meets};
-ghost use Rattle.wgr_core.specs.Network.{live_at, lowest_free};
+ghost use Rattle.wgr_core.specs.Change.{Meets};
+ghost use Rattle.wgr_core.specs.Network.{live_at};
 ghost use Rattle.wgr_core.specs.Outcome.{is_reading, outcome_of, place};
 ghost use Rattle.wgr_sql.specs.Causes.{HasCause};
 ghost use Rattle.wgr_tables.specs.Writes.{Written};

@@ -1,11 +1,11 @@
 //! The spans of a network's held addresses, read row by row.
-ghost use Rattle.std.specs.Prelude.{◌≡◌, ◌≤◌, ◌<◌, ◌+◌, ◌-◌, ℕ, nat_eq, false, IsTrue, IfOk, IfErr, IfNone, IfSome, MatchOption, None, OnOk};
+ghost use Rattle.std.specs.Prelude.{◌≡◌, ◌≤◌, ◌<◌, ◌+◌, ◌-◌, nat_eq, false, IfOk, IfErr, IfNone, IfSome, MatchOption, None, OnOk};
 ghost use Rattle.std.specs.HashSet.{contains};
 ghost use Rattle.std.proofs.Common.{refl, ◌∙◌};
 ghost use Rattle.wgr_text.specs.Prefix.{rank};
 ghost use Rattle.wgr_text.specs.declared.prefix.Span.{Span, Span as SpanValue};
 ghost use Rattle.wgr_pool.specs.Spans.{IsFilledBy, IsFull, IsLowestFree, StopsAt, reached};
-ghost use Rattle.sqlite.specs.State.{HasCleanDisk, Survives};
+ghost use Rattle.sqlite.specs.State.{HasCleanDisk};
 ghost use Rattle.sqlite.specs.Held.{state};
 ghost use Rattle.wgr_sql.specs.Causes.{HasCause};
 ghost use Rattle.wgr_columns.specs.Decode.{tables_of};
