@@ -16,7 +16,8 @@ from plain_orders import answer_line
 from serving import SERVER_KEY, Server, done, key, peer, refused, request
 from test_batch import batch, replies
 from test_clock import wait_until
-from test_directed import MANY, Pair, dump, look_at_all, new
+from test_directed import Pair, dump, look_at_all, new
+from test_directed_lists import MANY
 from test_worlds import rows
 
 # When the leases of three peers end. Of two networks that follow one another, one has a lease that ends soon.
