@@ -125,6 +125,14 @@ begin_with n now over is same =
     ap (λ (rs : Routes). lowest_where n.pool (λ a. is_own n.peers a || is_routed n.pool rs a)) (kept_routes (expired now n.peers) over n.routes same ∙ ap (λ (m : NetworkValue). m.routes) (without_expired n now is))
     ∙ none_given n.pool n.peers (live_at n now).routes
 
+-- where each route counts, what is held is what the whole network holds
+pub none_over : (n : NetworkValue) (over : ℕ → Bool) → ((i : ℕ) → over i ≡ false) → lowest_where n.pool (λ a. is_own n.peers a || is_routed n.pool (standing over n.routes) a) ≡ lowest_free n
+none_over n over none = ap (λ (rs : Routes). lowest_where n.pool (λ a. is_own n.peers a || is_routed n.pool rs a)) (all n.routes)
+  where
+    all : (routes : Routes) → standing over routes ≡ routes
+    all [] = refl
+    all (r ∷ routes) = ap (λ b. cond (not b) (r ∷ standing over routes) (standing over routes)) (none r.1) ∙ ap (λ rs. r ∷ rs) (all routes)
+
 -- a peer that moves gives its address up
 pub mover_given : (n : NetworkValue) (p : Peer) → IsNetwork n → peer_of n.peers p.number ≡ Some p
     → cond (is_routed n.pool n.routes p.address) (lowest_free n) (Some (lower (lowest_free n) p.address)) ≡ lowest_free (vacated n (Some p.number))

@@ -232,6 +232,15 @@ impl Live<'_> {
     }
 }
 
+impl Network {
+    /// The lowest address that may be given and that nobody holds, whether or not a lease is over.
+    pub fn lowest_free(&self, alloc: Global) -> Option<Addr>
+        ensures { result ≡ lowest_free self.now }
+    {
+        lowest_beside(self, &HashSet::new(alloc))
+    }
+}
+
 // The lowest address that no peer has, live or expired, and no route except those to the peers with these
 // numbers.
 fn lowest_beside(network: &Network, expired: &HashSet<u32>) -> Option<Addr>
