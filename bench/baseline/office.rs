@@ -6,7 +6,7 @@ use crate::key::key_of;
 use crate::network::{network_id, networks_of, tenant_of_token, Change, Network, Refusal, Seen, Status, Wanted};
 use crate::pages;
 use crate::prefix::Prefix;
-use crate::rows;
+use crate::rows::{self, Outline};
 use crate::sha256;
 use crate::sqlite::Connection;
 use std::collections::HashMap;
@@ -37,14 +37,14 @@ struct ServerFile {
 }
 
 /// A register, and the networks and servers' files that were last asked of, the latest at the end. Of networks
-/// that weren't loaded, the ids of those whose rows were asked last, once each. And for each network that has leases
-/// a moment before which none of them ends.
+/// that weren't loaded, the ids of those whose rows were asked last, once each. And what is known of each network
+/// without loading it.
 pub struct Office {
     db: Connection,
     loaded: Vec<Network>,
     files: Vec<ServerFile>,
     asked_once: Vec<u32>,
-    soonest_ends: HashMap<u32, i64>,
+    outlines: HashMap<u32, Outline>,
 }
 
 /// The reply of a command, and what it changes.
@@ -259,14 +259,13 @@ fn act(network: &Network, now: i64, request: &Request, rest: &[&str]) -> Outcome
     }
 }
 
-/// What a new peer or the owner of an address is answered by the rows of the network of this id, of which no lease
-/// ends before `soonest`.
-fn act_on_rows(db: &mut Connection, id: u32, now: i64, soonest: i64, request: &Request, rest: &[&str]) -> Outcome {
+/// What a new peer or the owner of an address is answered by the rows of the network of this id.
+fn act_on_rows(db: &mut Connection, id: u32, now: i64, outline: Outline, request: &Request, rest: &[&str]) -> Outcome {
     if let ["owner", address] = rest {
         let number = rows::owner(db, id, now, &prefix_of(address))?;
         return Ok((json(pages::owner(number)), None));
     }
-    let change = rows::add(db, id, now, soonest, wanted(request.body, now))?;
+    let change = rows::add(db, id, now, outline, wanted(request.body, now))?;
     done(json(pages::peer(&change.peers[0], &[])), change)
 }
 
@@ -293,8 +292,8 @@ impl ServerFile {
 
 impl Office {
     pub fn new(mut db: Connection) -> Office {
-        let soonest_ends = rows::soonest_ends(&mut db);
-        Office { db, loaded: Vec::new(), files: Vec::new(), asked_once: Vec::new(), soonest_ends }
+        let outlines = rows::outlines(&mut db);
+        Office { db, loaded: Vec::new(), files: Vec::new(), asked_once: Vec::new(), outlines }
     }
 
     /// The network of this id: the one in memory, or else what its rows form.
@@ -334,21 +333,29 @@ impl Office {
         before.is_none()
     }
 
-    /// Notes the ends of leases that a change of the network of this id has set.
-    fn note_ends(&mut self, id: u32, change: &Change) {
-        if let Some(end) = change.soonest_end() {
-            let soonest = self.soonest_ends.entry(id).or_insert(end);
-            *soonest = end.min(*soonest);
-        }
+    /// What is known of the network of this id; one that was made since the start had no peers.
+    fn outline(&self, id: u32) -> Outline {
+        self.outlines.get(&id).copied().unwrap_or(Outline { soonest: i64::MAX, floor: 0 })
+    }
+
+    /// Notes what a change does to what is known of its network. A new peer took the lowest free address; any other
+    /// change may have freed one.
+    fn note(&mut self, id: u32, request: &Request, rest: &[&str], change: &Change) {
+        let soonest = change.soonest_end().unwrap_or(i64::MAX).min(self.outline(id).soonest);
+        let floor = match (request.method, rest) {
+            ("POST", ["peers"]) => change.peers[0].address.number,
+            _ => 0,
+        };
+        self.outlines.insert(id, Outline { soonest, floor });
     }
 
     /// The reply of what was decided on the network of this id; what it changes is committed.
-    fn settle(&mut self, id: u32, decided: Outcome) -> (Reply, Option<Change>) {
+    fn settle(&mut self, id: u32, request: &Request, rest: &[&str], decided: Outcome) -> (Reply, Option<Change>) {
         match decided {
             Ok((reply, Some(change))) => {
                 self.files.retain(|file| file.id != id);
                 change.commit(&mut self.db, id);
-                self.note_ends(id, &change);
+                self.note(id, request, rest, &change);
                 (reply, Some(change))
             }
             Ok(read) => read,
@@ -362,14 +369,14 @@ impl Office {
             return file(self.server_file(id, *form == "quick", now));
         }
         if self.asks_rows(id, request, rest) {
-            let soonest = self.soonest_ends.get(&id).copied().unwrap_or(i64::MAX);
-            let decided = act_on_rows(&mut self.db, id, now, soonest, request, rest);
-            return self.settle(id, decided).0;
+            let outline = self.outline(id);
+            let decided = act_on_rows(&mut self.db, id, now, outline, request, rest);
+            return self.settle(id, request, rest, decided).0;
         }
         let mut network = self.take(id);
         assert!(network.peers.iter().all(|peer| peer.is_live(now)), "a lease that is over");
         let decided = act(&network, now, request, rest);
-        let (reply, change) = self.settle(id, decided);
+        let (reply, change) = self.settle(id, request, rest, decided);
         if let Some(change) = change {
             network.apply(change);
         }

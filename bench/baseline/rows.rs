@@ -1,10 +1,10 @@
 //! A new peer, and the owner of an address, in a network that isn't loaded: only the rows that each needs are read.
 //!
 //! The statements are those of `wgr`, but for its columns of NULL, and for a plus that keeps the C library from an
-//! index: it reads a range of rowids then, as `wgr` does. When leases end is read by a statement of its own: `wgr`
-//! learns it as it tests all rows.
+//! index: it reads a range of rowids then, as `wgr` does. What is known of a network from the start is read by
+//! statements of their own: `wgr` learns it as it tests all rows.
 
-use crate::network::{allowed_at, family_value, number_of, peer_at, peer_id, prefix_at, settled};
+use crate::network::{allowed_at, family_value, networks_by_id, number_of, peer_at, peer_id, prefix_at, settled};
 use crate::network::{Change, Network, Refusal, Wanted};
 use crate::prefix::Prefix;
 use crate::sqlite::{Connection, Value};
@@ -14,10 +14,25 @@ fn word(number: u32) -> Value<'static> {
     Value::Int(i64::from(number))
 }
 
-/// When the first lease of each network ends, by the network's id. Networks where no lease ends aren't there.
-pub fn soonest_ends(db: &mut Connection) -> HashMap<u32, i64> {
+/// What is known of a network that isn't loaded: a moment before which none of its leases ends, and an address
+/// below which none is free.
+#[derive(Clone, Copy)]
+pub struct Outline {
+    pub soonest: i64,
+    pub floor: u128,
+}
+
+/// Of each network, by its id.
+pub fn outlines(db: &mut Connection) -> HashMap<u32, Outline> {
     let sql = "SELECT network, min(until) FROM peer WHERE until > 0 GROUP BY network";
-    db.rows(sql, &[], |row| (row.int(0) as u32, row.int(1))).into_iter().collect()
+    let ends: HashMap<u32, i64> = db.rows(sql, &[], |row| (row.int(0) as u32, row.int(1))).into_iter().collect();
+    let mut found = HashMap::new();
+    for network in networks_by_id(db) {
+        let soonest = ends.get(&network.id).copied().unwrap_or(i64::MAX);
+        let floor = lowest_free(db, &network, 0, &[]).map_or(0, |address| address.number);
+        found.insert(network.id, Outline { soonest, floor });
+    }
+    found
 }
 
 /// The number of the live peer that has this key.
@@ -46,11 +61,11 @@ fn count(db: &mut Connection, network: u32, next: u32) -> usize {
 }
 
 /// The lowest address that the pool may give and that neither a peer nor a route in the pool has, but for those of
-/// the expired peers. Rows are read up to the first gap. Where nobody is expired, it doesn't matter to which peer a
-/// row leads, so that the key alone is read.
-fn lowest_free(db: &mut Connection, network: &Network, expired: &[u32]) -> Option<Prefix> {
+/// the expired peers. Rows are read from the floor, below which none is free, up to the first gap. Where nobody is
+/// expired, it doesn't matter to which peer a row leads, so that the key alone is read.
+fn lowest_free(db: &mut Connection, network: &Network, floor: u128, expired: &[u32]) -> Option<Prefix> {
     let expired: HashSet<u32> = expired.iter().copied().collect();
-    let mut free = network.first_address();
+    let mut free = floor.max(network.first_address());
     let sql = if expired.is_empty() {
         "SELECT network, family, lo, length FROM allowed WHERE network = ?1 AND family = ?2 AND lo >= ?3 AND lo <= ?4 AND length >= ?5 ORDER BY lo, length"
     } else {
@@ -61,7 +76,7 @@ fn lowest_free(db: &mut Connection, network: &Network, expired: &[u32]) -> Optio
         &[
             word(network.id),
             family_value(network.pool.family),
-            Value::Blob(&network.pool.number.to_be_bytes()),
+            Value::Blob(&floor.max(network.pool.number).to_be_bytes()),
             Value::Blob(&network.pool.last().to_be_bytes()),
             word(network.pool.length),
         ],
@@ -101,20 +116,24 @@ fn prefix_holder(db: &mut Connection, network: u32, now: i64, prefix: &Prefix) -
     peer.first().expect("a peer").is_live(now).then_some(number)
 }
 
-/// A new peer, which gets the lowest free address. The expired peers go; before `soonest` no lease of the network
-/// ends, so none is looked for.
-pub fn add(db: &mut Connection, id: u32, now: i64, soonest: i64, wanted: Wanted) -> Result<Change, Refusal> {
+/// A new peer, which gets the lowest free address. The expired peers go; before the first lease ends none is looked
+/// for, and no address below the floor is free.
+pub fn add(db: &mut Connection, id: u32, now: i64, outline: Outline, wanted: Wanted) -> Result<Change, Refusal> {
     let network = settled(db, id);
     assert!(wanted.key != network.server, "a refusal");
     if let Some(number) = key_holder(db, id, now, &wanted.key) {
         return Err(Refusal::KeyHeld(number));
     }
-    let expired = if now < soonest { Vec::new() } else { expired(db, id, network.next, now) };
+    let (expired, floor) = if now < outline.soonest {
+        (Vec::new(), outline.floor)
+    } else {
+        (expired(db, id, network.next, now), 0)
+    };
     // There are fewer peers than numbers were given.
     let has_room = network.next as usize <= network.capacity
         || count(db, id, network.next) - expired.len() < network.capacity;
     assert!(has_room, "a refusal");
-    let address = lowest_free(db, &network, &expired).expect("a refusal");
+    let address = lowest_free(db, &network, floor, &expired).expect("a refusal");
     Ok(network.with(wanted, address, expired))
 }
 

@@ -1,6 +1,6 @@
 pub mod ApartLemmas
 pub mod WholeLemmas
-pub mod LeaseLemmas
+pub mod OutlineLemmas
 pub mod JoinLemmas
 pub mod ConsistentLemmas
 pub mod GoodLemmas

@@ -1,3 +1,3 @@
 pub mod Whole
 pub mod Good
-pub mod Leases
+pub mod Outlines

@@ -18,22 +18,25 @@ ghost use Rattle.wgr_schema.specs.declared.fault.RegisterFault.TheVariants.{NotA
 ghost use Rattle.wgr_columns.specs.Decode.{tables_of};
 ghost use Rattle.wgr_tables.specs.Standing.{Stands};
 ghost use Rattle.wgr_opening.specs.Good.{IsGood};
-ghost use Rattle.wgr_opening.specs.Leases.{AreEnds, end_in};
+ghost use Rattle.wgr_opening.specs.Outlines.{AreOutlines, outline_in};
 
-use crate::leases::Leases;
+use crate::outlines::Outlines;
 use crate::read::read_tables;
-use crate::stored::stored_leases;
+use crate::stored::stored_outlines;
 use sqlite::{Alter, Connection};
 use std::alloc::Global;
 use wgr_schema::{RegisterFault, check_layout, register_fault};
 use wgr_sql::Fault;
 
-// When the leases end, if the rows of a database that has the register's tables are good.
-fn good_leases<S: Alter>(alloc: Global, conn: &mut Connection<S>) -> Result<Option<Leases>, Fault>
+// The outlines of the networks, if the rows of a database that has the register's tables are good.
+fn good_outlines<S: Alter>(
+    alloc: Global,
+    conn: &mut Connection<S>,
+) -> Result<Option<Outlines>, Fault>
     requires idle { conn.old.in_transaction ≡ false }
     ensures idle { conn.new.in_transaction ≡ false }
     ensures good { HasCleanDisk (state S.Store conn.new) → (IsTrue (state S.Store conn.old).is_open → IsFirstVersion (state S.Store conn.old).now)
-        → IfOk result (λ found. IfSome found (λ leases. IsTrue (state S.Store conn.old).is_open × IsGood (state S.Store conn.old).now × Stands S.Store conn.new (state S.Store conn.old).now [] × AreEnds (end_in leases) (tables_of (state S.Store conn.old).now))) }
+        → IfOk result (λ found. IfSome found (λ outlines. IsTrue (state S.Store conn.old).is_open × IsGood (state S.Store conn.old).now × Stands S.Store conn.new (state S.Store conn.old).now [] × AreOutlines (outline_in outlines) (tables_of (state S.Store conn.old).now))) }
     ensures only { HasCleanDisk (state S.Store conn.new) → (IsTrue (state S.Store conn.old).is_open → IsFirstVersion (state S.Store conn.old).now)
         → IfOk result (λ found. IsTrue (state S.Store conn.old).is_open × (IsGood (state S.Store conn.old).now → IsSome found)) }
     ensures kept { (HasCleanDisk (state S.Store conn.new) → IsTrue (state S.Store conn.old).is_open → IsFirstVersion (state S.Store conn.old).now) → IsKept (state S.Store conn.old) (state S.Store conn.new) }
@@ -46,10 +49,10 @@ fn good_leases<S: Alter>(alloc: Global, conn: &mut Connection<S>) -> Result<Opti
     let Some(networks) = read_tables(alloc, conn)? else {
         return Ok(None);
     };
-    stored_leases(alloc, conn, networks.as_slice())
+    stored_outlines(alloc, conn, networks.as_slice())
 }
 
-/// When the leases of each network end, if the database is a register whose rows are good.
+/// The outline of each network, if the database is a register whose rows are good.
 ///
 /// `NotARegister` means that the database lacks the register's tables or has those of another version,
 /// and `NotGood` that it is of the first version, but its rows aren't those of a consistent
@@ -57,11 +60,11 @@ fn good_leases<S: Alter>(alloc: Global, conn: &mut Connection<S>) -> Result<Opti
 pub fn check_register<S: Alter>(
     alloc: Global,
     conn: &mut Connection<S>,
-) -> Result<Leases, RegisterFault>
+) -> Result<Outlines, RegisterFault>
     requires idle { conn.old.in_transaction ≡ false }
     ensures idle { conn.new.in_transaction ≡ false }
     ensures right { HasCleanDisk (state S.Store conn.new) → IfOk result (λ _. IsGood (state S.Store conn.old).now × Stands S.Store conn.new (state S.Store conn.old).now []) }
-    ensures ends { HasCleanDisk (state S.Store conn.new) → IfOk result (λ leases. AreEnds (end_in leases) (tables_of (state S.Store conn.old).now)) }
+    ensures outlines { HasCleanDisk (state S.Store conn.new) → IfOk result (λ outlines. AreOutlines (outline_in outlines) (tables_of (state S.Store conn.old).now)) }
     ensures wrong { HasCleanDisk (state S.Store conn.new) → result ≡ Err NotARegister → IsFirstVersion (state S.Store conn.old).now → ⊥ }
     ensures bad { HasCleanDisk (state S.Store conn.new) → result ≡ Err NotGood → IsGood (state S.Store conn.old).now → ⊥ }
     ensures version { HasCleanDisk (state S.Store conn.new) → result ≡ Err NotGood → IsFirstVersion (state S.Store conn.old).now }
@@ -72,12 +75,12 @@ pub fn check_register<S: Alter>(
     ensures cause { IfErr result (IfStatementFails (HasCause (state S.Store conn.old) (state S.Store conn.new))) }
 {
     check_layout(conn)?;
-    let found = match good_leases(alloc, conn) {
+    let found = match good_outlines(alloc, conn) {
         Ok(found) => found,
         Err(fault) => return Err(register_fault(fault)),
     };
     match found {
-        Some(leases) => Ok(leases),
+        Some(outlines) => Ok(outlines),
         None => Err(RegisterFault::NotGood),
     }
 }

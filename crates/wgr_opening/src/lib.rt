@@ -4,10 +4,10 @@
 
 mod check;
 mod laws;
-mod leases;
+mod outlines;
 mod read;
 mod stored;
 
 pub use check::check_register;
 pub use laws::whole_rows_are_consistent;
-pub use leases::Leases;
+pub use outlines::Outlines;

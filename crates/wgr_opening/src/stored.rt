@@ -9,39 +9,40 @@ ghost use Rattle.wgr_columns.specs.Decode.{tables_of};
 ghost use Rattle.wgr_tables.specs.Standing.{Stands};
 ghost use Rattle.wgr_tables.specs.Writes.{Written};
 ghost use Rattle.wgr_opening.specs.Good.{StoresNetwork};
-ghost use Rattle.wgr_opening.specs.Leases.{AreStoredEnds, end_in};
+ghost use Rattle.wgr_opening.specs.Outlines.{AreStoredOutlines, outline_in};
 
-use crate::leases::Leases;
+use crate::outlines::Outlines;
 use sqlite::{Alter, Connection};
 use std::alloc::Global;
+use wgr_outline::Outline;
 use wgr_sql::Fault;
 use wgr_tables::network_if_stored;
 
-/// When the leases of the networks of these ids end, if the rows of each form one that keeps the rules.
-pub(crate) fn stored_leases<S: Alter>(
+/// The outlines of the networks of these ids, if the rows of each form one that keeps the rules.
+pub(crate) fn stored_outlines<S: Alter>(
     alloc: Global,
     conn: &mut Connection<S>,
     networks: &[u32],
-) -> Result<Option<Leases>, Fault>
+) -> Result<Option<Outlines>, Fault>
     requires idle { conn.old.in_transaction ≡ false }
     ensures idle { conn.new.in_transaction ≡ false }
     ensures stands { (db : Database) (pending : List Written) → Stands S.Store conn.old db pending → Stands S.Store conn.new db pending }
     ensures clean { HasCleanDisk (state S.Store conn.new) → HasCleanDisk (state S.Store conn.old) }
     ensures answer { (db : Database) (pending : List Written) → Stands S.Store conn.old db pending → HasCleanDisk (state S.Store conn.new)
         → IfOk result (λ found. IsSome found ↔ AllByRecursion (StoresNetwork (tables_of db)) networks.now) }
-    ensures ends { (db : Database) (pending : List Written) → Stands S.Store conn.old db pending → HasCleanDisk (state S.Store conn.new)
-        → IfOk result (λ found. IfSome found (λ leases. AreStoredEnds (end_in leases) (tables_of db))) }
+    ensures outlines { (db : Database) (pending : List Written) → Stands S.Store conn.old db pending → HasCleanDisk (state S.Store conn.new)
+        → IfOk result (λ found. IfSome found (λ outlines. AreStoredOutlines (outline_in outlines) (tables_of db))) }
     ensures survives { Survives (state S.Store conn.old) (state S.Store conn.new) (λ _. ⊥) }
     ensures cause { (db : Database) (pending : List Written) → Stands S.Store conn.old db pending → IsDistinct nat_eq (map (λ w. w.id) (tables_of db).networks) → IfErr result (HasCause (state S.Store conn.old) (state S.Store conn.new)) }
 {
-    let mut leases = Leases::new(alloc);
+    let mut outlines = Outlines::new(alloc);
     for network in networks {
         let Some(stored) = network_if_stored(alloc, conn, *network)? else {
             return Ok(None);
         };
-        let Ok(()) = leases.put(*network, stored.soonest_end()) else {
+        let Ok(()) = outlines.put(*network, Outline::of(alloc, &stored)) else {
             return Err(Fault::NoMemory);
         };
     }
-    Ok(Some(leases))
+    Ok(Some(outlines))
 }

@@ -29,8 +29,9 @@ use Rattle.wgr_sql.specs.declared.fault.Fault.{Fault}
 use Rattle.wgr_register.specs.Cached.{AreCurrent, Cached}
 use Rattle.wgr_register.proofs.CacheLemmas.{found_rest}
 use Rattle.wgr_register.proofs.CachedLemmas.{current_after}
-use Rattle.wgr_opening.specs.Leases.{AreEnds}
-use Rattle.wgr_register.proofs.KnownLemmas.{ends_after}
+use Rattle.wgr_outline.specs.declared.outline.Outline.{Outline}
+use Rattle.wgr_opening.specs.Outlines.{AreOutlines}
+use Rattle.wgr_register.proofs.KnownLemmas.{outlines_after}
 use Rattle.wgr_register.proofs.LoadedLemmas.{formed_in, shown_so}
 use Rattle.wgr_register.proofs.StandLemmas.{either_way}
 
@@ -141,5 +142,5 @@ module _ {S : Type 0} (g : Ghosts S) (conn : Held S) (db : Database) (late : Lis
     pub files_shown : (files : Cached) → AreCurrent files (tables_of db) → UnlessUndone r (Shows g conn (AreCurrent files))
     files_shown files current = shown_after (AreCurrent files) event r ends (λ answer u step. current_after files (tables_of db) u (one_stays (tables_of db) u consistent event proper answer step none) current) current
 
-    pub ends_shown : (ends : ℕ → Option ℕ) → AreEnds ends (tables_of db) → UnlessUndone r (Shows g conn (AreEnds ends))
-    ends_shown known are = shown_after (AreEnds known) event r ends (λ answer u step. ends_after known (tables_of db) u (one_stays (tables_of db) u consistent event proper answer step none) are) are
+    pub outlines_shown : (known : ℕ → Option Outline) → AreOutlines known (tables_of db) → UnlessUndone r (Shows g conn (AreOutlines known))
+    outlines_shown known are = shown_after (AreOutlines known) event r ends (λ answer u step. outlines_after known (tables_of db) u (one_stays (tables_of db) u consistent event proper answer step none) are) are

@@ -18,27 +18,27 @@ ghost use Rattle.wgr_tables.specs.Standing.{Stands};
 ghost use Rattle.wgr_tables.specs.Writes.{Written};
 ghost use Rattle.wgr_conf.specs.Files.{server_config};
 ghost use Rattle.wgr_core.specs.Network.{NetworkValue};
-ghost use Rattle.wgr_opening.specs.Leases.{AreEnds};
+ghost use Rattle.wgr_opening.specs.Outlines.{AreOutlines};
 ghost use Rattle.wgr_rows.specs.Act.{is_directed};
 ghost use Rattle.wgr_register.specs.Cached.{AreCurrent, files_of};
 ghost use Rattle.wgr_register.specs.Given.{OfFile};
 ghost use Rattle.wgr_register.specs.Causes.{AskStops, IfFault, StopsIf};
 ghost use Rattle.wgr_register.specs.Ends.{AskEnds, CommitsIf, FailsIf, IsFound};
 ghost use Rattle.wgr_register.specs.Loaded.{AreFormed, AreOthersFormed, Shows, UnlessFault, entries_of};
-ghost use Rattle.wgr_register.specs.Known.{known_end};
+ghost use Rattle.wgr_register.specs.Known.{known_outline};
 ghost use Rattle.wgr_register.specs.Standing.{StandsAt};
 
 use crate::asked::{Asked, is_first};
 use crate::fault::AskFault;
 use crate::files::{Files, drop_changed, kept_text, made_text};
 use crate::given::{Render, render_plain, render_reply};
-use crate::leases::{end_after, note, soonest_end};
 use crate::loaded::{Networks, forget, is_kept, keep, keep_changed, take};
+use crate::outlines::{note, outline_of, outline_with};
 use sqlite::{Alter, Connection};
 use std::alloc::Global;
 use wgr_core::{Change, Command, Form, Name, Network};
 use wgr_entries::{network_id, tenant_of_token};
-use wgr_opening::Leases;
+use wgr_opening::Outlines;
 use wgr_rows::{is_directed, row_act};
 use wgr_tables::{Fault, commit_change, load_network};
 
@@ -125,7 +125,7 @@ fn act_on<S: Alter, R: Render>(
     conn: &mut Connection<S>,
     loaded: &mut Option<Networks>,
     files: &mut Option<Files>,
-    leases: &mut Option<Leases>,
+    outlines: &mut Option<Outlines>,
     id: u32,
     network: Network,
     now: u64,
@@ -141,8 +141,8 @@ fn act_on<S: Alter, R: Render>(
         → UnlessFault result (Shows S.Store conn.new (AreFormed (entries_of loaded.new))) }
     ensures current { (db : Database) (late : List Event) (digest name : Bytes) → StandsAt S.Store conn.old db late → IsFound (tables_of db) digest name id network → AreCurrent (files_of files.old) (tables_of db)
         → UnlessFault result (Shows S.Store conn.new (AreCurrent (files_of files.new))) }
-    ensures leases { (db : Database) (late : List Event) (digest name : Bytes) → StandsAt S.Store conn.old db late → IsFound (tables_of db) digest name id network → AreEnds (known_end leases.old) (tables_of db)
-        → UnlessFault result (Shows S.Store conn.new (AreEnds (known_end leases.new))) }
+    ensures outlines { (db : Database) (late : List Event) (digest name : Bytes) → StandsAt S.Store conn.old db late → IsFound (tables_of db) digest name id network → AreOutlines (known_outline outlines.old) (tables_of db)
+        → UnlessFault result (Shows S.Store conn.new (AreOutlines (known_outline outlines.new))) }
     ensures memory { is_reading command.now ≡ true → IfFault (λ why. why ≡ NoMemory) result }
     ensures survives { Survives (state S.Store conn.old) (state S.Store conn.new) (λ _. ⊤) }
     ensures stops { (db : Database) (late : List Event) (digest name : Bytes) → StandsAt S.Store conn.old db late → IsFound (tables_of db) digest name id network → IfFault (HasCauseOr (AskStops (tables_of db) digest name now command.now) (state S.Store conn.old) (state S.Store conn.new)) result }
@@ -158,7 +158,13 @@ fn act_on<S: Alter, R: Render>(
     let text = render_reply(alloc, render, &network, now, &reply)?;
     drop_changed(files, id, &change);
     commit_if(conn, id, &change)?;
-    note(alloc, leases, id, end_after(network.soonest_end(), &change));
+    let before = outline_with(outlines, id, &network);
+    note(
+        alloc,
+        outlines,
+        id,
+        before.after(now, command, &reply, &change),
+    );
     keep_changed(alloc, loaded, id, network, change);
     Ok(text)
 }
@@ -170,7 +176,7 @@ fn act_on_rows<S: Alter, R: Render>(
     conn: &mut Connection<S>,
     loaded: &mut Option<Networks>,
     files: &mut Option<Files>,
-    leases: &mut Option<Leases>,
+    outlines: &mut Option<Outlines>,
     id: u32,
     now: u64,
     command: &Command,
@@ -180,26 +186,31 @@ fn act_on_rows<S: Alter, R: Render>(
     requires directed { is_directed command.now ≡ true }
     ensures idle { conn.new.in_transaction ≡ false }
     ensures clean { HasCleanDisk (state S.Store conn.new) → HasCleanDisk (state S.Store conn.old) }
-    ensures ends { (db : Database) (late : List Event) (digest name : Bytes) (n : NetworkValue) → StandsAt S.Store conn.old db late → IsFound (tables_of db) digest name id n → AreEnds (known_end leases.old) (tables_of db)
+    ensures ends { (db : Database) (late : List Event) (digest name : Bytes) (n : NetworkValue) → StandsAt S.Store conn.old db late → IsFound (tables_of db) digest name id n → AreOutlines (known_outline outlines.old) (tables_of db)
         → AskEnds S.Store R.shown conn.new db late (Ask digest name now command.now) now result }
-    ensures formed { (db : Database) (late : List Event) (digest name : Bytes) (n : NetworkValue) → StandsAt S.Store conn.old db late → IsFound (tables_of db) digest name id n → AreEnds (known_end leases.old) (tables_of db) → AreFormed (entries_of loaded.old) (tables_of db)
+    ensures formed { (db : Database) (late : List Event) (digest name : Bytes) (n : NetworkValue) → StandsAt S.Store conn.old db late → IsFound (tables_of db) digest name id n → AreOutlines (known_outline outlines.old) (tables_of db) → AreFormed (entries_of loaded.old) (tables_of db)
         → UnlessFault result (Shows S.Store conn.new (AreFormed (entries_of loaded.new))) }
-    ensures current { (db : Database) (late : List Event) (digest name : Bytes) (n : NetworkValue) → StandsAt S.Store conn.old db late → IsFound (tables_of db) digest name id n → AreEnds (known_end leases.old) (tables_of db) → AreCurrent (files_of files.old) (tables_of db)
+    ensures current { (db : Database) (late : List Event) (digest name : Bytes) (n : NetworkValue) → StandsAt S.Store conn.old db late → IsFound (tables_of db) digest name id n → AreOutlines (known_outline outlines.old) (tables_of db) → AreCurrent (files_of files.old) (tables_of db)
         → UnlessFault result (Shows S.Store conn.new (AreCurrent (files_of files.new))) }
-    ensures leases { (db : Database) (late : List Event) (digest name : Bytes) (n : NetworkValue) → StandsAt S.Store conn.old db late → IsFound (tables_of db) digest name id n → AreEnds (known_end leases.old) (tables_of db)
-        → UnlessFault result (Shows S.Store conn.new (AreEnds (known_end leases.new))) }
+    ensures outlines { (db : Database) (late : List Event) (digest name : Bytes) (n : NetworkValue) → StandsAt S.Store conn.old db late → IsFound (tables_of db) digest name id n → AreOutlines (known_outline outlines.old) (tables_of db)
+        → UnlessFault result (Shows S.Store conn.new (AreOutlines (known_outline outlines.new))) }
     ensures cause { (db : Database) (late : List Event) (digest name : Bytes) (n : NetworkValue) → StandsAt S.Store conn.old db late → IsFound (tables_of db) digest name id n → is_reading command.now ≡ true → IfFault (HasCause (state S.Store conn.old) (state S.Store conn.new)) result }
     ensures survives { Survives (state S.Store conn.old) (state S.Store conn.new) (λ _. ⊤) }
-    ensures stops { (db : Database) (late : List Event) (digest name : Bytes) (n : NetworkValue) → StandsAt S.Store conn.old db late → IsFound (tables_of db) digest name id n → AreEnds (known_end leases.old) (tables_of db) → IfFault (HasCauseOr (AskStops (tables_of db) digest name now command.now) (state S.Store conn.old) (state S.Store conn.new)) result }
+    ensures stops { (db : Database) (late : List Event) (digest name : Bytes) (n : NetworkValue) → StandsAt S.Store conn.old db late → IsFound (tables_of db) digest name id n → AreOutlines (known_outline outlines.old) (tables_of db) → IfFault (HasCauseOr (AskStops (tables_of db) digest name now command.now) (state S.Store conn.old) (state S.Store conn.new)) result }
 {
     command.forms_hold();
-    let soonest = soonest_end(leases, id);
-    let (reply, changes) = row_act(alloc, conn, id, now, soonest, command)?;
+    let before = outline_of(outlines, id);
+    let (reply, changes) = row_act(alloc, conn, id, now, &before, command)?;
     let text = render_plain(alloc, render, &reply)?;
     drop_changed(files, id, &changes);
     commit_if(conn, id, &changes)?;
     forget(loaded, id);
-    note(alloc, leases, id, end_after(soonest, &changes));
+    note(
+        alloc,
+        outlines,
+        id,
+        before.after(now, command, &reply, &changes),
+    );
     Ok(text)
 }
 
@@ -248,7 +259,7 @@ pub(crate) fn ask<S: Alter, R: Render>(
     conn: &mut Connection<S>,
     loaded: &mut Option<Networks>,
     files: &mut Option<Files>,
-    leases: &mut Option<Leases>,
+    outlines: &mut Option<Outlines>,
     asked: &mut Option<Asked>,
     digest: &[u8; 32],
     name: &[u8],
@@ -259,13 +270,13 @@ pub(crate) fn ask<S: Alter, R: Render>(
     requires idle { conn.old.in_transaction ≡ false }
     requires formed { Shows S.Store conn.old (AreFormed (entries_of loaded.old)) }
     requires current { Shows S.Store conn.old (AreCurrent (files_of files.old)) }
-    requires leases { Shows S.Store conn.old (AreEnds (known_end leases.old)) }
+    requires outlines { Shows S.Store conn.old (AreOutlines (known_outline outlines.old)) }
     ensures idle { conn.new.in_transaction ≡ false }
     ensures clean { HasCleanDisk (state S.Store conn.new) → HasCleanDisk (state S.Store conn.old) }
     ensures ends { (db : Database) (late : List Event) → StandsAt S.Store conn.old db late → AskEnds S.Store R.shown conn.new db late (Ask digest.now name.now now command.now) now result }
     ensures formed { (db : Database) (late : List Event) → StandsAt S.Store conn.old db late → UnlessFault result (Shows S.Store conn.new (AreFormed (entries_of loaded.new))) }
     ensures current { (db : Database) (late : List Event) → StandsAt S.Store conn.old db late → UnlessFault result (Shows S.Store conn.new (AreCurrent (files_of files.new))) }
-    ensures leases { (db : Database) (late : List Event) → StandsAt S.Store conn.old db late → UnlessFault result (Shows S.Store conn.new (AreEnds (known_end leases.new))) }
+    ensures outlines { (db : Database) (late : List Event) → StandsAt S.Store conn.old db late → UnlessFault result (Shows S.Store conn.new (AreOutlines (known_outline outlines.new))) }
     ensures cause { (db : Database) (late : List Event) → StandsAt S.Store conn.old db late → is_reading command.now ≡ true → IfFault (HasCause (state S.Store conn.old) (state S.Store conn.new)) result }
     ensures stops { (db : Database) (late : List Event) → StandsAt S.Store conn.old db late → IfFault (HasCauseOr (AskStops (tables_of db) digest.now name.now now command.now) (state S.Store conn.old) (state S.Store conn.new)) result }
 {
@@ -280,10 +291,12 @@ pub(crate) fn ask<S: Alter, R: Render>(
         return Ok(text);
     }
     if is_directed(command) && !is_kept(loaded, id) && is_first(alloc, asked, id) {
-        return act_on_rows(alloc, conn, loaded, files, leases, id, now, command, render);
+        return act_on_rows(
+            alloc, conn, loaded, files, outlines, id, now, command, render,
+        );
     }
     let network = take_network(alloc, conn, loaded, id)?;
     act_on(
-        alloc, conn, loaded, files, leases, id, network, now, command, render,
+        alloc, conn, loaded, files, outlines, id, network, now, command, render,
     )
 }

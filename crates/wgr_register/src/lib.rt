@@ -9,10 +9,10 @@ mod fault;
 mod files;
 mod given;
 mod kept_file;
-mod leases;
 mod list;
 mod loaded;
 mod order;
+mod outlines;
 mod recent;
 mod register;
 

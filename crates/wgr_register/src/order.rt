@@ -11,15 +11,15 @@ ghost use Rattle.wgr_columns.specs.Decode.{tables_of};
 ghost use Rattle.wgr_register.specs.Cached.{AreCurrent, files_of};
 ghost use Rattle.wgr_register.specs.Causes.{IfOrderFault, OrderStops};
 ghost use Rattle.wgr_register.specs.Ends.{Admits, OrderEnds};
-ghost use Rattle.wgr_opening.specs.Leases.{AreEnds};
-ghost use Rattle.wgr_register.specs.Known.{known_end};
+ghost use Rattle.wgr_opening.specs.Outlines.{AreOutlines};
+ghost use Rattle.wgr_register.specs.Known.{known_outline};
 ghost use Rattle.wgr_register.specs.Loaded.{AreFormed, Shows, UnlessUndone, entries_of};
 ghost use Rattle.wgr_register.specs.Standing.{StandsAt};
 
 use crate::fault::{Done, OrderFault};
 use crate::files::{Files, drop_files};
-use crate::leases::forget_end;
 use crate::loaded::{Networks, forget};
+use crate::outlines::forget_outline;
 use sqlite::{Alter, Connection};
 use std::alloc::Global;
 use wgr_core::Name;
@@ -28,7 +28,7 @@ use wgr_entries::{
     tenants,
 };
 use wgr_model::MAX_ENTRIES;
-use wgr_opening::Leases;
+use wgr_opening::Outlines;
 use wgr_orders::{Holding, Order, OrderRefusal, Settings, Tenant, admit_network, unused_id};
 use wgr_tables::Fault;
 
@@ -38,7 +38,7 @@ pub(crate) fn operate<S: Alter>(
     conn: &mut Connection<S>,
     loaded: &mut Option<Networks>,
     files: &mut Option<Files>,
-    leases: &mut Option<Leases>,
+    outlines: &mut Option<Outlines>,
     order: &Order,
 ) -> Result<Done, OrderFault>
     requires idle { conn.old.in_transaction ≡ false }
@@ -48,7 +48,7 @@ pub(crate) fn operate<S: Alter>(
     ensures ends { (db : Database) (late : List Event) → StandsAt S.Store conn.old db late → OrderEnds S.Store conn.new db late (order_event order.now) result }
     ensures formed { (db : Database) (late : List Event) → StandsAt S.Store conn.old db late → AreFormed (entries_of loaded.old) (tables_of db) → UnlessUndone result (Shows S.Store conn.new (AreFormed (entries_of loaded.new))) }
     ensures current { (db : Database) (late : List Event) → StandsAt S.Store conn.old db late → AreCurrent (files_of files.old) (tables_of db) → UnlessUndone result (Shows S.Store conn.new (AreCurrent (files_of files.new))) }
-    ensures leases { (db : Database) (late : List Event) → StandsAt S.Store conn.old db late → AreEnds (known_end leases.old) (tables_of db) → UnlessUndone result (Shows S.Store conn.new (AreEnds (known_end leases.new))) }
+    ensures outlines { (db : Database) (late : List Event) → StandsAt S.Store conn.old db late → AreOutlines (known_outline outlines.old) (tables_of db) → UnlessUndone result (Shows S.Store conn.new (AreOutlines (known_outline outlines.new))) }
     ensures stops { (db : Database) (late : List Event) → StandsAt S.Store conn.old db late → IfOrderFault (HasCauseOr (OrderStops (tables_of db) (order_event order.now)) (state S.Store conn.old) (state S.Store conn.new)) result }
 {
     order.forms_hold();
@@ -62,7 +62,7 @@ pub(crate) fn operate<S: Alter>(
             settings,
         } => add_network(alloc, conn, tenant, name, settings),
         Order::EndNetwork { tenant, name } => end_network(
-            conn, loaded, files, leases, tenant, name,
+            conn, loaded, files, outlines, tenant, name,
         ),
     }
 }
@@ -88,7 +88,7 @@ fn end_network<S: Alter>(
     conn: &mut Connection<S>,
     loaded: &mut Option<Networks>,
     files: &mut Option<Files>,
-    leases: &mut Option<Leases>,
+    outlines: &mut Option<Outlines>,
     tenant: &Name,
     name: &Name,
 ) -> Result<Done, OrderFault>
@@ -99,7 +99,7 @@ fn end_network<S: Alter>(
     ensures ends { (db : Database) (late : List Event) → StandsAt S.Store conn.old db late → OrderEnds S.Store conn.new db late (EndNetwork tenant.now name.now) result }
     ensures formed { (db : Database) (late : List Event) → StandsAt S.Store conn.old db late → AreFormed (entries_of loaded.old) (tables_of db) → UnlessUndone result (Shows S.Store conn.new (AreFormed (entries_of loaded.new))) }
     ensures current { (db : Database) (late : List Event) → StandsAt S.Store conn.old db late → AreCurrent (files_of files.old) (tables_of db) → UnlessUndone result (Shows S.Store conn.new (AreCurrent (files_of files.new))) }
-    ensures leases { (db : Database) (late : List Event) → StandsAt S.Store conn.old db late → AreEnds (known_end leases.old) (tables_of db) → UnlessUndone result (Shows S.Store conn.new (AreEnds (known_end leases.new))) }
+    ensures outlines { (db : Database) (late : List Event) → StandsAt S.Store conn.old db late → AreOutlines (known_outline outlines.old) (tables_of db) → UnlessUndone result (Shows S.Store conn.new (AreOutlines (known_outline outlines.new))) }
     ensures stops { (db : Database) (late : List Event) → StandsAt S.Store conn.old db late → IfOrderFault (HasCauseOr (OrderStops (tables_of db) (EndNetwork tenant.now name.now)) (state S.Store conn.old) (state S.Store conn.new)) result }
 {
     let Some(id) = tenant_id(conn, tenant)? else {
@@ -110,7 +110,7 @@ fn end_network<S: Alter>(
     };
     forget(loaded, network);
     drop_files(files, network);
-    forget_end(leases, network);
+    forget_outline(outlines, network);
     wgr_entries::end_network(conn, network)?;
     Ok(Done)
 }

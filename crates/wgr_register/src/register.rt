@@ -34,7 +34,7 @@ use std::alloc::Global;
 use std::marker::Model;
 use wgr_core::Command;
 use wgr_entries::tenant_of_token;
-use wgr_opening::{Leases, check_register};
+use wgr_opening::{Outlines, check_register};
 use wgr_orders::{Census, Order};
 use wgr_schema::make;
 use wgr_tables::Fault;
@@ -54,14 +54,14 @@ pub struct Register<S: Alter> {
     loaded: Option<Networks>,
     files: Option<Files>,
     asked: Option<Asked>,
-    leases: Option<Leases>,
+    outlines: Option<Outlines>,
 }
 
 impl<S: Alter> Model for Register<S> {
     ghost use Rattle.sqlite.specs.Held.{Held, held_code};
     ghost use Rattle.wgr_register.specs.Cached.{AreCurrent, files_of};
-    ghost use Rattle.wgr_opening.specs.Leases.{AreEnds};
-    ghost use Rattle.wgr_register.specs.Known.{known_end};
+    ghost use Rattle.wgr_opening.specs.Outlines.{AreOutlines};
+    ghost use Rattle.wgr_register.specs.Known.{known_outline};
     ghost use Rattle.wgr_register.specs.Loaded.{AreFormed, Shows, entries_of};
     ghost use Rattle.wgr_register.specs.Standing.{IsAtRest};
 
@@ -71,7 +71,7 @@ impl<S: Alter> Model for Register<S> {
 
     ghost view = { λ r. r.conn };
 
-    ghost invariant = { λ r. IsAtRest S.Store r.conn × Shows S.Store r.conn (AreFormed (entries_of r.loaded)) × Shows S.Store r.conn (AreCurrent (files_of r.files)) × Shows S.Store r.conn (AreEnds (known_end r.leases)) };
+    ghost invariant = { λ r. IsAtRest S.Store r.conn × Shows S.Store r.conn (AreFormed (entries_of r.loaded)) × Shows S.Store r.conn (AreCurrent (files_of r.files)) × Shows S.Store r.conn (AreOutlines (known_outline r.outlines)) };
 }
 
 impl<S: Alter> Register<S> {
@@ -99,7 +99,7 @@ impl<S: Alter> Register<S> {
                 loaded: None,
                 files: None,
                 asked: None,
-                leases: None,
+                outlines: None,
             }),
             Err(fault) => Err(OpenFault {
                 fault,
@@ -129,12 +129,12 @@ impl<S: Alter> Register<S> {
         ensures idle { IfErr result (λ e. e.connection.in_transaction ≡ false) }
     {
         match check_register(alloc, &mut conn) {
-            Ok(leases) => Ok(Register {
+            Ok(outlines) => Ok(Register {
                 conn,
                 loaded: None,
                 files: None,
                 asked: None,
-                leases: Some(leases),
+                outlines: Some(outlines),
             }),
             Err(fault) => Err(OpenFault {
                 fault,
@@ -185,7 +185,7 @@ impl<S: Alter> Register<S> {
     {
         self.loaded = None;
         self.files = None;
-        self.leases = None;
+        self.outlines = None;
         let found = tenant_of_token(&mut self.conn, &[0; 32]);
         is_fault_of_store(&found)
     }
@@ -199,7 +199,7 @@ impl<S: Alter> Register<S> {
             loaded: _loaded,
             files: _files,
             asked: _asked,
-            leases: _leases,
+            outlines: _leases,
         } = self;
         conn
     }
@@ -217,10 +217,15 @@ impl<S: Alter> Register<S> {
             &mut self.conn,
             &mut self.loaded,
             &mut self.files,
-            &mut self.leases,
+            &mut self.outlines,
             order,
         );
-        drop_after_failure(&mut self.loaded, &mut self.files, &mut self.leases, &ended);
+        drop_after_failure(
+            &mut self.loaded,
+            &mut self.files,
+            &mut self.outlines,
+            &ended,
+        );
         ended
     }
 
@@ -249,7 +254,7 @@ impl<S: Alter> Register<S> {
             &mut self.conn,
             &mut self.loaded,
             &mut self.files,
-            &mut self.leases,
+            &mut self.outlines,
             &mut self.asked,
             digest,
             name,
@@ -260,7 +265,7 @@ impl<S: Alter> Register<S> {
         drop_after_fault(
             &mut self.loaded,
             &mut self.files,
-            &mut self.leases,
+            &mut self.outlines,
             &answered,
         );
         answered
@@ -284,7 +289,7 @@ impl<S: Alter> Register<S> {
         drop_after_fault(
             &mut self.loaded,
             &mut self.files,
-            &mut self.leases,
+            &mut self.outlines,
             &answered,
         );
         answered
@@ -301,7 +306,7 @@ impl<S: Alter> Register<S> {
         ensures cause { IfErr result (HasCause (state S.Store self.old) (state S.Store self.new)) }
     {
         let read = census::census(alloc, &mut self.conn);
-        drop_if_unread(&mut self.loaded, &mut self.files, &mut self.leases, &read);
+        drop_if_unread(&mut self.loaded, &mut self.files, &mut self.outlines, &read);
         read
     }
 }

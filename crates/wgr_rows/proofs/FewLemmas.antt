@@ -56,21 +56,21 @@ module _ {A : Type 0} where
 
 -- ---- a network's rows
 
-pub few_holds : (t : Tables) (network : ℕ) (pool : PrefixValue) → HavePool t network pool → (rows : List AllowedRow) → IsPermutation (filter (is_hold network pool) t.allowed) rows → length rows ≤ max_holds
-few_holds t network pool have rows same =
+pub few_holds : (t : Tables) (network : ℕ) (pool : PrefixValue) (start : ℕ) → HavePool t network pool → (rows : List AllowedRow) → IsPermutation (filter (is_hold network pool start) t.allowed) rows → length rows ≤ max_holds
+few_holds t network pool start have rows same =
     let w = have.row in
     let n = (holding_of t w).network in
     let is = rules t have.consistent w have.there in
-    let held = filter (is_hold network pool) t.allowed in
+    let held = filter (is_hold network pool start) t.allowed in
     let own = map (address_row w.id) n.peers in
     let routed = map (route_row w.id) n.routes in
     let each : (a : AllowedRow) → Has held a → Has (own ++ routed) a = (λ a h.
-    let it = from_filter (is_hold network pool) t.allowed a h in
+    let it = from_filter (is_hold network pool start) t.allowed a h in
     elim (row_from t have.consistent w have.there a it.0 (network_is a it.1 ∙ sym have.id_is)) [
       | inl x ↦ has_left own routed a (put (address_row w.id) n.peers x.0 a x.1 x.2)
       | inr x ↦ has_right own routed a (put (route_row w.id) n.routes x.0 a x.1 x.2)
     ]) in
-    let few = no_longer allowed_key same_allowed allowed_self held (own ++ routed) (distinct_filter same_allowed allowed_key (is_hold network pool) t.allowed have.consistent.rows.keyed.allowed_keys) each in
+    let few = no_longer allowed_key same_allowed allowed_self held (own ++ routed) (distinct_filter same_allowed allowed_key (is_hold network pool start) t.allowed have.consistent.rows.keyed.allowed_keys) each in
     let long = length_permutation held rows same in
     let both = length-append own routed in
     let peers = length-map n.peers (address_row w.id) in
@@ -83,5 +83,5 @@ few_holds t network pool have rows same =
     put : {A B : Type 0} (f : A → B) (xs : List A) (x : A) (b : B) → Has xs x → f x ≡ b → Has (map f xs) b
     put f xs x b h is = subst (Has (map f xs)) is (has_map f xs x h)
 
-    network_is : (a : AllowedRow) → is_hold network pool a ≡ true → a.network ≡ network
+    network_is : (a : AllowedRow) → is_hold network pool start a ≡ true → a.network ≡ network
     network_is a h = eqb-true a.network network (and_true (nat_eq a.network network) _ h).0

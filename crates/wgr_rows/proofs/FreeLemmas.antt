@@ -1,6 +1,7 @@
 -- What a query for holding rows leaves, where the register stands.
-use Rattle.std.proofs.Common.{◌≡◌, ℕ, pos, List, [], ◌∷◌, Err, false, inl, sym, subst, ◌∙◌, arith}
-use Rattle.std.specs.Prelude.{Bool, IfOk, MatchOption, Option, Result}
+use Rattle.std.proofs.Common.{◌≡◌, ℕ, pos, List, [], ◌∷◌, Err, false, ◌⊎◌, inl, inr, sym, subst, ◌∙◌, arith}
+use Rattle.std.specs.Prelude.{Bool, ◌≤◌, ◌-◌, IfOk, MatchOption, None, Option, Result, Some, if◌then◌else◌, nat_lt, true}
+use Rattle.wgr_pool.specs.Pool.{IsPool}
 use Rattle.wgr_pool.specs.Spans.{IsFull, IsLowestFree}
 use Rattle.sqlite.specs.declared.error.Error.{Error}
 use Rattle.sqlite.specs.declared.types.Value.TheVariants.{Int, Blob}
@@ -12,7 +13,10 @@ use Rattle.sqlite.specs.State.{State, HasCleanDisk, CommitsShowing, FailsToQuery
 use Rattle.sqlite.specs.Store.{Ghosts}
 use Rattle.wgr_sql.proofs.QueryLemmas.{fails_same, query_open}
 use Rattle.wgr_sql.proofs.StandingLemmas.{plain_at, stands_kept}
-use Rattle.wgr_text.specs.Prefix.{AddrValue, PrefixValue, IsEndsOf}
+use Rattle.wgr_text.specs.Prefix.{AddrValue, PrefixValue, IsEndsOf, rank}
+use Rattle.wgr_core.specs.Network.{NetworkValue}
+use Rattle.wgr_outline.specs.Outline.{IsFloor}
+use Rattle.wgr_outline.proofs.FloorLemmas.{from_pool}
 use Rattle.wgr_model.specs.Laws.{Has}
 use Rattle.wgr_model.specs.RowLaws.{AreConsistent}
 use Rattle.wgr_model.specs.Rows.{AreKeyed, NetworkRow, family_number}
@@ -20,19 +24,18 @@ use Rattle.wgr_columns.specs.Layout.{schema_with}
 use Rattle.wgr_columns.specs.Decode.{IsRegister, bytes_of, tables_of}
 use Rattle.wgr_tables.specs.Writes.{Written, Writes}
 use Rattle.wgr_tables.specs.Standing.{Stands}
-use Rattle.wgr_rows.specs.Holding.{hold_params, holds_text, last_number, staying, to_come}
-use Rattle.wgr_rows.specs.declared.progress.Progress.TheVariants.{Running}
+use Rattle.wgr_rows.specs.Holding.{below, coming, hold_params, holds_text, last_number}
 use Rattle.wgr_rows.specs.Staying.{IsQuiet, Stays}
 use Rattle.wgr_rows.specs.Stopping.{HavePool, IsSound}
-use Rattle.wgr_rows.specs.Telling.{IsGood}
+use Rattle.wgr_rows.specs.Telling.{IsGood, begin_of}
 use Rattle.wgr_rows.proofs.Meaning.{holds_ask}
 use Rattle.wgr_rows.proofs.SelectLemmas.{begun, commits_nothing}
 
-pub params_are : (network : ℕ) (p : PrefixValue) (lo hi : AddrValue) → IsEndsOf p lo hi
-    → Int (pos network) ∷ Int (pos (family_number lo.family)) ∷ Blob (bytes_of lo.number) ∷ Blob (bytes_of hi.number) ∷ Int (pos p.length) ∷ [] ≡ hold_params network p
-params_are network p lo hi ends =
+pub params_are : (network : ℕ) (p : PrefixValue) (start : ℕ) (lo hi : AddrValue) → IsEndsOf p lo hi
+    → Int (pos network) ∷ Int (pos (family_number lo.family)) ∷ Blob (bytes_of start) ∷ Blob (bytes_of hi.number) ∷ Int (pos p.length) ∷ [] ≡ hold_params network p start
+params_are network p start lo hi ends =
     let last : hi.number ≡ last_number p = let e = ends.last in omega (arith, e) in
-    λ k. Int (pos network) ∷ Int (pos (family_number (ends.first k).family)) ∷ Blob (bytes_of (ends.first k).number) ∷ Blob (bytes_of (last k)) ∷ Int (pos p.length) ∷ []
+    λ k. Int (pos network) ∷ Int (pos (family_number (ends.first k).family)) ∷ Blob (bytes_of start) ∷ Blob (bytes_of (last k)) ∷ Int (pos p.length) ∷ []
 
 module _ {S : Type 0} (g : Ghosts S) (old : Held S) (db : Database) (pending : List Written) (stood : Stands g old db pending) where
   -- a query that doesn't begin
@@ -65,10 +68,18 @@ begun_stays g shows_peers text is old new params mode survives started = (
 )
 
 -- what was found by the rows that the connection shows was found by those of the register
-pub found_in : {E : Type 0} (shows_peers : Bool) (pool : PrefixValue) (expired : ℕ → Bool) (shown db : Database) (network : ℕ) (r : Result (Option AddrValue) E) → shown ≡ db
-    → IfOk r (λ found. MatchOption found (IsFull pool (staying expired (to_come shows_peers Running (tables_of shown) network pool 0))) (IsLowestFree pool (staying expired (to_come shows_peers Running (tables_of shown) network pool 0))))
-    → IfOk r (λ found. MatchOption found (IsFull pool (staying expired (to_come shows_peers Running (tables_of db) network pool 0))) (IsLowestFree pool (staying expired (to_come shows_peers Running (tables_of db) network pool 0))))
-found_in shows_peers pool expired shown db network r is = subst (λ (d : Database). IfOk r (λ found. MatchOption found (IsFull pool (staying expired (to_come shows_peers Running (tables_of d) network pool 0))) (IsLowestFree pool (staying expired (to_come shows_peers Running (tables_of d) network pool 0))))) is
+pub found_in : {E : Type 0} (shows_peers : Bool) (pool : PrefixValue) (start : AddrValue) (expired : ℕ → Bool) (shown db : Database) (network : ℕ) (r : Result (Option AddrValue) E) → shown ≡ db
+    → IfOk r (λ found. MatchOption found (IsFull pool (coming shows_peers expired (tables_of shown) network pool start)) (IsLowestFree pool (coming shows_peers expired (tables_of shown) network pool start)))
+    → IfOk r (λ found. MatchOption found (IsFull pool (coming shows_peers expired (tables_of db) network pool start)) (IsLowestFree pool (coming shows_peers expired (tables_of db) network pool start)))
+found_in shows_peers pool start expired shown db network r is =
+    subst (λ (d : Database). IfOk r (λ found. MatchOption found (IsFull pool (coming shows_peers expired (tables_of d) network pool start)) (IsLowestFree pool (coming shows_peers expired (tables_of d) network pool start)))) is
+
+-- the floor of a network, or its pool's first address
+pub floor_from : (n : NetworkValue) → IsPool n.pool → (start floor : ℕ) → (start ≡ n.pool.address.number) ⊎ (start ≡ floor) → IsFloor n floor → IsFloor n start
+floor_from n is start floor one known = elim one [
+  | inl first ↦ subst (IsFloor n) (sym first) (from_pool n is)
+  | inr same ↦ subst (IsFloor n) (sym same) known
+]
 
 -- where the register stands, the rows are sound
 pub stands_sound : {S : Type 0} (g : Ghosts S) (old : Held S) (db : Database) (pending : List Written) → Stands g old db pending → (network : ℕ) (pool : PrefixValue) (w : NetworkRow) → AreConsistent (tables_of db) → Has (tables_of db).networks w → w.id ≡ network → w.pool ≡ pool → IsQuiet (state g old)
@@ -84,3 +95,11 @@ shown_sound network pool old new same sound = (
   (λ live. same.0.now_is ∙ sound.0 same.0.was_open ∙ sym same.0.committed_is),
   (λ live. subst (λ (d : Database). IsRegister d × HavePool (tables_of d) network pool) (sym same.0.now_is) (sound.1 same.0.was_open)),
 )
+
+-- what is held below the start begins at the pool's first address
+pub below_begins : (pool : PrefixValue) (start : AddrValue) → begin_of (below pool start) ≤ rank pool.address
+below_begins pool start = go (nat_lt pool.address.number start.number)
+  where
+    go : (some : Bool) → begin_of (if some then Some (record { lo = pool.address; hi = record start { number = start.number - 1 } }) else None) ≤ rank pool.address
+    go true = omega arith
+    go false = omega arith

@@ -76,9 +76,9 @@ as_there : (shows_peers : Bool) (network : ℕ) (params r : Row) → brief shows
 as_there true network params r = refl
 as_there false network params r = refl
 
-module _ (shows_peers : Bool) (old new : State) (register : IsRegister old.now) (network : ℕ) (pool : PrefixValue) (low : pool.address.number < 2 ^ 128) (high : last_number pool < 2 ^ 128) (rows : List Row) (shown : Shown (holds_text shows_peers) (hold_params network pool) old new rows) where
+module _ (shows_peers : Bool) (old new : State) (register : IsRegister old.now) (network : ℕ) (pool : PrefixValue) (start : ℕ) (low : start < 2 ^ 128) (high : last_number pool < 2 ^ 128) (rows : List Row) (shown : Shown (holds_text shows_peers) (hold_params network pool start) old new rows) where
   abbrev params : Row
-  params = hold_params network pool
+  params = hold_params network pool start
 
   abbrev table : List Row
   table = old.now.trees 10
@@ -95,12 +95,12 @@ module _ (shows_peers : Bool) (old new : State) (register : IsRegister old.now) 
   family_is : (r : Row) → there.Has table r → column r 2 ≡ Int (pos (family_number (family_of (number_at r 2))))
   family_is r here = register.written.allowed.numbers_are r here 2 (inr (inl refl)) ∙ ap (λ m. Int (pos m)) (register.written.allowed.families_are r here 2 (inl refl))
 
-  passes : (r : Row) → there.Has table r → list_all (holds (params ∷ r ∷ [])) of_holds ≡ is_hold network pool (allowed_in r)
+  passes : (r : Row) → there.Has table r → list_all (holds (params ∷ r ∷ [])) of_holds ≡ is_hold network pool start (allowed_in r)
   passes r here =
       let one : is_true (binary (Compare Eq Binary) (column r 1) (Int (pos network))) ≡ nat_eq (number_at r 1) network = ap (λ v. is_true (binary (Compare Eq Binary) v (Int (pos network)))) (register.written.allowed.numbers_are r here 1 (inl refl)) ∙ equal_nats (number_at r 1) network in
       let family = family_number pool.address.family in
       let two : is_true (binary (Compare Eq Binary) (column r 2) (Int (pos family))) ≡ nat_eq (family_number (family_of (number_at r 2))) family = ap (λ v. is_true (binary (Compare Eq Binary) v (Int (pos family)))) (family_is r here) ∙ equal_nats (family_number (family_of (number_at r 2))) family in
-      let three : is_true (binary (Compare Ge Binary) (column r 3) (Blob (bytes_of pool.address.number))) ≡ nat_le pool.address.number (number_of (bytes_at r 3)) = ap (λ v. is_true (binary (Compare Ge Binary) v (Blob (bytes_of pool.address.number)))) (lo_is r here) ∙ from_spelled (number_of (bytes_at r 3)) pool.address.number (small r here) low in
+      let three : is_true (binary (Compare Ge Binary) (column r 3) (Blob (bytes_of start))) ≡ nat_le start (number_of (bytes_at r 3)) = ap (λ v. is_true (binary (Compare Ge Binary) v (Blob (bytes_of start)))) (lo_is r here) ∙ from_spelled (number_of (bytes_at r 3)) start (small r here) low in
       let four : is_true (binary (Compare Le Binary) (column r 3) (Blob (bytes_of (last_number pool)))) ≡ nat_le (number_of (bytes_at r 3)) (last_number pool) = ap (λ v. is_true (binary (Compare Le Binary) v (Blob (bytes_of (last_number pool))))) (lo_is r here) ∙ to_spelled (number_of (bytes_at r 3)) (last_number pool) (small r here) high in
       let five : is_true (binary (Compare Ge Binary) (column r 4) (Int (pos pool.length))) ≡ nat_le pool.length (number_at r 4) = ap (λ v. is_true (binary (Compare Ge Binary) v (Int (pos pool.length)))) (length_is r here) ∙ at_least (number_at r 4) pool.length in
       λ k. one k && (two k && (three k && (four k && (and_true (is_true (binary (Compare Ge Binary) (column r 4) (Int (pos pool.length)))) ∙ five) k)))
@@ -122,9 +122,9 @@ module _ (shows_peers : Bool) (old new : State) (register : IsRegister old.now) 
       ∙ sym (map-both (λ r. eval_all (hold_places shows_peers) (params ∷ r ∷ [])) read listing.chosen)
       ∙ ap (map read) (sym listing.shown)
 
-  pub holds_listed : IsPermutation (filter (is_hold network pool) (tables_of old.now).allowed) held
+  pub holds_listed : IsPermutation (filter (is_hold network pool start) (tables_of old.now).allowed) held
   holds_listed =
-      let q = is_hold network pool in
+      let q = is_hold network pool start in
       let typed : map allowed_in (passing of_holds params table) ≡ filter q (map allowed_in table) = map_filter allowed_in (λ r. list_all (holds (params ∷ r ∷ [])) of_holds) q table passes in
       subst (λ x. IsPermutation x held) typed (IsPermutation-map allowed_in _ _ listing.same)
 
@@ -132,7 +132,7 @@ module _ (shows_peers : Bool) (old new : State) (register : IsRegister old.now) 
   as_many = length-map listing.chosen allowed_in ∙ sym (length-map listing.chosen (λ r. eval_all (hold_places shows_peers) (params ∷ r ∷ []))) ∙ ap length (sym listing.shown)
 
   abbrev pub IsChosen : Row → Type 0
-  IsChosen r = there.Has table r × (is_hold network pool (allowed_in r) ≡ true)
+  IsChosen r = there.Has table r × (is_hold network pool start (allowed_in r) ≡ true)
 
   chosen_is : (r : Row) → there.Has listing.chosen r → IsChosen r
   chosen_is r here =
@@ -161,7 +161,7 @@ module _ (shows_peers : Bool) (old new : State) (register : IsRegister old.now) 
 
   module _ (keyed : AreKeyed (tables_of old.now)) where
     apart : IsDistinct same_allowed (map allowed_key held)
-    apart = IsDistinct-IsPermutation same_allowed allowed_sym _ _ (IsPermutation-map allowed_key _ _ holds_listed) (distinct_filter same_allowed allowed_key (is_hold network pool) (tables_of old.now).allowed keyed.allowed_keys)
+    apart = IsDistinct-IsPermutation same_allowed allowed_sym _ _ (IsPermutation-map allowed_key _ _ holds_listed) (distinct_filter same_allowed allowed_key (is_hold network pool start) (tables_of old.now).allowed keyed.allowed_keys)
 
     abbrev IsNext : Row → Row → Type 0
     IsNext x y = prefix_cmp (key_in x) (key_in y) ≡ Less
@@ -192,10 +192,10 @@ module _ (shows_peers : Bool) (old new : State) (register : IsRegister old.now) 
         subst (IsStrictlySortedBy prefix_cmp) (sym (map-both allowed_in (λ a. prefix_key a.prefix) listing.chosen)) (in_sorted prefix_cmp key_in IsNext (λ _. ⊤) (λ x y _ _ is. is) listing.chosen (everywhere listing.chosen) pairs)
 
     -- the rows are all that the tables have, in their order
-    pub holds_are : holds_in (tables_of old.now) network pool ≡ held
+    pub holds_are : holds_in (tables_of old.now) network pool start ≡ held
     holds_are =
         let t = tables_of old.now in
-        let q = is_hold network pool in
+        let q = is_hold network pool start in
         let xs = held in
         collected prefix_cmp prefix_total prefix_exact (λ a. prefix_key a.prefix) q (λ a. prefix_key a.prefix) (λ a. a) (λ a. a) allowed_key same_allowed t.allowed xs
         (λ a b x y e. key_tells network a b (both _ _ x).0 (both _ _ y).0 e) keyed.allowed_keys holds_sorted

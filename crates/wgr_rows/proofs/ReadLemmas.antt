@@ -20,7 +20,7 @@ use Rattle.wgr_rows.specs.Stopping.{HavePool}
 use Rattle.wgr_rows.proofs.HoldLemmas.{IsChosen, as_many, chosen_each, held, holds_listed}
 use Rattle.wgr_rows.proofs.Meaning.{hold_places}
 use Rattle.wgr_rows.proofs.HeldLemmas.{leads_to, masked_row}
-use Rattle.wgr_rows.proofs.Coming.{goes_on, pool_high, pool_low}
+use Rattle.wgr_rows.proofs.Coming.{goes_on, pool_high}
 use Rattle.wgr_rows.proofs.FewLemmas.{few_holds}
 use Rattle.wgr_rows.proofs.OwnRows.{among}
 
@@ -28,12 +28,12 @@ use Rattle.wgr_rows.proofs.OwnRows.{among}
 abbrev pub IsRead : Bool → ℕ → Row → Type 0
 IsRead shows_peers network r = IsPrefixAt r 2 × (shows_peers ≡ true → IsPeerIdAt r 6 network)
 
-module _ (shows_peers : Bool) (old new : State) (register : IsRegister old.now) (network : ℕ) (pool : PrefixValue) (low : pool.address.number < 2 ^ 128) (high : last_number pool < 2 ^ 128) (rows : List Row) (shown : Shown (holds_text shows_peers) (hold_params network pool) old new rows) (have : HavePool (tables_of old.now) network pool) where
+module _ (shows_peers : Bool) (old new : State) (register : IsRegister old.now) (network : ℕ) (pool : PrefixValue) (start : ℕ) (low : start < 2 ^ 128) (high : last_number pool < 2 ^ 128) (rows : List Row) (shown : Shown (holds_text shows_peers) (hold_params network pool start) old new rows) (have : HavePool (tables_of old.now) network pool) where
   abbrev chosen : Row → Type 0
-  chosen = IsChosen shows_peers old new register network pool low high rows shown
+  chosen = IsChosen shows_peers old new register network pool start low high rows shown
 
   abbrev as_shown : Bool → Row → Row
-  as_shown all x = eval_all (hold_places all) (hold_params network pool ∷ x ∷ [])
+  as_shown all x = eval_all (hold_places all) (hold_params network pool start ∷ x ∷ [])
 
   there_is : (x : Row) → chosen x → Has (tables_of old.now).allowed (allowed_in x)
   there_is x is = among allowed_in (old.now.trees 10) x is.0
@@ -66,31 +66,28 @@ module _ (shows_peers : Bool) (old new : State) (register : IsRegister old.now) 
   peer_shown x is shows = subst (λ b. IsPeerIdAt (as_shown b x) 6 network) (sym shows) (peer_read x is)
 
   rows_read : (r : Row) → there.Has rows r → IsRead shows_peers network r
-  rows_read = chosen_each shows_peers old new register network pool low high rows shown (IsRead shows_peers network) (λ x is. (prefix_read shows_peers x is, peer_shown x is))
+  rows_read = chosen_each shows_peers old new register network pool start low high rows shown (IsRead shows_peers network) (λ x is. (prefix_read shows_peers x is, peer_shown x is))
 
 -- ---- rows that were given so far
 
-module _ {S : Type 0} (g : Ghosts S) (h : Held S) (shows_peers : Bool) (register : IsRegister (state g h).now) (network : ℕ) (pool : PrefixValue) (is : IsPrefix pool) (fits : IsAddr pool.address) (have : HavePool (tables_of (state g h).now) network pool)
-    (front : List Row) (given : HasGiven g (holds_text shows_peers) (hold_params network pool) h front) where
-  low : pool.address.number < 2 ^ 128
-  low = pool_low pool fits
-
+module _ {S : Type 0} (g : Ghosts S) (h : Held S) (shows_peers : Bool) (register : IsRegister (state g h).now) (network : ℕ) (pool : PrefixValue) (start : ℕ) (is : IsPrefix pool) (fits : IsAddr pool.address) (low : start < 2 ^ 128) (have : HavePool (tables_of (state g h).now) network pool)
+    (front : List Row) (given : HasGiven g (holds_text shows_peers) (hold_params network pool start) h front) where
   high : last_number pool < 2 ^ 128
   high = pool_high pool is fits
 
-  all : (tail : List Row) × Shown (holds_text shows_peers) (hold_params network pool) (state g h) (state g h) (front ++ tail)
-  all = goes_on g h shows_peers register have.consistent.rows.keyed network pool low high front given
+  all : (tail : List Row) × Shown (holds_text shows_peers) (hold_params network pool start) (state g h) (state g h) (front ++ tail)
+  all = goes_on g h shows_peers register have.consistent.rows.keyed network pool start low high front given
 
   -- they are no more than a network may have
   pub few_given : length front ≤ max_holds
   few_given =
       let rows = front ++ all.0 in
       let s = state g h in
-      let few = few_holds (tables_of s.now) network pool have (held shows_peers s s register network pool low high rows all.1) (holds_listed shows_peers s s register network pool low high rows all.1) in
-      let long = as_many shows_peers s s register network pool low high rows all.1 in
+      let few = few_holds (tables_of s.now) network pool start have (held shows_peers s s register network pool start low high rows all.1) (holds_listed shows_peers s s register network pool start low high rows all.1) in
+      let long = as_many shows_peers s s register network pool start low high rows all.1 in
       let both = length-append front all.0 in
       omega (arith, few, long, both)
 
   -- and each is read
   pub given_read : (r : Row) → there.Has front r → IsRead shows_peers network r
-  given_read r here = rows_read shows_peers (state g h) (state g h) register network pool low high (front ++ all.0) all.1 have r (has_left front all.0 r here)
+  given_read r here = rows_read shows_peers (state g h) (state g h) register network pool start low high (front ++ all.0) all.1 have r (has_left front all.0 r here)

@@ -15,6 +15,7 @@ use Rattle.sqlite.specs.State.{State, FailsToQuery, HasCleanDisk, IsUnchanged, S
 use Rattle.sqlite.specs.Store.{Ghosts}
 use Rattle.sqlite_rules.proofs.ListLemmas.{has_right}
 use Rattle.sqlite_tied.specs.Compute.{everything}
+use Rattle.wgr_text.specs.declared.prefix.Span.{Span}
 use Rattle.wgr_text.specs.Prefix.{AddrValue, PrefixValue, IsAddr, IsPrefix, rank}
 use Rattle.wgr_pool.specs.Spans.{RisesFrom, reached}
 use Rattle.wgr_pool.specs.declared.allot.Stop.{Stop}
@@ -74,13 +75,13 @@ good_of network pool s clean sound = (clean, λ live. let it = sound.1 live in (
 
 -- ---- the query is answered
 
-pub holds_answered : (others : Others) (shows_peers : Bool) (network : ℕ) (pool : PrefixValue) → IsAnswered (schema_with others) (holds_text shows_peers) (hold_params network pool)
+pub holds_answered : (others : Others) (shows_peers : Bool) (network : ℕ) (pool : PrefixValue) (start : ℕ) → IsAnswered (schema_with others) (holds_text shows_peers) (hold_params network pool start)
 unfolding understood everything
-holds_answered others true network pool = record { given = (refl, refl, omega arith, refl); unlisted = refl; plain = λ limit trees e refused. never_refused _ refl limit (trees 10) refused }
-holds_answered others false network pool = record { given = (refl, refl, omega arith, refl); unlisted = refl; plain = λ limit trees e refused. never_refused _ refl limit (trees 10) refused }
+holds_answered others true network pool start = record { given = (refl, refl, omega arith, refl); unlisted = refl; plain = λ limit trees e refused. never_refused _ refl limit (trees 10) refused }
+holds_answered others false network pool start = record { given = (refl, refl, omega arith, refl); unlisted = refl; plain = λ limit trees e refused. never_refused _ refl limit (trees 10) refused }
 
-answered_at : (shows_peers : Bool) (db : Database) → IsRegister db → (network : ℕ) (pool : PrefixValue) → IsAnswered db.schema (holds_text shows_peers) (hold_params network pool)
-answered_at shows_peers db register network pool = subst (λ (s : Schema). IsAnswered s (holds_text shows_peers) (hold_params network pool)) (sym register.schema_is) (holds_answered register.others shows_peers network pool)
+answered_at : (shows_peers : Bool) (db : Database) → IsRegister db → (network : ℕ) (pool : PrefixValue) (start : ℕ) → IsAnswered db.schema (holds_text shows_peers) (hold_params network pool start)
+answered_at shows_peers db register network pool start = subst (λ (s : Schema). IsAnswered s (holds_text shows_peers) (hold_params network pool start)) (sym register.schema_is) (holds_answered register.others shows_peers network pool start)
 
 abbrev Told : Fault → Error → Type 0
 Told f e = (f ≡ NoMemory) ↔ (e ≡ SqliteFailure OutOfMemory)
@@ -90,20 +91,20 @@ hindered_by old new e f told is (inl memory) = absurd (let e = sym is ∙ told.1
 hindered_by old new e f told is (inr hindered) = hindered
 
 -- the query didn't begin
-pub begin_cause : (shows_peers : Bool) (network : ℕ) (pool : PrefixValue) (old new : State) (e : Error) (f : Fault) → Told f e → (HasCleanDisk new → IsSound network pool old) → (HasCleanDisk new → FailsToQuery (holds_text shows_peers) (hold_params network pool) old new e) → HasCause old new f
-begin_cause shows_peers network pool old new e f told known fails = cause_unless old new f (λ why clean free. either old.is_open refl why clean free)
+pub begin_cause : (shows_peers : Bool) (network : ℕ) (pool : PrefixValue) (start : ℕ) (old new : State) (e : Error) (f : Fault) → Told f e → (HasCleanDisk new → IsSound network pool old) → (HasCleanDisk new → FailsToQuery (holds_text shows_peers) (hold_params network pool start) old new e) → HasCause old new f
+begin_cause shows_peers network pool start old new e f told known fails = cause_unless old new f (λ why clean free. either old.is_open refl why clean free)
   where
     either : (b : Bool) → old.is_open ≡ b → f ≡ Store → HasCleanDisk new → (IsHindered old new → ⊥) → ⊥
     either false shut why clean free = free (inr (inl shut))
-    either true live why clean free = free (hindered_by old new e f told why (query_hindered (holds_text shows_peers) (hold_params network pool) old new (answered_at shows_peers old.now ((known clean).1 live).0 network pool) e (inl (fails clean))))
+    either true live why clean free = free (hindered_by old new e f told why (query_hindered (holds_text shows_peers) (hold_params network pool start) old new (answered_at shows_peers old.now ((known clean).1 live).0 network pool start) e (inl (fails clean))))
 
-module _ {S : Type 0} (g : Ghosts S) (shows_peers : Bool) (network : ℕ) (pool : PrefixValue) (is : IsPrefix pool) (fits : IsAddr pool.address) (taken : ℕ) (last : Option AddrValue) (at : Progress) (running : at ≡ Running) (old : Held S) (tells : ∥ Tells g old shows_peers network pool taken last at ∥₁) where
+module _ {S : Type 0} (g : Ghosts S) (shows_peers : Bool) (network : ℕ) (pool : PrefixValue) (start : ℕ) (is : IsPrefix pool) (fits : IsAddr pool.address) (low : start < 2 ^ 128) (taken : ℕ) (first : Option Span) (last : Option AddrValue) (at : Progress) (running : at ≡ Running) (old : Held S) (tells : ∥ Tells g old shows_peers network pool start taken first last at ∥₁) where
   -- what is told, where only the rows' soundness is known
-  with_told : (HasCleanDisk (state g old)) → IsSound network pool (state g old) → (IsToldTo g old shows_peers network pool taken last → ⊥) → ⊥
+  with_told : (HasCleanDisk (state g old)) → IsSound network pool (state g old) → (IsToldTo g old shows_peers network pool start taken first last → ⊥) → ⊥
   with_told clean sound never = ∥∥₁_elim tells no_two (λ t. never (t running (good_of network pool (state g old) clean sound)))
 
-  live_given : (h : Held S) (given : List Row) → HasGiven g (holds_text shows_peers) (hold_params network pool) h given → IsTrue (state g h).is_open
-  live_given h given runs = is_open g h (holds_text shows_peers) (hold_params network pool) given runs
+  live_given : (h : Held S) (given : List Row) → HasGiven g (holds_text shows_peers) (hold_params network pool start) h given → IsTrue (state g h).is_open
+  live_given h given runs = is_open g h (holds_text shows_peers) (hold_params network pool start) given runs
 
   -- there are no more rows than a network may have
   pub limit_cause : max_holds < taken → (HasCleanDisk (state g old) → IsSound network pool (state g old)) → HasCause (state g old) (state g old) Store
@@ -111,7 +112,7 @@ module _ {S : Type 0} (g : Ghosts S) (shows_peers : Bool) (network : ℕ) (pool 
       let sound = known clean in
       with_told clean sound (λ told.
       let it = sound.1 (live_given old told.given told.runs) in
-      let few = few_given g old shows_peers it.0 network pool is fits it.1 told.given told.runs in
+      let few = few_given g old shows_peers it.0 network pool start is fits low it.1 told.given told.runs in
       let count = told.count in
       omega (arith, high, few, count)))
 
@@ -126,9 +127,9 @@ module _ {S : Type 0} (g : Ghosts S) (shows_peers : Bool) (network : ℕ) (pool 
         with_told (clean_before clean) sound (λ told.
         let it = sound.1 (live_given old told.given told.runs) in
         free (hindered_by (state g old) (state g new) e f told_as why
-        (query_hindered (holds_text shows_peers) (hold_params network pool) (state g old) (state g new) (answered_at shows_peers (state g old).now it.0 network pool) e (inl (fails clean (holds_text shows_peers) (hold_params network pool) told.given told.runs))))))
+        (query_hindered (holds_text shows_peers) (hold_params network pool start) (state g old) (state g new) (answered_at shows_peers (state g old).now it.0 network pool start) e (inl (fails clean (holds_text shows_peers) (hold_params network pool start) told.given told.runs))))))
 
-    module _ (row : Row) (same : HasCleanDisk (state g new) → IsUnchanged (state g old) (state g new)) (gives : HasCleanDisk (state g new) → (given : List Row) → HasGiven g (holds_text shows_peers) (hold_params network pool) old given → HasGiven g (holds_text shows_peers) (hold_params network pool) new (given ++ row ∷ [])) where
+    module _ (row : Row) (same : HasCleanDisk (state g new) → IsUnchanged (state g old) (state g new)) (gives : HasCleanDisk (state g new) → (given : List Row) → HasGiven g (holds_text shows_peers) (hold_params network pool start) old given → HasGiven g (holds_text shows_peers) (hold_params network pool start) new (given ++ row ∷ [])) where
       -- a row that was given isn't refused
       pub row_cause : (IsPrefixAt row 2 → (shows_peers ≡ true → IsPeerIdAt row 6 network) → ⊥) → (HasCleanDisk (state g new) → IsSound network pool (state g old)) → HasCause (state g old) (state g new) Store
       row_cause refused known = cause_unless (state g old) (state g new) Store (λ _ clean free.
@@ -138,7 +139,7 @@ module _ {S : Type 0} (g : Ghosts S) (shows_peers : Bool) (network : ℕ) (pool 
           let now_is = (same clean).0.now_is in
           let register = subst IsRegister (sym now_is) it.0 in
           let have = subst (λ (d : Database). HavePool (tables_of d) network pool) (sym now_is) it.1 in
-          let read = given_read g new shows_peers register network pool is fits have (told.given ++ row ∷ []) (gives clean told.given told.runs) row (has_right told.given (row ∷ []) row (inl refl)) in
+          let read = given_read g new shows_peers register network pool start is fits low have (told.given ++ row ∷ []) (gives clean told.given told.runs) row (has_right told.given (row ∷ []) row (inl refl)) in
           refused read.0 read.1))
 
       -- and none begins below the one before it
@@ -149,5 +150,5 @@ module _ {S : Type 0} (g : Ghosts S) (shows_peers : Bool) (network : ℕ) (pool 
           let it = sound.1 (live_given old told.given told.runs) in
           let now_is = (same clean).0.now_is in
           let good : IsGood (state g new) = (clean, λ live. subst (λ (d : Database). IsRegister d × AreKeyed (tables_of d)) (sym now_is) (it.0, it.1.consistent.rows.keyed)) in
-          let up = (subst (λ l. RisesFrom (reached last) (spans l)) (parts g old new (same clean) good shows_peers network pool is fits taken last told row (gives clean told.given told.runs)) told.rises).0 in
+          let up = (subst (λ l. RisesFrom (reached last) (spans l)) (parts g old new (same clean) good shows_peers network pool start is fits low taken first last told row (gives clean told.given told.runs)) told.rises).0 in
           below (subst (λ (x : Hold). reached last ≤ rank x.0.lo) (sym hold_is) up)))

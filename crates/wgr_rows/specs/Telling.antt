@@ -1,11 +1,12 @@
 -- What a reading of holding rows knows.
-use Rattle.std.specs.Prelude.{◌≡◌, ℕ, Bool, IsTrue, List, length, map, Option}
+use Rattle.std.specs.Prelude.{◌≡◌, ℕ, Bool, IsTrue, List, length, map, Option, Some, None}
 use Rattle.sqlite_value.specs.Order.{Row}
 use Rattle.sqlite.specs.State.{State, HasCleanDisk}
 use Rattle.sqlite.specs.Store.{Ghosts}
 use Rattle.sqlite.specs.Held.{Held, state}
 use Rattle.sqlite.specs.Given.{HasGiven}
-use Rattle.wgr_text.specs.Prefix.{AddrValue, PrefixValue}
+use Rattle.wgr_text.specs.declared.prefix.Span.{Span}
+use Rattle.wgr_text.specs.Prefix.{AddrValue, PrefixValue, rank}
 use Rattle.wgr_pool.specs.Spans.{RisesFrom, reached}
 use Rattle.wgr_model.specs.Rows.{AreKeyed}
 use Rattle.wgr_columns.specs.Decode.{IsRegister, tables_of}
@@ -17,12 +18,18 @@ use Rattle.wgr_rows.specs.declared.progress.Progress.TheVariants.{Running}
 abbrev pub IsGood : State → Type 0
 IsGood s = HasCleanDisk s × (IsTrue s.is_open → IsRegister s.now × AreKeyed (tables_of s.now))
 
--- the query runs and has given so many rows; what is to come begins no lower than `last`
-pub record IsToldTo {S : Type 0} (g : Ghosts S) (h : Held S) (shows_peers : Bool) (network : ℕ) (pool : PrefixValue) (taken : ℕ) (last : Option AddrValue) : Type 0 where
-  pub given : List Row
-  pub runs : HasGiven g (holds_text shows_peers) (hold_params network pool) h given
-  pub count : length given ≡ taken
-  pub rises : RisesFrom (reached last) (map (λ x. x.0) (to_come shows_peers Running (tables_of (state g h).now) network pool taken))
+-- where a span begins that comes first, or 0 if there is none
+abbrev pub begin_of : Option Span → ℕ
+begin_of None = 0
+begin_of (Some s) = rank s.lo
 
-abbrev pub Tells : {S : Type 0} → Ghosts S → Held S → Bool → ℕ → PrefixValue → ℕ → Option AddrValue → Progress → Type 0
-Tells g h shows_peers network pool taken last at = at ≡ Running → IsGood (state g h) → IsToldTo g h shows_peers network pool taken last
+-- the query runs and has given so many rows; what is to come begins no lower than `last`, nor than `first`, which comes before
+pub record IsToldTo {S : Type 0} (g : Ghosts S) (h : Held S) (shows_peers : Bool) (network : ℕ) (pool : PrefixValue) (start taken : ℕ) (first : Option Span) (last : Option AddrValue) : Type 0 where
+  pub given : List Row
+  pub runs : HasGiven g (holds_text shows_peers) (hold_params network pool start) h given
+  pub count : length given ≡ taken
+  pub rises : RisesFrom (reached last) (map (λ x. x.0) (to_come shows_peers Running (tables_of (state g h).now) network pool start taken))
+  pub after : RisesFrom (begin_of first) (map (λ x. x.0) (to_come shows_peers Running (tables_of (state g h).now) network pool start taken))
+
+abbrev pub Tells : {S : Type 0} → Ghosts S → Held S → Bool → ℕ → PrefixValue → ℕ → ℕ → Option Span → Option AddrValue → Progress → Type 0
+Tells g h shows_peers network pool start taken first last at = at ≡ Running → IsGood (state g h) → IsToldTo g h shows_peers network pool start taken first last

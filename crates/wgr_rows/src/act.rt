@@ -10,6 +10,7 @@ ghost use Rattle.wgr_peers.specs.Peers.{expired};
 ghost use Rattle.wgr_core.specs.Change.{Meets};
 ghost use Rattle.wgr_core.specs.Network.{live_at};
 ghost use Rattle.wgr_core.specs.Outcome.{is_reading, outcome_of, place};
+ghost use Rattle.wgr_outline.specs.Outline.{IsFloor, IsOutline};
 ghost use Rattle.wgr_sql.specs.Causes.{HasCause};
 ghost use Rattle.wgr_tables.specs.Writes.{Written};
 ghost use Rattle.wgr_tables.specs.Standing.{Stands};
@@ -28,6 +29,7 @@ use crate::owner::owner_row;
 use sqlite::{Alter, Connection};
 use std::alloc::{AllocError, Global};
 use wgr_core::{Change, Command, PeerView, Refusal, Reply, number_set};
+use wgr_outline::Outline;
 use wgr_peers::{Items, LeaseEnd, MAX_NUMBER, Peer};
 use wgr_sql::Fault;
 use wgr_text::{Addr, Key, Prefix};
@@ -111,12 +113,14 @@ fn admit_row<S: Alter>(
     Ok(Admission { head, expired })
 }
 
-// The address that a new peer gets: the named one, if it may, or the lowest that is free.
+// The address that a new peer gets: the named one, if it may, or the lowest that is free. None is free
+// below the address `floor`.
 fn place_row<S: Alter>(
     alloc: Global,
     conn: &mut Connection<S>,
     network: u32,
     now: u64,
+    floor: u128,
     admission: &Admission,
     wanted: Option<Addr>,
 ) -> Result<Addr, RowFault>
@@ -124,7 +128,7 @@ fn place_row<S: Alter>(
     ensures idle { conn.new.in_transaction ≡ false }
     ensures stands { (db : Database) (pending : List Written) → Stands S.Store conn.old db pending → Stands S.Store conn.new db pending }
     ensures clean { HasCleanDisk (state S.Store conn.new) → HasCleanDisk (state S.Store conn.old) }
-    ensures found { OnNetwork S.Store conn.old network (λ n. HasCleanDisk (state S.Store conn.new) → IsHead admission.now.head n → admission.now.expired.items ≡ expired now n.peers → IsPlaced (place (live_at n now) wanted) result) }
+    ensures found { OnNetwork S.Store conn.old network (λ n. HasCleanDisk (state S.Store conn.new) → IsHead admission.now.head n → admission.now.expired.items ≡ expired now n.peers → IsFloor (live_at n now) floor → IsPlaced (place (live_at n now) wanted) result) }
     ensures survives { Survives (state S.Store conn.old) (state S.Store conn.new) (λ _. ⊥) }
     ensures cause { OnNetwork S.Store conn.old network (λ n. (HasCleanDisk (state S.Store conn.new) → IsHead admission.now.head n) → IfErr result (IfFails (HasCause (state S.Store conn.old) (state S.Store conn.new)))) }
 {
@@ -139,7 +143,7 @@ fn place_row<S: Alter>(
         };
     }
     let expired = number_set(alloc, admission.expired.as_slice())?;
-    match free_row(conn, network, pool, &expired)? {
+    match free_row(conn, network, pool, floor, &expired)? {
         Some(address) => Ok(address),
         None => Err(RowFault::Refused(Refusal::PoolFull)),
     }
@@ -168,18 +172,18 @@ fn joined(
 }
 
 /// What Add or Owner answers at this moment on the network that the rows of this id form, and what it
-/// changes, as `Network::act` answers on the network that they load. Nothing is written. No lease of the
-/// network ends before the moment `soonest`; 0 is such a moment of every network.
+/// changes, as `Network::act` answers on the network that they load. Nothing is written. The outline is
+/// one of this network; [`Outline::unknown`] is one of every network.
 ///
-/// It reads the rows that decide: the network's own, the one with the key, those of its expired peers from
-/// `soonest` on, and, for the lowest free address, the held addresses up to the first gap. For Owner at most one row
-/// for each length of a prefix, and its peer's.
+/// It reads the rows that decide: the network's own, the one with the key, those of its expired peers once
+/// a lease may have ended, and, for the lowest free address, the held addresses from the outline's floor up
+/// to the first gap. For Owner at most one row for each length of a prefix, and its peer's.
 pub fn row_act<S: Alter>(
     alloc: Global,
     conn: &mut Connection<S>,
     network: u32,
     now: u64,
-    soonest: u64,
+    outline: &Outline,
     command: &Command,
 ) -> Result<(Reply, Option<Change>), RowFault>
     requires idle { conn.old.in_transaction ≡ false }
@@ -187,7 +191,7 @@ pub fn row_act<S: Alter>(
     ensures idle { conn.new.in_transaction ≡ false }
     ensures stands { (db : Database) (pending : List Written) → Stands S.Store conn.old db pending → Stands S.Store conn.new db pending }
     ensures clean { HasCleanDisk (state S.Store conn.new) → HasCleanDisk (state S.Store conn.old) }
-    ensures outcome { OnNetwork S.Store conn.old network (λ n. HasCleanDisk (state S.Store conn.new) → All (EndsFrom soonest) n.peers → Meets n (as_acted result) (outcome_of n now command.now)) }
+    ensures outcome { OnNetwork S.Store conn.old network (λ n. HasCleanDisk (state S.Store conn.new) → IsOutline outline.now n → Meets n (as_acted result) (outcome_of n now command.now)) }
     ensures change { IfOk result (λ given. is_some given.1 ≡ not (is_reading command.now)) }
     ensures plain { IfOk result (λ given. is_plain given.0 ≡ true) }
     ensures survives { Survives (state S.Store conn.old) (state S.Store conn.new) (λ _. ⊥) }
@@ -201,8 +205,9 @@ pub fn row_act<S: Alter>(
             until,
             keepalive,
         } => {
-            let admission = admit_row(alloc, conn, network, now, soonest, key, *until)?;
-            let address = place_row(alloc, conn, network, now, &admission, *address)?;
+            let admission = admit_row(alloc, conn, network, now, outline.end, key, *until)?;
+            let floor = outline.floor_at(now);
+            let address = place_row(alloc, conn, network, now, floor, &admission, *address)?;
             let peer = Peer {
                 number: admission.head.next,
                 key: *key,

@@ -1,11 +1,12 @@
 //! The lowest address of a network that is free, by its rows.
-ghost use Rattle.std.specs.Prelude.{◌≡◌, ℕ, List, IfErr, IfOk, false, nat_eq};
+ghost use Rattle.std.specs.Prelude.{◌≡◌, ◌≤◌, ◌⊎◌, ℕ, List, IfErr, IfOk, false, nat_eq};
 ghost use Rattle.std.specs.HashSet.{contains};
 ghost use Rattle.sqlite.specs.Effect.{Database};
 ghost use Rattle.sqlite.specs.State.{HasCleanDisk, Survives};
 ghost use Rattle.sqlite.specs.Held.{state};
 ghost use Rattle.wgr_peers.specs.Peers.{expired as ended};
 ghost use Rattle.wgr_core.specs.Network.{is_among, live_at, lowest_free};
+ghost use Rattle.wgr_outline.specs.Outline.{IsFloor};
 ghost use Rattle.wgr_sql.specs.Causes.{HasCause};
 ghost use Rattle.wgr_tables.specs.Writes.{Written};
 ghost use Rattle.wgr_tables.specs.Standing.{Stands};
@@ -33,12 +34,26 @@ fn holds_text(shows_peers: bool) -> &'static str
     }
 }
 
+// The pool's first address, or the floor where that is above it.
+fn start_at(first: &Addr, floor: u128) -> Addr
+    ensures family { result.family ≡ first.now.family }
+    ensures from { first.now.number ≤ result.number }
+    ensures one { (result.number ≡ first.now.number) ⊎ (result.number ≡ floor) }
+{
+    match Addr::new(first.family(), floor) {
+        Some(start) if first.number() < floor => start,
+        _ => *first,
+    }
+}
+
 /// The lowest address of the pool that may be given and that no row of the network holds, except the
-/// rows that lead to the peers of the numbers in `expired`. It is read outside of a transaction.
+/// rows that lead to the peers of the numbers in `expired`. It is read outside of a transaction, from the
+/// address `floor` on, below which none is free; 0 is such an address of every network.
 pub fn free_row<S: Alter>(
     conn: &mut Connection<S>,
     network: u32,
     pool: &Pool,
+    floor: u128,
     expired: &HashSet<u32>,
 ) -> Result<Option<Addr>, Fault>
     requires idle { conn.old.in_transaction ≡ false }
@@ -46,14 +61,15 @@ pub fn free_row<S: Alter>(
     ensures stands { (db : Database) (pending : List Written) → Stands S.Store conn.old db pending → Stands S.Store conn.new db pending }
     ensures clean { HasCleanDisk (state S.Store conn.new) → HasCleanDisk (state S.Store conn.old) }
     ensures found { OnNetwork S.Store conn.old network (λ n. HasCleanDisk (state S.Store conn.new) → IfOk result (λ found. (now : ℕ) → pool.now ≡ n.pool
-        → ((i : ℕ) → contains nat_eq expired.now i ≡ is_among (ended now n.peers) i) → found ≡ lowest_free (live_at n now))) }
+        → ((i : ℕ) → contains nat_eq expired.now i ≡ is_among (ended now n.peers) i) → IsFloor (live_at n now) floor → found ≡ lowest_free (live_at n now))) }
     ensures survives { Survives (state S.Store conn.old) (state S.Store conn.new) (λ _. ⊥) }
     ensures cause { OnNetwork S.Store conn.old network (λ n. pool.now ≡ n.pool → IfErr result (HasCause (state S.Store conn.old) (state S.Store conn.new))) }
 {
     let prefix = pool.prefix();
     prefix.rules_hold();
     let span = prefix.span();
-    let first = bytes_of(span.lo.number());
+    let start = start_at(&span.lo, floor);
+    let first = bytes_of(start.number());
     let last = bytes_of(span.hi.number());
     let length = u32::from(prefix.length());
     let shows_peers = !expired.is_empty();
@@ -71,5 +87,5 @@ pub fn free_row<S: Alter>(
         Ok(rows) => rows,
         Err(error) => return Err(fault_of(error)),
     };
-    lowest_in(&mut rows, shows_peers, network, pool, expired)
+    lowest_in(&mut rows, shows_peers, network, pool, start, expired)
 }

@@ -1,17 +1,16 @@
-//! The spans of a network's held addresses, read row by row.
-ghost use Rattle.std.specs.Prelude.{◌≡◌, ◌≤◌, ◌<◌, ◌+◌, ◌-◌, nat_eq, false, IfOk, IfErr, IfNone, IfSome, MatchOption, None, OnOk};
+//! The spans of a network's held addresses, read row by row from a floor on.
+ghost use Rattle.std.specs.Prelude.{◌≡◌, ◌≤◌, ◌<◌, ◌+◌, ◌-◌, nat_eq, length, option_to_list, false, IfOk, IfErr, IfNone, IfSome, MatchOption, None, OnOk};
 ghost use Rattle.std.specs.HashSet.{contains};
 ghost use Rattle.std.proofs.Common.{refl, ◌∙◌};
 ghost use Rattle.wgr_text.specs.Prefix.{rank};
-ghost use Rattle.wgr_text.specs.declared.prefix.Span.{Span, Span as SpanValue};
 ghost use Rattle.wgr_pool.specs.Spans.{IsFilledBy, IsFull, IsLowestFree, StopsAt, reached};
 ghost use Rattle.sqlite.specs.State.{HasCleanDisk};
 ghost use Rattle.sqlite.specs.Held.{state};
 ghost use Rattle.wgr_sql.specs.Causes.{HasCause};
 ghost use Rattle.wgr_columns.specs.Decode.{tables_of};
 ghost use Rattle.wgr_rows.specs.declared.progress.Progress.TheVariants.{Running, Stopped};
-ghost use Rattle.wgr_rows.specs.Holding.{TakesFirst, is_passed_over, max_holds, to_come, staying};
-ghost use Rattle.wgr_rows.specs.Rising.{told_rise};
+ghost use Rattle.wgr_rows.specs.Holding.{TakesFirst, below, coming, is_passed_over, max_holds, rest, to_come};
+ghost use Rattle.wgr_rows.specs.Rising.{next_from, told_rise};
 ghost use Rattle.wgr_rows.specs.Staying.{Stays};
 ghost use Rattle.wgr_rows.specs.Stopping.{Blames, IsSound, Leaves, fault_at};
 ghost use Rattle.wgr_rows.specs.Left.{leaves_itself, leaves_on};
@@ -39,14 +38,19 @@ fn stop_of(fault: Fault) -> Stop
     }
 }
 
-/// The spans of the addresses that a network's rows hold, read row by row. Rows that lead to the
-/// peers of the numbers in `expired` are passed over, if the rows show their peers.
+/// The spans of the addresses that a network holds: one of those below its floor, and then those of its
+/// rows from there on, read row by row. Rows that lead to the peers of the numbers in `expired` are passed
+/// over, if the rows show their peers.
 #[derive(Drop)]
 pub struct HoldRows<'r, 'conn, 'a, S: Alter> {
     rows: &'r mut Rows<'conn, S>,
     shows_peers: bool,
     network: u32,
     pool: Prefix,
+    // From which address on the rows are read.
+    start: Addr,
+    // What is held below it, until that is taken.
+    first: Option<Span>,
     expired: &'a HashSet<u32>,
     // How many rows were taken.
     taken: usize,
@@ -54,20 +58,20 @@ pub struct HoldRows<'r, 'conn, 'a, S: Alter> {
     last: Option<Addr>,
     at: Progress,
     ghost in_range: { taken ≤ max_holds + 1 },
-    ghost told: { ∥ Tells S.Store rows.now.conn.now shows_peers network pool taken last at ∥₁ },
+    ghost told: { ∥ Tells S.Store rows.now.conn.now shows_peers network pool start.number taken first last at ∥₁ },
 }
 
 impl<'r, 'conn, 'a, S: Alter> HoldRows<'r, 'conn, 'a, S> {
-    /// The span of the next row, and the number of the peer to which it leads.
+    /// The span of the next row, and the number of the peer to which it leads, if the row shows it.
     fn next_row(&mut self) -> Result<Option<(Span, Option<u32>)>, Stop>
         ensures same_rows { self.new.rows.ghost_name ≡ self.old.rows.ghost_name }
         ensures same_reference { self.new.rows.now.conn.ghost_name ≡ self.old.rows.now.conn.ghost_name }
         ensures stays { Stays S.Store self.old.rows.now.conn.now self.new.rows.now.conn.now }
-        ensures settings { (self.new.network ≡ self.old.network) × (self.new.pool ≡ self.old.pool) × (self.new.expired.now ≡ self.old.expired.now) }
+        ensures settings { (self.new.network ≡ self.old.network) × (self.new.pool ≡ self.old.pool) × (self.new.start ≡ self.old.start) × (self.new.first ≡ self.old.first) × (self.new.expired.now ≡ self.old.expired.now) }
         ensures falls { IfOk result (λ given. IfSome given (λ _. self.old.taken < self.new.taken)) }
         ensures floor { reached self.old.last ≤ reached self.new.last }
         ensures rises { IfOk result (λ given. IfSome given (λ h. (reached self.old.last ≤ rank h.0.lo) × (reached self.new.last ≡ rank h.0.lo))) }
-        ensures first { IsGood (state S.Store self.new.rows.now.conn.now) → IfOk result (λ given. TakesFirst (to_come self.old.shows_peers self.old.at (tables_of (state S.Store self.old.rows.now.conn.now).now) self.old.network self.old.pool self.old.taken) given (to_come self.new.shows_peers self.new.at (tables_of (state S.Store self.new.rows.now.conn.now).now) self.new.network self.new.pool self.new.taken)) }
+        ensures first { IsGood (state S.Store self.new.rows.now.conn.now) → IfOk result (λ given. TakesFirst (to_come self.old.shows_peers self.old.at (tables_of (state S.Store self.old.rows.now.conn.now).now) self.old.network self.old.pool self.old.start.number self.old.taken) given (to_come self.new.shows_peers self.new.at (tables_of (state S.Store self.new.rows.now.conn.now).now) self.new.network self.new.pool self.new.start.number self.new.taken)) }
         ensures stops { IfErr result (λ why. self.new.at ≡ Stopped why) }
         ensures was_good { IsGood (state S.Store self.new.rows.now.conn.now) → OnOk result (IsGood (state S.Store self.old.rows.now.conn.now)) }
         ensures blames { Blames self.old.network self.old.pool (state S.Store self.old.rows.now.conn.now) self.old.at (state S.Store self.new.rows.now.conn.now) self.new.at }
@@ -78,6 +82,7 @@ impl<'r, 'conn, 'a, S: Alter> HoldRows<'r, 'conn, 'a, S> {
             Progress::Stopped(why) => return Err(why),
         }
         self.pool.rules_hold();
+        self.start.rules_hold();
         // Until the row is at hand, nothing is known of what comes after it.
         self.at = Progress::Stopped(Stop::Store);
         if self.taken > MAX_HOLDS {
@@ -116,19 +121,24 @@ impl<'r, 'conn, 'a, S: Alter> HoldRows<'r, 'conn, 'a, S> {
 }
 
 impl<S: Alter> Holds for HoldRows<'_, '_, '_, S> {
-    ghost rest = { λ s. staying (contains nat_eq s.expired.now) (to_come s.shows_peers s.at (tables_of (state S.Store s.rows.now.conn.now).now) s.network s.pool s.taken) };
+    ghost rest = { λ s. rest s.first (contains nat_eq s.expired.now) s.shows_peers s.at (tables_of (state S.Store s.rows.now.conn.now).now) s.network s.pool s.start.number s.taken };
 
     ghost honest = { λ s. IsGood (state S.Store s.rows.now.conn.now) };
 
-    ghost floor = { λ s. reached s.last };
+    ghost floor = { λ s. next_from s.first s.last };
 
-    ghost left = { λ s. max_holds + 1 - s.taken };
+    ghost left = { λ s. max_holds + 1 - s.taken + length (option_to_list s.first) };
 
     ghost stopped = { λ s why. s.at ≡ Stopped why };
 
     ghost keeps = { λ a b. (b.rows.ghost_name ≡ a.rows.ghost_name) × (b.rows.now.conn.ghost_name ≡ a.rows.now.conn.ghost_name) × Leaves S.Store a.rows.now.conn.now a.network a.pool a.at b.rows.now.conn.now b.network b.pool b.at };
 
     fn next_hold(&mut self) -> Result<Option<Span>, Stop> {
+        if let Some(first) = self.first {
+            self.first = None;
+            self.last = Some(first.lo);
+            return Ok(Some(first));
+        }
         while let Some((span, number)) = self.next_row()? {
             if !self.is_passed_over(number) {
                 return Ok(Some(span));
@@ -137,7 +147,7 @@ impl<S: Alter> Holds for HoldRows<'_, '_, '_, S> {
         Ok(None)
     }
 
-    ghost in_order = { λ s good. told_rise S.Store.own s.rows.now.conn.now s.shows_peers s.network s.pool s.taken s.last s.at (contains nat_eq s.expired.now) s.told good };
+    ghost in_order = { λ s good. told_rise S.Store.own s.rows.now.conn.now s.shows_peers s.network s.pool s.start.number s.taken s.first s.last s.at (contains nat_eq s.expired.now) s.told good };
 
     ghost keeps_itself = { λ s. (refl, refl, leaves_itself S.Store.own s.rows.now.conn.now s.network s.pool s.at) };
 
@@ -154,28 +164,44 @@ fn fault_at(stop: Stop) -> Fault
     }
 }
 
-/// The lowest address of the pool that may be given and that none of the spans has which these rows
-/// are about to show.
+// The pool's addresses below this one, if there are any.
+fn below(pool: &Prefix, start: &Addr) -> Option<Span>
+    ensures { result ≡ below pool.now start.now }
+{
+    let lo = pool.address();
+    if lo.number() >= start.number() {
+        return None;
+    }
+    let hi = Addr::new(start.family(), start.number() - 1)?;
+    Some(Span { lo, hi })
+}
+
+/// The lowest address of the pool that may be given, isn't below `start`, and that none of the spans has
+/// which these rows are about to show.
 pub(crate) fn lowest_in<S: Alter>(
     rows: &mut Rows<'_, S>,
     shows_peers: bool,
     network: u32,
     pool: &Pool,
+    start: Addr,
     expired: &HashSet<u32>,
 ) -> Result<Option<Addr>, Fault>
-    requires told { Tells S.Store rows.old.conn.now shows_peers network pool.now 0 None Running }
+    requires told { Tells S.Store rows.old.conn.now shows_peers network pool.now start.number 0 (below pool.now start) None Running }
     ensures same_reference { rows.new.conn.ghost_name ≡ rows.old.conn.ghost_name }
     ensures stays { Stays S.Store rows.old.conn.now rows.new.conn.now }
     ensures lowest { IsGood (state S.Store rows.new.conn.now)
-        → IfOk result (λ found. MatchOption found (IsFull pool.now (staying (contains nat_eq expired.now) (to_come shows_peers Running (tables_of (state S.Store rows.old.conn.now).now) network pool.now 0)))
-        (IsLowestFree pool.now (staying (contains nat_eq expired.now) (to_come shows_peers Running (tables_of (state S.Store rows.old.conn.now).now) network pool.now 0)))) }
+        → IfOk result (λ found. MatchOption found (IsFull pool.now (coming shows_peers (contains nat_eq expired.now) (tables_of (state S.Store rows.old.conn.now).now) network pool.now start))
+        (IsLowestFree pool.now (coming shows_peers (contains nat_eq expired.now) (tables_of (state S.Store rows.old.conn.now).now) network pool.now start))) }
     ensures cause { (HasCleanDisk (state S.Store rows.new.conn.now) → IsSound network pool.now (state S.Store rows.old.conn.now)) → IfErr result (HasCause (state S.Store rows.old.conn.now) (state S.Store rows.new.conn.now)) }
 {
+    let prefix = pool.prefix();
     let mut holds = HoldRows {
         rows,
         shows_peers,
         network,
-        pool: pool.prefix(),
+        pool: prefix,
+        start,
+        first: below(&prefix, &start),
         expired,
         taken: 0,
         last: None,
@@ -196,12 +222,12 @@ fn lowest_held<S: Alter>(
     ensures same_reference { holds.new.rows.now.conn.ghost_name ≡ holds.old.rows.now.conn.ghost_name }
     ensures stays { Stays S.Store holds.old.rows.now.conn.now holds.new.rows.now.conn.now }
     ensures lowest { IsGood (state S.Store holds.new.rows.now.conn.now)
-        → IfOk result (λ found. MatchOption found (IsFull pool.now (staying (contains nat_eq holds.old.expired.now) (to_come holds.old.shows_peers holds.old.at (tables_of (state S.Store holds.old.rows.now.conn.now).now) holds.old.network holds.old.pool holds.old.taken)))
-        (IsLowestFree pool.now (staying (contains nat_eq holds.old.expired.now) (to_come holds.old.shows_peers holds.old.at (tables_of (state S.Store holds.old.rows.now.conn.now).now) holds.old.network holds.old.pool holds.old.taken)))) }
+        → IfOk result (λ found. MatchOption found (IsFull pool.now (rest holds.old.first (contains nat_eq holds.old.expired.now) holds.old.shows_peers holds.old.at (tables_of (state S.Store holds.old.rows.now.conn.now).now) holds.old.network holds.old.pool holds.old.start.number holds.old.taken))
+        (IsLowestFree pool.now (rest holds.old.first (contains nat_eq holds.old.expired.now) holds.old.shows_peers holds.old.at (tables_of (state S.Store holds.old.rows.now.conn.now).now) holds.old.network holds.old.pool holds.old.start.number holds.old.taken))) }
     ensures taken { IsGood (state S.Store holds.new.rows.now.conn.now)
-        → IfOk result (λ found. IfSome found (StopsAt (staying (contains nat_eq holds.old.expired.now) (to_come holds.old.shows_peers holds.old.at (tables_of (state S.Store holds.old.rows.now.conn.now).now) holds.old.network holds.old.pool holds.old.taken)) (staying (contains nat_eq holds.new.expired.now) (to_come holds.new.shows_peers holds.new.at (tables_of (state S.Store holds.new.rows.now.conn.now).now) holds.new.network holds.new.pool holds.new.taken)))) }
+        → IfOk result (λ found. IfSome found (StopsAt (rest holds.old.first (contains nat_eq holds.old.expired.now) holds.old.shows_peers holds.old.at (tables_of (state S.Store holds.old.rows.now.conn.now).now) holds.old.network holds.old.pool holds.old.start.number holds.old.taken) (rest holds.new.first (contains nat_eq holds.new.expired.now) holds.new.shows_peers holds.new.at (tables_of (state S.Store holds.new.rows.now.conn.now).now) holds.new.network holds.new.pool holds.new.start.number holds.new.taken))) }
     ensures filled { IsGood (state S.Store holds.new.rows.now.conn.now)
-        → IfOk result (λ found. IfNone found (IsFilledBy pool.now (staying (contains nat_eq holds.old.expired.now) (to_come holds.old.shows_peers holds.old.at (tables_of (state S.Store holds.old.rows.now.conn.now).now) holds.old.network holds.old.pool holds.old.taken)) (staying (contains nat_eq holds.new.expired.now) (to_come holds.new.shows_peers holds.new.at (tables_of (state S.Store holds.new.rows.now.conn.now).now) holds.new.network holds.new.pool holds.new.taken)))) }
+        → IfOk result (λ found. IfNone found (IsFilledBy pool.now (rest holds.old.first (contains nat_eq holds.old.expired.now) holds.old.shows_peers holds.old.at (tables_of (state S.Store holds.old.rows.now.conn.now).now) holds.old.network holds.old.pool holds.old.start.number holds.old.taken) (rest holds.new.first (contains nat_eq holds.new.expired.now) holds.new.shows_peers holds.new.at (tables_of (state S.Store holds.new.rows.now.conn.now).now) holds.new.network holds.new.pool holds.new.start.number holds.new.taken))) }
     ensures cause { holds.old.at ≡ Running → (HasCleanDisk (state S.Store holds.new.rows.now.conn.now) → IsSound holds.old.network holds.old.pool (state S.Store holds.old.rows.now.conn.now)) → IfErr result (HasCause (state S.Store holds.old.rows.now.conn.now) (state S.Store holds.new.rows.now.conn.now)) }
 {
     match lowest_free(pool, holds) {

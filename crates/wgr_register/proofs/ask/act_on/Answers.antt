@@ -16,9 +16,9 @@ use Rattle.wgr_register.specs.Causes.{AskStops, StopsIf}
 use Rattle.wgr_sql.proofs.CauseLemmas.{cause_weaker}
 use Rattle.wgr_register.specs.Cached.{AreCurrent, files_of}
 use Rattle.wgr_register.proofs.CachedLemmas.{current_so}
-use Rattle.wgr_opening.specs.Leases.{AreEnds}
-use Rattle.wgr_register.specs.Known.{known_end}
-use Rattle.wgr_register.proofs.KnownLemmas.{ends_so}
+use Rattle.wgr_opening.specs.Outlines.{AreOutlines}
+use Rattle.wgr_register.specs.Known.{known_outline}
+use Rattle.wgr_register.proofs.KnownLemmas.{formed_rules, outlines_so}
 use Rattle.wgr_register.proofs.ask.act_on.Goals as goal
 
 -- ---- the command isn't done
@@ -103,14 +103,14 @@ returns-clause-current g c db late digest name at found current clean live =
     (files_of c.args.files.now) (files_of c.drop_changed.new.files) current c.in-Ok.done.1 c.in-Ok.ensures.outcome (c.in_ok-commit_if.ensures.done db at.pending found.row at.stands at.consistent found.there found.at clean)
     (λ none. ap files_of (c.drop_changed.ensures.none none)) c.drop_changed.ensures.some clean live
 
--- ---- what is known of the ends of leases
+-- ---- what is known of networks that aren't in memory
 
-pub returns-in-Err-clause-leases : goal.returns-in-Err-clause-leases
-returns-in-Err-clause-leases g c db late digest name at found are =
-    unless (Err c.from.result) _ (shown_so g.S.Store c.args.conn.now db at.pending (AreEnds (known_end c.args.leases.now)) at.stands are)
+pub returns-in-Err-clause-outlines : goal.returns-in-Err-clause-outlines
+returns-in-Err-clause-outlines g c db late digest name at found are =
+    unless (Err c.from.result) _ (shown_so g.S.Store c.args.conn.now db at.pending (AreOutlines (known_outline c.args.outlines.now)) at.stands are)
 
-pub returns-clause-leases : goal.returns-clause-leases
-returns-clause-leases g c db late digest name at found are clean live =
-    ends_so g.S.Store c.commit_if.new.conn db at.pending at.consistent digest name c.args.now c.args.command.now (c.forms_hold.ensures.asked, c.forms_hold.ensures.forms) c.args.id c.args.network found c.in-Ok.done.0
-    (known_end c.args.leases.now) (known_end c.note.new.leases) c.end_after.result are c.note.ensures c.in-Ok.done.1 c.in-Ok.ensures.outcome (c.in_ok-commit_if.ensures.done db at.pending found.row at.stands at.consistent found.there found.at clean)
-    (c.end_after.ensures c.args.network c.soonest_end.ensures) clean live
+pub returns-clause-outlines : goal.returns-clause-outlines
+returns-clause-outlines g c db late digest name at found are clean live =
+    outlines_so g.S.Store c.commit_if.new.conn db at.pending at.consistent digest name c.args.now c.args.command.now (c.forms_hold.ensures.asked, c.forms_hold.ensures.forms) c.args.id c.args.network found c.in-Ok.done.0
+    (known_outline c.args.outlines.now) (known_outline c.note.new.outlines) c.after.result are c.note.ensures c.in-Ok.done.1 c.in-Ok.ensures.outcome (c.in_ok-commit_if.ensures.done db at.pending found.row at.stands at.consistent found.there found.at clean)
+    (let formed = found_formed (tables_of db) digest name c.args.id c.args.network found in c.after.ensures c.args.network (formed_rules (tables_of db) at.consistent c.args.id c.args.network formed) (c.outline_with-before.ensures (tables_of db) at.consistent are formed) c.in-Ok.ensures.outcome) clean live

@@ -18,9 +18,9 @@ use Rattle.wgr_sql.proofs.CauseLemmas.{cause_weaker}
 use Rattle.wgr_register.specs.Cached.{AreCurrent, files_of}
 use Rattle.wgr_register.proofs.CachedLemmas.{current_so}
 use Rattle.wgr_model.specs.Rows.{holding_of}
-use Rattle.wgr_opening.specs.Leases.{AreEnds}
-use Rattle.wgr_register.specs.Known.{known_end}
-use Rattle.wgr_register.proofs.KnownLemmas.{ends_so}
+use Rattle.wgr_opening.specs.Outlines.{AreOutlines}
+use Rattle.wgr_register.specs.Known.{known_outline}
+use Rattle.wgr_register.proofs.KnownLemmas.{formed_rules, outlines_so}
 use Rattle.wgr_register.proofs.ask.act_on_rows.Goals as goal
 
 -- ---- the command isn't done
@@ -32,7 +32,7 @@ returns-in_err-reply-clause-ends g c db late digest name n at found are =
     rows_undone_ends g.S.Store g.R.Render.shown c.row_act.new.conn db late event c.args.now c.from_residual.result c.in_err-reply.field-0.0 c.from_residual.ensures.1 (at_read g.S.Store c.args.conn.now c.row_act.new.conn db late (c.row_act.ensures.stands db) at)
     (λ refusal is. refused_rows (tables_of db) at.consistent digest name c.args.now c.args.command.now c.args.id n found refusal
     (subst (λ (w : RowFault). Meets n (as_acted (Err w)) (outcome_of n c.args.now c.args.command.now)) is
-    (at_found (tables_of db) digest name c.args.id n found c.args.now c.args.command.now (as_acted (Err c.in_err-reply.field-0.0)) (c.in_err-reply.ensures.outcome db at.pending found.row at.stands at.consistent found.there found.at clean (c.soonest_end-soonest.ensures (tables_of db) (holding_of (tables_of db) found.row).network at.consistent are (found.row, found.there, found.at, refl)))))))
+    (at_found (tables_of db) digest name c.args.id n found c.args.now c.args.command.now (as_acted (Err c.in_err-reply.field-0.0)) (c.in_err-reply.ensures.outcome db at.pending found.row at.stands at.consistent found.there found.at clean (c.outline_of-before.ensures (tables_of db) (holding_of (tables_of db) found.row).network at.consistent are (found.row, found.there, found.at, refl)))))))
 
 pub returns-in_err-reply-clause-formed : goal.returns-in_err-reply-clause-formed
 returns-in_err-reply-clause-formed g c db late digest name n at found are formed =
@@ -79,7 +79,7 @@ returns-in_err-commit_if-clause-ends g c db late digest name n at found are =
     let event = Ask digest name c.args.now c.args.command.now in
     let there = c.row_act.ensures.stands db at.pending at.stands in
     ask_if g.S.Store g.R.Render.shown c.commit_if.new.conn db late event c.args.now c.from_residual-in_err-commit_if.result c.commit_if.ensures.idle at.stands.sound at.consistent (λ clean.
-    let met = at_found (tables_of db) digest name c.args.id n found c.args.now c.args.command.now (Ok (c.in_ok-reply.reply, c.in_ok-reply.changes)) (c.in_ok-reply.ensures.outcome db at.pending found.row at.stands at.consistent found.there found.at (c.commit_if.ensures.clean clean) (c.soonest_end-soonest.ensures (tables_of db) (holding_of (tables_of db) found.row).network at.consistent are (found.row, found.there, found.at, refl))) in
+    let met = at_found (tables_of db) digest name c.args.id n found c.args.now c.args.command.now (Ok (c.in_ok-reply.reply, c.in_ok-reply.changes)) (c.in_ok-reply.ensures.outcome db at.pending found.row at.stands at.consistent found.there found.at (c.commit_if.ensures.clean clean) (c.outline_of-before.ensures (tables_of db) (holding_of (tables_of db) found.row).network at.consistent are (found.row, found.there, found.at, refl))) in
     late_ends g.S.Store g.R.Render.shown c.commit_if.new.conn db late event c.args.now c.from_residual-in_err-commit_if.result c.in_err-commit_if.field-0.0 c.from_residual-in_err-commit_if.ensures.1
     (acts_late g.S.Store g.R.Render.shown c.commit_if.new.conn db at.pending late at.consistent at.steps digest name c.args.now c.args.command.now (c.forms_hold.ensures.asked, c.forms_hold.ensures.forms) c.args.id n found c.in_ok-reply.reply
     c.in_ok-reply.changes met (c.in_err-commit_if.ensures.fault db at.pending found.row there at.consistent found.there found.at)))
@@ -96,7 +96,7 @@ returns-in_err-commit_if-clause-stops g c db late digest name n at found are =
     let new = state g.S.Store c.commit_if.new.conn in
     let there = c.row_act.ensures.stands db at.pending at.stands in
     stopped_clean P old new c.from_residual-in_err-commit_if.result (λ clean.
-    let met = at_found (tables_of db) digest name c.args.id n found c.args.now c.args.command.now (Ok (c.in_ok-reply.reply, c.in_ok-reply.changes)) (c.in_ok-reply.ensures.outcome db at.pending found.row at.stands at.consistent found.there found.at (c.commit_if.ensures.clean clean) (c.soonest_end-soonest.ensures (tables_of db) (holding_of (tables_of db) found.row).network at.consistent are (found.row, found.there, found.at, refl))) in
+    let met = at_found (tables_of db) digest name c.args.id n found c.args.now c.args.command.now (Ok (c.in_ok-reply.reply, c.in_ok-reply.changes)) (c.in_ok-reply.ensures.outcome db at.pending found.row at.stands at.consistent found.there found.at (c.commit_if.ensures.clean clean) (c.outline_of-before.ensures (tables_of db) (holding_of (tables_of db) found.row).network at.consistent are (found.row, found.there, found.at, refl))) in
     stopped_after P old mid new c.from_residual-in_err-commit_if.result c.row_act.ensures.survives c.commit_if.ensures.survives
     (fault_handed (HasCauseOr P mid new) c.from_residual-in_err-commit_if.result why c.from_residual-in_err-commit_if.ensures.1
     (cause_weaker (StopsIf c.args.id c.in_ok-reply.changes (tables_of db)) P mid new
@@ -110,14 +110,14 @@ returns-in_err-commit_if-clause-survives g c = survives_on _ _ _ c.row_act.ensur
 pub returns-clause-ends : goal.returns-clause-ends
 returns-clause-ends g c db late digest name n at found are clean =
     let there = c.row_act.ensures.stands db at.pending at.stands in
-    let met = at_found (tables_of db) digest name c.args.id n found c.args.now c.args.command.now (Ok (c.in_ok-reply.reply, c.in_ok-reply.changes)) (c.in_ok-reply.ensures.outcome db at.pending found.row at.stands at.consistent found.there found.at (c.commit_if.ensures.clean clean) (c.soonest_end-soonest.ensures (tables_of db) (holding_of (tables_of db) found.row).network at.consistent are (found.row, found.there, found.at, refl))) in
+    let met = at_found (tables_of db) digest name c.args.id n found c.args.now c.args.command.now (Ok (c.in_ok-reply.reply, c.in_ok-reply.changes)) (c.in_ok-reply.ensures.outcome db at.pending found.row at.stands at.consistent found.there found.at (c.commit_if.ensures.clean clean) (c.outline_of-before.ensures (tables_of db) (holding_of (tables_of db) found.row).network at.consistent are (found.row, found.there, found.at, refl))) in
     acts_done g.S.Store g.R.Render.shown c.commit_if.new.conn db at.pending late at.consistent at.steps digest name c.args.now c.args.command.now (c.forms_hold.ensures.asked, c.forms_hold.ensures.forms) c.args.id n found c.in_ok-reply.reply
     c.in_ok-reply.changes c.in_ok-text.text.items c.in_ok-reply.ensures.change met (c.in_ok-text.ensures c.args.now n) (c.in_ok-commit_if.ensures.done db at.pending found.row there at.consistent found.there found.at clean) clean
 
 pub returns-clause-formed : goal.returns-clause-formed
 returns-clause-formed g c db late digest name n at found are formed clean live =
     let there = c.row_act.ensures.stands db at.pending at.stands in
-    let met = at_found (tables_of db) digest name c.args.id n found c.args.now c.args.command.now (Ok (c.in_ok-reply.reply, c.in_ok-reply.changes)) (c.in_ok-reply.ensures.outcome db at.pending found.row at.stands at.consistent found.there found.at (c.commit_if.ensures.clean clean) (c.soonest_end-soonest.ensures (tables_of db) (holding_of (tables_of db) found.row).network at.consistent are (found.row, found.there, found.at, refl))) in
+    let met = at_found (tables_of db) digest name c.args.id n found c.args.now c.args.command.now (Ok (c.in_ok-reply.reply, c.in_ok-reply.changes)) (c.in_ok-reply.ensures.outcome db at.pending found.row at.stands at.consistent found.there found.at (c.commit_if.ensures.clean clean) (c.outline_of-before.ensures (tables_of db) (holding_of (tables_of db) found.row).network at.consistent are (found.row, found.there, found.at, refl))) in
     committed_so g.S.Store c.commit_if.new.conn db at.pending at.consistent digest name c.args.now c.args.command.now (c.forms_hold.ensures.asked, c.forms_hold.ensures.forms) c.args.id n found c.in_ok-reply.reply
     (entries_of c.args.loaded.now) (entries_of c.forget.new.loaded) (formed_others c.args.id (entries_of c.args.loaded.now) (tables_of db) formed) c.in_ok-reply.changes met
     (c.in_ok-commit_if.ensures.done db at.pending found.row there at.consistent found.there found.at clean) (λ t others own. c.forget.ensures t others) clean live
@@ -125,7 +125,7 @@ returns-clause-formed g c db late digest name n at found are formed clean live =
 pub returns-clause-current : goal.returns-clause-current
 returns-clause-current g c db late digest name n at found are current clean live =
     let there = c.row_act.ensures.stands db at.pending at.stands in
-    let met = at_found (tables_of db) digest name c.args.id n found c.args.now c.args.command.now (Ok (c.in_ok-reply.reply, c.in_ok-reply.changes)) (c.in_ok-reply.ensures.outcome db at.pending found.row at.stands at.consistent found.there found.at (c.commit_if.ensures.clean clean) (c.soonest_end-soonest.ensures (tables_of db) (holding_of (tables_of db) found.row).network at.consistent are (found.row, found.there, found.at, refl))) in
+    let met = at_found (tables_of db) digest name c.args.id n found c.args.now c.args.command.now (Ok (c.in_ok-reply.reply, c.in_ok-reply.changes)) (c.in_ok-reply.ensures.outcome db at.pending found.row at.stands at.consistent found.there found.at (c.commit_if.ensures.clean clean) (c.outline_of-before.ensures (tables_of db) (holding_of (tables_of db) found.row).network at.consistent are (found.row, found.there, found.at, refl))) in
     current_so g.S.Store c.commit_if.new.conn db at.pending at.consistent digest name c.args.now c.args.command.now (c.forms_hold.ensures.asked, c.forms_hold.ensures.forms) c.args.id n found c.in_ok-reply.reply
     (files_of c.args.files.now) (files_of c.drop_changed.new.files) current c.in_ok-reply.changes met (c.in_ok-commit_if.ensures.done db at.pending found.row there at.consistent found.there found.at clean)
     (λ none. ap files_of (c.drop_changed.ensures.none none)) c.drop_changed.ensures.some clean live
@@ -133,16 +133,16 @@ returns-clause-current g c db late digest name n at found are current clean live
 pub returns-clause-survives : goal.returns-clause-survives
 returns-clause-survives g c = survives_on _ _ _ c.row_act.ensures.survives c.commit_if.ensures.survives
 
--- ---- what is known of the ends of leases
+-- ---- what is known of networks that aren't in memory
 
-pub returns-in_err-reply-clause-leases : goal.returns-in_err-reply-clause-leases
-returns-in_err-reply-clause-leases g c db late digest name n at found are =
-    unless c.from_residual.result _ (shown_so g.S.Store c.row_act.new.conn db at.pending (AreEnds (known_end c.args.leases.now)) (c.row_act.ensures.stands db at.pending at.stands) are)
+pub returns-in_err-reply-clause-outlines : goal.returns-in_err-reply-clause-outlines
+returns-in_err-reply-clause-outlines g c db late digest name n at found are =
+    unless c.from_residual.result _ (shown_so g.S.Store c.row_act.new.conn db at.pending (AreOutlines (known_outline c.args.outlines.now)) (c.row_act.ensures.stands db at.pending at.stands) are)
 
-pub returns-clause-leases : goal.returns-clause-leases
-returns-clause-leases g c db late digest name n at found are clean live =
+pub returns-clause-outlines : goal.returns-clause-outlines
+returns-clause-outlines g c db late digest name n at found are clean live =
     let there = c.row_act.ensures.stands db at.pending at.stands in
-    let met = at_found (tables_of db) digest name c.args.id n found c.args.now c.args.command.now (Ok (c.in_ok-reply.reply, c.in_ok-reply.changes)) (c.in_ok-reply.ensures.outcome db at.pending found.row at.stands at.consistent found.there found.at (c.commit_if.ensures.clean clean) (c.soonest_end-soonest.ensures (tables_of db) (holding_of (tables_of db) found.row).network at.consistent are (found.row, found.there, found.at, refl))) in
-    ends_so g.S.Store c.commit_if.new.conn db at.pending at.consistent digest name c.args.now c.args.command.now (c.forms_hold.ensures.asked, c.forms_hold.ensures.forms) c.args.id n found c.in_ok-reply.reply
-    (known_end c.args.leases.now) (known_end c.note.new.leases) c.end_after.result are c.note.ensures c.in_ok-reply.changes met (c.in_ok-commit_if.ensures.done db at.pending found.row there at.consistent found.there found.at clean)
-    (c.end_after.ensures n (c.soonest_end-soonest.ensures (tables_of db) n at.consistent are (found_formed (tables_of db) digest name c.args.id n found))) clean live
+    let met = at_found (tables_of db) digest name c.args.id n found c.args.now c.args.command.now (Ok (c.in_ok-reply.reply, c.in_ok-reply.changes)) (c.in_ok-reply.ensures.outcome db at.pending found.row at.stands at.consistent found.there found.at (c.commit_if.ensures.clean clean) (c.outline_of-before.ensures (tables_of db) (holding_of (tables_of db) found.row).network at.consistent are (found.row, found.there, found.at, refl))) in
+    outlines_so g.S.Store c.commit_if.new.conn db at.pending at.consistent digest name c.args.now c.args.command.now (c.forms_hold.ensures.asked, c.forms_hold.ensures.forms) c.args.id n found c.in_ok-reply.reply
+    (known_outline c.args.outlines.now) (known_outline c.note.new.outlines) c.after.result are c.note.ensures c.in_ok-reply.changes met (c.in_ok-commit_if.ensures.done db at.pending found.row there at.consistent found.there found.at clean)
+    (let formed = found_formed (tables_of db) digest name c.args.id n found in c.after.ensures n (formed_rules (tables_of db) at.consistent c.args.id n formed) (c.outline_of-before.ensures (tables_of db) n at.consistent are formed) met) clean live

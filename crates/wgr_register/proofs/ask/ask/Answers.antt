@@ -21,8 +21,8 @@ use Rattle.wgr_sql.proofs.SurvivesLemmas.{survives_next}
 use Rattle.wgr_register.proofs.CauseLemmas.{asked_clean, fault_handed, memory_alone, stopped_after, stopped_clean}
 use Rattle.wgr_register.specs.Causes.{AskStops}
 use Rattle.wgr_register.specs.Cached.{AreCurrent, files_of}
-use Rattle.wgr_opening.specs.Leases.{AreEnds}
-use Rattle.wgr_register.specs.Known.{known_end}
+use Rattle.wgr_opening.specs.Outlines.{AreOutlines}
+use Rattle.wgr_register.specs.Known.{known_outline}
 use Rattle.wgr_register.proofs.ask.ask.Goals as goal
 
 -- ---- the token
@@ -39,8 +39,8 @@ returns-in_err-tenant-clause-formed g c db late at = unless_late c.from_residual
 pub returns-in_err-tenant-clause-current : goal.returns-in_err-tenant-clause-current
 returns-in_err-tenant-clause-current g c db late at = unless_late c.from_residual.result c.in_err-tenant.field-0.0 _ c.from_residual.ensures.1
 
-pub returns-in_err-tenant-clause-leases : goal.returns-in_err-tenant-clause-leases
-returns-in_err-tenant-clause-leases g c db late at = unless_late c.from_residual.result c.in_err-tenant.field-0.0 _ c.from_residual.ensures.1
+pub returns-in_err-tenant-clause-outlines : goal.returns-in_err-tenant-clause-outlines
+returns-in_err-tenant-clause-outlines g c db late at = unless_late c.from_residual.result c.in_err-tenant.field-0.0 _ c.from_residual.ensures.1
 
 pub returns-in_default-clause-ends : goal.returns-in_default-clause-ends
 returns-in_default-clause-ends g c db late at = (
@@ -65,10 +65,10 @@ returns-in_default-clause-current g c db late at clean live =
 
 -- ---- the name
 
-pub returns-in_default-clause-leases : goal.returns-in_default-clause-leases
-returns-in_default-clause-leases g c db late at clean live =
-    let formed = known_so g.S.Store c.args.conn.now db at.pending (AreEnds (known_end c.args.leases.now)) at.stands c.requires.leases (c.tenant_of_token.ensures.clean clean) (c.in_ok-tenant.ensures.open clean) in
-    shown_so g.S.Store c.tenant_of_token.new.conn db at.pending (AreEnds (known_end c.args.leases.now)) (c.tenant_of_token.ensures.stands db at.pending at.stands) formed clean live
+pub returns-in_default-clause-outlines : goal.returns-in_default-clause-outlines
+returns-in_default-clause-outlines g c db late at clean live =
+    let formed = known_so g.S.Store c.args.conn.now db at.pending (AreOutlines (known_outline c.args.outlines.now)) at.stands c.requires.outlines (c.tenant_of_token.ensures.clean clean) (c.in_ok-tenant.ensures.open clean) in
+    shown_so g.S.Store c.tenant_of_token.new.conn db at.pending (AreOutlines (known_outline c.args.outlines.now)) (c.tenant_of_token.ensures.stands db at.pending at.stands) formed clean live
 
 pub returns-in_err-id-clause-ends : goal.returns-in_err-id-clause-ends
 returns-in_err-id-clause-ends g c db late at =
@@ -82,8 +82,8 @@ returns-in_err-id-clause-formed g c db late at = unless_late c.from_residual-in_
 pub returns-in_err-id-clause-current : goal.returns-in_err-id-clause-current
 returns-in_err-id-clause-current g c db late at = unless_late c.from_residual-in_err-id.result c.in_err-id.field-0.0 _ c.from_residual-in_err-id.ensures.1
 
-pub returns-in_err-id-clause-leases : goal.returns-in_err-id-clause-leases
-returns-in_err-id-clause-leases g c db late at = unless_late c.from_residual-in_err-id.result c.in_err-id.field-0.0 _ c.from_residual-in_err-id.ensures.1
+pub returns-in_err-id-clause-outlines : goal.returns-in_err-id-clause-outlines
+returns-in_err-id-clause-outlines g c db late at = unless_late c.from_residual-in_err-id.result c.in_err-id.field-0.0 _ c.from_residual-in_err-id.ensures.1
 
 pub returns-in_default-2-clause-ends : goal.returns-in_default-2-clause-ends
 returns-in_default-2-clause-ends g c db late at = (
@@ -111,11 +111,11 @@ returns-in_default-2-clause-current g c db late at clean live =
 
 -- ---- the network
 
-pub returns-in_default-2-clause-leases : goal.returns-in_default-2-clause-leases
-returns-in_default-2-clause-leases g c db late at clean live =
+pub returns-in_default-2-clause-outlines : goal.returns-in_default-2-clause-outlines
+returns-in_default-2-clause-outlines g c db late at clean live =
     let mid_clean = c.find_id.ensures.clean clean in
-    let formed = known_so g.S.Store c.args.conn.now db at.pending (AreEnds (known_end c.args.leases.now)) at.stands c.requires.leases (c.tenant_of_token.ensures.clean mid_clean) (c.in_ok-tenant.ensures.open mid_clean) in
-    shown_so g.S.Store c.find_id.new.conn db at.pending (AreEnds (known_end c.args.leases.now)) (c.find_id.ensures.stands db at.pending (c.tenant_of_token.ensures.stands db at.pending at.stands)) formed clean live
+    let formed = known_so g.S.Store c.args.conn.now db at.pending (AreOutlines (known_outline c.args.outlines.now)) at.stands c.requires.outlines (c.tenant_of_token.ensures.clean mid_clean) (c.in_ok-tenant.ensures.open mid_clean) in
+    shown_so g.S.Store c.find_id.new.conn db at.pending (AreOutlines (known_outline c.args.outlines.now)) (c.find_id.ensures.stands db at.pending (c.tenant_of_token.ensures.stands db at.pending at.stands)) formed clean live
 
 pub returns-in_err-network-clause-ends : goal.returns-in_err-network-clause-ends
 returns-in_err-network-clause-ends g c db late at =
@@ -130,8 +130,8 @@ returns-in_err-network-clause-formed g c db late at = unless_late c.from_residua
 pub returns-in_err-network-clause-current : goal.returns-in_err-network-clause-current
 returns-in_err-network-clause-current g c db late at = unless_late c.from_residual-in_err-network.result c.in_err-network.field-0.0 _ c.from_residual-in_err-network.ensures.1
 
-pub returns-in_err-network-clause-leases : goal.returns-in_err-network-clause-leases
-returns-in_err-network-clause-leases g c db late at = unless_late c.from_residual-in_err-network.result c.in_err-network.field-0.0 _ c.from_residual-in_err-network.ensures.1
+pub returns-in_err-network-clause-outlines : goal.returns-in_err-network-clause-outlines
+returns-in_err-network-clause-outlines g c db late at = unless_late c.from_residual-in_err-network.result c.in_err-network.field-0.0 _ c.from_residual-in_err-network.ensures.1
 
 pub returns-clause-ends : goal.returns-clause-ends
 returns-clause-ends g c db late at =
@@ -190,12 +190,12 @@ returns-clause-current g c db late at =
     (found_so (tables_of db) c.args.digest.now c.args.name.now c.in-Some.tenant c.in-Some-2.id c.in_ok-network.network at.consistent known named taken)
     (known_so g.S.Store c.args.conn.now db at.pending (AreCurrent (files_of c.args.files.now)) at.stands c.requires.current (c.tenant_of_token.ensures.clean first_clean) was_open))
 
-pub returns-clause-leases : goal.returns-clause-leases
-returns-clause-leases g c db late at =
+pub returns-clause-outlines : goal.returns-clause-outlines
+returns-clause-outlines g c db late at =
     let named_at = c.tenant_of_token.ensures.stands db at.pending at.stands in
     let taken_at = c.find_id.ensures.stands db at.pending named_at in
     let here = at_read g.S.Store c.args.conn.now c.take_network.new.conn db late (λ pending stood. c.take_network.ensures.stands db pending (c.find_id.ensures.stands db pending (c.tenant_of_token.ensures.stands db pending stood))) at in
-    shows_if g.S.Store c.act_on.result c.act_on.new.conn (AreEnds (known_end c.act_on.new.leases))
+    shows_if g.S.Store c.act_on.result c.act_on.new.conn (AreOutlines (known_outline c.act_on.new.outlines))
     (λ clean.
     let taken_clean = c.act_on.ensures.clean clean in
     let named_clean = c.take_network.ensures.clean taken_clean in
@@ -205,9 +205,9 @@ returns-clause-leases g c db late at =
     let known : tenant_of_token (tables_of db).tokens c.args.digest.now ≡ Some c.in-Some.tenant = sym (c.in_ok-tenant.ensures.found db at.pending at.stands first_clean) ∙ c.in-Some.is in
     let named = rw c.in-Some-2.is at c.in_ok-id.ensures.some db at.pending named_at named_clean in
     let taken = c.in_ok-network.ensures.formed db at.pending taken_at at.consistent formed taken_clean in
-    c.act_on.ensures.leases db late c.args.digest.now c.args.name.now here
+    c.act_on.ensures.outlines db late c.args.digest.now c.args.name.now here
     (found_so (tables_of db) c.args.digest.now c.args.name.now c.in-Some.tenant c.in-Some-2.id c.in_ok-network.network at.consistent known named taken)
-    (known_so g.S.Store c.args.conn.now db at.pending (AreEnds (known_end c.args.leases.now)) at.stands c.requires.leases (c.tenant_of_token.ensures.clean first_clean) was_open))
+    (known_so g.S.Store c.args.conn.now db at.pending (AreOutlines (known_outline c.args.outlines.now)) at.stands c.requires.outlines (c.tenant_of_token.ensures.clean first_clean) was_open))
 
 pub returns-in_err-tenant-clause-cause : goal.returns-in_err-tenant-clause-cause
 returns-in_err-tenant-clause-cause g c db late at reads =
@@ -343,15 +343,15 @@ returns-in-ServerFile-clause-current g c db late at clean live =
 
 -- ---- Add and Owner on rows
 
-pub returns-in-ServerFile-clause-leases : goal.returns-in-ServerFile-clause-leases
-returns-in-ServerFile-clause-leases g c db late at clean live =
+pub returns-in-ServerFile-clause-outlines : goal.returns-in-ServerFile-clause-outlines
+returns-in-ServerFile-clause-outlines g c db late at clean live =
     let named_at = c.tenant_of_token.ensures.stands db at.pending at.stands in
     let taken_at = c.find_id.ensures.stands db at.pending named_at in
     let named_clean = c.file_at.ensures.clean clean in
     let first_clean = c.find_id.ensures.clean named_clean in
     let was_open = c.in_ok-tenant.ensures.open first_clean in
-    let ends = known_so g.S.Store c.args.conn.now db at.pending (AreEnds (known_end c.args.leases.now)) at.stands c.requires.leases (c.tenant_of_token.ensures.clean first_clean) was_open in
-    shown_so g.S.Store c.file_at.new.conn db at.pending (AreEnds (known_end c.args.leases.now)) (c.file_at.ensures.stands db at.pending taken_at) ends clean live
+    let ends = known_so g.S.Store c.args.conn.now db at.pending (AreOutlines (known_outline c.args.outlines.now)) at.stands c.requires.outlines (c.tenant_of_token.ensures.clean first_clean) was_open in
+    shown_so g.S.Store c.file_at.new.conn db at.pending (AreOutlines (known_outline c.args.outlines.now)) (c.file_at.ensures.stands db at.pending taken_at) ends clean live
 
 pub returns-then-is_first : goal.returns-then-is_first
 returns-then-is_first g c =
@@ -369,8 +369,8 @@ returns-then-is_first g c =
     let named = rw c.in-Some-2.is at c.in_ok-id.ensures.some db at.pending (c.tenant_of_token.ensures.stands db at.pending at.stands) (named_clean clean) in
     let n = (holding_of (tables_of db) named.0).network in
     (n, found_so (tables_of db) c.args.digest.now c.args.name.now c.in-Some.tenant c.in-Some-2.id n at.consistent known named (named.0, named.1, named.3, refl)) in
-    let ends_known : (db : Database) (late : List Event) → StandsAt g.S.Store c.args.conn.now db late → HasCleanDisk new → AreEnds (known_end c.args.leases.now) (tables_of db) = λ db late at clean.
-    known_so g.S.Store c.args.conn.now db at.pending (AreEnds (known_end c.args.leases.now)) at.stands c.requires.leases (was_clean clean) (c.in_ok-tenant.ensures.open (first_clean clean)) in
+    let ends_known : (db : Database) (late : List Event) → StandsAt g.S.Store c.args.conn.now db late → HasCleanDisk new → AreOutlines (known_outline c.args.outlines.now) (tables_of db) = λ db late at clean.
+    known_so g.S.Store c.args.conn.now db at.pending (AreOutlines (known_outline c.args.outlines.now)) at.stands c.requires.outlines (was_clean clean) (c.in_ok-tenant.ensures.open (first_clean clean)) in
     record {
       idle = c.act_on_rows.ensures.idle;
       clean = was_clean;
@@ -387,10 +387,10 @@ returns-then-is_first g c =
           let it = found db late at clean in
           c.act_on_rows.ensures.current db late c.args.digest.now c.args.name.now it.0 (here db late at) it.1 (ends_known db late at clean)
           (known_so g.S.Store c.args.conn.now db at.pending (AreCurrent (files_of c.args.files.now)) at.stands c.requires.current (was_clean clean) (c.in_ok-tenant.ensures.open (first_clean clean))));
-      leases = λ db late at.
-          shows_if g.S.Store c.act_on_rows.result c.act_on_rows.new.conn (AreEnds (known_end c.act_on_rows.new.leases)) (λ clean.
+      outlines = λ db late at.
+          shows_if g.S.Store c.act_on_rows.result c.act_on_rows.new.conn (AreOutlines (known_outline c.act_on_rows.new.outlines)) (λ clean.
           let it = found db late at clean in
-          c.act_on_rows.ensures.leases db late c.args.digest.now c.args.name.now it.0 (here db late at) it.1 (ends_known db late at clean));
+          c.act_on_rows.ensures.outlines db late c.args.digest.now c.args.name.now it.0 (here db late at) it.1 (ends_known db late at clean));
       cause = λ db late at reads.
           asked_clean old new c.act_on_rows.result (λ clean.
           let it = found db late at clean in

@@ -15,9 +15,9 @@ use Rattle.wgr_register.specs.Ends.{is_change}
 use Rattle.wgr_register.specs.Cached.{AreCurrent, AreOthersCurrent, files_of}
 use Rattle.wgr_register.specs.Loaded.{AreFormed, AreOthersFormed, entries_of}
 use Rattle.wgr_register.proofs.CachedLemmas.{others_after}
-use Rattle.wgr_opening.specs.Leases.{AreEnds}
-use Rattle.wgr_register.specs.Known.{AreOtherEnds, known_end}
-use Rattle.wgr_register.proofs.KnownLemmas.{other_ends_after}
+use Rattle.wgr_opening.specs.Outlines.{AreOutlines}
+use Rattle.wgr_register.specs.Known.{AreOtherOutlines, known_outline}
+use Rattle.wgr_register.proofs.KnownLemmas.{other_outlines_after}
 use Rattle.wgr_register.proofs.LoadedLemmas.{shown_so}
 use Rattle.wgr_register.proofs.StayLemmas.{at_next, other_stays, undone}
 use Rattle.wgr_register.proofs.order.end_network.Goals as goal
@@ -187,27 +187,27 @@ returns-clause-current g c db late at current clean live =
     subst (λ d. AreCurrent (files_of c.drop_files.new.files) (tables_of d)) (sym (at_next g.S.Store c.end_network.new.conn db late end.2 (is_change end.0 event) end.4 clean live))
     (c.drop_files.ensures (tables_of end.2) (subst (λ i. AreOthersCurrent i files (tables_of end.2)) found.3 (others_after found.0.id files t (tables_of end.2) stays current)))
 
--- ---- and what is known of the ends of leases
+-- ---- and what is known of the ends of outlines
 
-pub returns-in_err-id-clause-leases : goal.returns-in_err-id-clause-leases
-returns-in_err-id-clause-leases g c db late at are = undone c.from_residual.result c.in_err-id.field-0.0 _ c.from_residual.ensures.1
+pub returns-in_err-id-clause-outlines : goal.returns-in_err-id-clause-outlines
+returns-in_err-id-clause-outlines g c db late at are = undone c.from_residual.result c.in_err-id.field-0.0 _ c.from_residual.ensures.1
 
-pub returns-in_default-clause-leases : goal.returns-in_default-clause-leases
-returns-in_default-clause-leases g c db late at are =
-    shown_so g.S.Store c.tenant_id.new.conn db at.pending (AreEnds (known_end c.args.leases.now)) (c.tenant_id.ensures.stands db at.pending at.stands) are
+pub returns-in_default-clause-outlines : goal.returns-in_default-clause-outlines
+returns-in_default-clause-outlines g c db late at are =
+    shown_so g.S.Store c.tenant_id.new.conn db at.pending (AreOutlines (known_outline c.args.outlines.now)) (c.tenant_id.ensures.stands db at.pending at.stands) are
 
-pub returns-in_err-network-clause-leases : goal.returns-in_err-network-clause-leases
-returns-in_err-network-clause-leases g c db late at are = undone c.from_residual-in_err-network.result c.in_err-network.field-0.0 _ c.from_residual-in_err-network.ensures.1
+pub returns-in_err-network-clause-outlines : goal.returns-in_err-network-clause-outlines
+returns-in_err-network-clause-outlines g c db late at are = undone c.from_residual-in_err-network.result c.in_err-network.field-0.0 _ c.from_residual-in_err-network.ensures.1
 
-pub returns-in_default-2-clause-leases : goal.returns-in_default-2-clause-leases
-returns-in_default-2-clause-leases g c db late at are =
-    shown_so g.S.Store c.network_id.new.conn db at.pending (AreEnds (known_end c.args.leases.now)) (c.network_id.ensures.stands db at.pending (c.tenant_id.ensures.stands db at.pending at.stands)) are
+pub returns-in_default-2-clause-outlines : goal.returns-in_default-2-clause-outlines
+returns-in_default-2-clause-outlines g c db late at are =
+    shown_so g.S.Store c.network_id.new.conn db at.pending (AreOutlines (known_outline c.args.outlines.now)) (c.network_id.ensures.stands db at.pending (c.tenant_id.ensures.stands db at.pending at.stands)) are
 
-pub returns-in_err-end_network-clause-leases : goal.returns-in_err-end_network-clause-leases
-returns-in_err-end_network-clause-leases g c db late at are = undone c.from_residual-in_err-end_network.result c.in_err-end_network.field-0.0 _ c.from_residual-in_err-end_network.ensures.1
+pub returns-in_err-end_network-clause-outlines : goal.returns-in_err-end_network-clause-outlines
+returns-in_err-end_network-clause-outlines g c db late at are = undone c.from_residual-in_err-end_network.result c.in_err-end_network.field-0.0 _ c.from_residual-in_err-end_network.ensures.1
 
-pub returns-clause-leases : goal.returns-clause-leases
-returns-clause-leases g c db late at are clean live =
+pub returns-clause-outlines : goal.returns-clause-outlines
+returns-clause-outlines g c db late at are clean live =
     let event = EndNetwork c.args.tenant.now c.args.name.now in
     let t = tables_of db in
     let mid = c.tenant_id.ensures.stands db at.pending at.stands in
@@ -218,7 +218,7 @@ returns-clause-leases g c db late at are clean live =
     let end = order_done g.S.Store c.end_network.new.conn db late event (NetworkLost c.in-Some-2.network) tt at.consistent
     (network_ends t at.consistent c.args.tenant.now c.args.name.now c.in-Some.id c.in-Some-2.network known found.0 found.1 found.2.0 found.2.1 found.3)
     (c.in_ok-end_network.ensures.done db at.pending near at.consistent.rows.keyed clean) clean in
-    let ends = known_end c.args.leases.now in
+    let ends = known_outline c.args.outlines.now in
     let stays = other_stays t (tables_of end.2) at.consistent c.args.tenant.now c.args.name.now end.0 end.3 c.in-Some.id known found.0 found.1 found.2 in
-    subst (λ d. AreEnds (known_end c.forget_end.new.leases) (tables_of d)) (sym (at_next g.S.Store c.end_network.new.conn db late end.2 (is_change end.0 event) end.4 clean live))
-    (c.forget_end.ensures (tables_of end.2) (subst (λ i. AreOtherEnds i ends (tables_of end.2)) found.3 (other_ends_after found.0.id ends t (tables_of end.2) stays are)))
+    subst (λ d. AreOutlines (known_outline c.forget_outline.new.outlines) (tables_of d)) (sym (at_next g.S.Store c.end_network.new.conn db late end.2 (is_change end.0 event) end.4 clean live))
+    (c.forget_outline.ensures (tables_of end.2) (subst (λ i. AreOtherOutlines i ends (tables_of end.2)) found.3 (other_outlines_after found.0.id ends t (tables_of end.2) stays are)))

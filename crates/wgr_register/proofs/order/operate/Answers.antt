@@ -1,8 +1,8 @@
 use Rattle.wgr_model.specs.Steps.{AddNetwork, AddTenant, EndToken, Grant}
 use Rattle.wgr_register.specs.Cached.{files_of}
-use Rattle.wgr_register.specs.Known.{known_end}
+use Rattle.wgr_register.specs.Known.{known_outline}
 use Rattle.wgr_register.specs.Loaded.{entries_of}
-use Rattle.wgr_register.proofs.StayLemmas.{ends_shown, files_shown, stay_shown}
+use Rattle.wgr_register.proofs.StayLemmas.{outlines_shown, files_shown, stay_shown}
 use Rattle.wgr_register.proofs.order.operate.Goals as goal
 
 pub returns-in-AddTenant-clause-ends : goal.returns-in-AddTenant-clause-ends
@@ -61,14 +61,14 @@ returns-in-EndToken-clause-current g c db late at = files_shown g.S.Store c.end_
 pub returns-in-AddNetwork-clause-current : goal.returns-in-AddNetwork-clause-current
 returns-in-AddNetwork-clause-current g c db late at = files_shown g.S.Store c.add_network.new.conn db late at.consistent (AddNetwork c.in-AddNetwork.tenant c.in-AddNetwork.name c.in-AddNetwork.settings) (rw c.in-AddNetwork.is at c.forms_hold.ensures) tt c.add_network.result (c.add_network.ensures.ends db late at (rw c.in-AddNetwork.is at c.forms_hold.ensures)) (files_of c.args.files.now)
 
-pub returns-in-AddTenant-clause-leases : goal.returns-in-AddTenant-clause-leases
-returns-in-AddTenant-clause-leases g c db late at = ends_shown g.S.Store c.add_tenant.new.conn db late at.consistent (AddTenant c.in-AddTenant.name) (rw c.in-AddTenant.is at c.forms_hold.ensures) tt c.add_tenant.result (c.add_tenant.ensures.ends db late at (rw c.in-AddTenant.is at c.forms_hold.ensures)) (known_end c.args.leases.now)
+pub returns-in-AddTenant-clause-outlines : goal.returns-in-AddTenant-clause-outlines
+returns-in-AddTenant-clause-outlines g c db late at = outlines_shown g.S.Store c.add_tenant.new.conn db late at.consistent (AddTenant c.in-AddTenant.name) (rw c.in-AddTenant.is at c.forms_hold.ensures) tt c.add_tenant.result (c.add_tenant.ensures.ends db late at (rw c.in-AddTenant.is at c.forms_hold.ensures)) (known_outline c.args.outlines.now)
 
-pub returns-in-Grant-clause-leases : goal.returns-in-Grant-clause-leases
-returns-in-Grant-clause-leases g c db late at = ends_shown g.S.Store c.grant.new.conn db late at.consistent (Grant c.in-Grant.tenant c.in-Grant.digest) (rw c.in-Grant.is at c.forms_hold.ensures) tt c.grant.result (c.grant.ensures.ends db late at (rw c.in-Grant.is at c.forms_hold.ensures)) (known_end c.args.leases.now)
+pub returns-in-Grant-clause-outlines : goal.returns-in-Grant-clause-outlines
+returns-in-Grant-clause-outlines g c db late at = outlines_shown g.S.Store c.grant.new.conn db late at.consistent (Grant c.in-Grant.tenant c.in-Grant.digest) (rw c.in-Grant.is at c.forms_hold.ensures) tt c.grant.result (c.grant.ensures.ends db late at (rw c.in-Grant.is at c.forms_hold.ensures)) (known_outline c.args.outlines.now)
 
-pub returns-in-EndToken-clause-leases : goal.returns-in-EndToken-clause-leases
-returns-in-EndToken-clause-leases g c db late at = ends_shown g.S.Store c.end_token.new.conn db late at.consistent (EndToken c.in-EndToken.digest) (rw c.in-EndToken.is at c.forms_hold.ensures) tt c.end_token.result (c.end_token.ensures.ends db late at) (known_end c.args.leases.now)
+pub returns-in-EndToken-clause-outlines : goal.returns-in-EndToken-clause-outlines
+returns-in-EndToken-clause-outlines g c db late at = outlines_shown g.S.Store c.end_token.new.conn db late at.consistent (EndToken c.in-EndToken.digest) (rw c.in-EndToken.is at c.forms_hold.ensures) tt c.end_token.result (c.end_token.ensures.ends db late at) (known_outline c.args.outlines.now)
 
-pub returns-in-AddNetwork-clause-leases : goal.returns-in-AddNetwork-clause-leases
-returns-in-AddNetwork-clause-leases g c db late at = ends_shown g.S.Store c.add_network.new.conn db late at.consistent (AddNetwork c.in-AddNetwork.tenant c.in-AddNetwork.name c.in-AddNetwork.settings) (rw c.in-AddNetwork.is at c.forms_hold.ensures) tt c.add_network.result (c.add_network.ensures.ends db late at (rw c.in-AddNetwork.is at c.forms_hold.ensures)) (known_end c.args.leases.now)
+pub returns-in-AddNetwork-clause-outlines : goal.returns-in-AddNetwork-clause-outlines
+returns-in-AddNetwork-clause-outlines g c db late at = outlines_shown g.S.Store c.add_network.new.conn db late at.consistent (AddNetwork c.in-AddNetwork.tenant c.in-AddNetwork.name c.in-AddNetwork.settings) (rw c.in-AddNetwork.is at c.forms_hold.ensures) tt c.add_network.result (c.add_network.ensures.ends db late at (rw c.in-AddNetwork.is at c.forms_hold.ensures)) (known_outline c.args.outlines.now)

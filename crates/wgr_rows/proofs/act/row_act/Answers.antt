@@ -19,11 +19,11 @@ use Rattle.wgr_rows.proofs.ActLemmas.{fault_told, is_added, is_nobodys, is_owner
 use Rattle.wgr_rows.proofs.act.row_act.Goals as goal
 
 pub returns-in_err-admission-in-Add-clause-outcome : goal.returns-in_err-admission-in-Add-clause-outcome
-returns-in_err-admission-in-Add-clause-outcome g c db pending w stood good here is clean ends =
+returns-in_err-admission-in-Add-clause-outcome g c db pending w stood good here is clean outlined =
     let n = (holding_of (tables_of db) w).network in
     subst (λ (x : Command). Meets n (as_acted c.from_residual.result) (outcome_of n c.args.now x)) (sym c.in-Add.is)
     (unadmitted n (rules_of (tables_of db) good w here) c.args.now c.in-Add.key c.in-Add.label c.in-Add.address c.in-Add.until c.in-Add.keepalive c.from_residual.result c.in_err-admission-in-Add.field-0.0 c.from_residual.ensures.1
-    (c.in_err-admission-in-Add.ensures.found db pending w stood good here is clean ends))
+    (c.in_err-admission-in-Add.ensures.found db pending w stood good here is clean outlined.ends))
 
 pub returns-in_err-admission-in-Add-clause-cause : goal.returns-in_err-admission-in-Add-clause-cause
 returns-in_err-admission-in-Add-clause-cause g c db pending w stood good here is =
@@ -33,12 +33,12 @@ pub returns-in_err-address-in-Add-clause-stands : goal.returns-in_err-address-in
 returns-in_err-address-in-Add-clause-stands g c db pending stood = c.place_row.ensures.stands db pending (c.admit_row.ensures.stands db pending stood)
 
 pub returns-in_err-address-in-Add-clause-outcome : goal.returns-in_err-address-in-Add-clause-outcome
-returns-in_err-address-in-Add-clause-outcome g c db pending w stood good here is clean ends =
+returns-in_err-address-in-Add-clause-outcome g c db pending w stood good here is clean outlined =
     let n = (holding_of (tables_of db) w).network in
-    let admitted = c.in_ok-admission-in-Add.ensures.found db pending w stood good here is (c.place_row.ensures.clean clean) ends in
+    let admitted = c.in_ok-admission-in-Add.ensures.found db pending w stood good here is (c.place_row.ensures.clean clean) outlined.ends in
     subst (λ (x : Command). Meets n (as_acted c.from_residual-in_err-address-in-Add.result) (outcome_of n c.args.now x)) (sym c.in-Add.is)
     (unplaced n (rules_of (tables_of db) good w here) c.args.now c.in-Add.key c.in-Add.label c.in-Add.address c.in-Add.until c.in-Add.keepalive c.from_residual-in_err-address-in-Add.result c.in_err-address-in-Add.field-0.0 c.from_residual-in_err-address-in-Add.ensures.1 admitted.0
-    (c.in_err-address-in-Add.ensures.found db pending w (c.admit_row.ensures.stands db pending stood) good here is clean admitted.1 admitted.2))
+    (c.in_err-address-in-Add.ensures.found db pending w (c.admit_row.ensures.stands db pending stood) good here is clean admitted.1 admitted.2 (c.floor_at-floor.ensures n (rules_of (tables_of db) good w here) outlined)))
 
 pub returns-in_err-address-in-Add-clause-cause : goal.returns-in_err-address-in-Add-clause-cause
 returns-in_err-address-in-Add-clause-cause g c db pending w stood good here is =
@@ -59,11 +59,11 @@ pub returns-in_ok-joined-in-Add-clause-stands : goal.returns-in_ok-joined-in-Add
 returns-in_ok-joined-in-Add-clause-stands g c db pending stood = c.place_row.ensures.stands db pending (c.admit_row.ensures.stands db pending stood)
 
 pub returns-in_ok-joined-in-Add-clause-outcome : goal.returns-in_ok-joined-in-Add-clause-outcome
-returns-in_ok-joined-in-Add-clause-outcome g c db pending w stood good here is clean ends =
+returns-in_ok-joined-in-Add-clause-outcome g c db pending w stood good here is clean outlined =
     let n = (holding_of (tables_of db) w).network in
     let admission = c.in_ok-admission-in-Add.admission in
-    let admitted = c.in_ok-admission-in-Add.ensures.found db pending w stood good here is (c.place_row.ensures.clean clean) ends in
-    let placed = c.in_ok-address-in-Add.ensures.found db pending w (c.admit_row.ensures.stands db pending stood) good here is clean admitted.1 admitted.2 in
+    let admitted = c.in_ok-admission-in-Add.ensures.found db pending w stood good here is (c.place_row.ensures.clean clean) outlined.ends in
+    let placed = c.in_ok-address-in-Add.ensures.found db pending w (c.admit_row.ensures.stands db pending stood) good here is clean admitted.1 admitted.2 (c.floor_at-floor.ensures n (rules_of (tables_of db) good w here) outlined) in
     let address = c.in_ok-address-in-Add.address in
     let peer : Peer = record { number = admission.head.next; key = c.in-Add.key; label = c.in_ok-copy-in-Add.field-0; address = address; until = c.in-Add.until; keepalive = c.in-Add.keepalive; status = None } in
     let same : peer ≡ record { number = n.next; key = c.in-Add.key; label = c.in-Add.label; address = address; until = c.in-Add.until; keepalive = c.in-Add.keepalive; status = None } =
@@ -73,13 +73,13 @@ returns-in_ok-joined-in-Add-clause-outcome g c db pending w stood good here is c
     (is_added n (rules_of (tables_of db) good w here) c.args.now c.in-Add.key c.in-Add.label c.in-Add.address c.in-Add.until c.in-Add.keepalive address peer admission.expired.items admitted.0 placed same admitted.2))
 
 pub returns-in-Some-clause-outcome : goal.returns-in-Some-clause-outcome
-returns-in-Some-clause-outcome g c db pending w stood good here is clean ends =
+returns-in-Some-clause-outcome g c db pending w stood good here is clean outlined =
     let n = (holding_of (tables_of db) w).network in
     subst (λ (x : Command). Meets n (Ok (reply.Owner c.in-Some.number, None)) (outcome_of n c.args.now x)) (sym c.in-Owner.is)
     (is_owner n (rules_of (tables_of db) good w here) c.args.now c.in-Owner.address c.in-Some.number (rw c.in-Some.is at c.in_ok-number-in-Owner.ensures.found db pending w stood good here is clean))
 
 pub returns-in-None-clause-outcome : goal.returns-in-None-clause-outcome
-returns-in-None-clause-outcome g c db pending w stood good here is clean ends =
+returns-in-None-clause-outcome g c db pending w stood good here is clean outlined =
     let n = (holding_of (tables_of db) w).network in
     subst (λ (x : Command). Meets n (Err (act.Refused NobodysAddress)) (outcome_of n c.args.now x)) (sym c.in-Owner.is)
     (is_nobodys n (rules_of (tables_of db) good w here) c.args.now c.in-Owner.address (rw c.in-None.is at c.in_ok-number-in-Owner.ensures.found db pending w stood good here is clean))

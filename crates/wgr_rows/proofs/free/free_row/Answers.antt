@@ -1,18 +1,22 @@
-use Rattle.std.proofs.Common.{rules, ◌≡◌, ◌↔◌, None, ℕ, Bool, true, false, not, List, [], ◌∷◌, length, nat_eq, IsTrue, IfErr, refl, sym, subst, ◌∙◌, arith, true≢false}
+use Rattle.std.proofs.Common.{rules, ◌≡◌, ◌≤◌, ◌⊎◌, ◌↔◌, None, ℕ, Bool, true, false, not, List, [], ◌∷◌, length, nat_eq, IsTrue, IfErr, refl, sym, ap, subst, ◌∙◌, arith, true≢false}
 use Rattle.std.specs.HashSet.{HashSet, contains, hash_set_len}
 use Rattle.std.specs.List.{list_any}
 use Rattle.sqlite.specs.Given.{HasBegun}
 use Rattle.sqlite.specs.Held.{state}
 use Rattle.sqlite.specs.State.{FailsToQuery, HasCleanDisk, Survives}
-use Rattle.wgr_text.specs.Prefix.{PrefixValue}
+use Rattle.wgr_text.specs.Prefix.{AddrValue, PrefixValue}
 use Rattle.wgr_sql.specs.Causes.{HasCause}
 use Rattle.wgr_sql.proofs.ResultLemmas.{if_ok}
+use Rattle.wgr_core.specs.Network.{live_at}
+use Rattle.wgr_model.specs.Rows.{holding_of}
+use Rattle.wgr_model.proofs.RuleLemmas.{rules as rules_of}
+use Rattle.wgr_columns.specs.Decode.{tables_of}
 use Rattle.wgr_tables.specs.Standing.{Stands}
-use Rattle.wgr_rows.specs.Holding.{hold_params, holds_text}
+use Rattle.wgr_rows.specs.Holding.{below, hold_params, holds_text}
 use Rattle.wgr_rows.specs.Telling.{IsToldTo}
 use Rattle.wgr_rows.specs.Staying.{stays_on}
-use Rattle.wgr_rows.proofs.Coming.{holds_moved, told_first}
-use Rattle.wgr_rows.proofs.FreeLemmas.{begun_stays, failed_stands, found_in, params_are, shown_sound, stands_good, stands_sound, stays_stands}
+use Rattle.wgr_rows.proofs.Coming.{holds_moved, number_low, told_first}
+use Rattle.wgr_rows.proofs.FreeLemmas.{below_begins, begun_stays, failed_stands, floor_from, found_in, params_are, shown_sound, stands_good, stands_sound, stays_stands}
 use Rattle.wgr_rows.proofs.HeldLemmas.{lowest_at}
 use Rattle.wgr_rows.proofs.SelectLemmas.{begun, commits_nothing}
 use Rattle.wgr_rows.proofs.StopLemmas.{begin_cause}
@@ -42,10 +46,12 @@ lowest_in-requires g c = record {
       let shows_peers = not c.is_empty-shows_peers.result in
       let mid = c.in-Ok.rows.conn.now in
       let p = c.prefix-prefix.result in
+      let start = c.start_at-start.result in
+      let start = c.start_at-start.result in
       let started = rw (c.holds_text.ensures, c.number_value.ensures, c.family_value.ensures, c.family.ensures.value, c.bytes_of-first.ensures, c.number.ensures.value, c.bytes_of-last.ensures, c.number-2.ensures.value, c.number_value-2.ensures, c.from-length.ensures, c.length.ensures.value) at (c.in-Ok.ensures.begun good.0) in
-      let here = subst (λ params. HasBegun g.S.Store (holds_text shows_peers) params c.args.conn.now mid) (params_are c.args.network p c.span-span.result.lo c.span-span.result.hi c.span-span.ensures.ends) started in
-      subst (λ (q : PrefixValue). IsToldTo g.S.Store mid shows_peers c.args.network q 0 None) c.prefix-prefix.ensures.value
-      (told_first g.S.Store mid shows_peers c.args.network p c.rules_hold.ensures.prefix c.rules_hold.ensures.address (begun shows_peers g.S.Store (hold_params c.args.network p) c.args.conn.now mid here).0 good);
+      let here = subst (λ params. HasBegun g.S.Store (holds_text shows_peers) params c.args.conn.now mid) (params_are c.args.network p start.number c.span-span.result.lo c.span-span.result.hi c.span-span.ensures.ends) started in
+      subst (λ (q : PrefixValue). IsToldTo g.S.Store mid shows_peers c.args.network q start.number 0 (below q start) None) c.prefix-prefix.ensures.value
+      (told_first g.S.Store mid shows_peers c.args.network p start.number c.rules_hold.ensures.prefix c.rules_hold.ensures.address (number_low start c.number.ensures.fits) (subst (λ (a : AddrValue). a.number ≤ start.number) c.span-span.ensures.ends.first c.start_at-start.ensures.from) (below p start) (below_begins p start) (begun shows_peers g.S.Store (hold_params c.args.network p start.number) c.args.conn.now mid here).0 good);
 }
 
 pub returns-clause-stands : goal.returns-clause-stands
@@ -69,20 +75,21 @@ returns-clause-found g c db pending w stood is here id clean =
     let same : end ≡ c.conn-2-1.given.0 = search rules in
     let late : HasCleanDisk (state g.S.Store end) = subst (λ h. HasCleanDisk (state g.S.Store h)) (sym same) clean in
     let before : HasCleanDisk (state g.S.Store mid) = omega (arith, c.lowest_in.ensures.stays.1.clean, late) in
-    let start : HasCleanDisk (state g.S.Store old) = omega (arith, c.in-Ok.ensures.survives.clean, before) in
+    let began : HasCleanDisk (state g.S.Store old) = omega (arith, c.in-Ok.ensures.survives.clean, before) in
     let p = c.prefix-prefix.result in
+    let start = c.start_at-start.result in
     let started = rw (c.holds_text.ensures, c.number_value.ensures, c.family_value.ensures, c.family.ensures.value, c.bytes_of-first.ensures, c.number.ensures.value, c.bytes_of-last.ensures, c.number-2.ensures.value, c.number_value-2.ensures, c.from-length.ensures, c.length.ensures.value) at (c.in-Ok.ensures.begun before) in
-    let begins = subst (λ params. HasBegun g.S.Store (holds_text shows_peers) params old mid) (params_are c.args.network p c.span-span.result.lo c.span-span.result.hi c.span-span.ensures.ends) started in
+    let begins = subst (λ params. HasBegun g.S.Store (holds_text shows_peers) params old mid) (params_are c.args.network p start.number c.span-span.result.lo c.span-span.result.hi c.span-span.ensures.ends) started in
     let rests = (begun shows_peers g.S.Store _ old mid begins).1.0 in
-    let shows : (state g.S.Store mid).now ≡ db = rests.now_is ∙ stood.shows start rests.was_open in
+    let shows : (state g.S.Store mid).now ≡ db = rests.now_is ∙ stood.shows began rests.was_open in
     let yes : IsTrue c.is_autocommit-settled.result = rw (c.is_autocommit-settled.ensures.value, c.requires.idle) in
     let first = begun_stays g.S.Store shows_peers _ c.holds_text.ensures old mid _ c.in-Ok.ensures.mode c.in-Ok.ensures.survives c.in-Ok.ensures.begun in
     let stood' = stays_stands g.S.Store old db pending stood end (c.is_autocommit-settled.ensures.settled yes) (stays_on g.S.Store old mid end first c.lowest_in.ensures.stays) in
     let good = stands_good g.S.Store end db pending stood' keyed late in
-    let found = found_in shows_peers c.args.pool.now (contains nat_eq c.args.expired.now) (state g.S.Store mid).now db c.args.network c.lowest_in.result shows (c.lowest_in.ensures.lowest good) in
+    let found = found_in shows_peers c.args.pool.now start (contains nat_eq c.args.expired.now) (state g.S.Store mid).now db c.args.network c.lowest_in.result shows (c.lowest_in.ensures.lowest good) in
     let stood_mid = stays_stands g.S.Store old db pending stood mid (c.is_autocommit-settled.ensures.settled yes) first in
-    let moved = holds_moved g.S.Store mid shows_peers c.args.network p c.rules_hold.ensures.prefix c.rules_hold.ensures.address (begun shows_peers g.S.Store (hold_params c.args.network p) old mid begins).0 (stands_good g.S.Store mid db pending stood_mid keyed before) in
-    if_ok c.lowest_in.result _ _ (λ o m now pool tells. lowest_at shows_peers (contains nat_eq c.args.expired.now) (none_in c.args.expired.now c.is_empty-shows_peers.result c.is_empty-shows_peers.ensures) (state g.S.Store mid).now db shows c.args.network p c.args.pool.now c.prefix-prefix.ensures.value w id (sym pool) is here now tells moved o m) found
+    let moved = holds_moved g.S.Store mid shows_peers c.args.network p start.number c.rules_hold.ensures.prefix c.rules_hold.ensures.address (number_low start c.number.ensures.fits) (begun shows_peers g.S.Store (hold_params c.args.network p start.number) old mid begins).0 (stands_good g.S.Store mid db pending stood_mid keyed before) in
+    if_ok c.lowest_in.result _ _ (λ o m now pool tells floor. lowest_at shows_peers (contains nat_eq c.args.expired.now) (none_in c.args.expired.now c.is_empty-shows_peers.result c.is_empty-shows_peers.ensures) (state g.S.Store mid).now db shows c.args.network p c.args.pool.now c.prefix-prefix.ensures.value w id (sym pool) is here now tells start (c.start_at-start.ensures.family ∙ ap (λ (a : AddrValue). a.family) c.span-span.ensures.ends.first) (subst (λ (a : AddrValue). a.number ≤ start.number) c.span-span.ensures.ends.first c.start_at-start.ensures.from) (let n = (holding_of (tables_of db) w).network in floor_from (live_at n now) (rules_of (tables_of db) is w here).pool start.number c.args.floor (subst (λ (q : PrefixValue). (start.number ≡ q.address.number) ⊎ (start.number ≡ c.args.floor)) (c.prefix-prefix.ensures.value ∙ pool) (subst (λ (a : AddrValue). (start.number ≡ a.number) ⊎ (start.number ≡ c.args.floor)) c.span-span.ensures.ends.first c.start_at-start.ensures.one)) floor) moved o m) found
 
 pub returns-in-Err-clause-survives : goal.returns-in-Err-clause-survives
 returns-in-Err-clause-survives g c =
@@ -104,10 +111,11 @@ returns-in-Err-clause-cause g c db pending w stood is here id pool =
     let old = c.args.conn.now in
     let new = c.query.follows.lender-at-none in
     let p = c.prefix-prefix.result in
+    let start = c.start_at-start.result in
     let held = rw (c.in-Err.is, c.holds_text.ensures, c.number_value.ensures, c.family_value.ensures, c.family.ensures.value, c.bytes_of-first.ensures, c.number.ensures.value, c.bytes_of-last.ensures, c.number-2.ensures.value, c.number_value-2.ensures, c.from-length.ensures, c.length.ensures.value) at c.query.follows.holds-at-none in
-    let params = params_are c.args.network p c.span-span.result.lo c.span-span.result.hi c.span-span.ensures.ends in
+    let params = params_are c.args.network p start.number c.span-span.result.lo c.span-span.result.hi c.span-span.ensures.ends in
     let yes : IsTrue c.is_autocommit-settled.result = rw (c.is_autocommit-settled.ensures.value, c.requires.idle) in
-    begin_cause (not c.is_empty-shows_peers.result) c.args.network p (state g.S.Store old) (state g.S.Store new) c.in-Err.error c.fault_of.result c.fault_of.ensures
+    begin_cause (not c.is_empty-shows_peers.result) c.args.network p start.number (state g.S.Store old) (state g.S.Store new) c.in-Err.error c.fault_of.result c.fault_of.ensures
     (λ clean. stands_sound g.S.Store old db pending stood c.args.network p w is here id (sym pool ∙ sym c.prefix-prefix.ensures.value) (c.is_autocommit-settled.ensures.settled yes) (omega (arith, held.survives.clean, clean)))
     (λ clean. subst (λ values. FailsToQuery (holds_text (not c.is_empty-shows_peers.result)) values (state g.S.Store old) (state g.S.Store new) c.in-Err.error) params (held.err clean))
 
@@ -123,6 +131,6 @@ returns-clause-cause g c db pending w stood is here id pool =
     subst (λ h. IfErr c.lowest_in.result (HasCause (state g.S.Store old) (state g.S.Store h))) same
     (walk_cause (state g.S.Store old) (state g.S.Store mid) (state g.S.Store end) first.1 c.lowest_in.ensures.stays.1 c.lowest_in.result (c.lowest_in.ensures.cause (λ late.
     let before : HasCleanDisk (state g.S.Store mid) = omega (arith, c.lowest_in.ensures.stays.1.clean, late) in
-    let start : HasCleanDisk (state g.S.Store old) = omega (arith, c.in-Ok.ensures.survives.clean, before) in
-    let sound = stands_sound g.S.Store old db pending stood c.args.network c.args.pool.now w is here id (sym pool) (c.is_autocommit-settled.ensures.settled yes) start in
+    let began : HasCleanDisk (state g.S.Store old) = omega (arith, c.in-Ok.ensures.survives.clean, before) in
+    let sound = stands_sound g.S.Store old db pending stood c.args.network c.args.pool.now w is here id (sym pool) (c.is_autocommit-settled.ensures.settled yes) began in
     shown_sound c.args.network c.args.pool.now (state g.S.Store old) (state g.S.Store mid) (begun shows_peers g.S.Store _ old mid (rw c.holds_text.ensures at (c.in-Ok.ensures.begun before))).1 sound)))

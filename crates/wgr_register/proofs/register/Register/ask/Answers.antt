@@ -3,8 +3,8 @@ use Rattle.sqlite.specs.Held.{state}
 use Rattle.wgr_model.specs.Steps.{Ask}
 use Rattle.wgr_columns.specs.Decode.{tables_of}
 use Rattle.wgr_register.specs.Cached.{AreCurrent, files_of}
-use Rattle.wgr_opening.specs.Leases.{AreEnds}
-use Rattle.wgr_register.specs.Known.{known_end}
+use Rattle.wgr_opening.specs.Outlines.{AreOutlines}
+use Rattle.wgr_register.specs.Known.{known_outline}
 use Rattle.wgr_register.specs.Loaded.{AreFormed, Shows, entries_of}
 use Rattle.wgr_register.specs.Standing.{StandsAt}
 use Rattle.wgr_register.proofs.LoadedLemmas.{unless_map}
@@ -20,8 +20,8 @@ ask-answered-requires-clause-formed g c = c.self.invariant.1
 pub ask-answered-requires-clause-current : goal.ask-answered-requires-clause-current
 ask-answered-requires-clause-current g c = c.self.invariant.2
 
-pub ask-answered-requires-clause-leases : goal.ask-answered-requires-clause-leases
-ask-answered-requires-clause-leases g c = c.self.invariant.3
+pub ask-answered-requires-clause-outlines : goal.ask-answered-requires-clause-outlines
+ask-answered-requires-clause-outlines g c = c.self.invariant.3
 
 pub invariant_of-self : goal.invariant_of-self
 invariant_of-self g c = (
@@ -45,10 +45,10 @@ invariant_of-self g c = (
       (unless_map c.ask-answered.result (Shows g.S.Store c.ask-answered.new.conn (AreCurrent files)) (AreCurrent files shown) (λ shows. shows clean live) (c.ask-answered.ensures.current held.0 held.1 held.2)),
   λ clean live.
       let held = c.self.invariant.0.somewhere (c.ask-answered.ensures.clean clean) in
-      let ends = known_end c.ask-answered.new.leases in
+      let ends = known_outline c.ask-answered.new.outlines in
       let shown = tables_of (state g.S.Store c.ask-answered.new.conn).now in
-      c.drop_after_fault.ensures.leases shown
-      (unless_map c.ask-answered.result (Shows g.S.Store c.ask-answered.new.conn (AreEnds ends)) (AreEnds ends shown) (λ shows. shows clean live) (c.ask-answered.ensures.leases held.0 held.1 held.2)),
+      c.drop_after_fault.ensures.outlines shown
+      (unless_map c.ask-answered.result (Shows g.S.Store c.ask-answered.new.conn (AreOutlines ends)) (AreOutlines ends shown) (λ shows. shows clean live) (c.ask-answered.ensures.outlines held.0 held.1 held.2)),
 )
 
 pub returns-clause-ends : goal.returns-clause-ends

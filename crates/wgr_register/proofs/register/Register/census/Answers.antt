@@ -2,8 +2,8 @@ use Rattle.std.proofs.Common.{IfErr, IsTrue, refl, sym, subst}
 use Rattle.sqlite.specs.Held.{state}
 use Rattle.wgr_columns.specs.Decode.{tables_of}
 use Rattle.wgr_register.specs.Cached.{AreCurrent, files_of}
-use Rattle.wgr_opening.specs.Leases.{AreEnds}
-use Rattle.wgr_register.specs.Known.{known_end}
+use Rattle.wgr_opening.specs.Outlines.{AreOutlines}
+use Rattle.wgr_register.specs.Known.{known_outline}
 use Rattle.wgr_register.specs.Loaded.{AreFormed, entries_of}
 use Rattle.wgr_register.specs.Standing.{StandsAt}
 use Rattle.wgr_register.proofs.LoadedLemmas.{known_so}
@@ -46,10 +46,10 @@ invariant_of-self g c = (
       let held = c.self.invariant.0.somewhere before in
       let stands = c.census-read.ensures.stands held.0 held.2.pending held.2.stands in
       let read = c.census-read.result in
-      let ends = known_end c.self.inside.leases in
+      let ends = known_outline c.self.inside.outlines in
       let shown = tables_of (state g.S.Store c.census-read.new.conn).now in
-      c.drop_if_unread.ensures.leases shown (on_ok read read (IsTrue (state g.S.Store c.self.inside.conn).is_open) (AreEnds ends shown)
-      (λ was_live. subst (λ d. AreEnds ends (tables_of d)) (sym (stands.shows clean live)) (known_so g.S.Store c.self.inside.conn held.0 held.2.pending (AreEnds ends) held.2.stands c.self.invariant.3 before was_live))
+      c.drop_if_unread.ensures.outlines shown (on_ok read read (IsTrue (state g.S.Store c.self.inside.conn).is_open) (AreOutlines ends shown)
+      (λ was_live. subst (λ d. AreOutlines ends (tables_of d)) (sym (stands.shows clean live)) (known_so g.S.Store c.self.inside.conn held.0 held.2.pending (AreOutlines ends) held.2.stands c.self.invariant.3 before was_live))
       (c.census-read.ensures.open clean) refl),
 )
 

@@ -3,8 +3,8 @@ use Rattle.sqlite.specs.Held.{state}
 use Rattle.wgr_model.specs.Steps.{Networks}
 use Rattle.wgr_columns.specs.Decode.{tables_of}
 use Rattle.wgr_register.specs.Cached.{AreCurrent, files_of}
-use Rattle.wgr_opening.specs.Leases.{AreEnds}
-use Rattle.wgr_register.specs.Known.{known_end}
+use Rattle.wgr_opening.specs.Outlines.{AreOutlines}
+use Rattle.wgr_register.specs.Known.{known_outline}
 use Rattle.wgr_register.specs.Loaded.{AreFormed, entries_of}
 use Rattle.wgr_register.specs.Standing.{StandsAt}
 use Rattle.wgr_register.proofs.LoadedLemmas.{known_so, unless_map}
@@ -44,10 +44,10 @@ invariant_of-self g c = (
       let before = c.networks-answered.ensures.clean clean in
       let held = c.self.invariant.0.somewhere before in
       let stands = c.networks-answered.ensures.stands held.0 held.2.pending held.2.stands in
-      let ends = known_end c.self.inside.leases in
+      let ends = known_outline c.self.inside.outlines in
       let shown = tables_of (state g.S.Store c.networks-answered.new.conn).now in
-      c.drop_after_fault.ensures.leases shown (unless_map c.networks-answered.result (IsTrue (state g.S.Store c.self.inside.conn).is_open) (AreEnds ends shown)
-      (λ was_live. subst (λ d. AreEnds ends (tables_of d)) (sym (stands.shows clean live)) (known_so g.S.Store c.self.inside.conn held.0 held.2.pending (AreEnds ends) held.2.stands c.self.invariant.3 before was_live))
+      c.drop_after_fault.ensures.outlines shown (unless_map c.networks-answered.result (IsTrue (state g.S.Store c.self.inside.conn).is_open) (AreOutlines ends shown)
+      (λ was_live. subst (λ d. AreOutlines ends (tables_of d)) (sym (stands.shows clean live)) (known_so g.S.Store c.self.inside.conn held.0 held.2.pending (AreOutlines ends) held.2.stands c.self.invariant.3 before was_live))
       (c.networks-answered.ensures.open clean)),
 )
 

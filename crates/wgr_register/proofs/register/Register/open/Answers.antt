@@ -2,7 +2,7 @@ use Rattle.std.proofs.Common.{[], sym, subst}
 use Rattle.sqlite.specs.Effect.{Database}
 use Rattle.sqlite.specs.Held.{state}
 use Rattle.wgr_columns.specs.Decode.{tables_of}
-use Rattle.wgr_opening.specs.Leases.{AreEnds, end_in}
+use Rattle.wgr_opening.specs.Outlines.{AreOutlines, outline_in}
 use Rattle.wgr_register.proofs.CachedLemmas.{none_current}
 use Rattle.wgr_register.proofs.LoadedLemmas.{none_formed}
 use Rattle.wgr_register.proofs.StandLemmas.{at_good}
@@ -18,7 +18,7 @@ invariant_of-result g c = (
   λ clean live. none_current (tables_of (state g.S.Store c.check_register.new.conn).now),
   λ clean live.
       let found = c.in-Ok.ensures.right clean in
-      subst (λ (d : Database). AreEnds (end_in c.in-Ok.leases) (tables_of d)) (sym (found.1.shows clean live)) (c.in-Ok.ensures.ends clean),
+      subst (λ (d : Database). AreOutlines (outline_in c.in-Ok.outlines) (tables_of d)) (sym (found.1.shows clean live)) (c.in-Ok.ensures.outlines clean),
 )
 
 pub returns-in-Ok-clause-good : goal.returns-in-Ok-clause-good

@@ -6,8 +6,8 @@ use Rattle.wgr_register.specs.Causes.{IfOrderFault, OrderStops}
 use Rattle.wgr_register.specs.Standing.{StandsAt}
 use Rattle.wgr_columns.specs.Decode.{tables_of}
 use Rattle.wgr_register.specs.Cached.{AreCurrent, files_of}
-use Rattle.wgr_opening.specs.Leases.{AreEnds}
-use Rattle.wgr_register.specs.Known.{known_end}
+use Rattle.wgr_opening.specs.Outlines.{AreOutlines}
+use Rattle.wgr_register.specs.Known.{known_outline}
 use Rattle.wgr_register.specs.Loaded.{AreFormed, Shows, entries_of}
 use Rattle.wgr_register.proofs.LoadedLemmas.{known_so}
 use Rattle.wgr_register.proofs.StayLemmas.{undone_then, unless_undone}
@@ -47,13 +47,13 @@ invariant_of-self g c = (
   λ clean live.
       let before = c.operate-ended.ensures.clean clean in
       let held = c.self.invariant.0.somewhere before in
-      let ends = known_end c.self.inside.leases in
-      let kept = known_end c.operate-ended.new.leases in
+      let ends = known_outline c.self.inside.outlines in
+      let kept = known_outline c.operate-ended.new.outlines in
       let ended = c.operate-ended.result in
       let shown = tables_of (state g.S.Store c.operate-ended.new.conn).now in
-      c.drop_after_failure.ensures.leases shown (undone_then ended (Shows g.S.Store c.operate-ended.new.conn (AreEnds kept)) (AreEnds kept shown) (λ shows. unless_undone ended (AreEnds kept shown) (shows clean live))
-      (undone_then ended (IsTrue (state g.S.Store c.self.inside.conn).is_open) (Shows g.S.Store c.operate-ended.new.conn (AreEnds kept))
-      (λ was_live. c.operate-ended.ensures.leases held.0 held.1 held.2 (known_so g.S.Store c.self.inside.conn held.0 held.2.pending (AreEnds ends) held.2.stands c.self.invariant.3 before was_live))
+      c.drop_after_failure.ensures.outlines shown (undone_then ended (Shows g.S.Store c.operate-ended.new.conn (AreOutlines kept)) (AreOutlines kept shown) (λ shows. unless_undone ended (AreOutlines kept shown) (shows clean live))
+      (undone_then ended (IsTrue (state g.S.Store c.self.inside.conn).is_open) (Shows g.S.Store c.operate-ended.new.conn (AreOutlines kept))
+      (λ was_live. c.operate-ended.ensures.outlines held.0 held.1 held.2 (known_so g.S.Store c.self.inside.conn held.0 held.2.pending (AreOutlines ends) held.2.stands c.self.invariant.3 before was_live))
       (c.operate-ended.ensures.open clean))),
 )
 

@@ -9,7 +9,7 @@ use Rattle.wgr_text.specs.contracts.prefix.Span as span
 use Rattle.wgr_columns.specs.Decode.{tables_of}
 use Rattle.wgr_rows.specs.Holding.{Hold, hold_params, holds_text, to_come}
 use Rattle.wgr_rows.specs.declared.progress.Progress.TheVariants.{Running}
-use Rattle.wgr_rows.proofs.Coming.{come_as, first_is, good_back, last_was, told_next}
+use Rattle.wgr_rows.proofs.Coming.{come_as, first_is, good_back, last_was, number_low, told_next}
 use Rattle.wgr_sql.specs.Causes.{HasCause}
 use Rattle.wgr_pool.specs.declared.allot.Stop.TheVariants.{Store}
 use Rattle.wgr_rows.specs.Holding.{max_holds}
@@ -24,6 +24,8 @@ returns-in_default-get-clause-first g c good =
     let shows_peers = c.args.self.now.shows_peers in
     let network = c.args.self.now.network in
     let pool = c.args.self.now.pool in
+    let start = c.args.self.now.start in
+    let low = number_low start c.rules_hold-2.ensures in
     let taken = c.args.self.now.taken in
     let mid = c.args.self.now.rows.now.conn.now in
     let new = c.advance.new.self.conn.now in
@@ -35,9 +37,9 @@ returns-in_default-get-clause-first g c good =
     let before = good_back (state g.S.Store mid) (state g.S.Store new) c.advance.ensures.survives same good in (
       ∥∥₁_elim c.args.self.now.told (one_proof _ _) (λ tells.
           let told = tells c.in-Running.is before in
-          let shown = subst (GivesOn g.S.Store (holds_text shows_peers) (hold_params network pool) mid new told.given) none (advanced (holds_text shows_peers) (hold_params network pool) told.given told.runs) in
-          come_as shows_peers c.args.self.now.at (tables_of (state g.S.Store mid).now) network pool taken [] c.in-Running.is
-          (last_was g.S.Store mid new same good shows_peers network pool c.rules_hold.ensures.prefix c.rules_hold.ensures.address taken c.args.self.now.last told shown)),
+          let shown = subst (GivesOn g.S.Store (holds_text shows_peers) (hold_params network pool start.number) mid new told.given) none (advanced (holds_text shows_peers) (hold_params network pool start.number) told.given told.runs) in
+          come_as shows_peers c.args.self.now.at (tables_of (state g.S.Store mid).now) network pool start.number taken [] c.in-Running.is
+          (last_was g.S.Store mid new same good shows_peers network pool start.number c.rules_hold.ensures.prefix c.rules_hold.ensures.address low taken c.args.self.now.first c.args.self.now.last told shown)),
       refl,
     )
 
@@ -46,6 +48,8 @@ returns-clause-first g c good =
     let shows_peers = c.args.self.now.shows_peers in
     let network = c.args.self.now.network in
     let pool = c.args.self.now.pool in
+    let start = c.args.self.now.start in
+    let low = number_low start c.rules_hold-2.ensures in
     let taken = c.args.self.now.taken in
     let mid = c.args.self.now.rows.now.conn.now in
     let new = c.advance.new.self.conn.now in
@@ -58,9 +62,9 @@ returns-clause-first g c good =
     let before = good_back (state g.S.Store mid) (state g.S.Store new) c.advance.ensures.survives same good in
     ∥∥₁_elim c.args.self.now.told (one_proof _ _) (λ tells.
     let told = tells c.in-Running.is before in
-    let given = subst (GivesOn g.S.Store (holds_text shows_peers) (hold_params network pool) mid new told.given) some (advanced (holds_text shows_peers) (hold_params network pool) told.given told.runs) in
-    come_as shows_peers c.args.self.now.at (tables_of (state g.S.Store mid).now) network pool taken ((c.in-Some-hold_in.span, c.in-Some-hold_in.number) ∷ to_come shows_peers Running (tables_of (state g.S.Store new).now) network pool (taken + 1)) c.in-Running.is
-    (first_is g.S.Store mid new same good shows_peers network pool c.rules_hold.ensures.prefix c.rules_hold.ensures.address taken c.args.self.now.last told row (c.in-Some-hold_in.span, c.in-Some-hold_in.number) given c.in-Some-hold_in.ensures.some))
+    let given = subst (GivesOn g.S.Store (holds_text shows_peers) (hold_params network pool start.number) mid new told.given) some (advanced (holds_text shows_peers) (hold_params network pool start.number) told.given told.runs) in
+    come_as shows_peers c.args.self.now.at (tables_of (state g.S.Store mid).now) network pool start.number taken ((c.in-Some-hold_in.span, c.in-Some-hold_in.number) ∷ to_come shows_peers Running (tables_of (state g.S.Store new).now) network pool start.number (taken + 1)) c.in-Running.is
+    (first_is g.S.Store mid new same good shows_peers network pool start.number c.rules_hold.ensures.prefix c.rules_hold.ensures.address low taken c.args.self.now.first c.args.self.now.last told row (c.in-Some-hold_in.span, c.in-Some-hold_in.number) given c.in-Some-hold_in.ensures.some))
 
 pub invariant_of-self-then-not-is_from : goal.invariant_of-self-then-not-is_from
 invariant_of-self-then-not-is_from g c = record { in_range = c.args.self.now.in_range; told = ∣ (λ no. cc) ∣₁ }
@@ -70,6 +74,8 @@ invariant_of-self-2 g c =
     let shows_peers = c.args.self.now.shows_peers in
     let network = c.args.self.now.network in
     let pool = c.args.self.now.pool in
+    let start = c.args.self.now.start in
+    let low = number_low start c.rules_hold-2.ensures in
     let taken = c.args.self.now.taken in
     let mid = c.args.self.now.rows.now.conn.now in
     let new = c.advance.new.self.conn.now in
@@ -84,8 +90,8 @@ invariant_of-self-2 g c =
           let some : row_if c.advance.new.self.has_row new ≡ Some row = sym c.get.ensures ∙ ap option_copied c.in-Some.is in
           let before = good_back (state g.S.Store mid) (state g.S.Store new) c.advance.ensures.survives same good in
           let told = tells c.in-Running.is before in
-          let given = subst (GivesOn g.S.Store (holds_text shows_peers) (hold_params network pool) mid new told.given) some (advanced (holds_text shows_peers) (hold_params network pool) told.given told.runs) in
-          told_next g.S.Store mid new same good shows_peers network pool c.rules_hold.ensures.prefix c.rules_hold.ensures.address taken c.args.self.now.last told row (c.in-Some-hold_in.span, c.in-Some-hold_in.number) given c.in-Some-hold_in.ensures.some);
+          let given = subst (GivesOn g.S.Store (holds_text shows_peers) (hold_params network pool start.number) mid new told.given) some (advanced (holds_text shows_peers) (hold_params network pool start.number) told.given told.runs) in
+          told_next g.S.Store mid new same good shows_peers network pool start.number c.rules_hold.ensures.prefix c.rules_hold.ensures.address low taken c.args.self.now.first c.args.self.now.last told row (c.in-Some-hold_in.span, c.in-Some-hold_in.number) given c.in-Some-hold_in.ensures.some);
     }
 
 pub invariant_of-self-in-Err : goal.invariant_of-self-in-Err
@@ -105,7 +111,7 @@ returns-then-self-gt-MAX_HOLDS-clause-blames g c =
     let mid = self.rows.now.conn.now in
     let more : max_holds < self.taken = omega (arith, c.if-self-gt-MAX_HOLDS.true) in
     for_cause self.network self.pool (state g.S.Store mid) (state g.S.Store mid) self.at Store
-    (limit_cause g.S.Store self.shows_peers self.network self.pool c.rules_hold.ensures.prefix c.rules_hold.ensures.address self.taken self.last self.at c.in-Running.is mid self.told more)
+    (limit_cause g.S.Store self.shows_peers self.network self.pool self.start.number c.rules_hold.ensures.prefix c.rules_hold.ensures.address (number_low self.start c.rules_hold-2.ensures) self.taken self.first self.last self.at c.in-Running.is mid self.told more)
 
 pub returns-in-Err-clause-blames : goal.returns-in-Err-clause-blames
 returns-in-Err-clause-blames g c =
@@ -114,7 +120,7 @@ returns-in-Err-clause-blames g c =
     let new = c.advance.new.self.conn.now in
     for_cause self.network self.pool (state g.S.Store mid) (state g.S.Store new) self.at c.stop_of-why.result (λ known.
     subst (HasCause (state g.S.Store mid) (state g.S.Store new)) (sym c.stop_of-why.ensures)
-    (advance_cause g.S.Store self.shows_peers self.network self.pool c.rules_hold.ensures.prefix c.rules_hold.ensures.address self.taken self.last self.at c.in-Running.is mid self.told new c.advance.ensures.survives c.in-Err.error c.fault_of.result c.fault_of.ensures (λ clean. rw c.in-Err.is at (c.advance.ensures.err clean)) known))
+    (advance_cause g.S.Store self.shows_peers self.network self.pool self.start.number c.rules_hold.ensures.prefix c.rules_hold.ensures.address (number_low self.start c.rules_hold-2.ensures) self.taken self.first self.last self.at c.in-Running.is mid self.told new c.advance.ensures.survives c.in-Err.error c.fault_of.result c.fault_of.ensures (λ clean. rw c.in-Err.is at (c.advance.ensures.err clean)) known))
 
 pub returns-in_default-hold_in-clause-blames : goal.returns-in_default-hold_in-clause-blames
 returns-in_default-hold_in-clause-blames g c =
@@ -122,10 +128,10 @@ returns-in_default-hold_in-clause-blames g c =
     let mid = self.rows.now.conn.now in
     let new = c.advance.new.self.conn.now in
     let row = c.in-Some.row.now in
-    let params = hold_params self.network self.pool in
+    let params = hold_params self.network self.pool self.start.number in
     let some : row_if c.advance.new.self.has_row new ≡ Some row = sym c.get.ensures ∙ ap option_copied c.in-Some.is in
     for_cause self.network self.pool (state g.S.Store mid) (state g.S.Store new) self.at Store
-    (row_cause g.S.Store self.shows_peers self.network self.pool c.rules_hold.ensures.prefix c.rules_hold.ensures.address self.taken self.last self.at c.in-Running.is mid self.told new c.advance.ensures.survives row
+    (row_cause g.S.Store self.shows_peers self.network self.pool self.start.number c.rules_hold.ensures.prefix c.rules_hold.ensures.address (number_low self.start c.rules_hold-2.ensures) self.taken self.first self.last self.at c.in-Running.is mid self.told new c.advance.ensures.survives row
     (λ clean. let rested = c.advance.ensures.same clean in search (rules, rested))
     (λ clean given runs.
     let moved = c.advance.ensures.ok clean in
@@ -139,11 +145,11 @@ returns-then-not-is_from-clause-blames g c =
     let mid = self.rows.now.conn.now in
     let new = c.advance.new.self.conn.now in
     let row = c.in-Some.row.now in
-    let params = hold_params self.network self.pool in
+    let params = hold_params self.network self.pool self.start.number in
     let hold : Hold = (c.in-Some-hold_in.span, c.in-Some-hold_in.number) in
     let some : row_if c.advance.new.self.has_row new ≡ Some row = sym c.get.ensures ∙ ap option_copied c.in-Some.is in
     for_cause self.network self.pool (state g.S.Store mid) (state g.S.Store new) self.at Store
-    (order_cause g.S.Store self.shows_peers self.network self.pool c.rules_hold.ensures.prefix c.rules_hold.ensures.address self.taken self.last self.at c.in-Running.is mid self.told new c.advance.ensures.survives row
+    (order_cause g.S.Store self.shows_peers self.network self.pool self.start.number c.rules_hold.ensures.prefix c.rules_hold.ensures.address (number_low self.start c.rules_hold-2.ensures) self.taken self.first self.last self.at c.in-Running.is mid self.told new c.advance.ensures.survives row
     (λ clean. let rested = c.advance.ensures.same clean in search (rules, rested))
     (λ clean given runs.
     let moved = c.advance.ensures.ok clean in

@@ -18,7 +18,8 @@ invariant-loop-span g l =
     × (old.taken ≤ l.self.taken)
     × (reached old.last ≤ reached l.self.last)
     × (IsGood (state g.S.Store l.self.rows.now.conn.now) → IsGood (state g.S.Store old.rows.now.conn.now)
-    × (staying (contains nat_eq old.expired.now) (to_come old.shows_peers old.at (tables_of (state g.S.Store old.rows.now.conn.now).now) old.network old.pool old.taken) ≡ staying (contains nat_eq l.self.expired.now) (to_come l.self.shows_peers l.self.at (tables_of (state g.S.Store l.self.rows.now.conn.now).now) l.self.network l.self.pool l.self.taken)))
+    × (staying (contains nat_eq old.expired.now) (to_come old.shows_peers old.at (tables_of (state g.S.Store old.rows.now.conn.now).now) old.network old.pool old.start.number old.taken) ≡ staying (contains nat_eq l.self.expired.now) (to_come l.self.shows_peers l.self.at (tables_of (state g.S.Store l.self.rows.now.conn.now).now) l.self.network l.self.pool l.self.start.number l.self.taken)))
+    × (l.self.first ≡ old.first)
 
 abbrev pub decreases-loop-span : goal.decreases-loop-span
 decreases-loop-span g l = max_holds + 1 - l.self.taken
