@@ -13,11 +13,11 @@ use Rattle.wgr_pool.specs.Pool.{IsPool, reserved}
 use Rattle.wgr_pool.proofs.Bools.{and_true, or_cases, or_false, or_left, or_right}
 use Rattle.wgr_pool.proofs.PrefixLemmas.{has_in, is_in}
 use Rattle.wgr_peers.specs.declared.peer.Peer.{Peer}
-use Rattle.wgr_peers.specs.Peers.{expired, is_own}
+use Rattle.wgr_peers.specs.Peers.{is_own}
 use Rattle.wgr_peers.specs.PeerIndex.{EndsFrom}
 use Rattle.wgr_peers.specs.Routes.{Routes}
 use Rattle.wgr_peers.proofs.TableLemmas.{none_expired}
-use Rattle.wgr_core.specs.Network.{IsNetwork, IsRoute, NetworkValue, is_among, is_held, live_at, lowest_free, without_peers}
+use Rattle.wgr_core.specs.Network.{IsNetwork, NetworkValue, is_held, live_at, lowest_free, without_peers}
 use Rattle.wgr_core.proofs.JoinLemmas.{lowest_is_free}
 use Rattle.wgr_core.proofs.LiveLemmas.{without_expired}
 use Rattle.wgr_laws.proofs.LowestLemmas.{lowest_is_least}

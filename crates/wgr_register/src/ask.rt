@@ -159,12 +159,8 @@ fn act_on<S: Alter, R: Render>(
     drop_changed(files, id, &change);
     commit_if(conn, id, &change)?;
     let before = outline_with(outlines, id, &network);
-    note(
-        alloc,
-        outlines,
-        id,
-        before.after(now, command, &reply, &change),
-    );
+    let outline = before.after(now, command, &reply, &change);
+    note(alloc, outlines, id, outline);
     keep_changed(alloc, loaded, id, network, change);
     Ok(text)
 }
@@ -205,12 +201,8 @@ fn act_on_rows<S: Alter, R: Render>(
     drop_changed(files, id, &changes);
     commit_if(conn, id, &changes)?;
     forget(loaded, id);
-    note(
-        alloc,
-        outlines,
-        id,
-        before.after(now, command, &reply, &changes),
-    );
+    let outline = before.after(now, command, &reply, &changes);
+    note(alloc, outlines, id, outline);
     Ok(text)
 }
 

@@ -39,7 +39,6 @@ use Rattle.wgr_tables.proofs.ArrangeLemmas.{kept_routes}
 use Rattle.wgr_outline.specs.Outline.{EndsBelow, IsFloor}
 use Rattle.wgr_outline.proofs.FloorLemmas.{given_above}
 use Rattle.wgr_rows.specs.Holding.{behind, below, brief, coming, holds_in, is_hold, last_number, staying}
-use Rattle.wgr_rows.specs.declared.progress.Progress.TheVariants.{Running}
 use Rattle.sqlite.specs.Effect.{Database}
 use Rattle.wgr_columns.specs.Decode.{tables_of}
 use Rattle.wgr_rows.proofs.Coming.{le_of, one_family}

@@ -144,5 +144,5 @@ returns-clause-outlines g c db late digest name n at found are clean live =
     let there = c.row_act.ensures.stands db at.pending at.stands in
     let met = at_found (tables_of db) digest name c.args.id n found c.args.now c.args.command.now (Ok (c.in_ok-reply.reply, c.in_ok-reply.changes)) (c.in_ok-reply.ensures.outcome db at.pending found.row at.stands at.consistent found.there found.at (c.commit_if.ensures.clean clean) (c.outline_of-before.ensures (tables_of db) (holding_of (tables_of db) found.row).network at.consistent are (found.row, found.there, found.at, refl))) in
     outlines_so g.S.Store c.commit_if.new.conn db at.pending at.consistent digest name c.args.now c.args.command.now (c.forms_hold.ensures.asked, c.forms_hold.ensures.forms) c.args.id n found c.in_ok-reply.reply
-    (known_outline c.args.outlines.now) (known_outline c.note.new.outlines) c.after.result are c.note.ensures c.in_ok-reply.changes met (c.in_ok-commit_if.ensures.done db at.pending found.row there at.consistent found.there found.at clean)
-    (let formed = found_formed (tables_of db) digest name c.args.id n found in c.after.ensures n (formed_rules (tables_of db) at.consistent c.args.id n formed) (c.outline_of-before.ensures (tables_of db) n at.consistent are formed) met) clean live
+    (known_outline c.args.outlines.now) (known_outline c.note.new.outlines) c.after-outline.result are c.note.ensures c.in_ok-reply.changes met (c.in_ok-commit_if.ensures.done db at.pending found.row there at.consistent found.there found.at clean)
+    (let formed = found_formed (tables_of db) digest name c.args.id n found in c.after-outline.ensures n (formed_rules (tables_of db) at.consistent c.args.id n formed) (c.outline_of-before.ensures (tables_of db) n at.consistent are formed) met) clean live

@@ -13,4 +13,4 @@ returns-in-Some-outline c t n good known formed =
     found_outline t good (outline_in c.in-Some.known) (subst (λ (o : Option Outlines). AreOutlines (known_outline o) t) c.in-Some.is known) c.args.id c.in-Some-outline.outline (sym c.outline.ensures ∙ c.in-Some-outline.is) n formed
 
 pub returns-in-None : goal.returns-in-None
-returns-in-None c t n good known formed = c.unknown-2.ensures n
+returns-in-None c t n good known formed = c.unknown-in-None.ensures n

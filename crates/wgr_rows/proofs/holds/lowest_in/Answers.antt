@@ -1,4 +1,4 @@
-use Rattle.std.proofs.Common.{None, Option, sym, subst, ◌∙◌, ap, arith}
+use Rattle.std.proofs.Common.{None, Option, sym, subst, arith}
 use Rattle.wgr_text.specs.declared.prefix.Span.{Span}
 use Rattle.wgr_text.specs.Prefix.{PrefixValue}
 use Rattle.wgr_rows.specs.Holding.{below}
