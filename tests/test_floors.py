@@ -84,7 +84,7 @@ class Floors(unittest.TestCase):
             self.answers(asked + [(name, made(place)) for place, (name, (first, _, _)) in enumerate(COURSES.items()) for made in first])
             asked = [(name, made(place)) for place, (name, (_, then, _)) in enumerate(COURSES.items()) for made in then]
             added = [(name, add(8)) for name in COURSES]
-            told = self.answers([*asked, *self.others(), *added, *self.others(), *[(name, add(9)) for name in COURSES]])
+            told = self.answers([*asked, *self.others(), *added, *self.others(), *[(name, add(10)) for name in COURSES]])
             self.assertEqual([reply for reply in told[: len(asked)] if b" 200 OK" not in reply], [])
             first = len(asked) + 2 * MANY
             for place, ((name, (_, _, free)), reply) in enumerate(zip(COURSES.items(), told[first:])):
