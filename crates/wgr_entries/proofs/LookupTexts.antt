@@ -1,5 +1,5 @@
 -- The queries by a key, and that they are answered.
-use Rattle.std.proofs.Common.{◌≡◌, ℕ, pos, List, codes, [], ◌∷◌, refl, arith}
+use Rattle.std.proofs.Common.{ℕ, pos, List, codes, [], ◌∷◌, refl, arith}
 use Rattle.sqlite.specs.declared.types.Value.TheVariants.{Null, Int, Text, Blob}
 use Rattle.sqlite.specs.Command.TheVariants.{Select}
 use Rattle.sqlite.specs.Term.{Term, lit, col}

@@ -1,5 +1,5 @@
 -- The statements of orders write, whatever is in the database beside the register's tables.
-use Rattle.std.proofs.Common.{List, [], ◌∷◌, refl, arith}
+use Rattle.std.proofs.Common.{[], ◌∷◌, refl, arith}
 use Rattle.sqlite.specs.declared.types.Value.{Value}
 use Rattle.sqlite.specs.Listing.{understood}
 use Rattle.sqlite_tied.specs.Compute.{everything}

@@ -1,25 +1,19 @@
 -- What the queries by a key show of consistent rows: one row at most, whose number is below 2 ^ 32.
-use Rattle.std.proofs.Common.{◌≡◌, ◌<◌, ◌≤◌, ℕ, pos, List, [], ◌∷◌, length, map, filter, nat_eq, Bool, true, false, ◌||◌, IsPermutation, inl, inr, refl, sym, ap, subst, ◌∙◌, arith, true≢false, eqb-true}
+use Rattle.std.proofs.Common.{◌≡◌, ◌<◌, ◌≤◌, ℕ, pos, List, [], ◌∷◌, length, map, nat_eq, Bool, true, false, ◌||◌, inl, refl, sym, ap, subst, ◌∙◌, arith, eqb-true}
 use Rattle.std.specs.List.{AllByRecursion, IsDistinct}
 use Rattle.std.proofs.lemmas.Bool.{and_parts}
-use Rattle.std.proofs.lemmas.Map.Keys.{IsDistinct-head}
-use Rattle.std.proofs.lemmas.List.Sorted.{IsPermutation-sym, length_permutation}
-use Rattle.std.proofs.Math.ListN.{length-map}
 use Rattle.sqlite.specs.declared.types.Value.TheVariants.{Int, Text, Blob}
 use Rattle.sqlite.specs.Order.{Row}
 use Rattle.sqlite_value.specs.Order.{column}
 use Rattle.sqlite_rules.specs.Lists as rules
 use Rattle.sqlite.specs.State.{State, Shown}
 use Rattle.wgr_model.specs.Consistent.{IsId, IsTenant, has_tenant, same_slot, slot}
-use Rattle.wgr_model.specs.Laws.{Has}
 use Rattle.wgr_model.specs.Register.{Bytes, Tenant, Token, is_same}
 use Rattle.wgr_model.specs.RowLaws.{AreConsistent}
 use Rattle.wgr_model.specs.Rows.{NetworkRow, Tables, holding_of}
 use Rattle.wgr_model.proofs.CollectLemmas.{has_map}
-use Rattle.wgr_model.proofs.GatherLemmas.{eqb_self, map_map}
-use Rattle.wgr_model.proofs.KeptLemmas.{distinct_filter}
-use Rattle.wgr_model.proofs.OrderLemmas.{from_filter}
-use Rattle.wgr_model.proofs.SameLemmas.{at_has, has_permutation}
+use Rattle.wgr_model.proofs.GatherLemmas.{map_map}
+use Rattle.wgr_model.proofs.SameLemmas.{at_has}
 use Rattle.wgr_columns.specs.Decode.{IsRegister, tables_of, tenant_in, token_in, network_in, number_at}
 use Rattle.wgr_entries.specs.Lookups.{HasWordAt}
 use Rattle.wgr_entries.proofs.LookupLemmas.{token_listed, tenant_listed, slot_listed}

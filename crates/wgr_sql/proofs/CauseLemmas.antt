@@ -190,6 +190,10 @@ pub handed : {X : Type 0} (P : Fault → Type 0) (r : Result X Fault) (why : Fau
 handed P (Ok x) why is h = tt
 handed P (Err e) why is h = subst P (sym is) h
 
+-- the fault of a call is handed on, after another call
+pub later_hands_on : {X : Type 0} (a b c : State) (r : Result X Fault) (why : Fault) → IsErrAnd r (λ e. e ≡ why) → Survives a b (λ _. ⊥) → Survives b c (λ _. ⊥) → HasCause b c why → IfErr r (HasCause a c)
+later_hands_on a b c r why is before after cause = handed (HasCause a c) r why is (cause_after a b c ⊥ ⊥ (λ _. ⊥) (λ _. ⊥) before after (λ h. h) why cause)
+
 -- a fault that comes of what isn't so while the disk is clean
 pub never_fails : {X : Type 0} (Q : Type 0) (old new : State) (r : Result X Fault) → OnErr r Q → (HasCleanDisk new → Q → ⊥) → IfErr r (HasCause old new)
 never_fails Q old new (Ok x) h never = tt

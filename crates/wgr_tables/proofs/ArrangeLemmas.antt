@@ -1,5 +1,5 @@
 -- Rows that a network's peers and routes are stored in, in the order of the queries.
-use Rattle.std.proofs.Common.{◌≡◌, ◌<◌, ℕ, Bool, true, false, cond, not, ◌&&◌, List, [], ◌∷◌, Some, is_some, map, drop, get_or, length, nat_eq, nat_lt, eqb-true, IsPermutation, refl, sym, ap, ap₂, subst, ◌∙◌, arith}
+use Rattle.std.proofs.Common.{◌≡◌, ◌<◌, ℕ, Bool, true, false, cond, not, ◌&&◌, List, [], ◌∷◌, Some, is_some, map, filter, drop, get_or, length, nat_eq, nat_lt, eqb-true, IsPermutation, refl, sym, ap, ap₂, subst, ◌∙◌, arith}
 use Rattle.std.specs.List.{AllByRecursion}
 use Rattle.std.specs.List.Sorted.{IsNonDecreasingBy, IsSorted}
 use Rattle.std.specs.Ordering.{nat_cmp}
@@ -20,7 +20,7 @@ use Rattle.wgr_core.specs.Network.{NetworkValue, IsNetwork}
 use Rattle.wgr_core.specs.Forms.{HasForms}
 use Rattle.wgr_core.proofs.Arranged.{peers_arranged}
 use Rattle.wgr_core.proofs.FreedLemmas.{given_in_pool}
-use Rattle.wgr_model.specs.Rows.{AllowedRow, address_row, peer_id, peer_row, route_row}
+use Rattle.wgr_model.specs.Rows.{AllowedRow, PeerRow, Tables, address_row, peer_id, peer_row, route_row}
 use Rattle.wgr_sql.proofs.Answers.{from_map, map-both}
 use Rattle.wgr_columns.specs.Stored.{IsKeptPeer, IsKeptRoute}
 
@@ -34,11 +34,27 @@ numbers_rise id peers up i j d below low =
     omega (arith, le, at_i, at_j)
 
 -- what is shown of a network's peers in the order of their ids
-pub arranged_peers : {T : Type 0} (id : ℕ) (n : NetworkValue) → IsNetwork n → (show : Peer → T) (key : T → ℕ) → ((p : Peer) → key (show p) ≡ peer_id id p.number) → (shown all : List T) → IsPermutation all (map show n.peers) → IsPermutation all shown → IsSorted nat_cmp (map key shown) → shown ≡ map show n.peers
+-- the rows of a network's peers, and those of their addresses
+abbrev peer_rows_of : ℕ → Tables → List PeerRow
+peer_rows_of id t = filter (λ p. nat_eq p.network id) t.peers
+
+abbrev address_rows_of : ℕ → Tables → List AllowedRow
+address_rows_of id t = filter (λ a. nat_eq a.network id && not a.is_route) t.allowed
+
+pub arranged_peers : {T : Type 0} (id : ℕ) (n : NetworkValue) → IsNetwork n → (show : Peer → T) (key : T → ℕ) → ((p : Peer) → key (show p) ≡ peer_id id p.number)
+    → (shown all : List T) → IsPermutation all (map show n.peers) → IsPermutation all shown → IsSorted nat_cmp (map key shown) → shown ≡ map show n.peers
 arranged_peers id n rules show key keyed shown all own listed up =
     let found = from_map show n.peers shown (IsPermutation-trans (map show n.peers) all shown (IsPermutation-sym all (map show n.peers) own) listed) in
     let same : map key shown ≡ map (λ p. peer_id id p.number) found.0 = ap (map key) found.2 ∙ map-both show key found.0 ∙ (λ k. map (λ p. keyed p k) found.0) in
     found.2 ∙ ap (map show) (peers_arranged n.peers found.0 rules.numbered found.1 (numbers_rise id found.0 (subst (IsSorted nat_cmp) same up)))
+
+-- the rows of peers, and those of their addresses, are shown in the order of the peers
+module _ (id : ℕ) (t : Tables) (n : NetworkValue) (rules : IsNetwork n) where
+  pub shown_peers : IsPermutation (peer_rows_of id t) (map (peer_row id) n.peers) → (shown : List PeerRow) → IsPermutation (peer_rows_of id t) shown → IsSorted nat_cmp (map (λ (p : PeerRow). p.id) shown) → shown ≡ map (peer_row id) n.peers
+  shown_peers own shown = arranged_peers id n rules (peer_row id) (λ (p : PeerRow). p.id) (λ p. refl) shown (peer_rows_of id t) own
+
+  pub shown_addresses : IsPermutation (address_rows_of id t) (map (address_row id) n.peers) → (shown : List AllowedRow) → IsPermutation (address_rows_of id t) shown → IsSorted nat_cmp (map (λ (a : AllowedRow). a.peer) shown) → shown ≡ map (address_row id) n.peers
+  shown_addresses own shown = arranged_peers id n rules (address_row id) (λ (a : AllowedRow). a.peer) (λ p. refl) shown (address_rows_of id t) own
 
 address_fits : (pool : PrefixValue) (a : AddrValue) → IsPool pool → is_assignable pool a ≡ true → IsAddr a
 address_fits pool a is given =

@@ -39,4 +39,6 @@ pub mod LoadLemmas
 pub mod ToldLemmas
 pub mod AskedLemmas
 pub mod StopLemmas
+pub mod ChangeStops
+pub mod Loops
 pub mod CommitFails

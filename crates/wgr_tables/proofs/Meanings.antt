@@ -1,7 +1,6 @@
 -- What the statements mean, whatever stands after the register's tables.
-use Rattle.std.proofs.Common.{◌≡◌, List, ℕ, codes, [], ◌∷◌, refl, false}
+use Rattle.std.proofs.Common.{List, ℕ, codes, [], ◌∷◌, refl}
 use Rattle.sqlite.specs.declared.types.Value.TheVariants.{Null, Text}
-use Rattle.sqlite.specs.Command.{Command}
 use Rattle.sqlite.specs.Command.TheVariants.{Update, Delete, Insert, Select}
 use Rattle.sqlite.specs.Source.TheVariants.{Values}
 use Rattle.sqlite.specs.Term.{Term, lit, col, op2}
@@ -10,11 +9,9 @@ use Rattle.sqlite_sql.specs.declared.ops.BinaryOp.TheVariants.{Compare}
 use Rattle.sqlite_sql.specs.declared.ops.CompareOp.{CompareOp}
 use Rattle.sqlite_sql.specs.declared.ops.CompareOp.TheVariants.{Eq, Ge, Le, Ne}
 use Rattle.sqlite_tied.specs.Compute.{everything}
-use Rattle.sqlite.specs.Listing.{understood, reads_listing}
-use Rattle.sqlite_value.specs.declared.keys.Key.{Key}
-use Rattle.sqlite.proofs.Callers.{IsPlain, command_of}
+use Rattle.sqlite.specs.Listing.{understood}
 use Rattle.wgr_sql.specs.Effects.{plain_query}
-use Rattle.wgr_columns.specs.Layout.{Others, schema_with}
+use Rattle.wgr_columns.specs.Layout.{Others}
 use Rattle.wgr_columns.proofs.Statements.{Asks, Means, equal_to, rising}
 use Rattle.wgr_tables.proofs.FirstRow.{first_of}
 

@@ -11,11 +11,13 @@ use Rattle.wgr_sql.specs.Causes.{HasCauseOr, IsHindered, IsWriting, Refuses}
 use Rattle.wgr_sql.specs.Steps.{Each}
 use Rattle.wgr_sql.specs.declared.fault.Fault.{Fault}
 use Rattle.wgr_sql.specs.declared.fault.Fault.TheVariants.{NoMemory, Store}
-use Rattle.wgr_sql.proofs.CauseLemmas.{hindered_after, cause_weaker}
+use Rattle.wgr_sql.proofs.CauseLemmas.{hindered_after, cause_weaker, handed}
+use Rattle.wgr_sql.proofs.StepLemmas.{from_step}
 use Rattle.wgr_columns.specs.Decode.{IsRegister, tables_of}
 use Rattle.wgr_columns.specs.Layout.{Others, schema_with}
 use Rattle.wgr_tables.specs.Standing.{StepsFrom, StepsOn}
 use Rattle.wgr_tables.specs.Stops.{FailsBy, IsRefused, OneOfEach, OneOfTwo}
+use Rattle.wgr_tables.proofs.Made.{Made}
 use Rattle.wgr_tables.proofs.Meanings.{drop_peer_text, drop_allowed_text, drop_address_text, drop_peer_range_text, drop_address_range_text, drop_route_text, insert_peer_text, insert_address_text, insert_route_text, set_next_text}
 
 -- ---- one statement
@@ -106,9 +108,22 @@ module _ (first : Tables → Type 0) (step : Tables → Tables → Type 0) (seco
             | inr stops ↦ inr (inr (tables_of b.now, made.made, stops))
           ]
 
+  -- the same where the first is one statement
+  pub second_fails : {Y : Type 0} (count : ℕ) (r : Result Y Fault) → (HasCleanDisk b → StepsOn {X = ℕ} {E = Fault} step a b (Ok count)) → Survives a b (λ _. ⊥) → Survives b c (λ _. ⊥) → FailsBy second b c r → FailsBy (OneOfTwo first step second) a c r
+  second_fails count r done = next_fails count r (λ clean. from_step IsRegister {X = ℕ} {E = Fault} (Made step) a b (Ok count) (done clean))
+
 pub weaker_fails : {X : Type 0} (one other : Tables → Type 0) (a c : State) (r : Result X Fault) → ((t : Tables) → one t → other t) → FailsBy one a c r → FailsBy other a c r
 weaker_fails one other a c (Ok x) tells fails inside register = tt
 weaker_fails one other a c (Err f) tells fails inside register = cause_weaker (one (tables_of a.now)) (other (tables_of a.now)) a c (tells (tables_of a.now)) f (fails inside register)
+
+-- the fault of a part is handed on
+pub hands_on : {X : Type 0} (stops : Tables → Type 0) (a c : State) (r : Result X Fault) (why : Fault) → IsErrAnd r (λ e. e ≡ why) → FailsBy {X = ℕ} stops a c (Err why) → FailsBy stops a c r
+hands_on stops a c r why is fails inside register = handed (HasCauseOr (stops (tables_of a.now)) a c) r why is (fails inside register)
+
+-- the fault of the first of two steps is handed on
+pub first_hands_on : {X : Type 0} (first : Tables → Type 0) (step : Tables → Tables → Type 0) (second : Tables → Type 0) (a c : State) (r : Result X Fault) (why : Fault) → IsErrAnd r (λ e. e ≡ why) → FailsBy {X = ℕ} first a c (Err why)
+    → FailsBy (OneOfTwo first step second) a c r
+first_hands_on first step second a c r why is fails = hands_on (OneOfTwo first step second) a c r why is (first_fails first step second a a c why fails)
 
 -- ---- loops
 

@@ -1,4 +1,4 @@
-use Rattle.std.proofs.Common.{◌≡◌, ◌<◌, IfNone, refl, sym, subst, arith}
+use Rattle.std.proofs.Common.{◌<◌, IfNone, refl, sym, subst, arith}
 use Rattle.wgr_columns.specs.Fields.{IsWordAt}
 use Rattle.wgr_entries.proofs.KeptLemmas.{has_at}
 use Rattle.wgr_entries.proofs.all.ids_in.Goals as goal

@@ -25,7 +25,26 @@ returns-clause-step g c clean inside register =
       if_ok c.execute.result _ _ (λ count h. (
         subst (λ s. Made (NetworkComes (new_row c.args.id c.args.tenant c.args.name.now s)) old.now new.now) c.settings.view_is
             (network_came old new (register h.1.was_open) (new_row c.args.id c.args.tenant c.args.name.now seen) count low
-            (rw (c.bytes_of-lo.ensures, c.number.ensures.value, c.number_value.ensures, c.number_value-2.ensures, c.as_bytes.ensures.value, c.as_str.ensures.value, c.family_value.ensures, c.family.ensures.value, c.number_value-3.ensures, c.from.ensures, c.as_bytes-2.ensures.value, c.as_str-2.ensures.value, c.number_value-4.ensures, c.from-2.ensures, c.number-2.ensures.value, c.number_value-5.ensures, c.from-3.ensures, c.peers.ensures.value) at h.0)),
+            (rw (
+              c.bytes_of-lo.ensures,
+              c.number.ensures.value,
+              c.number_value.ensures,
+              c.number_value-2.ensures,
+              c.as_bytes.ensures.value,
+              c.as_str.ensures.value,
+              c.family_value.ensures,
+              c.family.ensures.value,
+              c.number_value-3.ensures,
+              c.from.ensures,
+              c.as_bytes-2.ensures.value,
+              c.as_str-2.ensures.value,
+              c.number_value-4.ensures,
+              c.from-2.ensures,
+              c.number-2.ensures.value,
+              c.number_value-5.ensures,
+              c.from-3.ensures,
+              c.peers.ensures.value,
+            ) at h.0)),
         h.1,
       )) (c.execute.ensures.ran clean inside),
     )
@@ -34,6 +53,27 @@ pub returns-clause-cause : goal.returns-clause-cause
 returns-clause-cause g c =
     let own = c.settings.inside in
     let seen : Settings = record { pool = record { address = own.address; length = own.length }; host = own.host; port = own.port; server = own.server; capacity = own.capacity } in
-    subst (λ s. FailsBy (NetworkStaysOut (new_row c.args.id c.args.tenant c.args.name.now s)) (state g.S.Store c.args.tx.now.conn.now) (state g.S.Store c.execute.new.tx.conn.now) c.execute.result) c.settings.view_is
-    (written_fails (state g.S.Store c.args.tx.now.conn.now) (state g.S.Store c.execute.new.tx.conn.now) insert_network_text (network_params (new_row c.args.id c.args.tenant c.args.name.now seen)) c.execute.result (λ others. insert_network_writes others _ _ _ _ _ _ _ _ _ _)
-    (rw (c.bytes_of-lo.ensures, c.number.ensures.value, c.number_value.ensures, c.number_value-2.ensures, c.as_bytes.ensures.value, c.as_str.ensures.value, c.family_value.ensures, c.family.ensures.value, c.number_value-3.ensures, c.from.ensures, c.as_bytes-2.ensures.value, c.as_str-2.ensures.value, c.number_value-4.ensures, c.from-2.ensures, c.number-2.ensures.value, c.number_value-5.ensures, c.from-3.ensures, c.peers.ensures.value) at c.execute.ensures.cause))
+    let old = state g.S.Store c.args.tx.now.conn.now in
+    let new = state g.S.Store c.execute.new.tx.conn.now in
+    subst (λ s. FailsBy (NetworkStaysOut (new_row c.args.id c.args.tenant c.args.name.now s)) old new c.execute.result) c.settings.view_is
+    (written_fails old new insert_network_text (network_params (new_row c.args.id c.args.tenant c.args.name.now seen)) c.execute.result (λ others. insert_network_writes others _ _ _ _ _ _ _ _ _ _)
+    (rw (
+      c.bytes_of-lo.ensures,
+      c.number.ensures.value,
+      c.number_value.ensures,
+      c.number_value-2.ensures,
+      c.as_bytes.ensures.value,
+      c.as_str.ensures.value,
+      c.family_value.ensures,
+      c.family.ensures.value,
+      c.number_value-3.ensures,
+      c.from.ensures,
+      c.as_bytes-2.ensures.value,
+      c.as_str-2.ensures.value,
+      c.number_value-4.ensures,
+      c.from-2.ensures,
+      c.number-2.ensures.value,
+      c.number_value-5.ensures,
+      c.from-3.ensures,
+      c.peers.ensures.value,
+    ) at c.execute.ensures.cause))

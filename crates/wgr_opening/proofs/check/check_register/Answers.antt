@@ -25,5 +25,8 @@ returns-in-Err-clause-cause g c =
 pub returns-in-Some-clause-outlines : goal.returns-in-Some-clause-outlines
 returns-in-Some-clause-outlines g c clean =
     let before = c.good_outlines.ensures.clean clean in
-    let told = subst (λ (o : Option Outlines). IfSome o (λ outlines. IsTrue (state g.S.Store c.check_layout.new.conn).is_open × IsGood (state g.S.Store c.check_layout.new.conn).now × Stands g.S.Store c.good_outlines.new.conn (state g.S.Store c.check_layout.new.conn).now [] × AreOutlines (outline_in outlines) (tables_of (state g.S.Store c.check_layout.new.conn).now))) c.in-Some.is (c.in-Ok.ensures.good clean (λ live. subst IsFirstVersion (sym (c.check_layout.ensures.kept before live).1) (c.in_ok-check_layout.ensures.right before))) in
+    let mid = state g.S.Store c.check_layout.new.conn in
+    let right = λ (live : IsTrue mid.is_open). subst IsFirstVersion (sym (c.check_layout.ensures.kept before live).1) (c.in_ok-check_layout.ensures.right before) in
+    let told = subst (λ (o : Option Outlines). IfSome o (λ outlines. IsTrue mid.is_open × IsGood mid.now × Stands g.S.Store c.good_outlines.new.conn mid.now [] × AreOutlines (outline_in outlines) (tables_of mid.now)))
+    c.in-Some.is (c.in-Ok.ensures.good clean right) in
     subst (λ (d : Database). AreOutlines (outline_in c.in-Some.outlines) (tables_of d)) (c.check_layout.ensures.kept before told.0).1 told.3

@@ -47,11 +47,12 @@ lowest_in-requires g c = record {
       let mid = c.in-Ok.rows.conn.now in
       let p = c.prefix-prefix.result in
       let start = c.start_at-start.result in
-      let start = c.start_at-start.result in
       let started = rw (c.holds_text.ensures, c.number_value.ensures, c.family_value.ensures, c.family.ensures.value, c.bytes_of-first.ensures, c.number.ensures.value, c.bytes_of-last.ensures, c.number-2.ensures.value, c.number_value-2.ensures, c.from-length.ensures, c.length.ensures.value) at (c.in-Ok.ensures.begun good.0) in
       let here = subst (λ params. HasBegun g.S.Store (holds_text shows_peers) params c.args.conn.now mid) (params_are c.args.network p start.number c.span-span.result.lo c.span-span.result.hi c.span-span.ensures.ends) started in
       subst (λ (q : PrefixValue). IsToldTo g.S.Store mid shows_peers c.args.network q start.number 0 (below q start) None) c.prefix-prefix.ensures.value
-      (told_first g.S.Store mid shows_peers c.args.network p start.number c.rules_hold.ensures.prefix c.rules_hold.ensures.address (number_low start c.number.ensures.fits) (subst (λ (a : AddrValue). a.number ≤ start.number) c.span-span.ensures.ends.first c.start_at-start.ensures.from) (below p start) (below_begins p start) (begun shows_peers g.S.Store (hold_params c.args.network p start.number) c.args.conn.now mid here).0 good);
+      (told_first g.S.Store mid shows_peers c.args.network p start.number c.rules_hold.ensures.prefix c.rules_hold.ensures.address (number_low start c.number.ensures.fits)
+      (subst (λ (a : AddrValue). a.number ≤ start.number) c.span-span.ensures.ends.first c.start_at-start.ensures.from) (below p start) (below_begins p start)
+      (begun shows_peers g.S.Store (hold_params c.args.network p start.number) c.args.conn.now mid here).0 good);
 }
 
 pub returns-clause-stands : goal.returns-clause-stands
@@ -89,7 +90,16 @@ returns-clause-found g c db pending w stood is here id clean =
     let found = found_in shows_peers c.args.pool.now start (contains nat_eq c.args.expired.now) (state g.S.Store mid).now db c.args.network c.lowest_in.result shows (c.lowest_in.ensures.lowest good) in
     let stood_mid = stays_stands g.S.Store old db pending stood mid (c.is_autocommit-settled.ensures.settled yes) first in
     let moved = holds_moved g.S.Store mid shows_peers c.args.network p start.number c.rules_hold.ensures.prefix c.rules_hold.ensures.address (number_low start c.number.ensures.fits) (begun shows_peers g.S.Store (hold_params c.args.network p start.number) old mid begins).0 (stands_good g.S.Store mid db pending stood_mid keyed before) in
-    if_ok c.lowest_in.result _ _ (λ o m now pool tells floor. lowest_at shows_peers (contains nat_eq c.args.expired.now) (none_in c.args.expired.now c.is_empty-shows_peers.result c.is_empty-shows_peers.ensures) (state g.S.Store mid).now db shows c.args.network p c.args.pool.now c.prefix-prefix.ensures.value w id (sym pool) is here now tells start (c.start_at-start.ensures.family ∙ ap (λ (a : AddrValue). a.family) c.span-span.ensures.ends.first) (subst (λ (a : AddrValue). a.number ≤ start.number) c.span-span.ensures.ends.first c.start_at-start.ensures.from) (let n = (holding_of (tables_of db) w).network in floor_from (live_at n now) (rules_of (tables_of db) is w here).pool start.number c.args.floor (subst (λ (q : PrefixValue). (start.number ≡ q.address.number) ⊎ (start.number ≡ c.args.floor)) (c.prefix-prefix.ensures.value ∙ pool) (subst (λ (a : AddrValue). (start.number ≡ a.number) ⊎ (start.number ≡ c.args.floor)) c.span-span.ensures.ends.first c.start_at-start.ensures.one)) floor) moved o m) found
+    let begins_at = c.span-span.ensures.ends.first in
+    let none = none_in c.args.expired.now c.is_empty-shows_peers.result c.is_empty-shows_peers.ensures in
+    let same_family = c.start_at-start.ensures.family ∙ ap (λ (a : AddrValue). a.family) begins_at in
+    let from = subst (λ (a : AddrValue). a.number ≤ start.number) begins_at c.start_at-start.ensures.from in
+    let one = subst (λ (a : AddrValue). (start.number ≡ a.number) ⊎ (start.number ≡ c.args.floor)) begins_at c.start_at-start.ensures.one in
+    if_ok c.lowest_in.result _ _ (λ o m now pool tells floor.
+    let n = (holding_of (tables_of db) w).network in
+    let starts = subst (λ (q : PrefixValue). (start.number ≡ q.address.number) ⊎ (start.number ≡ c.args.floor)) (c.prefix-prefix.ensures.value ∙ pool) one in
+    lowest_at shows_peers (contains nat_eq c.args.expired.now) none (state g.S.Store mid).now db shows c.args.network p c.args.pool.now c.prefix-prefix.ensures.value
+    w id (sym pool) is here now tells start same_family from (floor_from (live_at n now) (rules_of (tables_of db) is w here).pool start.number c.args.floor starts floor) moved o m) found
 
 pub returns-in-Err-clause-survives : goal.returns-in-Err-clause-survives
 returns-in-Err-clause-survives g c =

@@ -15,4 +15,7 @@ returns-clause-step g c clean inside register =
 
 pub returns-clause-cause : goal.returns-clause-cause
 returns-clause-cause g c =
-    written_fails (state g.S.Store c.args.tx.now.conn.now) (state g.S.Store c.execute.new.tx.conn.now) set_next_text (Int (pos c.args.network) ∷ Int (pos c.args.next) ∷ []) c.execute.result (λ others. set_next_writes others _ _) (rw (c.number_value.ensures, c.number_value-2.ensures) at c.execute.ensures.cause)
+    let old = state g.S.Store c.args.tx.now.conn.now in
+    let new = state g.S.Store c.execute.new.tx.conn.now in
+    written_fails old new set_next_text (Int (pos c.args.network) ∷ Int (pos c.args.next) ∷ []) c.execute.result (λ others. set_next_writes others _ _)
+    (rw (c.number_value.ensures, c.number_value-2.ensures) at c.execute.ensures.cause)

@@ -4,13 +4,12 @@ use Rattle.sqlite.specs.Held.{state}
 use Rattle.wgr_sql.specs.Steps.{Then, Each}
 use Rattle.wgr_sql.specs.declared.fault.Fault.{Fault}
 use Rattle.wgr_sql.proofs.StepLemmas.{chain_then_chain, chain_then_step}
+use Rattle.wgr_sql.proofs.SurvivesLemmas.{survives_next}
 use Rattle.wgr_columns.specs.Decode.{IsRegister, tables_of}
 use Rattle.wgr_tables.specs.TableSteps.{ChangeMakes, PeerLeaves, RouteGoes, PeersPut, RoutePuts, NextSets}
-use Rattle.wgr_sql.specs.Causes.{HasCauseOr}
-use Rattle.wgr_sql.proofs.CauseLemmas.{handed}
-use Rattle.wgr_tables.specs.Stops.{ChangeStops, NextStays, OneOfEach, OneOfTwo, PeerStays, PeersStayOut, RouteStays, RoutesAreNotPut}
-use Rattle.wgr_sql.proofs.SurvivesLemmas.{survives_next}
-use Rattle.wgr_tables.proofs.StopLemmas.{failed_step, first_fails, next_fails}
+use Rattle.wgr_tables.specs.Stops.{ChangeStops, NextStays, OneOfEach, PeerStays, PeersStayOut, RouteStays, RoutesAreNotPut}
+use Rattle.wgr_tables.proofs.StopLemmas.{failed_step, first_hands_on, first_fails, hands_on}
+use Rattle.wgr_tables.proofs.ChangeStops.{StopsAtGone, StopsAtPeers, StopsAtRoutes, behind_removed, behind_gone, behind_peers, behind_routes}
 use Rattle.wgr_tables.proofs.commit.write_change.Goals as goal
 
 pub returns-clause-step : goal.returns-clause-step
@@ -37,27 +36,91 @@ returns-clause-step g c clean =
     chain_then_step IsRegister tables_of Fault A (Then B (Then C (Then D F))) start removed end c.in_ok-remove_peers.field-0 c.set_next.result (rw c.as_slice.ensures at (c.in_ok-remove_peers.ensures.step first)) two
 
 pub returns-in_err-remove_peers-clause-cause : goal.returns-in_err-remove_peers-clause-cause
-returns-in_err-remove_peers-clause-cause g c inside register =
-    handed (HasCauseOr (ChangeStops c.args.network c.args.change.now (tables_of (state g.S.Store c.args.tx.now.conn.now).now)) (state g.S.Store c.args.tx.now.conn.now) (state g.S.Store c.remove_peers.new.tx.conn.now)) c.from_residual.result c.in_err-remove_peers.field-0.0 c.from_residual.ensures.1
-    ((first_fails (OneOfEach (PeerLeaves c.args.network) (PeerStays c.args.network) c.args.change.now.removed) (Each (PeerLeaves c.args.network) c.args.change.now.removed) (OneOfTwo (OneOfEach (RouteGoes c.args.network) (RouteStays c.args.network) c.args.change.now.routes_gone) (Each (RouteGoes c.args.network) c.args.change.now.routes_gone) (OneOfTwo (PeersStayOut c.args.network c.args.change.now.peers) (PeersPut c.args.network c.args.change.now.peers) (OneOfTwo (RoutesAreNotPut c.args.network c.args.change.now.routes_put) (Each (RoutePuts c.args.network) c.args.change.now.routes_put) (NextStays c.args.network c.args.change.now.next)))) (state g.S.Store c.args.tx.now.conn.now) (state g.S.Store c.args.tx.now.conn.now) (state g.S.Store c.remove_peers.new.tx.conn.now) c.in_err-remove_peers.field-0.0 (rw c.as_slice.ensures at c.in_err-remove_peers.ensures.cause)) inside register)
+returns-in_err-remove_peers-clause-cause g c =
+    let id = c.args.network in
+    let change = c.args.change.now in
+    let start = state g.S.Store c.args.tx.now.conn.now in
+    let removed = state g.S.Store c.remove_peers.new.tx.conn.now in
+    let why = c.in_err-remove_peers.field-0.0 in
+    first_hands_on (OneOfEach (PeerLeaves id) (PeerStays id) change.removed) (Each (PeerLeaves id) change.removed) (StopsAtGone id change) start removed c.from_residual.result why c.from_residual.ensures.1
+    (rw c.as_slice.ensures at c.in_err-remove_peers.ensures.cause)
 
 pub returns-in_err-drop_routes-clause-cause : goal.returns-in_err-drop_routes-clause-cause
-returns-in_err-drop_routes-clause-cause g c inside register =
-    handed (HasCauseOr (ChangeStops c.args.network c.args.change.now (tables_of (state g.S.Store c.args.tx.now.conn.now).now)) (state g.S.Store c.args.tx.now.conn.now) (state g.S.Store c.drop_routes.new.tx.conn.now)) c.from_residual-in_err-drop_routes.result c.in_err-drop_routes.field-0.0 c.from_residual-in_err-drop_routes.ensures.1
-    ((next_fails (OneOfEach (PeerLeaves c.args.network) (PeerStays c.args.network) c.args.change.now.removed) (Each (PeerLeaves c.args.network) c.args.change.now.removed) (OneOfTwo (OneOfEach (RouteGoes c.args.network) (RouteStays c.args.network) c.args.change.now.routes_gone) (Each (RouteGoes c.args.network) c.args.change.now.routes_gone) (OneOfTwo (PeersStayOut c.args.network c.args.change.now.peers) (PeersPut c.args.network c.args.change.now.peers) (OneOfTwo (RoutesAreNotPut c.args.network c.args.change.now.routes_put) (Each (RoutePuts c.args.network) c.args.change.now.routes_put) (NextStays c.args.network c.args.change.now.next)))) (state g.S.Store c.args.tx.now.conn.now) (state g.S.Store c.remove_peers.new.tx.conn.now) (state g.S.Store c.drop_routes.new.tx.conn.now) {Y = ℕ} c.in_ok-remove_peers.field-0 (Err c.in_err-drop_routes.field-0.0) (λ clean. rw c.as_slice.ensures at (c.in_ok-remove_peers.ensures.step clean)) c.remove_peers.ensures.survives c.drop_routes.ensures.survives (first_fails (OneOfEach (RouteGoes c.args.network) (RouteStays c.args.network) c.args.change.now.routes_gone) (Each (RouteGoes c.args.network) c.args.change.now.routes_gone) (OneOfTwo (PeersStayOut c.args.network c.args.change.now.peers) (PeersPut c.args.network c.args.change.now.peers) (OneOfTwo (RoutesAreNotPut c.args.network c.args.change.now.routes_put) (Each (RoutePuts c.args.network) c.args.change.now.routes_put) (NextStays c.args.network c.args.change.now.next))) (state g.S.Store c.remove_peers.new.tx.conn.now) (state g.S.Store c.remove_peers.new.tx.conn.now) (state g.S.Store c.drop_routes.new.tx.conn.now) c.in_err-drop_routes.field-0.0 (rw c.as_slice-2.ensures at c.in_err-drop_routes.ensures.cause))) inside register)
+returns-in_err-drop_routes-clause-cause g c =
+    let id = c.args.network in
+    let change = c.args.change.now in
+    let start = state g.S.Store c.args.tx.now.conn.now in
+    let removed = state g.S.Store c.remove_peers.new.tx.conn.now in
+    let gone = state g.S.Store c.drop_routes.new.tx.conn.now in
+    let why = c.in_err-drop_routes.field-0.0 in
+    hands_on (ChangeStops id change) start gone c.from_residual-in_err-drop_routes.result why c.from_residual-in_err-drop_routes.ensures.1
+    (behind_removed id change start removed gone {Y = ℕ} (Err why) c.remove_peers.ensures.survives c.drop_routes.ensures.survives c.in_ok-remove_peers.field-0
+    (λ clean. rw c.as_slice.ensures at (c.in_ok-remove_peers.ensures.step clean))
+    (first_fails (OneOfEach (RouteGoes id) (RouteStays id) change.routes_gone) (Each (RouteGoes id) change.routes_gone) (StopsAtPeers id change) removed removed gone why
+    (rw c.as_slice-2.ensures at c.in_err-drop_routes.ensures.cause)))
 
 pub returns-in_err-put_peers-clause-cause : goal.returns-in_err-put_peers-clause-cause
-returns-in_err-put_peers-clause-cause g c inside register =
-    handed (HasCauseOr (ChangeStops c.args.network c.args.change.now (tables_of (state g.S.Store c.args.tx.now.conn.now).now)) (state g.S.Store c.args.tx.now.conn.now) (state g.S.Store c.put_peers.new.tx.conn.now)) c.from_residual-in_err-put_peers.result c.in_err-put_peers.field-0.0 c.from_residual-in_err-put_peers.ensures.1
-    ((next_fails (OneOfEach (PeerLeaves c.args.network) (PeerStays c.args.network) c.args.change.now.removed) (Each (PeerLeaves c.args.network) c.args.change.now.removed) (OneOfTwo (OneOfEach (RouteGoes c.args.network) (RouteStays c.args.network) c.args.change.now.routes_gone) (Each (RouteGoes c.args.network) c.args.change.now.routes_gone) (OneOfTwo (PeersStayOut c.args.network c.args.change.now.peers) (PeersPut c.args.network c.args.change.now.peers) (OneOfTwo (RoutesAreNotPut c.args.network c.args.change.now.routes_put) (Each (RoutePuts c.args.network) c.args.change.now.routes_put) (NextStays c.args.network c.args.change.now.next)))) (state g.S.Store c.args.tx.now.conn.now) (state g.S.Store c.remove_peers.new.tx.conn.now) (state g.S.Store c.put_peers.new.tx.conn.now) {Y = ℕ} c.in_ok-remove_peers.field-0 (Err c.in_err-put_peers.field-0.0) (λ clean. rw c.as_slice.ensures at (c.in_ok-remove_peers.ensures.step clean)) c.remove_peers.ensures.survives (survives_next _ _ _ c.drop_routes.ensures.survives c.put_peers.ensures.survives) (next_fails (OneOfEach (RouteGoes c.args.network) (RouteStays c.args.network) c.args.change.now.routes_gone) (Each (RouteGoes c.args.network) c.args.change.now.routes_gone) (OneOfTwo (PeersStayOut c.args.network c.args.change.now.peers) (PeersPut c.args.network c.args.change.now.peers) (OneOfTwo (RoutesAreNotPut c.args.network c.args.change.now.routes_put) (Each (RoutePuts c.args.network) c.args.change.now.routes_put) (NextStays c.args.network c.args.change.now.next))) (state g.S.Store c.remove_peers.new.tx.conn.now) (state g.S.Store c.drop_routes.new.tx.conn.now) (state g.S.Store c.put_peers.new.tx.conn.now) {Y = ℕ} c.in_ok-drop_routes.field-0 (Err c.in_err-put_peers.field-0.0) (λ clean. rw c.as_slice-2.ensures at (c.in_ok-drop_routes.ensures.step clean)) c.drop_routes.ensures.survives c.put_peers.ensures.survives (first_fails (PeersStayOut c.args.network c.args.change.now.peers) (PeersPut c.args.network c.args.change.now.peers) (OneOfTwo (RoutesAreNotPut c.args.network c.args.change.now.routes_put) (Each (RoutePuts c.args.network) c.args.change.now.routes_put) (NextStays c.args.network c.args.change.now.next)) (state g.S.Store c.drop_routes.new.tx.conn.now) (state g.S.Store c.drop_routes.new.tx.conn.now) (state g.S.Store c.put_peers.new.tx.conn.now) c.in_err-put_peers.field-0.0 (rw c.as_slice-3.ensures at c.in_err-put_peers.ensures.cause)))) inside register)
+returns-in_err-put_peers-clause-cause g c =
+    let id = c.args.network in
+    let change = c.args.change.now in
+    let start = state g.S.Store c.args.tx.now.conn.now in
+    let removed = state g.S.Store c.remove_peers.new.tx.conn.now in
+    let gone = state g.S.Store c.drop_routes.new.tx.conn.now in
+    let put = state g.S.Store c.put_peers.new.tx.conn.now in
+    let why = c.in_err-put_peers.field-0.0 in
+    let from_removed = survives_next removed gone put c.drop_routes.ensures.survives c.put_peers.ensures.survives in
+    hands_on (ChangeStops id change) start put c.from_residual-in_err-put_peers.result why c.from_residual-in_err-put_peers.ensures.1
+    (behind_removed id change start removed put {Y = ℕ} (Err why) c.remove_peers.ensures.survives from_removed c.in_ok-remove_peers.field-0
+    (λ clean. rw c.as_slice.ensures at (c.in_ok-remove_peers.ensures.step clean))
+    (behind_gone id change removed gone put {Y = ℕ} (Err why) c.drop_routes.ensures.survives c.put_peers.ensures.survives c.in_ok-drop_routes.field-0
+    (λ clean. rw c.as_slice-2.ensures at (c.in_ok-drop_routes.ensures.step clean))
+    (first_fails (PeersStayOut id change.peers) (PeersPut id change.peers) (StopsAtRoutes id change) gone gone put why
+    (rw c.as_slice-3.ensures at c.in_err-put_peers.ensures.cause))))
 
 pub returns-in_err-put_routes-clause-cause : goal.returns-in_err-put_routes-clause-cause
-returns-in_err-put_routes-clause-cause g c inside register =
-    handed (HasCauseOr (ChangeStops c.args.network c.args.change.now (tables_of (state g.S.Store c.args.tx.now.conn.now).now)) (state g.S.Store c.args.tx.now.conn.now) (state g.S.Store c.put_routes.new.tx.conn.now)) c.from_residual-in_err-put_routes.result c.in_err-put_routes.field-0.0 c.from_residual-in_err-put_routes.ensures.1
-    ((next_fails (OneOfEach (PeerLeaves c.args.network) (PeerStays c.args.network) c.args.change.now.removed) (Each (PeerLeaves c.args.network) c.args.change.now.removed) (OneOfTwo (OneOfEach (RouteGoes c.args.network) (RouteStays c.args.network) c.args.change.now.routes_gone) (Each (RouteGoes c.args.network) c.args.change.now.routes_gone) (OneOfTwo (PeersStayOut c.args.network c.args.change.now.peers) (PeersPut c.args.network c.args.change.now.peers) (OneOfTwo (RoutesAreNotPut c.args.network c.args.change.now.routes_put) (Each (RoutePuts c.args.network) c.args.change.now.routes_put) (NextStays c.args.network c.args.change.now.next)))) (state g.S.Store c.args.tx.now.conn.now) (state g.S.Store c.remove_peers.new.tx.conn.now) (state g.S.Store c.put_routes.new.tx.conn.now) {Y = ℕ} c.in_ok-remove_peers.field-0 (Err c.in_err-put_routes.field-0.0) (λ clean. rw c.as_slice.ensures at (c.in_ok-remove_peers.ensures.step clean)) c.remove_peers.ensures.survives (survives_next _ _ _ c.drop_routes.ensures.survives (survives_next _ _ _ c.put_peers.ensures.survives c.put_routes.ensures.survives)) (next_fails (OneOfEach (RouteGoes c.args.network) (RouteStays c.args.network) c.args.change.now.routes_gone) (Each (RouteGoes c.args.network) c.args.change.now.routes_gone) (OneOfTwo (PeersStayOut c.args.network c.args.change.now.peers) (PeersPut c.args.network c.args.change.now.peers) (OneOfTwo (RoutesAreNotPut c.args.network c.args.change.now.routes_put) (Each (RoutePuts c.args.network) c.args.change.now.routes_put) (NextStays c.args.network c.args.change.now.next))) (state g.S.Store c.remove_peers.new.tx.conn.now) (state g.S.Store c.drop_routes.new.tx.conn.now) (state g.S.Store c.put_routes.new.tx.conn.now) {Y = ℕ} c.in_ok-drop_routes.field-0 (Err c.in_err-put_routes.field-0.0) (λ clean. rw c.as_slice-2.ensures at (c.in_ok-drop_routes.ensures.step clean)) c.drop_routes.ensures.survives (survives_next _ _ _ c.put_peers.ensures.survives c.put_routes.ensures.survives) (next_fails (PeersStayOut c.args.network c.args.change.now.peers) (PeersPut c.args.network c.args.change.now.peers) (OneOfTwo (RoutesAreNotPut c.args.network c.args.change.now.routes_put) (Each (RoutePuts c.args.network) c.args.change.now.routes_put) (NextStays c.args.network c.args.change.now.next)) (state g.S.Store c.drop_routes.new.tx.conn.now) (state g.S.Store c.put_peers.new.tx.conn.now) (state g.S.Store c.put_routes.new.tx.conn.now) {Y = ℕ} c.in_ok-put_peers.field-0 (Err c.in_err-put_routes.field-0.0) (λ clean. rw c.as_slice-3.ensures at (c.in_ok-put_peers.ensures.step clean)) c.put_peers.ensures.survives c.put_routes.ensures.survives (first_fails (RoutesAreNotPut c.args.network c.args.change.now.routes_put) (Each (RoutePuts c.args.network) c.args.change.now.routes_put) (NextStays c.args.network c.args.change.now.next) (state g.S.Store c.put_peers.new.tx.conn.now) (state g.S.Store c.put_peers.new.tx.conn.now) (state g.S.Store c.put_routes.new.tx.conn.now) c.in_err-put_routes.field-0.0 (rw c.as_slice-4.ensures at c.in_err-put_routes.ensures.cause))))) inside register)
+returns-in_err-put_routes-clause-cause g c =
+    let id = c.args.network in
+    let change = c.args.change.now in
+    let start = state g.S.Store c.args.tx.now.conn.now in
+    let removed = state g.S.Store c.remove_peers.new.tx.conn.now in
+    let gone = state g.S.Store c.drop_routes.new.tx.conn.now in
+    let put = state g.S.Store c.put_peers.new.tx.conn.now in
+    let led = state g.S.Store c.put_routes.new.tx.conn.now in
+    let why = c.in_err-put_routes.field-0.0 in
+    let from_gone = survives_next gone put led c.put_peers.ensures.survives c.put_routes.ensures.survives in
+    let from_removed = survives_next removed gone led c.drop_routes.ensures.survives from_gone in
+    hands_on (ChangeStops id change) start led c.from_residual-in_err-put_routes.result why c.from_residual-in_err-put_routes.ensures.1
+    (behind_removed id change start removed led {Y = ℕ} (Err why) c.remove_peers.ensures.survives from_removed c.in_ok-remove_peers.field-0
+    (λ clean. rw c.as_slice.ensures at (c.in_ok-remove_peers.ensures.step clean))
+    (behind_gone id change removed gone led {Y = ℕ} (Err why) c.drop_routes.ensures.survives from_gone c.in_ok-drop_routes.field-0
+    (λ clean. rw c.as_slice-2.ensures at (c.in_ok-drop_routes.ensures.step clean))
+    (behind_peers id change gone put led {Y = ℕ} (Err why) c.put_peers.ensures.survives c.put_routes.ensures.survives c.in_ok-put_peers.field-0
+    (λ clean. rw c.as_slice-3.ensures at (c.in_ok-put_peers.ensures.step clean))
+    (first_fails (RoutesAreNotPut id change.routes_put) (Each (RoutePuts id) change.routes_put) (NextStays id change.next) put put led why
+    (rw c.as_slice-4.ensures at c.in_err-put_routes.ensures.cause)))))
 
 pub returns-clause-cause : goal.returns-clause-cause
-returns-clause-cause g c = (next_fails (OneOfEach (PeerLeaves c.args.network) (PeerStays c.args.network) c.args.change.now.removed) (Each (PeerLeaves c.args.network) c.args.change.now.removed) (OneOfTwo (OneOfEach (RouteGoes c.args.network) (RouteStays c.args.network) c.args.change.now.routes_gone) (Each (RouteGoes c.args.network) c.args.change.now.routes_gone) (OneOfTwo (PeersStayOut c.args.network c.args.change.now.peers) (PeersPut c.args.network c.args.change.now.peers) (OneOfTwo (RoutesAreNotPut c.args.network c.args.change.now.routes_put) (Each (RoutePuts c.args.network) c.args.change.now.routes_put) (NextStays c.args.network c.args.change.now.next)))) (state g.S.Store c.args.tx.now.conn.now) (state g.S.Store c.remove_peers.new.tx.conn.now) (state g.S.Store c.set_next.new.tx.conn.now) c.in_ok-remove_peers.field-0 c.set_next.result (λ clean. rw c.as_slice.ensures at (c.in_ok-remove_peers.ensures.step clean)) c.remove_peers.ensures.survives (survives_next _ _ _ c.drop_routes.ensures.survives (survives_next _ _ _ c.put_peers.ensures.survives (survives_next _ _ _ c.put_routes.ensures.survives c.set_next.ensures.survives))) (next_fails (OneOfEach (RouteGoes c.args.network) (RouteStays c.args.network) c.args.change.now.routes_gone) (Each (RouteGoes c.args.network) c.args.change.now.routes_gone) (OneOfTwo (PeersStayOut c.args.network c.args.change.now.peers) (PeersPut c.args.network c.args.change.now.peers) (OneOfTwo (RoutesAreNotPut c.args.network c.args.change.now.routes_put) (Each (RoutePuts c.args.network) c.args.change.now.routes_put) (NextStays c.args.network c.args.change.now.next))) (state g.S.Store c.remove_peers.new.tx.conn.now) (state g.S.Store c.drop_routes.new.tx.conn.now) (state g.S.Store c.set_next.new.tx.conn.now) c.in_ok-drop_routes.field-0 c.set_next.result (λ clean. rw c.as_slice-2.ensures at (c.in_ok-drop_routes.ensures.step clean)) c.drop_routes.ensures.survives (survives_next _ _ _ c.put_peers.ensures.survives (survives_next _ _ _ c.put_routes.ensures.survives c.set_next.ensures.survives)) (next_fails (PeersStayOut c.args.network c.args.change.now.peers) (PeersPut c.args.network c.args.change.now.peers) (OneOfTwo (RoutesAreNotPut c.args.network c.args.change.now.routes_put) (Each (RoutePuts c.args.network) c.args.change.now.routes_put) (NextStays c.args.network c.args.change.now.next)) (state g.S.Store c.drop_routes.new.tx.conn.now) (state g.S.Store c.put_peers.new.tx.conn.now) (state g.S.Store c.set_next.new.tx.conn.now) c.in_ok-put_peers.field-0 c.set_next.result (λ clean. rw c.as_slice-3.ensures at (c.in_ok-put_peers.ensures.step clean)) c.put_peers.ensures.survives (survives_next _ _ _ c.put_routes.ensures.survives c.set_next.ensures.survives) (next_fails (RoutesAreNotPut c.args.network c.args.change.now.routes_put) (Each (RoutePuts c.args.network) c.args.change.now.routes_put) (NextStays c.args.network c.args.change.now.next) (state g.S.Store c.put_peers.new.tx.conn.now) (state g.S.Store c.put_routes.new.tx.conn.now) (state g.S.Store c.set_next.new.tx.conn.now) c.in_ok-put_routes.field-0 c.set_next.result (λ clean. rw c.as_slice-4.ensures at (c.in_ok-put_routes.ensures.step clean)) c.put_routes.ensures.survives c.set_next.ensures.survives c.set_next.ensures.cause))))
+returns-clause-cause g c =
+    let id = c.args.network in
+    let change = c.args.change.now in
+    let start = state g.S.Store c.args.tx.now.conn.now in
+    let removed = state g.S.Store c.remove_peers.new.tx.conn.now in
+    let gone = state g.S.Store c.drop_routes.new.tx.conn.now in
+    let put = state g.S.Store c.put_peers.new.tx.conn.now in
+    let led = state g.S.Store c.put_routes.new.tx.conn.now in
+    let end = state g.S.Store c.set_next.new.tx.conn.now in
+    let from_put = survives_next put led end c.put_routes.ensures.survives c.set_next.ensures.survives in
+    let from_gone = survives_next gone put end c.put_peers.ensures.survives from_put in
+    let from_removed = survives_next removed gone end c.drop_routes.ensures.survives from_gone in
+    behind_removed id change start removed end c.set_next.result c.remove_peers.ensures.survives from_removed c.in_ok-remove_peers.field-0
+    (λ clean. rw c.as_slice.ensures at (c.in_ok-remove_peers.ensures.step clean))
+    (behind_gone id change removed gone end c.set_next.result c.drop_routes.ensures.survives from_gone c.in_ok-drop_routes.field-0
+    (λ clean. rw c.as_slice-2.ensures at (c.in_ok-drop_routes.ensures.step clean))
+    (behind_peers id change gone put end c.set_next.result c.put_peers.ensures.survives from_put c.in_ok-put_peers.field-0
+    (λ clean. rw c.as_slice-3.ensures at (c.in_ok-put_peers.ensures.step clean))
+    (behind_routes id change put led end c.set_next.result c.put_routes.ensures.survives c.set_next.ensures.survives c.in_ok-put_routes.field-0
+    (λ clean. rw c.as_slice-4.ensures at (c.in_ok-put_routes.ensures.step clean))
+    c.set_next.ensures.cause)))
 
 pub returns-in_err-put_routes-clause-step : goal.returns-in_err-put_routes-clause-step
 returns-in_err-put_routes-clause-step g c clean =

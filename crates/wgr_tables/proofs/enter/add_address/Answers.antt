@@ -28,7 +28,8 @@ returns-clause-step g c clean inside register =
     let low = fits_128 address.family address.number c.family-family.ensures.fits in (
       c.execute.ensures.kept clean inside,
       if_ok c.execute.result _ _ (λ count h. (
-        allowed_came address_kind insert_address_text (inl refl) insert_address_means old new (register h.1.was_open) c.args.network (full address) address.number c.args.peer.now.number count low low (last_itself address.family address.number)
+        allowed_came address_kind insert_address_text (inl refl) insert_address_means old new (register h.1.was_open)
+            c.args.network (full address) address.number c.args.peer.now.number count low low (last_itself address.family address.number)
             (rw (c.bytes_of-bytes.ensures, c.number.ensures.value, c.number_value.ensures, c.family_value.ensures, c.peer_id_value.ensures, c.number_value-2.ensures, c.from.ensures, c.width.ensures, c.family-family.ensures.value) at h.0),
         h.1,
       )) (c.execute.ensures.ran clean inside),
@@ -40,6 +41,8 @@ returns-clause-cause g c =
     let address = c.args.peer.now.address in
     let old = state g.S.Store c.args.tx.now.conn.now in
     let new = state g.S.Store c.execute.new.tx.conn.now in
-    subst (λ hi. FailsBy (IsRefused insert_address_text (Int (pos network) ∷ Int (pos (family_number address.family)) ∷ Blob (bytes_of address.number) ∷ Int (pos (width address.family)) ∷ Blob (bytes_of hi) ∷ Int (pos (peer_id network c.args.peer.now.number)) ∷ [])) old new c.execute.result) (last_itself address.family address.number)
-    (written_fails old new insert_address_text (Int (pos network) ∷ Int (pos (family_number address.family)) ∷ Blob (bytes_of address.number) ∷ Int (pos (width address.family)) ∷ Blob (bytes_of address.number) ∷ Int (pos (peer_id network c.args.peer.now.number)) ∷ [])
-    c.execute.result (λ others. insert_address_writes others _ _ _ _ _ _) (rw (c.bytes_of-bytes.ensures, c.number.ensures.value, c.number_value.ensures, c.family_value.ensures, c.peer_id_value.ensures, c.number_value-2.ensures, c.from.ensures, c.width.ensures, c.family-family.ensures.value) at c.execute.ensures.cause))
+    let id = peer_id network c.args.peer.now.number in
+    let params = λ (hi : ℕ). Int (pos network) ∷ Int (pos (family_number address.family)) ∷ Blob (bytes_of address.number) ∷ Int (pos (width address.family)) ∷ Blob (bytes_of hi) ∷ Int (pos id) ∷ [] in
+    subst (λ hi. FailsBy (IsRefused insert_address_text (params hi)) old new c.execute.result) (last_itself address.family address.number)
+    (written_fails old new insert_address_text (params address.number) c.execute.result (λ others. insert_address_writes others _ _ _ _ _ _)
+    (rw (c.bytes_of-bytes.ensures, c.number.ensures.value, c.number_value.ensures, c.family_value.ensures, c.peer_id_value.ensures, c.number_value-2.ensures, c.from.ensures, c.width.ensures, c.family-family.ensures.value) at c.execute.ensures.cause))

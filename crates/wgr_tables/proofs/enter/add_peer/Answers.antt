@@ -1,31 +1,41 @@
-use Rattle.std.proofs.Common.{arith, Ok, ℕ}
+use Rattle.std.proofs.Common.{arith}
 use Rattle.sqlite.specs.State.{HasCleanDisk}
 use Rattle.sqlite.specs.Held.{state}
 use Rattle.wgr_model.specs.Rows.{peer_row, address_row}
 use Rattle.wgr_tables.specs.TableSteps.{PeerRowComes, AllowedComes}
+use Rattle.wgr_tables.specs.Stops.{PeerRowStaysOut, AddressStaysOut}
 use Rattle.wgr_sql.specs.declared.fault.Fault.{Fault}
-use Rattle.wgr_sql.proofs.StepLemmas.{steps_then, from_step}
+use Rattle.wgr_sql.proofs.StepLemmas.{steps_then}
 use Rattle.wgr_columns.specs.Decode.{IsRegister, tables_of}
-use Rattle.wgr_sql.specs.Causes.{HasCauseOr}
-use Rattle.wgr_sql.proofs.CauseLemmas.{handed}
-use Rattle.wgr_tables.specs.Stops.{PeerRowStaysOut, AddressStaysOut, OneOfTwo}
-use Rattle.wgr_tables.proofs.StopLemmas.{first_fails, next_fails}
-use Rattle.wgr_tables.proofs.Made.{Made}
+use Rattle.wgr_tables.proofs.StopLemmas.{first_hands_on, second_fails}
 use Rattle.wgr_tables.proofs.enter.add_peer.Goals as goal
 
 pub returns-clause-step : goal.returns-clause-step
 returns-clause-step g c clean =
+    let peer = peer_row c.args.network c.args.peer.now in
+    let address = address_row c.args.network c.args.peer.now in
     let a = state g.S.Store c.args.tx.now.conn.now in
     let b = state g.S.Store c.add_peer_row.new.tx.conn.now in
     let d = state g.S.Store c.add_address.new.tx.conn.now in
     let was : HasCleanDisk b = omega (arith, c.add_address.ensures.survives.clean, clean) in
-    steps_then IsRegister tables_of Fault (PeerRowComes (peer_row c.args.network c.args.peer.now)) (AllowedComes (address_row c.args.network c.args.peer.now)) a b d c.in_ok-add_peer_row.field-0 c.add_address.result (c.in_ok-add_peer_row.ensures.step was) (c.add_address.ensures.step clean)
+    steps_then IsRegister tables_of Fault (PeerRowComes peer) (AllowedComes address) a b d c.in_ok-add_peer_row.field-0 c.add_address.result
+    (c.in_ok-add_peer_row.ensures.step was) (c.add_address.ensures.step clean)
 
 pub returns-in_err-add_peer_row-clause-cause : goal.returns-in_err-add_peer_row-clause-cause
-returns-in_err-add_peer_row-clause-cause g c inside register =
-    handed (HasCauseOr (OneOfTwo (PeerRowStaysOut (peer_row c.args.network c.args.peer.now)) (PeerRowComes (peer_row c.args.network c.args.peer.now)) (AddressStaysOut (address_row c.args.network c.args.peer.now)) (tables_of (state g.S.Store c.args.tx.now.conn.now).now)) (state g.S.Store c.args.tx.now.conn.now) (state g.S.Store c.add_peer_row.new.tx.conn.now)) c.from_residual.result c.in_err-add_peer_row.field-0.0 c.from_residual.ensures.1
-    (first_fails (PeerRowStaysOut (peer_row c.args.network c.args.peer.now)) (PeerRowComes (peer_row c.args.network c.args.peer.now)) (AddressStaysOut (address_row c.args.network c.args.peer.now)) (state g.S.Store c.args.tx.now.conn.now) (state g.S.Store c.args.tx.now.conn.now) (state g.S.Store c.add_peer_row.new.tx.conn.now) c.in_err-add_peer_row.field-0.0 c.in_err-add_peer_row.ensures.cause inside register)
+returns-in_err-add_peer_row-clause-cause g c =
+    let peer = peer_row c.args.network c.args.peer.now in
+    let address = address_row c.args.network c.args.peer.now in
+    let a = state g.S.Store c.args.tx.now.conn.now in
+    let b = state g.S.Store c.add_peer_row.new.tx.conn.now in
+    first_hands_on (PeerRowStaysOut peer) (PeerRowComes peer) (AddressStaysOut address) a b c.from_residual.result c.in_err-add_peer_row.field-0.0 c.from_residual.ensures.1
+    c.in_err-add_peer_row.ensures.cause
 
 pub returns-clause-cause : goal.returns-clause-cause
 returns-clause-cause g c =
-    next_fails (PeerRowStaysOut (peer_row c.args.network c.args.peer.now)) (PeerRowComes (peer_row c.args.network c.args.peer.now)) (AddressStaysOut (address_row c.args.network c.args.peer.now)) (state g.S.Store c.args.tx.now.conn.now) (state g.S.Store c.add_peer_row.new.tx.conn.now) (state g.S.Store c.add_address.new.tx.conn.now) c.in_ok-add_peer_row.field-0 c.add_address.result (λ clean. from_step IsRegister {X = ℕ} {E = Fault} (Made (PeerRowComes (peer_row c.args.network c.args.peer.now))) (state g.S.Store c.args.tx.now.conn.now) (state g.S.Store c.add_peer_row.new.tx.conn.now) (Ok c.in_ok-add_peer_row.field-0) (c.in_ok-add_peer_row.ensures.step clean)) c.add_peer_row.ensures.survives c.add_address.ensures.survives c.add_address.ensures.cause
+    let peer = peer_row c.args.network c.args.peer.now in
+    let address = address_row c.args.network c.args.peer.now in
+    let a = state g.S.Store c.args.tx.now.conn.now in
+    let b = state g.S.Store c.add_peer_row.new.tx.conn.now in
+    let d = state g.S.Store c.add_address.new.tx.conn.now in
+    second_fails (PeerRowStaysOut peer) (PeerRowComes peer) (AddressStaysOut address) a b d c.in_ok-add_peer_row.field-0 c.add_address.result
+    (λ clean. c.in_ok-add_peer_row.ensures.step clean) c.add_peer_row.ensures.survives c.add_address.ensures.survives c.add_address.ensures.cause

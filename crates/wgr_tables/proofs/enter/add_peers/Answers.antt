@@ -1,42 +1,34 @@
-use Rattle.std.proofs.Common.{◌≡◌, ℕ, [], ◌∷◌, ◌++◌, ◌+◌, take, Ok, sym, ap, subst, ◌∙◌, arith, Err}
-use Rattle.std.proofs.lemmas.List.{take_more}
-use Rattle.sqlite.specs.State.{HasCleanDisk}
+use Rattle.std.proofs.Common.{◌∙◌}
 use Rattle.sqlite.specs.Held.{state}
-use Rattle.wgr_sql.specs.declared.fault.Fault.{Fault}
-use Rattle.wgr_sql.specs.Steps.{Each}
 use Rattle.wgr_tables.specs.TableSteps.{PeerComes}
-use Rattle.wgr_tables.specs.Standing.{StepsFrom}
-use Rattle.wgr_peers.specs.declared.peer.Peer.{Peer}
-use Rattle.wgr_sql.proofs.SurvivesLemmas.{survives_next}
-use Rattle.wgr_sql.proofs.StepLemmas.{loop_more}
-use Rattle.wgr_columns.specs.Decode.{IsRegister, tables_of}
-use Rattle.wgr_sql.specs.Causes.{HasCauseOr}
-use Rattle.wgr_sql.proofs.CauseLemmas.{handed}
-use Rattle.wgr_tables.specs.Stops.{PeerStaysOut, OneOfEach}
-use Rattle.wgr_tables.proofs.StopLemmas.{loop_fails}
+use Rattle.wgr_tables.specs.Stops.{PeerStaysOut}
+use Rattle.wgr_tables.proofs.Loops.{item_hands_on, one_more, taken}
 use Rattle.wgr_tables.proofs.enter.add_peers.Goals as goal
 
 pub loop-peer-preserved : goal.loop-peer-preserved
 loop-peer-preserved g c =
+    let network = c.args.network in
+    let peers = c.args.peers.now in
     let at = c.loop-peer.peer-index in
-    let d : Peer = c.peer-item.result in
+    let d = c.peer-item.result in
     let start = state g.S.Store c.args.tx.now.conn.now in
     let before = state g.S.Store c.loop-peer.tx.conn.now in
     let after = state g.S.Store c.add_peer.new.tx.conn.now in
-    let more : take (at + 1) c.args.peers.now ≡ take at c.args.peers.now ++ d ∷ [] = take_more c.args.peers.now at d c.loop-peer-test.true ∙ ap (λ x. take at c.args.peers.now ++ x ∷ []) (sym c.peer-item.is) in (
+    let done = c.loop-peer.invariant.1 in (
       c.add_peer.ensures.same_reference ∙ c.loop-peer.invariant.0,
-      survives_next _ _ _ c.loop-peer.invariant.1 c.add_peer.ensures.survives,
-      λ clean.
-          let was : HasCleanDisk before = omega (arith, c.add_peer.ensures.survives.clean, clean) in
-          subst (λ l. StepsFrom {X = ℕ} {E = Fault} (Each (PeerComes c.args.network) l) start after (Ok 0)) (sym more)
-          (loop_more IsRegister tables_of Fault (PeerComes c.args.network) (take at c.args.peers.now) d start before after c.in_ok-add_peer.field-0 (c.loop-peer.invariant.2 was) (c.in_ok-add_peer.ensures.step clean)),
+      one_more (PeerComes network) peers at d (taken peers at d c.loop-peer-test.true c.peer-item.is) start before after done c.add_peer.ensures.survives
+          c.in_ok-add_peer.field-0 (λ clean. c.in_ok-add_peer.ensures.step clean),
     )
 
 pub returns-in_err-add_peer-clause-cause : goal.returns-in_err-add_peer-clause-cause
-returns-in_err-add_peer-clause-cause g c inside register =
+returns-in_err-add_peer-clause-cause g c =
+    let network = c.args.network in
+    let peers = c.args.peers.now in
     let at = c.loop-peer.peer-index in
-    let d : Peer = c.peer-item.result in
+    let d = c.peer-item.result in
+    let start = state g.S.Store c.args.tx.now.conn.now in
     let before = state g.S.Store c.loop-peer.tx.conn.now in
-    let more : take (at + 1) c.args.peers.now ≡ take at c.args.peers.now ++ d ∷ [] = take_more c.args.peers.now at d c.loop-peer-test.true ∙ ap (λ x. take at c.args.peers.now ++ x ∷ []) (sym c.peer-item.is) in
-    handed (HasCauseOr (OneOfEach (PeerComes c.args.network) (PeerStaysOut c.args.network) c.args.peers.now (tables_of (state g.S.Store c.args.tx.now.conn.now).now)) (state g.S.Store c.args.tx.now.conn.now) (state g.S.Store c.add_peer.new.tx.conn.now)) c.from_residual.result c.in_err-add_peer.field-0.0 c.from_residual.ensures.1
-    (loop_fails (PeerComes c.args.network) (PeerStaysOut c.args.network) c.args.peers.now at d more (state g.S.Store c.args.tx.now.conn.now) before (state g.S.Store c.add_peer.new.tx.conn.now) (Err c.in_err-add_peer.field-0.0) c.loop-peer.invariant.2 c.loop-peer.invariant.1 c.add_peer.ensures.survives c.in_err-add_peer.ensures.cause inside register)
+    let after = state g.S.Store c.add_peer.new.tx.conn.now in
+    let done = c.loop-peer.invariant.1 in
+    item_hands_on (PeerComes network) peers at d (taken peers at d c.loop-peer-test.true c.peer-item.is) start before after done c.add_peer.ensures.survives
+    (PeerStaysOut network) c.from_residual.result c.in_err-add_peer.field-0.0 c.from_residual.ensures.1 c.in_err-add_peer.ensures.cause

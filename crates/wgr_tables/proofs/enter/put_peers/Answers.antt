@@ -7,25 +7,40 @@ use Rattle.wgr_sql.specs.Steps.{Each}
 use Rattle.wgr_sql.proofs.StepLemmas.{chain_then_chain}
 use Rattle.wgr_columns.specs.Decode.{IsRegister, tables_of}
 use Rattle.wgr_tables.specs.TableSteps.{PeerRowsGo, PeerComes}
-use Rattle.wgr_sql.specs.Causes.{HasCauseOr}
-use Rattle.wgr_sql.proofs.CauseLemmas.{handed}
-use Rattle.wgr_tables.specs.Stops.{AllRowsStay, OneOfEach, PeerStaysOut, OneOfTwo}
-use Rattle.wgr_tables.proofs.StopLemmas.{first_fails, next_fails}
+use Rattle.wgr_tables.specs.Stops.{AllRowsStay, OneOfEach, PeerStaysOut}
+use Rattle.wgr_tables.proofs.StopLemmas.{first_hands_on, next_fails}
 use Rattle.wgr_tables.proofs.enter.put_peers.Goals as goal
 
 pub returns-clause-step : goal.returns-clause-step
 returns-clause-step g c clean =
+    let network = c.args.network in
+    let peers = c.args.peers.now in
+    let Gone = Each (λ (p : Peer). PeerRowsGo network p.number) peers in
     let a = state g.S.Store c.args.tx.now.conn.now in
     let b = state g.S.Store c.drop_all_rows.new.tx.conn.now in
     let d = state g.S.Store c.add_peers.new.tx.conn.now in
     let was : HasCleanDisk b = omega (arith, c.add_peers.ensures.survives.clean, clean) in
-    chain_then_chain IsRegister tables_of Fault (Each (λ (p : Peer). PeerRowsGo c.args.network p.number) c.args.peers.now) (Each (PeerComes c.args.network) c.args.peers.now) a b d c.in_ok-drop_all_rows.field-0 c.add_peers.result (c.in_ok-drop_all_rows.ensures.step was) (c.add_peers.ensures.step clean)
+    chain_then_chain IsRegister tables_of Fault Gone (Each (PeerComes network) peers) a b d c.in_ok-drop_all_rows.field-0 c.add_peers.result
+    (c.in_ok-drop_all_rows.ensures.step was) (c.add_peers.ensures.step clean)
 
 pub returns-in_err-drop_all_rows-clause-cause : goal.returns-in_err-drop_all_rows-clause-cause
-returns-in_err-drop_all_rows-clause-cause g c inside register =
-    handed (HasCauseOr (OneOfTwo (AllRowsStay c.args.network c.args.peers.now) (Each (λ (p : Peer). PeerRowsGo c.args.network p.number) c.args.peers.now) (OneOfEach (PeerComes c.args.network) (PeerStaysOut c.args.network) c.args.peers.now) (tables_of (state g.S.Store c.args.tx.now.conn.now).now)) (state g.S.Store c.args.tx.now.conn.now) (state g.S.Store c.drop_all_rows.new.tx.conn.now)) c.from_residual.result c.in_err-drop_all_rows.field-0.0 c.from_residual.ensures.1
-    (first_fails (AllRowsStay c.args.network c.args.peers.now) (Each (λ (p : Peer). PeerRowsGo c.args.network p.number) c.args.peers.now) (OneOfEach (PeerComes c.args.network) (PeerStaysOut c.args.network) c.args.peers.now) (state g.S.Store c.args.tx.now.conn.now) (state g.S.Store c.args.tx.now.conn.now) (state g.S.Store c.drop_all_rows.new.tx.conn.now) c.in_err-drop_all_rows.field-0.0 c.in_err-drop_all_rows.ensures.cause inside register)
+returns-in_err-drop_all_rows-clause-cause g c =
+    let network = c.args.network in
+    let peers = c.args.peers.now in
+    let Gone = Each (λ (p : Peer). PeerRowsGo network p.number) peers in
+    let a = state g.S.Store c.args.tx.now.conn.now in
+    let b = state g.S.Store c.drop_all_rows.new.tx.conn.now in
+    let why = c.in_err-drop_all_rows.field-0.0 in
+    first_hands_on (AllRowsStay network peers) Gone (OneOfEach (PeerComes network) (PeerStaysOut network) peers) a b c.from_residual.result why c.from_residual.ensures.1
+    c.in_err-drop_all_rows.ensures.cause
 
 pub returns-clause-cause : goal.returns-clause-cause
 returns-clause-cause g c =
-    next_fails (AllRowsStay c.args.network c.args.peers.now) (Each (λ (p : Peer). PeerRowsGo c.args.network p.number) c.args.peers.now) (OneOfEach (PeerComes c.args.network) (PeerStaysOut c.args.network) c.args.peers.now) (state g.S.Store c.args.tx.now.conn.now) (state g.S.Store c.drop_all_rows.new.tx.conn.now) (state g.S.Store c.add_peers.new.tx.conn.now) c.in_ok-drop_all_rows.field-0 c.add_peers.result (λ clean. c.in_ok-drop_all_rows.ensures.step clean) c.drop_all_rows.ensures.survives c.add_peers.ensures.survives c.add_peers.ensures.cause
+    let network = c.args.network in
+    let peers = c.args.peers.now in
+    let Gone = Each (λ (p : Peer). PeerRowsGo network p.number) peers in
+    let a = state g.S.Store c.args.tx.now.conn.now in
+    let b = state g.S.Store c.drop_all_rows.new.tx.conn.now in
+    let d = state g.S.Store c.add_peers.new.tx.conn.now in
+    next_fails (AllRowsStay network peers) Gone (OneOfEach (PeerComes network) (PeerStaysOut network) peers) a b d c.in_ok-drop_all_rows.field-0 c.add_peers.result
+    (λ clean. c.in_ok-drop_all_rows.ensures.step clean) c.drop_all_rows.ensures.survives c.add_peers.ensures.survives c.add_peers.ensures.cause

@@ -16,4 +16,7 @@ returns-clause-step g c clean inside register =
 
 pub returns-clause-cause : goal.returns-clause-cause
 returns-clause-cause g c =
-    written_fails (state g.S.Store c.args.tx.now.conn.now) (state g.S.Store c.execute.new.tx.conn.now) drop_peer_text (Int (pos c.args.network) ∷ Int (pos (peer_id c.args.network c.args.number)) ∷ []) c.execute.result (λ others. drop_peer_writes others _ _) (rw (c.number_value.ensures, c.peer_id_value.ensures) at c.execute.ensures.cause)
+    let old = state g.S.Store c.args.tx.now.conn.now in
+    let new = state g.S.Store c.execute.new.tx.conn.now in
+    written_fails old new drop_peer_text (Int (pos c.args.network) ∷ Int (pos (peer_id c.args.network c.args.number)) ∷ []) c.execute.result (λ others. drop_peer_writes others _ _)
+    (rw (c.number_value.ensures, c.peer_id_value.ensures) at c.execute.ensures.cause)

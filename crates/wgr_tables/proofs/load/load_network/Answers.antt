@@ -5,7 +5,7 @@ use Rattle.wgr_columns.specs.Decode.{tables_of, network_in, number_at}
 use Rattle.sqlite.specs.State.{HasCleanDisk}
 use Rattle.sqlite.specs.Held.{state}
 use Rattle.wgr_sql.specs.Causes.{HasCause}
-use Rattle.wgr_sql.proofs.CauseLemmas.{handed, cause_after}
+use Rattle.wgr_sql.proofs.CauseLemmas.{handed, later_hands_on}
 use Rattle.wgr_columns.specs.Stored.{stored_network}
 use Rattle.wgr_tables.proofs.load.load_network.Goals as goal
 
@@ -30,7 +30,11 @@ returns-in_err-row-clause-cause g c db pending n stood apart told = handed (HasC
 pub returns-in_err-loaded-clause-cause : goal.returns-in_err-loaded-clause-cause
 returns-in_err-loaded-clause-cause g c db pending n stood apart told =
     let first = c.network_row.ensures.stands db pending stood in
-    let once = λ (clean : HasCleanDisk (state g.S.Store c.load_row.new.conn)). subst (λ o. IfSome o (λ x. (w : NetworkRow) → Has (tables_of db).networks w → w.id ≡ c.args.network → network_in x ≡ w)) c.in-Some.is (c.in_ok-row.ensures.once db pending stood (c.load_row.ensures.clean clean)) told.row told.there told.id_is in
+    let once = λ (clean : HasCleanDisk (state g.S.Store c.load_row.new.conn)). subst (λ o. IfSome o (λ x. (w : NetworkRow) → Has (tables_of db).networks w → w.id ≡ c.args.network → network_in x ≡ w)) c.in-Some.is
+    (c.in_ok-row.ensures.once db pending stood (c.load_row.ensures.clean clean)) told.row told.there told.id_is in
     let stored = λ (clean : HasCleanDisk (state g.S.Store c.load_row.new.conn)). subst (λ o. IfSome o (λ x. x ≡ stored_network (network_in x))) c.in-Some.is (c.in_ok-row.ensures.stored db pending stood (c.load_row.ensures.clean clean)) in
-    handed (HasCause (state g.S.Store c.args.conn.now) (state g.S.Store c.load_row.new.conn)) c.from_residual-in_err-loaded.result c.in_err-loaded.field-0.0 c.from_residual-in_err-loaded.ensures.1
-    (cause_after (state g.S.Store c.args.conn.now) (state g.S.Store c.network_row.new.conn) (state g.S.Store c.load_row.new.conn) ⊥ ⊥ (λ _. ⊥) (λ _. ⊥) c.network_row.ensures.survives c.load_row.ensures.survives (λ h. h) c.in_err-loaded.field-0.0 (c.in_err-loaded.ensures.cause db pending n first told (λ clean. (once clean, stored clean))))
+    let old = state g.S.Store c.args.conn.now in
+    let mid = state g.S.Store c.network_row.new.conn in
+    let new = state g.S.Store c.load_row.new.conn in
+    later_hands_on old mid new c.from_residual-in_err-loaded.result c.in_err-loaded.field-0.0 c.from_residual-in_err-loaded.ensures.1 c.network_row.ensures.survives c.load_row.ensures.survives
+    (c.in_err-loaded.ensures.cause db pending n first told (λ clean. (once clean, stored clean)))

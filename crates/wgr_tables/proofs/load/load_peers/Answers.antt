@@ -1,12 +1,11 @@
-use Rattle.std.proofs.Common.{map, filter, nat_eq, not, ◌&&◌, sym, ap, ◌∙◌, subst, IsPermutation, refl}
+use Rattle.std.proofs.Common.{map, filter, nat_eq, not, ◌&&◌, sym, ap, ◌∙◌, subst, IsPermutation}
 use Rattle.wgr_sql.proofs.ResultLemmas.{if_ok, if_both}
 use Rattle.wgr_columns.specs.Decode.{tables_of, peer_in, allowed_in}
 use Rattle.sqlite.specs.Held.{state}
 use Rattle.wgr_sql.specs.Causes.{HasCause}
-use Rattle.wgr_sql.proofs.CauseLemmas.{handed, cause_after, never_stores}
-use Rattle.wgr_model.specs.Rows.{AllowedRow, PeerRow, address_row, peer_row}
+use Rattle.wgr_sql.proofs.CauseLemmas.{handed, later_hands_on, never_stores}
 use Rattle.wgr_columns.specs.Stored.{stored_allowed, stored_peer}
-use Rattle.wgr_tables.proofs.ArrangeLemmas.{arranged_peers, kept_peers, peers_once}
+use Rattle.wgr_tables.proofs.ArrangeLemmas.{kept_peers, peers_once, shown_addresses, shown_peers}
 use Rattle.wgr_tables.proofs.load.load_peers.Goals as goal
 
 pub returns-in_err-addresses-clause-stands : goal.returns-in_err-addresses-clause-stands
@@ -29,7 +28,12 @@ pub returns-in_err-rows-clause-cause : goal.returns-in_err-rows-clause-cause
 returns-in_err-rows-clause-cause g c db pending n stood told = handed (HasCause (state g.S.Store c.args.conn.now) (state g.S.Store c.peer_rows.new.conn)) c.from_residual.result c.in_err-rows.field-0.0 c.from_residual.ensures.1 (c.in_err-rows.ensures.cause db pending stood)
 
 pub returns-in_err-addresses-clause-cause : goal.returns-in_err-addresses-clause-cause
-returns-in_err-addresses-clause-cause g c db pending n stood told = handed (HasCause (state g.S.Store c.args.conn.now) (state g.S.Store c.address_rows.new.conn)) c.from_residual-in_err-addresses.result c.in_err-addresses.field-0.0 c.from_residual-in_err-addresses.ensures.1 (cause_after (state g.S.Store c.args.conn.now) (state g.S.Store c.peer_rows.new.conn) (state g.S.Store c.address_rows.new.conn) ⊥ ⊥ (λ _. ⊥) (λ _. ⊥) c.peer_rows.ensures.survives c.address_rows.ensures.survives (λ h. h) c.in_err-addresses.field-0.0 (c.in_err-addresses.ensures.cause db pending (c.peer_rows.ensures.stands db pending stood)))
+returns-in_err-addresses-clause-cause g c db pending n stood told =
+    let old = state g.S.Store c.args.conn.now in
+    let mid = state g.S.Store c.peer_rows.new.conn in
+    let new = state g.S.Store c.address_rows.new.conn in
+    later_hands_on old mid new c.from_residual-in_err-addresses.result c.in_err-addresses.field-0.0 c.from_residual-in_err-addresses.ensures.1 c.peer_rows.ensures.survives c.address_rows.ensures.survives
+    (c.in_err-addresses.ensures.cause db pending (c.peer_rows.ensures.stands db pending stood))
 
 pub returns-clause-own : goal.returns-clause-own
 returns-clause-own g c db pending n stood told clean =
@@ -37,8 +41,10 @@ returns-clause-own g c db pending n stood told clean =
     let t = tables_of db in
     let before = c.address_rows.ensures.clean clean in
     let next = c.peer_rows.ensures.stands db pending stood in
-    let typed = arranged_peers id n told.rules (peer_row id) (λ (p : PeerRow). p.id) (λ p. refl) (map peer_in c.in_ok-rows.rows.items) (filter (λ p. nat_eq p.network id) t.peers) told.peers (c.in_ok-rows.ensures.listed db pending stood before) (c.in_ok-rows.ensures.rising db pending stood before) in
-    let owned = arranged_peers id n told.rules (address_row id) (λ (a : AllowedRow). a.peer) (λ p. refl) (map allowed_in c.in_ok-addresses.addresses.items) (filter (λ a. nat_eq a.network id && not a.is_route) t.allowed) told.addresses (c.in_ok-addresses.ensures.listed db pending next clean) (c.in_ok-addresses.ensures.rising db pending next clean) in
+    let typed = shown_peers id t n told.rules told.peers (map peer_in c.in_ok-rows.rows.items)
+    (c.in_ok-rows.ensures.listed db pending stood before) (c.in_ok-rows.ensures.rising db pending stood before) in
+    let owned = shown_addresses id t n told.rules told.addresses (map allowed_in c.in_ok-addresses.addresses.items)
+    (c.in_ok-addresses.ensures.listed db pending next clean) (c.in_ok-addresses.ensures.rising db pending next clean) in
     if_both c.peers_of.result _ _ _ (λ peers p a. peers_once id peers.items n.peers (p ∙ ap (map peer_in) c.as_slice.ensures.value ∙ typed) (a ∙ ap (map allowed_in) c.as_slice-2.ensures.value ∙ owned)) c.peers_of.ensures.rows c.peers_of.ensures.addresses
 
 pub returns-clause-cause : goal.returns-clause-cause
@@ -47,6 +53,8 @@ returns-clause-cause g c db pending n stood told = never_stores _ (state g.S.Sto
     let t = tables_of db in
     let before = c.address_rows.ensures.clean clean in
     let next = c.peer_rows.ensures.stands db pending stood in
-    let typed = arranged_peers id n told.rules (peer_row id) (λ (p : PeerRow). p.id) (λ p. refl) (map peer_in c.in_ok-rows.rows.items) (filter (λ p. nat_eq p.network id) t.peers) told.peers (c.in_ok-rows.ensures.listed db pending stood before) (c.in_ok-rows.ensures.rising db pending stood before) in
-    let owned = arranged_peers id n told.rules (address_row id) (λ (a : AllowedRow). a.peer) (λ p. refl) (map allowed_in c.in_ok-addresses.addresses.items) (filter (λ a. nat_eq a.network id && not a.is_route) t.allowed) told.addresses (c.in_ok-addresses.ensures.listed db pending next clean) (c.in_ok-addresses.ensures.rising db pending next clean) in
+    let typed = shown_peers id t n told.rules told.peers (map peer_in c.in_ok-rows.rows.items)
+    (c.in_ok-rows.ensures.listed db pending stood before) (c.in_ok-rows.ensures.rising db pending stood before) in
+    let owned = shown_addresses id t n told.rules told.addresses (map allowed_in c.in_ok-addresses.addresses.items)
+    (c.in_ok-addresses.ensures.listed db pending next clean) (c.in_ok-addresses.ensures.rising db pending next clean) in
     only n.peers (kept_peers n told.rules told.forms) (c.as_slice.ensures.value ∙ c.in_ok-rows.ensures.stored db pending stood before ∙ ap (map stored_peer) typed) (c.as_slice-2.ensures.value ∙ c.in_ok-addresses.ensures.stored db pending next clean ∙ ap (map stored_allowed) owned))

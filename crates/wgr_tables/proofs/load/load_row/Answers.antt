@@ -3,7 +3,7 @@ use Rattle.wgr_columns.specs.Decode.{tables_of, network_in}
 use Rattle.wgr_tables.proofs.LoadLemmas.{network_is_read}
 use Rattle.sqlite.specs.Held.{state}
 use Rattle.wgr_sql.specs.Causes.{HasCause}
-use Rattle.wgr_sql.proofs.CauseLemmas.{handed, cause_after, never_stores}
+use Rattle.wgr_sql.proofs.CauseLemmas.{handed, later_hands_on, never_stores}
 use Rattle.std.proofs.Common.{filter, nat_eq, ◌&&◌, sym, ap, subst, ◌∙◌}
 use Rattle.std.proofs.lemmas.List.Sorted.{IsPermutation-refl}
 use Rattle.std.specs.List.Sorted.{IsPermutation}
@@ -30,7 +30,12 @@ pub returns-in_err-peers-clause-cause : goal.returns-in_err-peers-clause-cause
 returns-in_err-peers-clause-cause g c db pending n stood told is = handed (HasCause (state g.S.Store c.args.conn.now) (state g.S.Store c.load_peers.new.conn)) c.from_residual.result c.in_err-peers.field-0.0 c.from_residual.ensures.1 (c.in_err-peers.ensures.cause db pending n stood told)
 
 pub returns-in_err-routes-clause-cause : goal.returns-in_err-routes-clause-cause
-returns-in_err-routes-clause-cause g c db pending n stood told is = handed (HasCause (state g.S.Store c.args.conn.now) (state g.S.Store c.load_routes.new.conn)) c.from_residual-in_err-routes.result c.in_err-routes.field-0.0 c.from_residual-in_err-routes.ensures.1 (cause_after (state g.S.Store c.args.conn.now) (state g.S.Store c.load_peers.new.conn) (state g.S.Store c.load_routes.new.conn) ⊥ ⊥ (λ _. ⊥) (λ _. ⊥) c.load_peers.ensures.survives c.load_routes.ensures.survives (λ h. h) c.in_err-routes.field-0.0 (c.in_err-routes.ensures.cause db pending n (c.load_peers.ensures.stands db pending stood) told))
+returns-in_err-routes-clause-cause g c db pending n stood told is =
+    let old = state g.S.Store c.args.conn.now in
+    let mid = state g.S.Store c.load_peers.new.conn in
+    let new = state g.S.Store c.load_routes.new.conn in
+    later_hands_on old mid new c.from_residual-in_err-routes.result c.in_err-routes.field-0.0 c.from_residual-in_err-routes.ensures.1 c.load_peers.ensures.survives c.load_routes.ensures.survives
+    (c.in_err-routes.ensures.cause db pending n (c.load_peers.ensures.stands db pending stood) told)
 
 pub returns-clause-cause : goal.returns-clause-cause
 returns-clause-cause g c db pending n stood told is = never_stores _ (state g.S.Store c.args.conn.now) (state g.S.Store c.load_routes.new.conn) c.make_network.result c.make_network.ensures.only (λ clean only.

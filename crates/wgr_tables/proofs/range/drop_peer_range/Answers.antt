@@ -12,8 +12,20 @@ pub returns-clause-step : goal.returns-clause-step
 returns-clause-step g c clean inside register =
     let old = state g.S.Store c.args.tx.now.conn.now in
     let new = state g.S.Store c.execute.new.tx.conn.now in
-    (c.execute.ensures.kept clean inside, if_ok c.execute.result _ _ (λ count h. (peers_gone old new (register h.1.was_open) c.args.network (peer_id c.args.network c.args.first) (peer_id c.args.network c.args.last) count (rw (c.number_value.ensures, c.peer_id_value.ensures, c.peer_id_value-2.ensures) at h.0), h.1)) (c.execute.ensures.ran clean inside))
+    let network = c.args.network in (
+      c.execute.ensures.kept clean inside,
+      if_ok c.execute.result _ _ (λ count h. (
+        peers_gone old new (register h.1.was_open) network (peer_id network c.args.first) (peer_id network c.args.last) count
+            (rw (c.number_value.ensures, c.peer_id_value.ensures, c.peer_id_value-2.ensures) at h.0),
+        h.1,
+      )) (c.execute.ensures.ran clean inside),
+    )
 
 pub returns-clause-cause : goal.returns-clause-cause
 returns-clause-cause g c =
-    written_fails (state g.S.Store c.args.tx.now.conn.now) (state g.S.Store c.execute.new.tx.conn.now) drop_peer_range_text (Int (pos c.args.network) ∷ Int (pos (peer_id c.args.network c.args.first)) ∷ Int (pos (peer_id c.args.network c.args.last)) ∷ []) c.execute.result (λ others. drop_peer_range_writes others _ _ _) (rw (c.number_value.ensures, c.peer_id_value.ensures, c.peer_id_value-2.ensures) at c.execute.ensures.cause)
+    let old = state g.S.Store c.args.tx.now.conn.now in
+    let new = state g.S.Store c.execute.new.tx.conn.now in
+    let network = c.args.network in
+    written_fails old new drop_peer_range_text (Int (pos network) ∷ Int (pos (peer_id network c.args.first)) ∷ Int (pos (peer_id network c.args.last)) ∷ []) c.execute.result
+    (λ others. drop_peer_range_writes others _ _ _)
+    (rw (c.number_value.ensures, c.peer_id_value.ensures, c.peer_id_value-2.ensures) at c.execute.ensures.cause)

@@ -22,11 +22,44 @@ returns-clause-step g c clean inside register =
       c.execute.ensures.kept clean inside,
       if_ok c.execute.result _ _ (λ count h.
           let came = allowed_came route_kind insert_route_text (inr refl) insert_route_means old new (register h.1.was_open) c.args.network c.args.prefix.now c.span.result.hi.number c.args.number count low high last
-          (rw (c.bytes_of-lo.ensures, c.number.ensures.value, c.number_value.ensures, c.family_value.ensures, c.family.ensures.value, c.bytes_of-hi.ensures, c.number-2.ensures.value, c.peer_id_value.ensures, c.number_value-2.ensures, c.from.ensures, c.length.ensures.value, c.address-address.ensures.value) at h.0) in
+          (rw (
+            c.bytes_of-lo.ensures,
+            c.number.ensures.value,
+            c.number_value.ensures,
+            c.family_value.ensures,
+            c.family.ensures.value,
+            c.bytes_of-hi.ensures,
+            c.number-2.ensures.value,
+            c.peer_id_value.ensures,
+            c.number_value-2.ensures,
+            c.from.ensures,
+            c.length.ensures.value,
+            c.address-address.ensures.value,
+          ) at h.0) in
           (record { sound = came.sound; made = (real, came.made) }, h.1)) (c.execute.ensures.ran clean inside),
     )
 
 pub returns-clause-cause : goal.returns-clause-cause
 returns-clause-cause g c =
     let last : c.span.result.hi.number ≡ (last_of c.args.prefix.now).number = omega (arith, c.span.ensures.ends.last) in
-    written_fails (state g.S.Store c.args.tx.now.conn.now) (state g.S.Store c.execute.new.tx.conn.now) insert_route_text (Int (pos c.args.network) ∷ Int (pos (family_number c.args.prefix.now.address.family)) ∷ Blob (bytes_of c.args.prefix.now.address.number) ∷ Int (pos c.args.prefix.now.length) ∷ Blob (bytes_of (last_of c.args.prefix.now).number) ∷ Int (pos (peer_id c.args.network c.args.number)) ∷ []) c.execute.result (λ others. insert_route_writes others _ _ _ _ _ _) (rw (c.bytes_of-lo.ensures, c.number.ensures.value, c.number_value.ensures, c.family_value.ensures, c.family.ensures.value, c.bytes_of-hi.ensures, c.number-2.ensures.value, c.peer_id_value.ensures, c.number_value-2.ensures, c.from.ensures, c.length.ensures.value, c.address-address.ensures.value, last) at c.execute.ensures.cause)
+    let old = state g.S.Store c.args.tx.now.conn.now in
+    let new = state g.S.Store c.execute.new.tx.conn.now in
+    let prefix = c.args.prefix.now in
+    written_fails old new insert_route_text
+    (Int (pos c.args.network) ∷ Int (pos (family_number prefix.address.family)) ∷ Blob (bytes_of prefix.address.number) ∷ Int (pos prefix.length) ∷ Blob (bytes_of (last_of prefix).number) ∷ Int (pos (peer_id c.args.network c.args.number)) ∷ [])
+    c.execute.result (λ others. insert_route_writes others _ _ _ _ _ _)
+    (rw (
+      c.bytes_of-lo.ensures,
+      c.number.ensures.value,
+      c.number_value.ensures,
+      c.family_value.ensures,
+      c.family.ensures.value,
+      c.bytes_of-hi.ensures,
+      c.number-2.ensures.value,
+      c.peer_id_value.ensures,
+      c.number_value-2.ensures,
+      c.from.ensures,
+      c.length.ensures.value,
+      c.address-address.ensures.value,
+      last,
+    ) at c.execute.ensures.cause)

@@ -15,9 +15,20 @@ pub returns-clause-step : goal.returns-clause-step
 returns-clause-step g c clean inside register =
     let old = state g.S.Store c.args.tx.now.conn.now in
     let new = state g.S.Store c.execute.new.tx.conn.now in
-    let low = fits_128 _ _ (subst IsAddr c.address-address.ensures.value c.address-address.ensures.fits) in
-    (c.execute.ensures.kept clean inside, if_ok c.execute.result _ _ (λ count h. (route_gone old new (register h.1.was_open) c.args.network c.args.prefix.now count low (rw (c.bytes_of-lo.ensures, c.number.ensures.value, c.number_value.ensures, c.family_value.ensures, c.family.ensures.value, c.number_value-2.ensures, c.from.ensures, c.length.ensures.value, c.address-address.ensures.value) at h.0), h.1)) (c.execute.ensures.ran clean inside))
+    let low = fits_128 _ _ (subst IsAddr c.address-address.ensures.value c.address-address.ensures.fits) in (
+      c.execute.ensures.kept clean inside,
+      if_ok c.execute.result _ _ (λ count h. (
+        route_gone old new (register h.1.was_open) c.args.network c.args.prefix.now count low
+            (rw (c.bytes_of-lo.ensures, c.number.ensures.value, c.number_value.ensures, c.family_value.ensures, c.family.ensures.value, c.number_value-2.ensures, c.from.ensures, c.length.ensures.value, c.address-address.ensures.value) at h.0),
+        h.1,
+      )) (c.execute.ensures.ran clean inside),
+    )
 
 pub returns-clause-cause : goal.returns-clause-cause
 returns-clause-cause g c =
-    written_fails (state g.S.Store c.args.tx.now.conn.now) (state g.S.Store c.execute.new.tx.conn.now) drop_route_text (Int (pos c.args.network) ∷ Int (pos (family_number c.args.prefix.now.address.family)) ∷ Blob (bytes_of c.args.prefix.now.address.number) ∷ Int (pos c.args.prefix.now.length) ∷ []) c.execute.result (λ others. drop_route_writes others _ _ _ _) (rw (c.bytes_of-lo.ensures, c.number.ensures.value, c.number_value.ensures, c.family_value.ensures, c.family.ensures.value, c.number_value-2.ensures, c.from.ensures, c.length.ensures.value, c.address-address.ensures.value) at c.execute.ensures.cause)
+    let old = state g.S.Store c.args.tx.now.conn.now in
+    let new = state g.S.Store c.execute.new.tx.conn.now in
+    let prefix = c.args.prefix.now in
+    written_fails old new drop_route_text (Int (pos c.args.network) ∷ Int (pos (family_number prefix.address.family)) ∷ Blob (bytes_of prefix.address.number) ∷ Int (pos prefix.length) ∷ []) c.execute.result
+    (λ others. drop_route_writes others _ _ _ _)
+    (rw (c.bytes_of-lo.ensures, c.number.ensures.value, c.number_value.ensures, c.family_value.ensures, c.family.ensures.value, c.number_value-2.ensures, c.from.ensures, c.length.ensures.value, c.address-address.ensures.value) at c.execute.ensures.cause)

@@ -1,42 +1,34 @@
-use Rattle.std.proofs.Common.{◌≡◌, ℕ, [], ◌∷◌, ◌++◌, ◌+◌, take, Ok, sym, ap, subst, ◌∙◌, arith, Err}
-use Rattle.std.proofs.lemmas.List.{take_more}
-use Rattle.sqlite.specs.State.{HasCleanDisk}
+use Rattle.std.proofs.Common.{◌∙◌}
 use Rattle.sqlite.specs.Held.{state}
-use Rattle.wgr_sql.specs.declared.fault.Fault.{Fault}
-use Rattle.wgr_sql.specs.Steps.{Each}
 use Rattle.wgr_tables.specs.TableSteps.{RouteGoes}
-use Rattle.wgr_tables.specs.Standing.{StepsFrom}
-use Rattle.wgr_text.specs.Prefix.{PrefixValue}
-use Rattle.wgr_sql.proofs.SurvivesLemmas.{survives_next}
-use Rattle.wgr_sql.proofs.StepLemmas.{loop_more}
-use Rattle.wgr_columns.specs.Decode.{IsRegister, tables_of}
-use Rattle.wgr_sql.specs.Causes.{HasCauseOr}
-use Rattle.wgr_sql.proofs.CauseLemmas.{handed}
-use Rattle.wgr_tables.specs.Stops.{RouteStays, OneOfEach}
-use Rattle.wgr_tables.proofs.StopLemmas.{loop_fails}
+use Rattle.wgr_tables.specs.Stops.{RouteStays}
+use Rattle.wgr_tables.proofs.Loops.{item_hands_on, one_more, taken}
 use Rattle.wgr_tables.proofs.route.drop_routes.Goals as goal
 
 pub loop-prefix-preserved : goal.loop-prefix-preserved
 loop-prefix-preserved g c =
+    let network = c.args.network in
+    let prefixes = c.args.prefixes.now in
     let at = c.loop-prefix.prefix-index in
-    let d : PrefixValue = c.prefix-item.result in
+    let d = c.prefix-item.result in
     let start = state g.S.Store c.args.tx.now.conn.now in
     let before = state g.S.Store c.loop-prefix.tx.conn.now in
     let after = state g.S.Store c.drop_route.new.tx.conn.now in
-    let more : take (at + 1) c.args.prefixes.now ≡ take at c.args.prefixes.now ++ d ∷ [] = take_more c.args.prefixes.now at d c.loop-prefix-test.true ∙ ap (λ x. take at c.args.prefixes.now ++ x ∷ []) (sym c.prefix-item.is) in (
+    let done = c.loop-prefix.invariant.1 in (
       c.drop_route.ensures.same_reference ∙ c.loop-prefix.invariant.0,
-      survives_next _ _ _ c.loop-prefix.invariant.1 c.drop_route.ensures.survives,
-      λ clean.
-          let was : HasCleanDisk before = omega (arith, c.drop_route.ensures.survives.clean, clean) in
-          subst (λ l. StepsFrom {X = ℕ} {E = Fault} (Each (RouteGoes c.args.network) l) start after (Ok 0)) (sym more)
-          (loop_more IsRegister tables_of Fault (RouteGoes c.args.network) (take at c.args.prefixes.now) d start before after c.in_ok-drop_route.field-0 (c.loop-prefix.invariant.2 was) (c.in_ok-drop_route.ensures.step clean)),
+      one_more (RouteGoes network) prefixes at d (taken prefixes at d c.loop-prefix-test.true c.prefix-item.is) start before after done c.drop_route.ensures.survives
+          c.in_ok-drop_route.field-0 (λ clean. c.in_ok-drop_route.ensures.step clean),
     )
 
 pub returns-in_err-drop_route-clause-cause : goal.returns-in_err-drop_route-clause-cause
-returns-in_err-drop_route-clause-cause g c inside register =
+returns-in_err-drop_route-clause-cause g c =
+    let network = c.args.network in
+    let prefixes = c.args.prefixes.now in
     let at = c.loop-prefix.prefix-index in
-    let d : PrefixValue = c.prefix-item.result in
+    let d = c.prefix-item.result in
+    let start = state g.S.Store c.args.tx.now.conn.now in
     let before = state g.S.Store c.loop-prefix.tx.conn.now in
-    let more : take (at + 1) c.args.prefixes.now ≡ take at c.args.prefixes.now ++ d ∷ [] = take_more c.args.prefixes.now at d c.loop-prefix-test.true ∙ ap (λ x. take at c.args.prefixes.now ++ x ∷ []) (sym c.prefix-item.is) in
-    handed (HasCauseOr (OneOfEach (RouteGoes c.args.network) (RouteStays c.args.network) c.args.prefixes.now (tables_of (state g.S.Store c.args.tx.now.conn.now).now)) (state g.S.Store c.args.tx.now.conn.now) (state g.S.Store c.drop_route.new.tx.conn.now)) c.from_residual.result c.in_err-drop_route.field-0.0 c.from_residual.ensures.1
-    (loop_fails (RouteGoes c.args.network) (RouteStays c.args.network) c.args.prefixes.now at d more (state g.S.Store c.args.tx.now.conn.now) before (state g.S.Store c.drop_route.new.tx.conn.now) (Err c.in_err-drop_route.field-0.0) c.loop-prefix.invariant.2 c.loop-prefix.invariant.1 c.drop_route.ensures.survives c.in_err-drop_route.ensures.cause inside register)
+    let after = state g.S.Store c.drop_route.new.tx.conn.now in
+    let done = c.loop-prefix.invariant.1 in
+    item_hands_on (RouteGoes network) prefixes at d (taken prefixes at d c.loop-prefix-test.true c.prefix-item.is) start before after done c.drop_route.ensures.survives
+    (RouteStays network) c.from_residual.result c.in_err-drop_route.field-0.0 c.from_residual.ensures.1 c.in_err-drop_route.ensures.cause

@@ -1,14 +1,10 @@
-use Rattle.std.proofs.Common.{◌≡◌, ℕ, take, Ok}
-use Rattle.sqlite.specs.State.{HasCleanDisk, Survives}
+use Rattle.std.proofs.Common.{◌≡◌}
 use Rattle.sqlite.specs.Held.{state}
-use Rattle.wgr_sql.specs.declared.fault.Fault.{Fault}
-use Rattle.wgr_sql.specs.Steps.{Each}
 use Rattle.wgr_tables.specs.TableSteps.{RouteGoes}
-use Rattle.wgr_tables.specs.Standing.{StepsFrom}
+use Rattle.wgr_tables.proofs.Loops.{HasDone}
 use Rattle.wgr_tables.proofs.route.drop_routes.Given as goal
 
 abbrev pub invariant-loop-prefix : goal.invariant-loop-prefix
 invariant-loop-prefix g l =
-    let old = state g.S.Store l.fn.tx.conn.now in
-    let now = state g.S.Store l.tx.conn.now in
-    (l.tx.conn.ghost_name ≡ l.fn.tx.conn.ghost_name) × Survives old now (λ _. ⊥) × (HasCleanDisk now → StepsFrom {X = ℕ} {E = Fault} (Each (RouteGoes l.network) (take l.prefix-index l.prefixes)) old now (Ok 0))
+    (l.tx.conn.ghost_name ≡ l.fn.tx.conn.ghost_name)
+    × HasDone (RouteGoes l.network) l.prefixes l.prefix-index (state g.S.Store l.fn.tx.conn.now) (state g.S.Store l.tx.conn.now)

@@ -14,7 +14,7 @@ use Rattle.wgr_tables.proofs.ArrangeLemmas.{same_routes}
 use Rattle.wgr_tables.proofs.ToldLemmas.{told_settings}
 use Rattle.sqlite.specs.Held.{state}
 use Rattle.wgr_sql.specs.Causes.{HasCause}
-use Rattle.wgr_sql.proofs.CauseLemmas.{handed, cause_after}
+use Rattle.wgr_sql.proofs.CauseLemmas.{handed, later_hands_on}
 use Rattle.wgr_tables.proofs.stored.network_if_stored.Goals as goal
 
 pub returns-in_err-peers-clause-stands : goal.returns-in_err-peers-clause-stands
@@ -109,7 +109,17 @@ pub returns-in_err-row-clause-cause : goal.returns-in_err-row-clause-cause
 returns-in_err-row-clause-cause g c db pending stood apart = handed (HasCause (state g.S.Store c.args.conn.now) (state g.S.Store c.network_row.new.conn)) c.from_residual.result c.in_err-row.field-0.0 c.from_residual.ensures.1 (c.in_err-row.ensures.cause db pending stood apart)
 
 pub returns-in_err-peers-clause-cause : goal.returns-in_err-peers-clause-cause
-returns-in_err-peers-clause-cause g c db pending stood apart = handed (HasCause (state g.S.Store c.args.conn.now) (state g.S.Store c.peers_if_stored.new.conn)) c.from_residual-in_err-peers.result c.in_err-peers.field-0.0 c.from_residual-in_err-peers.ensures.1 (cause_after (state g.S.Store c.args.conn.now) (state g.S.Store c.network_row.new.conn) (state g.S.Store c.peers_if_stored.new.conn) ⊥ ⊥ (λ _. ⊥) (λ _. ⊥) c.network_row.ensures.survives c.peers_if_stored.ensures.survives (λ h. h) c.in_err-peers.field-0.0 (c.in_err-peers.ensures.cause db pending (c.network_row.ensures.stands db pending stood)))
+returns-in_err-peers-clause-cause g c db pending stood apart =
+    let old = state g.S.Store c.args.conn.now in
+    let mid = state g.S.Store c.network_row.new.conn in
+    let new = state g.S.Store c.peers_if_stored.new.conn in
+    later_hands_on old mid new c.from_residual-in_err-peers.result c.in_err-peers.field-0.0 c.from_residual-in_err-peers.ensures.1 c.network_row.ensures.survives c.peers_if_stored.ensures.survives
+    (c.in_err-peers.ensures.cause db pending (c.network_row.ensures.stands db pending stood))
 
 pub returns-in_err-routes-clause-cause : goal.returns-in_err-routes-clause-cause
-returns-in_err-routes-clause-cause g c db pending stood apart = handed (HasCause (state g.S.Store c.args.conn.now) (state g.S.Store c.routes_if_stored.new.conn)) c.from_residual-in_err-routes.result c.in_err-routes.field-0.0 c.from_residual-in_err-routes.ensures.1 (cause_after (state g.S.Store c.args.conn.now) (state g.S.Store c.network_row.new.conn) (state g.S.Store c.routes_if_stored.new.conn) ⊥ ⊥ (λ _. ⊥) (λ _. ⊥) c.network_row.ensures.survives (survives_next _ _ _ c.peers_if_stored.ensures.survives c.routes_if_stored.ensures.survives) (λ h. h) c.in_err-routes.field-0.0 (cause_after (state g.S.Store c.network_row.new.conn) (state g.S.Store c.peers_if_stored.new.conn) (state g.S.Store c.routes_if_stored.new.conn) ⊥ ⊥ (λ _. ⊥) (λ _. ⊥) c.peers_if_stored.ensures.survives c.routes_if_stored.ensures.survives (λ h. h) c.in_err-routes.field-0.0 (c.in_err-routes.ensures.cause db pending (c.peers_if_stored.ensures.stands db pending (c.network_row.ensures.stands db pending stood)))))
+returns-in_err-routes-clause-cause g c db pending stood apart =
+    let old = state g.S.Store c.args.conn.now in
+    let mid = state g.S.Store c.peers_if_stored.new.conn in
+    let new = state g.S.Store c.routes_if_stored.new.conn in
+    later_hands_on old mid new c.from_residual-in_err-routes.result c.in_err-routes.field-0.0 c.from_residual-in_err-routes.ensures.1 (survives_next _ _ _ c.network_row.ensures.survives c.peers_if_stored.ensures.survives) c.routes_if_stored.ensures.survives
+    (c.in_err-routes.ensures.cause db pending (c.peers_if_stored.ensures.stands db pending (c.network_row.ensures.stands db pending stood)))
