@@ -50,13 +50,13 @@ returns-in_err-drop_routes-clause-cause g c =
     let id = c.args.network in
     let change = c.args.change.now in
     let start = state g.S.Store c.args.tx.now.conn.now in
-    let removed = state g.S.Store c.remove_peers.new.tx.conn.now in
-    let gone = state g.S.Store c.drop_routes.new.tx.conn.now in
+    let before = state g.S.Store c.remove_peers.new.tx.conn.now in
+    let end = state g.S.Store c.drop_routes.new.tx.conn.now in
     let why = c.in_err-drop_routes.field-0.0 in
-    hands_on (ChangeStops id change) start gone c.from_residual-in_err-drop_routes.result why c.from_residual-in_err-drop_routes.ensures.1
-    (behind_removed id change start removed gone {Y = ℕ} (Err why) c.remove_peers.ensures.survives c.drop_routes.ensures.survives c.in_ok-remove_peers.field-0
+    hands_on (ChangeStops id change) start end c.from_residual-in_err-drop_routes.result why c.from_residual-in_err-drop_routes.ensures.1
+    (behind_removed id change _ _ _ {Y = ℕ} (Err why) c.remove_peers.ensures.survives c.drop_routes.ensures.survives c.in_ok-remove_peers.field-0
     (λ clean. rw c.as_slice.ensures at (c.in_ok-remove_peers.ensures.step clean))
-    (first_fails (OneOfEach (RouteGoes id) (RouteStays id) change.routes_gone) (Each (RouteGoes id) change.routes_gone) (StopsAtPeers id change) removed removed gone why
+    (first_fails (OneOfEach (RouteGoes id) (RouteStays id) change.routes_gone) (Each (RouteGoes id) change.routes_gone) (StopsAtPeers id change) before before end why
     (rw c.as_slice-2.ensures at c.in_err-drop_routes.ensures.cause)))
 
 pub returns-in_err-put_peers-clause-cause : goal.returns-in_err-put_peers-clause-cause
@@ -64,17 +64,16 @@ returns-in_err-put_peers-clause-cause g c =
     let id = c.args.network in
     let change = c.args.change.now in
     let start = state g.S.Store c.args.tx.now.conn.now in
-    let removed = state g.S.Store c.remove_peers.new.tx.conn.now in
-    let gone = state g.S.Store c.drop_routes.new.tx.conn.now in
-    let put = state g.S.Store c.put_peers.new.tx.conn.now in
+    let before = state g.S.Store c.drop_routes.new.tx.conn.now in
+    let end = state g.S.Store c.put_peers.new.tx.conn.now in
     let why = c.in_err-put_peers.field-0.0 in
-    let from_removed = survives_next removed gone put c.drop_routes.ensures.survives c.put_peers.ensures.survives in
-    hands_on (ChangeStops id change) start put c.from_residual-in_err-put_peers.result why c.from_residual-in_err-put_peers.ensures.1
-    (behind_removed id change start removed put {Y = ℕ} (Err why) c.remove_peers.ensures.survives from_removed c.in_ok-remove_peers.field-0
+    let from_removed = survives_next _ _ _ c.drop_routes.ensures.survives c.put_peers.ensures.survives in
+    hands_on (ChangeStops id change) start end c.from_residual-in_err-put_peers.result why c.from_residual-in_err-put_peers.ensures.1
+    (behind_removed id change _ _ _ {Y = ℕ} (Err why) c.remove_peers.ensures.survives from_removed c.in_ok-remove_peers.field-0
     (λ clean. rw c.as_slice.ensures at (c.in_ok-remove_peers.ensures.step clean))
-    (behind_gone id change removed gone put {Y = ℕ} (Err why) c.drop_routes.ensures.survives c.put_peers.ensures.survives c.in_ok-drop_routes.field-0
+    (behind_gone id change _ _ _ {Y = ℕ} (Err why) c.drop_routes.ensures.survives c.put_peers.ensures.survives c.in_ok-drop_routes.field-0
     (λ clean. rw c.as_slice-2.ensures at (c.in_ok-drop_routes.ensures.step clean))
-    (first_fails (PeersStayOut id change.peers) (PeersPut id change.peers) (StopsAtRoutes id change) gone gone put why
+    (first_fails (PeersStayOut id change.peers) (PeersPut id change.peers) (StopsAtRoutes id change) before before end why
     (rw c.as_slice-3.ensures at c.in_err-put_peers.ensures.cause))))
 
 pub returns-in_err-put_routes-clause-cause : goal.returns-in_err-put_routes-clause-cause
@@ -82,43 +81,35 @@ returns-in_err-put_routes-clause-cause g c =
     let id = c.args.network in
     let change = c.args.change.now in
     let start = state g.S.Store c.args.tx.now.conn.now in
-    let removed = state g.S.Store c.remove_peers.new.tx.conn.now in
-    let gone = state g.S.Store c.drop_routes.new.tx.conn.now in
-    let put = state g.S.Store c.put_peers.new.tx.conn.now in
-    let led = state g.S.Store c.put_routes.new.tx.conn.now in
+    let before = state g.S.Store c.put_peers.new.tx.conn.now in
+    let end = state g.S.Store c.put_routes.new.tx.conn.now in
     let why = c.in_err-put_routes.field-0.0 in
-    let from_gone = survives_next gone put led c.put_peers.ensures.survives c.put_routes.ensures.survives in
-    let from_removed = survives_next removed gone led c.drop_routes.ensures.survives from_gone in
-    hands_on (ChangeStops id change) start led c.from_residual-in_err-put_routes.result why c.from_residual-in_err-put_routes.ensures.1
-    (behind_removed id change start removed led {Y = ℕ} (Err why) c.remove_peers.ensures.survives from_removed c.in_ok-remove_peers.field-0
+    let from_gone = survives_next _ _ _ c.put_peers.ensures.survives c.put_routes.ensures.survives in
+    let from_removed = survives_next _ _ _ c.drop_routes.ensures.survives from_gone in
+    hands_on (ChangeStops id change) start end c.from_residual-in_err-put_routes.result why c.from_residual-in_err-put_routes.ensures.1
+    (behind_removed id change _ _ _ {Y = ℕ} (Err why) c.remove_peers.ensures.survives from_removed c.in_ok-remove_peers.field-0
     (λ clean. rw c.as_slice.ensures at (c.in_ok-remove_peers.ensures.step clean))
-    (behind_gone id change removed gone led {Y = ℕ} (Err why) c.drop_routes.ensures.survives from_gone c.in_ok-drop_routes.field-0
+    (behind_gone id change _ _ _ {Y = ℕ} (Err why) c.drop_routes.ensures.survives from_gone c.in_ok-drop_routes.field-0
     (λ clean. rw c.as_slice-2.ensures at (c.in_ok-drop_routes.ensures.step clean))
-    (behind_peers id change gone put led {Y = ℕ} (Err why) c.put_peers.ensures.survives c.put_routes.ensures.survives c.in_ok-put_peers.field-0
+    (behind_peers id change _ _ _ {Y = ℕ} (Err why) c.put_peers.ensures.survives c.put_routes.ensures.survives c.in_ok-put_peers.field-0
     (λ clean. rw c.as_slice-3.ensures at (c.in_ok-put_peers.ensures.step clean))
-    (first_fails (RoutesAreNotPut id change.routes_put) (Each (RoutePuts id) change.routes_put) (NextStays id change.next) put put led why
+    (first_fails (RoutesAreNotPut id change.routes_put) (Each (RoutePuts id) change.routes_put) (NextStays id change.next) before before end why
     (rw c.as_slice-4.ensures at c.in_err-put_routes.ensures.cause)))))
 
 pub returns-clause-cause : goal.returns-clause-cause
 returns-clause-cause g c =
     let id = c.args.network in
     let change = c.args.change.now in
-    let start = state g.S.Store c.args.tx.now.conn.now in
-    let removed = state g.S.Store c.remove_peers.new.tx.conn.now in
-    let gone = state g.S.Store c.drop_routes.new.tx.conn.now in
-    let put = state g.S.Store c.put_peers.new.tx.conn.now in
-    let led = state g.S.Store c.put_routes.new.tx.conn.now in
-    let end = state g.S.Store c.set_next.new.tx.conn.now in
-    let from_put = survives_next put led end c.put_routes.ensures.survives c.set_next.ensures.survives in
-    let from_gone = survives_next gone put end c.put_peers.ensures.survives from_put in
-    let from_removed = survives_next removed gone end c.drop_routes.ensures.survives from_gone in
-    behind_removed id change start removed end c.set_next.result c.remove_peers.ensures.survives from_removed c.in_ok-remove_peers.field-0
+    let from_put = survives_next _ _ _ c.put_routes.ensures.survives c.set_next.ensures.survives in
+    let from_gone = survives_next _ _ _ c.put_peers.ensures.survives from_put in
+    let from_removed = survives_next _ _ _ c.drop_routes.ensures.survives from_gone in
+    behind_removed id change _ _ _ c.set_next.result c.remove_peers.ensures.survives from_removed c.in_ok-remove_peers.field-0
     (λ clean. rw c.as_slice.ensures at (c.in_ok-remove_peers.ensures.step clean))
-    (behind_gone id change removed gone end c.set_next.result c.drop_routes.ensures.survives from_gone c.in_ok-drop_routes.field-0
+    (behind_gone id change _ _ _ c.set_next.result c.drop_routes.ensures.survives from_gone c.in_ok-drop_routes.field-0
     (λ clean. rw c.as_slice-2.ensures at (c.in_ok-drop_routes.ensures.step clean))
-    (behind_peers id change gone put end c.set_next.result c.put_peers.ensures.survives from_put c.in_ok-put_peers.field-0
+    (behind_peers id change _ _ _ c.set_next.result c.put_peers.ensures.survives from_put c.in_ok-put_peers.field-0
     (λ clean. rw c.as_slice-3.ensures at (c.in_ok-put_peers.ensures.step clean))
-    (behind_routes id change put led end c.set_next.result c.put_routes.ensures.survives c.set_next.ensures.survives c.in_ok-put_routes.field-0
+    (behind_routes id change _ _ _ c.set_next.result c.put_routes.ensures.survives c.set_next.ensures.survives c.in_ok-put_routes.field-0
     (λ clean. rw c.as_slice-4.ensures at (c.in_ok-put_routes.ensures.step clean))
     c.set_next.ensures.cause)))
 

@@ -25,17 +25,12 @@ pub returns-in_err-add_peer_row-clause-cause : goal.returns-in_err-add_peer_row-
 returns-in_err-add_peer_row-clause-cause g c =
     let peer = peer_row c.args.network c.args.peer.now in
     let address = address_row c.args.network c.args.peer.now in
-    let a = state g.S.Store c.args.tx.now.conn.now in
-    let b = state g.S.Store c.add_peer_row.new.tx.conn.now in
-    first_hands_on (PeerRowStaysOut peer) (PeerRowComes peer) (AddressStaysOut address) a b c.from_residual.result c.in_err-add_peer_row.field-0.0 c.from_residual.ensures.1
-    c.in_err-add_peer_row.ensures.cause
+    first_hands_on (PeerRowStaysOut peer) (PeerRowComes peer) (AddressStaysOut address)
+    (state g.S.Store c.args.tx.now.conn.now) (state g.S.Store c.add_peer_row.new.tx.conn.now) c.from_residual.result _ c.from_residual.ensures.1 c.in_err-add_peer_row.ensures.cause
 
 pub returns-clause-cause : goal.returns-clause-cause
 returns-clause-cause g c =
     let peer = peer_row c.args.network c.args.peer.now in
     let address = address_row c.args.network c.args.peer.now in
-    let a = state g.S.Store c.args.tx.now.conn.now in
-    let b = state g.S.Store c.add_peer_row.new.tx.conn.now in
-    let d = state g.S.Store c.add_address.new.tx.conn.now in
-    second_fails (PeerRowStaysOut peer) (PeerRowComes peer) (AddressStaysOut address) a b d c.in_ok-add_peer_row.field-0 c.add_address.result
+    second_fails (PeerRowStaysOut peer) (PeerRowComes peer) (AddressStaysOut address) _ _ _ c.in_ok-add_peer_row.field-0 c.add_address.result
     (λ clean. c.in_ok-add_peer_row.ensures.step clean) c.add_peer_row.ensures.survives c.add_address.ensures.survives c.add_address.ensures.cause

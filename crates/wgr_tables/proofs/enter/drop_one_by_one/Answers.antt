@@ -11,19 +11,11 @@ use Rattle.wgr_tables.proofs.Loops.{item_hands_on, one_more, taken}
 use Rattle.wgr_tables.proofs.enter.drop_one_by_one.Goals as goal
 
 pub loop-peer-preserved : goal.loop-peer-preserved
-loop-peer-preserved g c =
-    let network = c.args.network in
-    let peers = c.args.peers.now in
-    let at = c.loop-peer.peer-index in
-    let d = c.peer-item.result in
-    let start = state g.S.Store c.args.tx.now.conn.now in
-    let before = state g.S.Store c.loop-peer.tx.conn.now in
-    let after = state g.S.Store c.drop_rows.new.tx.conn.now in
-    let done = c.loop-peer.invariant.1 in (
-      c.drop_rows.ensures.same_reference ∙ c.loop-peer.invariant.0,
-      one_more (λ (p : Peer). PeerRowsGo network p.number) peers at d (taken peers at d c.loop-peer-test.true c.peer-item.is) start before after done c.drop_rows.ensures.survives
-          c.in_ok-drop_rows.field-0 (λ clean. c.in_ok-drop_rows.ensures.step clean),
-    )
+loop-peer-preserved g c = (
+  c.drop_rows.ensures.same_reference ∙ c.loop-peer.invariant.0,
+  one_more (λ (p : Peer). PeerRowsGo c.args.network p.number) c.args.peers.now _ _ (taken _ _ _ c.loop-peer-test.true c.peer-item.is) _ _ _ c.loop-peer.invariant.1 c.drop_rows.ensures.survives
+      c.in_ok-drop_rows.field-0 (λ clean. c.in_ok-drop_rows.ensures.step clean),
+)
 
 pub returns-clause-step : goal.returns-clause-step
 returns-clause-step g c clean =
@@ -34,13 +26,5 @@ returns-clause-step g c clean =
 
 pub returns-in_err-drop_rows-clause-cause : goal.returns-in_err-drop_rows-clause-cause
 returns-in_err-drop_rows-clause-cause g c =
-    let network = c.args.network in
-    let peers = c.args.peers.now in
-    let at = c.loop-peer.peer-index in
-    let d = c.peer-item.result in
-    let start = state g.S.Store c.args.tx.now.conn.now in
-    let before = state g.S.Store c.loop-peer.tx.conn.now in
-    let after = state g.S.Store c.drop_rows.new.tx.conn.now in
-    let done = c.loop-peer.invariant.1 in
-    item_hands_on (λ (p : Peer). PeerRowsGo network p.number) peers at d (taken peers at d c.loop-peer-test.true c.peer-item.is) start before after done c.drop_rows.ensures.survives
-    (λ (p : Peer). PeerRowsStay network p.number) c.from_residual.result c.in_err-drop_rows.field-0.0 c.from_residual.ensures.1 c.in_err-drop_rows.ensures.cause
+    item_hands_on (λ (p : Peer). PeerRowsGo c.args.network p.number) c.args.peers.now _ _ (taken _ _ _ c.loop-peer-test.true c.peer-item.is) _ _ _ c.loop-peer.invariant.1 c.drop_rows.ensures.survives
+    (λ (p : Peer). PeerRowsStay c.args.network p.number) c.from_residual.result c.in_err-drop_rows.field-0.0 c.from_residual.ensures.1 c.in_err-drop_rows.ensures.cause

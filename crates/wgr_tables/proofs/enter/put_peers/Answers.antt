@@ -28,19 +28,13 @@ returns-in_err-drop_all_rows-clause-cause g c =
     let network = c.args.network in
     let peers = c.args.peers.now in
     let Gone = Each (λ (p : Peer). PeerRowsGo network p.number) peers in
-    let a = state g.S.Store c.args.tx.now.conn.now in
-    let b = state g.S.Store c.drop_all_rows.new.tx.conn.now in
-    let why = c.in_err-drop_all_rows.field-0.0 in
-    first_hands_on (AllRowsStay network peers) Gone (OneOfEach (PeerComes network) (PeerStaysOut network) peers) a b c.from_residual.result why c.from_residual.ensures.1
-    c.in_err-drop_all_rows.ensures.cause
+    first_hands_on (AllRowsStay network peers) Gone (OneOfEach (PeerComes network) (PeerStaysOut network) peers)
+    (state g.S.Store c.args.tx.now.conn.now) (state g.S.Store c.drop_all_rows.new.tx.conn.now) c.from_residual.result _ c.from_residual.ensures.1 c.in_err-drop_all_rows.ensures.cause
 
 pub returns-clause-cause : goal.returns-clause-cause
 returns-clause-cause g c =
     let network = c.args.network in
     let peers = c.args.peers.now in
     let Gone = Each (λ (p : Peer). PeerRowsGo network p.number) peers in
-    let a = state g.S.Store c.args.tx.now.conn.now in
-    let b = state g.S.Store c.drop_all_rows.new.tx.conn.now in
-    let d = state g.S.Store c.add_peers.new.tx.conn.now in
-    next_fails (AllRowsStay network peers) Gone (OneOfEach (PeerComes network) (PeerStaysOut network) peers) a b d c.in_ok-drop_all_rows.field-0 c.add_peers.result
+    next_fails (AllRowsStay network peers) Gone (OneOfEach (PeerComes network) (PeerStaysOut network) peers) _ _ _ c.in_ok-drop_all_rows.field-0 c.add_peers.result
     (λ clean. c.in_ok-drop_all_rows.ensures.step clean) c.drop_all_rows.ensures.survives c.add_peers.ensures.survives c.add_peers.ensures.cause

@@ -25,17 +25,12 @@ pub returns-in_err-drop_peer_row-clause-cause : goal.returns-in_err-drop_peer_ro
 returns-in_err-drop_peer_row-clause-cause g c =
     let network = c.args.network in
     let id = peer_id network c.args.number in
-    let a = state g.S.Store c.args.tx.now.conn.now in
-    let b = state g.S.Store c.drop_peer_row.new.tx.conn.now in
-    first_hands_on (PeerRowStays network id) (PeerGoes network id) (AllowedStays network id) a b c.from_residual.result c.in_err-drop_peer_row.field-0.0 c.from_residual.ensures.1
-    c.in_err-drop_peer_row.ensures.cause
+    first_hands_on (PeerRowStays network id) (PeerGoes network id) (AllowedStays network id)
+    (state g.S.Store c.args.tx.now.conn.now) (state g.S.Store c.drop_peer_row.new.tx.conn.now) c.from_residual.result _ c.from_residual.ensures.1 c.in_err-drop_peer_row.ensures.cause
 
 pub returns-clause-cause : goal.returns-clause-cause
 returns-clause-cause g c =
     let network = c.args.network in
     let id = peer_id network c.args.number in
-    let a = state g.S.Store c.args.tx.now.conn.now in
-    let b = state g.S.Store c.drop_peer_row.new.tx.conn.now in
-    let d = state g.S.Store c.drop_allowed_rows.new.tx.conn.now in
-    second_fails (PeerRowStays network id) (PeerGoes network id) (AllowedStays network id) a b d c.in_ok-drop_peer_row.field-0 c.drop_allowed_rows.result
+    second_fails (PeerRowStays network id) (PeerGoes network id) (AllowedStays network id) _ _ _ c.in_ok-drop_peer_row.field-0 c.drop_allowed_rows.result
     (λ clean. c.in_ok-drop_peer_row.ensures.step clean) c.drop_peer_row.ensures.survives c.drop_allowed_rows.ensures.survives c.drop_allowed_rows.ensures.cause

@@ -27,18 +27,13 @@ returns-in_err-drop_peer_range-clause-cause g c =
     let network = c.args.network in
     let first = peer_id network c.args.first in
     let last = peer_id network c.args.last in
-    let a = state g.S.Store c.args.tx.now.conn.now in
-    let b = state g.S.Store c.drop_peer_range.new.tx.conn.now in
-    first_hands_on (PeerRangeStays network first last) (PeersGo network first last) (AddressRangeStays network first last) a b c.from_residual.result c.in_err-drop_peer_range.field-0.0 c.from_residual.ensures.1
-    c.in_err-drop_peer_range.ensures.cause
+    first_hands_on (PeerRangeStays network first last) (PeersGo network first last) (AddressRangeStays network first last)
+    (state g.S.Store c.args.tx.now.conn.now) (state g.S.Store c.drop_peer_range.new.tx.conn.now) c.from_residual.result _ c.from_residual.ensures.1 c.in_err-drop_peer_range.ensures.cause
 
 pub returns-clause-cause : goal.returns-clause-cause
 returns-clause-cause g c =
     let network = c.args.network in
     let first = peer_id network c.args.first in
     let last = peer_id network c.args.last in
-    let a = state g.S.Store c.args.tx.now.conn.now in
-    let b = state g.S.Store c.drop_peer_range.new.tx.conn.now in
-    let d = state g.S.Store c.drop_address_range.new.tx.conn.now in
-    second_fails (PeerRangeStays network first last) (PeersGo network first last) (AddressRangeStays network first last) a b d c.in_ok-drop_peer_range.field-0 c.drop_address_range.result
+    second_fails (PeerRangeStays network first last) (PeersGo network first last) (AddressRangeStays network first last) _ _ _ c.in_ok-drop_peer_range.field-0 c.drop_address_range.result
     (λ clean. c.in_ok-drop_peer_range.ensures.step clean) c.drop_peer_range.ensures.survives c.drop_address_range.ensures.survives c.drop_address_range.ensures.cause

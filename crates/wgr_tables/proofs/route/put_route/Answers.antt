@@ -24,17 +24,12 @@ pub returns-in_err-drop_route-clause-cause : goal.returns-in_err-drop_route-clau
 returns-in_err-drop_route-clause-cause g c =
     let network = c.args.network in
     let route = c.args.route.now in
-    let a = state g.S.Store c.args.tx.now.conn.now in
-    let b = state g.S.Store c.drop_route.new.tx.conn.now in
-    first_hands_on (RouteStays network route.0) (RouteGoes network route.0) (RouteStaysOut network route) a b c.from_residual.result c.in_err-drop_route.field-0.0 c.from_residual.ensures.1
-    c.in_err-drop_route.ensures.cause
+    first_hands_on (RouteStays network route.0) (RouteGoes network route.0) (RouteStaysOut network route)
+    (state g.S.Store c.args.tx.now.conn.now) (state g.S.Store c.drop_route.new.tx.conn.now) c.from_residual.result _ c.from_residual.ensures.1 c.in_err-drop_route.ensures.cause
 
 pub returns-clause-cause : goal.returns-clause-cause
 returns-clause-cause g c =
     let network = c.args.network in
     let route = c.args.route.now in
-    let a = state g.S.Store c.args.tx.now.conn.now in
-    let b = state g.S.Store c.drop_route.new.tx.conn.now in
-    let d = state g.S.Store c.add_route.new.tx.conn.now in
-    second_fails (RouteStays network route.0) (RouteGoes network route.0) (RouteStaysOut network route) a b d c.in_ok-drop_route.field-0 c.add_route.result
+    second_fails (RouteStays network route.0) (RouteGoes network route.0) (RouteStaysOut network route) _ _ _ c.in_ok-drop_route.field-0 c.add_route.result
     (λ clean. c.in_ok-drop_route.ensures.step clean) c.drop_route.ensures.survives c.add_route.ensures.survives c.add_route.ensures.cause

@@ -1,34 +1,17 @@
 use Rattle.std.proofs.Common.{◌∙◌}
-use Rattle.sqlite.specs.Held.{state}
 use Rattle.wgr_tables.specs.TableSteps.{RoutePuts}
 use Rattle.wgr_tables.specs.Stops.{RouteIsNotPut}
 use Rattle.wgr_tables.proofs.Loops.{item_hands_on, one_more, taken}
 use Rattle.wgr_tables.proofs.route.replace_routes.Goals as goal
 
 pub loop-route-preserved : goal.loop-route-preserved
-loop-route-preserved g c =
-    let network = c.args.network in
-    let routes = c.args.routes.now in
-    let at = c.loop-route.route-index in
-    let d = c.route-item.result in
-    let start = state g.S.Store c.args.tx.now.conn.now in
-    let before = state g.S.Store c.loop-route.tx.conn.now in
-    let after = state g.S.Store c.put_route.new.tx.conn.now in
-    let done = c.loop-route.invariant.1 in (
-      c.put_route.ensures.same_reference ∙ c.loop-route.invariant.0,
-      one_more (RoutePuts network) routes at d (taken routes at d c.loop-route-test.true c.route-item.is) start before after done c.put_route.ensures.survives
-          c.in_ok-put_route.field-0 (λ clean. c.in_ok-put_route.ensures.step clean),
-    )
+loop-route-preserved g c = (
+  c.put_route.ensures.same_reference ∙ c.loop-route.invariant.0,
+  one_more (RoutePuts c.args.network) c.args.routes.now _ _ (taken _ _ _ c.loop-route-test.true c.route-item.is) _ _ _ c.loop-route.invariant.1 c.put_route.ensures.survives
+      c.in_ok-put_route.field-0 (λ clean. c.in_ok-put_route.ensures.step clean),
+)
 
 pub returns-in_err-put_route-clause-cause : goal.returns-in_err-put_route-clause-cause
 returns-in_err-put_route-clause-cause g c =
-    let network = c.args.network in
-    let routes = c.args.routes.now in
-    let at = c.loop-route.route-index in
-    let d = c.route-item.result in
-    let start = state g.S.Store c.args.tx.now.conn.now in
-    let before = state g.S.Store c.loop-route.tx.conn.now in
-    let after = state g.S.Store c.put_route.new.tx.conn.now in
-    let done = c.loop-route.invariant.1 in
-    item_hands_on (RoutePuts network) routes at d (taken routes at d c.loop-route-test.true c.route-item.is) start before after done c.put_route.ensures.survives
-    (RouteIsNotPut network) c.from_residual.result c.in_err-put_route.field-0.0 c.from_residual.ensures.1 c.in_err-put_route.ensures.cause
+    item_hands_on (RoutePuts c.args.network) c.args.routes.now _ _ (taken _ _ _ c.loop-route-test.true c.route-item.is) _ _ _ c.loop-route.invariant.1 c.put_route.ensures.survives
+    (RouteIsNotPut c.args.network) c.from_residual.result c.in_err-put_route.field-0.0 c.from_residual.ensures.1 c.in_err-put_route.ensures.cause
