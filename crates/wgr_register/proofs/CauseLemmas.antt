@@ -116,6 +116,11 @@ stopped_after P old mid new (Err fault.UnknownToken) s t h = tt
 stopped_after P old mid new (Err fault.NoSuchNetwork) s t h = tt
 stopped_after P old mid new (Err (fault.Fault why)) s t h = cause_after old mid new P P (λ _. ⊥) (λ _. ⊤) s t (λ p. p) why h
 
+-- a reading failed, after others
+pub asked_unread : (P : Type 0) (old mid new : State) (r : Result (Vec ℕ Global) AskFault) (why : Fault) → IsErrAnd r (λ e. e ≡ fault.Fault why) → Survives old mid (λ _. ⊥) → Survives mid new (λ _. ⊥)
+    → HasCause mid new why → IfFault (HasCauseOr P old new) r
+asked_unread P old mid new r why is before then_ cause = fault_handed (HasCauseOr P old new) r why is (cause_after old mid new ⊥ P (λ _. ⊥) (λ _. ⊥) before then_ (λ none. absurd none) why cause)
+
 pub memory_stops : (P : Type 0) (old new : State) (r : Result (Vec ℕ Global) AskFault) → IfFault (λ why. why ≡ NoMemory) r → IfFault (HasCauseOr P old new) r
 memory_stops P old new (Ok text) h = tt
 memory_stops P old new (Err (fault.Refused why)) h = tt

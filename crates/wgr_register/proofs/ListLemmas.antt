@@ -1,5 +1,6 @@
 -- A tenant's networks, as their rows show them.
-use Rattle.std.proofs.Common.{◌≡◌, ℕ, suc, ◌-◌, ◌<◌, ◌≤◌, Bool, true, false, cond, ◌&&◌, List, [], ◌∷◌, length, slice_index_or, drop, drop-cons, find, filter, map, nat_eq, Option, Some, None, option_map, ◌⊎◌, inl, inr, IsPermutation, refl, sym, ap, subst, ◌∙◌, arith, true≢false, Ordering, Less, Equal, Greater}
+use Rattle.std.proofs.Common.{◌≡◌, ℕ, suc, ◌-◌, ◌<◌, ◌≤◌, Bool, true, false, cond, ◌&&◌, List, [], ◌∷◌, length, slice_index_or, drop, drop-cons, find, filter, map, nat_eq, Option, Some, None, option_map, ◌⊎◌, inl, inr, IsPermutation}
+use Rattle.std.proofs.Common.{refl, sym, ap, subst, ◌∙◌, arith, true≢false, Ordering, Less, Equal, Greater}
 use Rattle.std.specs.Cmp.Lexicographic.{slice_cmp, nat_list_cmp_total}
 use Rattle.std.specs.FinMap as map_
 use Rattle.std.specs.FinMap.Entries.{by_order}

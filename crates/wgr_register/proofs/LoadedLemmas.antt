@@ -151,6 +151,11 @@ module _ {S : Type 0} (g : Ghosts S) where
   pub known_so : (conn : Held S) (db : Database) (pending : List Written) (P : Tables → Type 0) → Stands g conn db pending → Shows g conn P → HasCleanDisk (state g conn) → IsTrue (state g conn).is_open → P (tables_of db)
   known_so conn db pending P stands shows clean live = subst (λ d. P (tables_of d)) (stands.shows clean live) (shows clean live)
 
+  -- what was shown before a reading is of the rows that are shown after it
+  pub shown_read : (old new : Held S) (db : Database) (pending : List Written) (P : Tables → Type 0) → Stands g old db pending → Stands g new db pending → Shows g old P → HasCleanDisk (state g old)
+      → IsTrue (state g old).is_open → Shows g new P
+  shown_read old new db pending P stood stands shows before was_live = shown_so new db pending P stands (known_so old db pending P stood shows before was_live)
+
   pub shows_if : (r : Result (Vec ℕ Global) AskFault) (conn : Held S) (P : Tables → Type 0) → (HasCleanDisk (state g conn) → UnlessFault r (Shows g conn P)) → UnlessFault r (Shows g conn P)
   shows_if (Ok text) conn P shows = λ clean live. shows clean clean live
   shows_if (Err (fault.Refused why)) conn P shows = λ clean live. shows clean clean live

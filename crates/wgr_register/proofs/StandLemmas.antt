@@ -118,6 +118,11 @@ module _ {S : Type 0} (g : Ghosts S) where
   late_ends shown conn db late event now (Err fault.NoSuchNetwork) why is at = cc
   late_ends shown conn db late event now (Err (fault.Fault other)) why is at = at
 
+  -- a reading of an ask fails
+  pub ask_unread : (shown : GivenValue → Bytes) (old new : Held S) (db : Database) (late : List Event) (event : Event) (now : ℕ) (r : Result (Vec ℕ Global) AskFault) (why : Fault) → IsErrAnd r (λ e. e ≡ fault.Fault why)
+      → ((pending : List Written) → Stands g old db pending → Stands g new db pending) → StandsAt g old db late → AskEnds g shown new db late event now r
+  ask_unread shown old new db late event now r why is reads at = late_ends shown new db late event now r why is (at_more new db late event (at_read old new db late reads at))
+
   -- a command that isn't done
   pub undone_ends : (shown : GivenValue → Bytes) (conn : Held S) (db : Database) (late : List Event) (event : Event) (now : ℕ) (r : Result (Vec ℕ Global) AskFault) (why : ActFault) → IsErrAnd r (λ e. e ≡ ask_fault why)
       → StandsAt g conn db late → ((refusal : Refusal) → why ≡ act_fault.Refused refusal → IsRowStep (tables_of db) event (Declined refusal) (tables_of db)) → AskEnds g shown conn db late event now r

@@ -12,7 +12,8 @@ use Rattle.wgr_model.specs.Laws.{Has}
 use Rattle.wgr_model.specs.Register.{Bytes, Holding, Register, id_of}
 use Rattle.wgr_model.specs.RowLaws.{AreConsistent, IsRowStep}
 use Rattle.wgr_model.specs.Rows.{IsFormed, NetworkRow, Tables, holding_of, register_of}
-use Rattle.wgr_model.specs.Steps.{AddNetwork, AddTenant, Answer, EndNetwork, EndToken, Event, Grant, IsProper, NoNetwork, NoSuchToken, OrderRefusal, first_refusal, given, grant_checks, granted, has_digest, has_slot, network_added, network_checks, network_ended, new_network, outcome, refuse, tenant_checks, with_new_network, with_tenant, with_token, without_network, without_token}
+use Rattle.wgr_model.specs.Steps.{AddNetwork, AddTenant, Answer, EndNetwork, EndToken, Event, Grant, IsProper, NoNetwork, NoSuchToken, OrderRefusal}
+use Rattle.wgr_model.specs.Steps.{first_refusal, given, grant_checks, granted, has_digest, has_slot, network_added, network_checks, network_ended, new_network, outcome, refuse, tenant_checks, with_new_network, with_tenant, with_token, without_network, without_token}
 use Rattle.wgr_model.proofs.CollectLemmas.{has_map}
 use Rattle.wgr_model.proofs.GatherLemmas.{eqb_self, in_filter}
 use Rattle.wgr_model.proofs.HolderLemmas.{one_or_apart}
@@ -32,7 +33,9 @@ use Rattle.wgr_register.proofs.CachedLemmas.{current_after}
 use Rattle.wgr_outline.specs.declared.outline.Outline.{Outline}
 use Rattle.wgr_opening.specs.Outlines.{AreOutlines}
 use Rattle.wgr_register.proofs.KnownLemmas.{outlines_after}
-use Rattle.wgr_register.proofs.LoadedLemmas.{formed_in, shown_so}
+use Rattle.wgr_register.proofs.LoadedLemmas.{formed_in, known_so, shown_so}
+use Rattle.wgr_tables.specs.Standing.{Stands}
+use Rattle.wgr_tables.specs.Writes.{Written}
 use Rattle.wgr_register.proofs.StandLemmas.{either_way}
 
 -- ---- an order that isn't done, or is
@@ -118,6 +121,15 @@ module _ (t u : Tables) (is : AreConsistent t) (tenant name : Bytes) (answer : A
       its_slot = λ k. (its.0 k, its.1 k)
 
 -- ---- what the connection shows
+
+module _ {S : Type 0} (g : Ghosts S) where
+  -- what is shown after an order, if the store was open before it
+  pub shown_then : (old new : Held S) (r : Result Done OrderFault) (db : Database) (pending : List Written) (P Q : Tables → Type 0) → Stands g old db pending → Shows g old P → HasCleanDisk (state g old)
+      → UnlessUndone r (IsTrue (state g old).is_open) → (P (tables_of db) → UnlessUndone r (Shows g new Q)) → HasCleanDisk (state g new) → IsTrue (state g new).is_open → UnlessUndone r (Q (tables_of (state g new).now))
+  shown_then old new r db pending P Q stands shows before open_ next clean live =
+      let now = Q (tables_of (state g new).now) in
+      undone_then r (Shows g new Q) now (λ shown. unless_undone r now (shown clean live))
+      (undone_then r (IsTrue (state g old).is_open) (Shows g new Q) (λ was_live. next (known_so g old db pending P stands shows before was_live)) open_)
 
 module _ {S : Type 0} (g : Ghosts S) (conn : Held S) (db : Database) (late : List Event) where
   pub at_next : (next : Database) (b : Bool) → EndsAt g conn b db late next → HasCleanDisk (state g conn) → IsTrue (state g conn).is_open → (state g conn).now ≡ next

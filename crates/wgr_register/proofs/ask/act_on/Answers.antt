@@ -113,4 +113,5 @@ pub returns-clause-outlines : goal.returns-clause-outlines
 returns-clause-outlines g c db late digest name at found are clean live =
     outlines_so g.S.Store c.commit_if.new.conn db at.pending at.consistent digest name c.args.now c.args.command.now (c.forms_hold.ensures.asked, c.forms_hold.ensures.forms) c.args.id c.args.network found c.in-Ok.done.0
     (known_outline c.args.outlines.now) (known_outline c.note.new.outlines) c.after-outline.result are c.note.ensures c.in-Ok.done.1 c.in-Ok.ensures.outcome (c.in_ok-commit_if.ensures.done db at.pending found.row at.stands at.consistent found.there found.at clean)
-    (let formed = found_formed (tables_of db) digest name c.args.id c.args.network found in c.after-outline.ensures c.args.network (formed_rules (tables_of db) at.consistent c.args.id c.args.network formed) (c.outline_with-before.ensures (tables_of db) at.consistent are formed) c.in-Ok.ensures.outcome) clean live
+    (let formed = found_formed (tables_of db) digest name c.args.id c.args.network found in
+    c.after-outline.ensures c.args.network (formed_rules (tables_of db) at.consistent c.args.id c.args.network formed) (c.outline_with-before.ensures (tables_of db) at.consistent are formed) c.in-Ok.ensures.outcome) clean live

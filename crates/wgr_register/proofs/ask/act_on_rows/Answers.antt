@@ -1,7 +1,9 @@
-use Rattle.std.proofs.Common.{Err, Ok, subst, true≢false, sym, ◌∙◌, ap, not, refl}
+use Rattle.std.proofs.Common.{List, Err, Ok, subst, true≢false, sym, ◌∙◌, ap, not, refl}
 use Rattle.wgr_core.specs.Change.{Meets}
 use Rattle.wgr_core.specs.Outcome.{outcome_of}
-use Rattle.wgr_model.specs.Steps.{Ask}
+use Rattle.wgr_core.specs.Network.{NetworkValue}
+use Rattle.wgr_model.specs.Register.{Bytes}
+use Rattle.wgr_model.specs.Steps.{Ask, Event}
 use Rattle.wgr_sql.specs.declared.fault.Fault.TheVariants.{NoMemory}
 use Rattle.wgr_columns.specs.Decode.{tables_of}
 use Rattle.wgr_rows.specs.Act.{as_acted}
@@ -9,9 +11,13 @@ use Rattle.wgr_rows.specs.declared.fault.RowFault.{RowFault}
 use Rattle.wgr_register.specs.Loaded.{AreFormed, entries_of}
 use Rattle.wgr_register.proofs.AskLemmas.{acts_done, acts_late, at_found, refused_rows}
 use Rattle.wgr_register.proofs.LoadedLemmas.{committed_so, formed_others, found_formed, shown_so, unless}
-use Rattle.wgr_register.proofs.StandLemmas.{ask_if, at_more, at_read, late_ends, rows_undone_ends}
+use Rattle.wgr_register.proofs.StandLemmas.{ask_if, ask_unread, at_read, late_ends, rows_undone_ends}
 use Rattle.wgr_register.proofs.CauseLemmas.{ask_stops, fault_handed, row_handed, row_weaker, stopped_after, stopped_clean, survives_any, survives_on}
+use Rattle.sqlite.specs.Effect.{Database}
 use Rattle.sqlite.specs.Held.{state}
+use Rattle.sqlite.specs.State.{HasCleanDisk}
+use Rattle.wgr_register.specs.Ends.{IsFound}
+use Rattle.wgr_register.specs.Standing.{StandsAt}
 use Rattle.wgr_sql.specs.Causes.{HasCause, HasCauseOr}
 use Rattle.wgr_register.specs.Causes.{AskStops, StopsIf}
 use Rattle.wgr_sql.proofs.CauseLemmas.{cause_weaker}
@@ -21,7 +27,16 @@ use Rattle.wgr_model.specs.Rows.{holding_of}
 use Rattle.wgr_opening.specs.Outlines.{AreOutlines}
 use Rattle.wgr_register.specs.Known.{known_outline}
 use Rattle.wgr_register.proofs.KnownLemmas.{formed_rules, outlines_so}
+use Rattle.wgr_register.proofs.ask.act_on_rows.Given.{Over}
+use Rattle.wgr_register.proofs.ask.act_on_rows.Goals.{In_ok-reply}
 use Rattle.wgr_register.proofs.ask.act_on_rows.Goals as goal
+
+-- the change that is to be committed is the command's
+met_by : (g : Over) (c : In_ok-reply g) (db : Database) (late : List Event) (digest name : Bytes) (n : NetworkValue) (at : StandsAt g.S.Store c.args.conn.now db late) (found : IsFound (tables_of db) digest name c.args.id n)
+    → AreOutlines (known_outline c.args.outlines.now) (tables_of db) → HasCleanDisk (state g.S.Store c.row_act.new.conn) → Meets n (Ok (c.in_ok-reply.reply, c.in_ok-reply.changes)) (outcome_of n c.args.now c.args.command.now)
+met_by g c db late digest name n at found are clean =
+    let outlined = c.outline_of-before.ensures (tables_of db) (holding_of (tables_of db) found.row).network at.consistent are (found.row, found.there, found.at, refl) in
+    at_found (tables_of db) digest name c.args.id n found c.args.now c.args.command.now (Ok (c.in_ok-reply.reply, c.in_ok-reply.changes)) (c.in_ok-reply.ensures.outcome db at.pending found.row at.stands at.consistent found.there found.at clean outlined)
 
 -- ---- the command isn't done
 
@@ -32,7 +47,8 @@ returns-in_err-reply-clause-ends g c db late digest name n at found are =
     rows_undone_ends g.S.Store g.R.Render.shown c.row_act.new.conn db late event c.args.now c.from_residual.result c.in_err-reply.field-0.0 c.from_residual.ensures.1 (at_read g.S.Store c.args.conn.now c.row_act.new.conn db late (c.row_act.ensures.stands db) at)
     (λ refusal is. refused_rows (tables_of db) at.consistent digest name c.args.now c.args.command.now c.args.id n found refusal
     (subst (λ (w : RowFault). Meets n (as_acted (Err w)) (outcome_of n c.args.now c.args.command.now)) is
-    (at_found (tables_of db) digest name c.args.id n found c.args.now c.args.command.now (as_acted (Err c.in_err-reply.field-0.0)) (c.in_err-reply.ensures.outcome db at.pending found.row at.stands at.consistent found.there found.at clean (c.outline_of-before.ensures (tables_of db) (holding_of (tables_of db) found.row).network at.consistent are (found.row, found.there, found.at, refl)))))))
+    (let outlined = c.outline_of-before.ensures (tables_of db) (holding_of (tables_of db) found.row).network at.consistent are (found.row, found.there, found.at, refl) in
+    at_found (tables_of db) digest name c.args.id n found c.args.now c.args.command.now (as_acted (Err c.in_err-reply.field-0.0)) (c.in_err-reply.ensures.outcome db at.pending found.row at.stands at.consistent found.there found.at clean outlined)))))
 
 pub returns-in_err-reply-clause-formed : goal.returns-in_err-reply-clause-formed
 returns-in_err-reply-clause-formed g c db late digest name n at found are formed =
@@ -59,15 +75,14 @@ returns-in_err-reply-clause-survives g c = survives_any _ _ c.row_act.ensures.su
 
 pub returns-in_err-text-clause-ends : goal.returns-in_err-text-clause-ends
 returns-in_err-text-clause-ends g c db late digest name n at found are =
-    let event = Ask digest name c.args.now c.args.command.now in
-    late_ends g.S.Store g.R.Render.shown c.row_act.new.conn db late event c.args.now c.from_residual-in_err-text.result NoMemory c.from_residual-in_err-text.ensures.1
-    (at_more g.S.Store c.row_act.new.conn db late event (at_read g.S.Store c.args.conn.now c.row_act.new.conn db late (c.row_act.ensures.stands db) at))
+    ask_unread g.S.Store g.R.Render.shown _ _ db late _ _ _ _ c.from_residual-in_err-text.ensures.1 (c.row_act.ensures.stands db) at
 
 pub returns-in_err-text-clause-cause : goal.returns-in_err-text-clause-cause
 returns-in_err-text-clause-cause g c db late digest name n at found reads = fault_handed (HasCause (state g.S.Store c.args.conn.now) (state g.S.Store c.row_act.new.conn)) c.from_residual-in_err-text.result NoMemory c.from_residual-in_err-text.ensures.1 tt
 
 pub returns-in_err-text-clause-stops : goal.returns-in_err-text-clause-stops
-returns-in_err-text-clause-stops g c db late digest name n at found are = fault_handed (HasCauseOr (AskStops (tables_of db) digest name c.args.now c.args.command.now) (state g.S.Store c.args.conn.now) (state g.S.Store c.row_act.new.conn)) c.from_residual-in_err-text.result NoMemory c.from_residual-in_err-text.ensures.1 tt
+returns-in_err-text-clause-stops g c db late digest name n at found are =
+    fault_handed (HasCauseOr (AskStops (tables_of db) digest name c.args.now c.args.command.now) (state g.S.Store c.args.conn.now) (state g.S.Store c.row_act.new.conn)) _ NoMemory c.from_residual-in_err-text.ensures.1 tt
 
 pub returns-in_err-text-clause-survives : goal.returns-in_err-text-clause-survives
 returns-in_err-text-clause-survives g c = survives_any _ _ c.row_act.ensures.survives
@@ -79,7 +94,7 @@ returns-in_err-commit_if-clause-ends g c db late digest name n at found are =
     let event = Ask digest name c.args.now c.args.command.now in
     let there = c.row_act.ensures.stands db at.pending at.stands in
     ask_if g.S.Store g.R.Render.shown c.commit_if.new.conn db late event c.args.now c.from_residual-in_err-commit_if.result c.commit_if.ensures.idle at.stands.sound at.consistent (λ clean.
-    let met = at_found (tables_of db) digest name c.args.id n found c.args.now c.args.command.now (Ok (c.in_ok-reply.reply, c.in_ok-reply.changes)) (c.in_ok-reply.ensures.outcome db at.pending found.row at.stands at.consistent found.there found.at (c.commit_if.ensures.clean clean) (c.outline_of-before.ensures (tables_of db) (holding_of (tables_of db) found.row).network at.consistent are (found.row, found.there, found.at, refl))) in
+    let met = met_by g (goal.at.returns-in_err-commit_if-clause-ends g c).In_ok-reply db late digest name n at found are (c.commit_if.ensures.clean clean) in
     late_ends g.S.Store g.R.Render.shown c.commit_if.new.conn db late event c.args.now c.from_residual-in_err-commit_if.result c.in_err-commit_if.field-0.0 c.from_residual-in_err-commit_if.ensures.1
     (acts_late g.S.Store g.R.Render.shown c.commit_if.new.conn db at.pending late at.consistent at.steps digest name c.args.now c.args.command.now (c.forms_hold.ensures.asked, c.forms_hold.ensures.forms) c.args.id n found c.in_ok-reply.reply
     c.in_ok-reply.changes met (c.in_err-commit_if.ensures.fault db at.pending found.row there at.consistent found.there found.at)))
@@ -96,7 +111,7 @@ returns-in_err-commit_if-clause-stops g c db late digest name n at found are =
     let new = state g.S.Store c.commit_if.new.conn in
     let there = c.row_act.ensures.stands db at.pending at.stands in
     stopped_clean P old new c.from_residual-in_err-commit_if.result (λ clean.
-    let met = at_found (tables_of db) digest name c.args.id n found c.args.now c.args.command.now (Ok (c.in_ok-reply.reply, c.in_ok-reply.changes)) (c.in_ok-reply.ensures.outcome db at.pending found.row at.stands at.consistent found.there found.at (c.commit_if.ensures.clean clean) (c.outline_of-before.ensures (tables_of db) (holding_of (tables_of db) found.row).network at.consistent are (found.row, found.there, found.at, refl))) in
+    let met = met_by g (goal.at.returns-in_err-commit_if-clause-stops g c).In_ok-reply db late digest name n at found are (c.commit_if.ensures.clean clean) in
     stopped_after P old mid new c.from_residual-in_err-commit_if.result c.row_act.ensures.survives c.commit_if.ensures.survives
     (fault_handed (HasCauseOr P mid new) c.from_residual-in_err-commit_if.result why c.from_residual-in_err-commit_if.ensures.1
     (cause_weaker (StopsIf c.args.id c.in_ok-reply.changes (tables_of db)) P mid new
@@ -110,14 +125,14 @@ returns-in_err-commit_if-clause-survives g c = survives_on _ _ _ c.row_act.ensur
 pub returns-clause-ends : goal.returns-clause-ends
 returns-clause-ends g c db late digest name n at found are clean =
     let there = c.row_act.ensures.stands db at.pending at.stands in
-    let met = at_found (tables_of db) digest name c.args.id n found c.args.now c.args.command.now (Ok (c.in_ok-reply.reply, c.in_ok-reply.changes)) (c.in_ok-reply.ensures.outcome db at.pending found.row at.stands at.consistent found.there found.at (c.commit_if.ensures.clean clean) (c.outline_of-before.ensures (tables_of db) (holding_of (tables_of db) found.row).network at.consistent are (found.row, found.there, found.at, refl))) in
+    let met = met_by g (goal.at.returns-clause-ends g c).In_ok-reply db late digest name n at found are (c.commit_if.ensures.clean clean) in
     acts_done g.S.Store g.R.Render.shown c.commit_if.new.conn db at.pending late at.consistent at.steps digest name c.args.now c.args.command.now (c.forms_hold.ensures.asked, c.forms_hold.ensures.forms) c.args.id n found c.in_ok-reply.reply
     c.in_ok-reply.changes c.in_ok-text.text.items c.in_ok-reply.ensures.change met (c.in_ok-text.ensures c.args.now n) (c.in_ok-commit_if.ensures.done db at.pending found.row there at.consistent found.there found.at clean) clean
 
 pub returns-clause-formed : goal.returns-clause-formed
 returns-clause-formed g c db late digest name n at found are formed clean live =
     let there = c.row_act.ensures.stands db at.pending at.stands in
-    let met = at_found (tables_of db) digest name c.args.id n found c.args.now c.args.command.now (Ok (c.in_ok-reply.reply, c.in_ok-reply.changes)) (c.in_ok-reply.ensures.outcome db at.pending found.row at.stands at.consistent found.there found.at (c.commit_if.ensures.clean clean) (c.outline_of-before.ensures (tables_of db) (holding_of (tables_of db) found.row).network at.consistent are (found.row, found.there, found.at, refl))) in
+    let met = met_by g (goal.at.returns-clause-formed g c).In_ok-reply db late digest name n at found are (c.commit_if.ensures.clean clean) in
     committed_so g.S.Store c.commit_if.new.conn db at.pending at.consistent digest name c.args.now c.args.command.now (c.forms_hold.ensures.asked, c.forms_hold.ensures.forms) c.args.id n found c.in_ok-reply.reply
     (entries_of c.args.loaded.now) (entries_of c.forget.new.loaded) (formed_others c.args.id (entries_of c.args.loaded.now) (tables_of db) formed) c.in_ok-reply.changes met
     (c.in_ok-commit_if.ensures.done db at.pending found.row there at.consistent found.there found.at clean) (λ t others own. c.forget.ensures t others) clean live
@@ -125,7 +140,7 @@ returns-clause-formed g c db late digest name n at found are formed clean live =
 pub returns-clause-current : goal.returns-clause-current
 returns-clause-current g c db late digest name n at found are current clean live =
     let there = c.row_act.ensures.stands db at.pending at.stands in
-    let met = at_found (tables_of db) digest name c.args.id n found c.args.now c.args.command.now (Ok (c.in_ok-reply.reply, c.in_ok-reply.changes)) (c.in_ok-reply.ensures.outcome db at.pending found.row at.stands at.consistent found.there found.at (c.commit_if.ensures.clean clean) (c.outline_of-before.ensures (tables_of db) (holding_of (tables_of db) found.row).network at.consistent are (found.row, found.there, found.at, refl))) in
+    let met = met_by g (goal.at.returns-clause-current g c).In_ok-reply db late digest name n at found are (c.commit_if.ensures.clean clean) in
     current_so g.S.Store c.commit_if.new.conn db at.pending at.consistent digest name c.args.now c.args.command.now (c.forms_hold.ensures.asked, c.forms_hold.ensures.forms) c.args.id n found c.in_ok-reply.reply
     (files_of c.args.files.now) (files_of c.drop_changed.new.files) current c.in_ok-reply.changes met (c.in_ok-commit_if.ensures.done db at.pending found.row there at.consistent found.there found.at clean)
     (λ none. ap files_of (c.drop_changed.ensures.none none)) c.drop_changed.ensures.some clean live
@@ -142,7 +157,7 @@ returns-in_err-reply-clause-outlines g c db late digest name n at found are =
 pub returns-clause-outlines : goal.returns-clause-outlines
 returns-clause-outlines g c db late digest name n at found are clean live =
     let there = c.row_act.ensures.stands db at.pending at.stands in
-    let met = at_found (tables_of db) digest name c.args.id n found c.args.now c.args.command.now (Ok (c.in_ok-reply.reply, c.in_ok-reply.changes)) (c.in_ok-reply.ensures.outcome db at.pending found.row at.stands at.consistent found.there found.at (c.commit_if.ensures.clean clean) (c.outline_of-before.ensures (tables_of db) (holding_of (tables_of db) found.row).network at.consistent are (found.row, found.there, found.at, refl))) in
+    let met = met_by g (goal.at.returns-clause-outlines g c).In_ok-reply db late digest name n at found are (c.commit_if.ensures.clean clean) in
     outlines_so g.S.Store c.commit_if.new.conn db at.pending at.consistent digest name c.args.now c.args.command.now (c.forms_hold.ensures.asked, c.forms_hold.ensures.forms) c.args.id n found c.in_ok-reply.reply
     (known_outline c.args.outlines.now) (known_outline c.note.new.outlines) c.after-outline.result are c.note.ensures c.in_ok-reply.changes met (c.in_ok-commit_if.ensures.done db at.pending found.row there at.consistent found.there found.at clean)
     (let formed = found_formed (tables_of db) digest name c.args.id n found in c.after-outline.ensures n (formed_rules (tables_of db) at.consistent c.args.id n formed) (c.outline_of-before.ensures (tables_of db) n at.consistent are formed) met) clean live

@@ -6,18 +6,16 @@ use Rattle.wgr_register.specs.Given.{IsShown, OfNetworks}
 use Rattle.wgr_register.specs.Listing.{seen_by}
 use Rattle.wgr_register.proofs.ListLemmas.{holder_lists, nobody_lists}
 use Rattle.wgr_register.proofs.LoadedLemmas.{unless_late}
-use Rattle.wgr_register.proofs.StandLemmas.{at_more, at_read, ends_still, late_ends}
+use Rattle.wgr_register.proofs.StandLemmas.{ask_unread, at_read, ends_still}
 use Rattle.sqlite.specs.Held.{state}
 use Rattle.wgr_sql.specs.Causes.{HasCause}
-use Rattle.wgr_sql.proofs.CauseLemmas.{cause_after}
-use Rattle.wgr_register.proofs.CauseLemmas.{fault_handed}
+use Rattle.wgr_sql.proofs.SurvivesLemmas.{survives_still}
+use Rattle.wgr_register.proofs.CauseLemmas.{asked_unread, fault_handed}
 use Rattle.wgr_register.proofs.list.networks.Goals as goal
 
 pub returns-in_err-tenant-clause-ends : goal.returns-in_err-tenant-clause-ends
 returns-in_err-tenant-clause-ends g c db late now at =
-    let event = Networks c.args.digest.now in
-    late_ends g.S.Store g.R.Render.shown c.tenant_of_token.new.conn db late event now c.from_residual.result c.in_err-tenant.field-0.0 c.from_residual.ensures.1
-    (at_more g.S.Store c.tenant_of_token.new.conn db late event (at_read g.S.Store c.args.conn.now c.tenant_of_token.new.conn db late (c.tenant_of_token.ensures.stands db) at))
+    ask_unread g.S.Store g.R.Render.shown _ _ db late _ _ _ _ c.from_residual.ensures.1 (c.tenant_of_token.ensures.stands db) at
 
 pub returns-in_default-clause-ends : goal.returns-in_default-clause-ends
 returns-in_default-clause-ends g c db late now at = (
@@ -29,15 +27,11 @@ returns-in_default-clause-ends g c db late now at = (
 
 pub returns-in_err-networks-clause-ends : goal.returns-in_err-networks-clause-ends
 returns-in_err-networks-clause-ends g c db late now at =
-    let event = Networks c.args.digest.now in
-    late_ends g.S.Store g.R.Render.shown c.added_networks.new.conn db late event now c.from_residual-in_err-networks.result c.in_err-networks.field-0.0 c.from_residual-in_err-networks.ensures.1
-    (at_more g.S.Store c.added_networks.new.conn db late event (at_read g.S.Store c.args.conn.now c.added_networks.new.conn db late (λ pending stood. c.added_networks.ensures.stands db pending (c.tenant_of_token.ensures.stands db pending stood)) at))
+    ask_unread g.S.Store g.R.Render.shown _ _ db late _ _ _ _ c.from_residual-in_err-networks.ensures.1 (λ pending stood. c.added_networks.ensures.stands db pending (c.tenant_of_token.ensures.stands db pending stood)) at
 
 pub returns-in_err-text-clause-ends : goal.returns-in_err-text-clause-ends
 returns-in_err-text-clause-ends g c db late now at =
-    let event = Networks c.args.digest.now in
-    late_ends g.S.Store g.R.Render.shown c.added_networks.new.conn db late event now c.from_residual-in_err-text.result NoMemory c.from_residual-in_err-text.ensures.1
-    (at_more g.S.Store c.added_networks.new.conn db late event (at_read g.S.Store c.args.conn.now c.added_networks.new.conn db late (λ pending stood. c.added_networks.ensures.stands db pending (c.tenant_of_token.ensures.stands db pending stood)) at))
+    ask_unread g.S.Store g.R.Render.shown _ _ db late _ _ _ _ c.from_residual-in_err-text.ensures.1 (λ pending stood. c.added_networks.ensures.stands db pending (c.tenant_of_token.ensures.stands db pending stood)) at
 
 pub returns-clause-ends : goal.returns-clause-ends
 returns-clause-ends g c db late now at clean =
@@ -60,13 +54,13 @@ pub returns-clause-stands : goal.returns-clause-stands
 returns-clause-stands g c db pending stood = c.added_networks.ensures.stands db pending (c.tenant_of_token.ensures.stands db pending stood)
 
 pub returns-in_err-tenant-clause-open : goal.returns-in_err-tenant-clause-open
-returns-in_err-tenant-clause-open g c clean = unless_late c.from_residual.result c.in_err-tenant.field-0.0 _ c.from_residual.ensures.1
+returns-in_err-tenant-clause-open g c clean = unless_late _ _ _ c.from_residual.ensures.1
 
 pub returns-in_err-networks-clause-open : goal.returns-in_err-networks-clause-open
-returns-in_err-networks-clause-open g c clean = unless_late c.from_residual-in_err-networks.result c.in_err-networks.field-0.0 _ c.from_residual-in_err-networks.ensures.1
+returns-in_err-networks-clause-open g c clean = unless_late _ _ _ c.from_residual-in_err-networks.ensures.1
 
 pub returns-in_err-text-clause-open : goal.returns-in_err-text-clause-open
-returns-in_err-text-clause-open g c clean = unless_late c.from_residual-in_err-text.result NoMemory _ c.from_residual-in_err-text.ensures.1
+returns-in_err-text-clause-open g c clean = unless_late _ _ _ c.from_residual-in_err-text.ensures.1
 
 pub returns-clause-open : goal.returns-clause-open
 returns-clause-open g c clean = c.in_ok-tenant.ensures.open (c.added_networks.ensures.clean clean)
@@ -75,13 +69,12 @@ returns-clause-open g c clean = c.in_ok-tenant.ensures.open (c.added_networks.en
 
 pub returns-in_err-tenant-clause-cause : goal.returns-in_err-tenant-clause-cause
 returns-in_err-tenant-clause-cause g c db late at =
-    fault_handed (HasCause (state g.S.Store c.args.conn.now) (state g.S.Store c.tenant_of_token.new.conn)) c.from_residual.result c.in_err-tenant.field-0.0 c.from_residual.ensures.1 (c.in_err-tenant.ensures.cause db at.pending at.stands at.consistent)
+    asked_unread ⊥ _ _ _ _ _ c.from_residual.ensures.1 (survives_still _) c.tenant_of_token.ensures.survives (c.in_err-tenant.ensures.cause db at.pending at.stands at.consistent)
 
 pub returns-in_err-networks-clause-cause : goal.returns-in_err-networks-clause-cause
 returns-in_err-networks-clause-cause g c db late at =
     let mid = c.tenant_of_token.ensures.stands db at.pending at.stands in
-    fault_handed (HasCause (state g.S.Store c.args.conn.now) (state g.S.Store c.added_networks.new.conn)) c.from_residual-in_err-networks.result c.in_err-networks.field-0.0 c.from_residual-in_err-networks.ensures.1
-    (cause_after (state g.S.Store c.args.conn.now) (state g.S.Store c.tenant_of_token.new.conn) (state g.S.Store c.added_networks.new.conn) ⊥ ⊥ (λ _. ⊥) (λ _. ⊥) c.tenant_of_token.ensures.survives c.added_networks.ensures.survives (λ h. h) c.in_err-networks.field-0.0 (c.in_err-networks.ensures.cause db at.pending mid at.consistent))
+    asked_unread ⊥ _ _ _ _ _ c.from_residual-in_err-networks.ensures.1 c.tenant_of_token.ensures.survives c.added_networks.ensures.survives (c.in_err-networks.ensures.cause db at.pending mid at.consistent)
 
 pub returns-in_err-text-clause-cause : goal.returns-in_err-text-clause-cause
 returns-in_err-text-clause-cause g c db late at = fault_handed (HasCause (state g.S.Store c.args.conn.now) (state g.S.Store c.added_networks.new.conn)) c.from_residual-in_err-text.result NoMemory c.from_residual-in_err-text.ensures.1 tt

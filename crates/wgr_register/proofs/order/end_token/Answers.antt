@@ -1,24 +1,36 @@
-use Rattle.std.proofs.Common.{◌≡◌, None, Some, sym, ◌∙◌}
-use Rattle.wgr_model.specs.Steps.{EndToken, tenant_of_token}
+use Rattle.std.proofs.Common.{◌≡◌, List, None, Some, sym, ◌∙◌}
+use Rattle.wgr_model.specs.RowLaws.{IsRowStep}
+use Rattle.wgr_model.specs.Rows.{Tables}
+use Rattle.wgr_model.specs.Steps.{Done, EndToken, Event, tenant_of_token}
 use Rattle.wgr_columns.specs.Decode.{tables_of}
-use Rattle.wgr_tables.specs.Writes.{TokenLost}
+use Rattle.wgr_tables.specs.Writes.{Changes, TokenLost}
 use Rattle.wgr_register.proofs.OrderLemmas.{no_such_token, token_ends}
 use Rattle.wgr_register.proofs.StandLemmas.{at_read, order_done, order_unread, order_unwritten}
+use Rattle.sqlite.specs.Effect.{Database}
 use Rattle.sqlite.specs.Held.{state}
+use Rattle.sqlite.specs.State.{HasCleanDisk}
+use Rattle.wgr_register.specs.Standing.{StandsAt}
 use Rattle.wgr_sql.proofs.SurvivesLemmas.{survives_still}
-use Rattle.wgr_register.specs.Causes.{OrderStops}
 use Rattle.wgr_register.proofs.OrderCauses.{unread_stops, unwritten_stops}
-use Rattle.wgr_entries.specs.Stops.{TokenStays}
 use Rattle.wgr_register.proofs.StayLemmas.{undone}
+use Rattle.wgr_register.proofs.order.end_token.Given.{Over}
+use Rattle.wgr_register.proofs.order.end_token.Goals.{After-end_token}
 use Rattle.wgr_register.proofs.order.end_token.Goals as goal
+
+-- what the write does, if it is made
+token_goes : (g : Over) (c : After-end_token g) (db : Database) (late : List Event) (at : StandsAt g.S.Store c.args.conn.now db late) → HasCleanDisk (state g.S.Store c.end_token.new.conn) → (u : Tables)
+    → Changes (TokenLost c.args.digest.now) (tables_of db) u → IsRowStep (tables_of db) (EndToken c.args.digest.now) Done u
+token_goes g c db late at clean =
+    let known : tenant_of_token (tables_of db).tokens c.args.digest.now ≡ Some c.in-Some._holder = sym (c.in_ok-_holder.ensures.found db at.pending at.stands (c.end_token.ensures.clean clean)) ∙ c.in-Some.is in
+    token_ends (tables_of db) at.consistent c.args.digest.now c.in-Some._holder known
 
 pub returns-in_err-_holder-clause-ends : goal.returns-in_err-_holder-clause-ends
 returns-in_err-_holder-clause-ends g c db late at =
-    order_unread g.S.Store c.args.conn.now c.tenant_of_token.new.conn db late (EndToken c.args.digest.now) c.from_residual.result c.in_err-_holder.field-0.0 c.from_residual.ensures.1 (c.tenant_of_token.ensures.stands db) at
+    order_unread g.S.Store _ _ db late _ _ _ c.from_residual.ensures.1 (c.tenant_of_token.ensures.stands db) at
 
 pub returns-in_default-clause-ends : goal.returns-in_default-clause-ends
 returns-in_default-clause-ends g c db late at = (
-  at_read g.S.Store c.args.conn.now c.tenant_of_token.new.conn db late (c.tenant_of_token.ensures.stands db) at,
+  at_read g.S.Store _ _ db late (c.tenant_of_token.ensures.stands db) at,
   λ clean.
       let none : tenant_of_token (tables_of db).tokens c.args.digest.now ≡ None = sym (c.in_ok-_holder.ensures.found db at.pending at.stands clean) ∙ c.in_default.is in
       no_such_token (tables_of db) at.consistent c.args.digest.now none,
@@ -26,47 +38,39 @@ returns-in_default-clause-ends g c db late at = (
 
 pub returns-in_err-end_token-clause-ends : goal.returns-in_err-end_token-clause-ends
 returns-in_err-end_token-clause-ends g c db late at =
-    let mid = c.tenant_of_token.ensures.stands db at.pending at.stands in
-    order_unwritten g.S.Store c.args.conn.now c.end_token.new.conn db late (EndToken c.args.digest.now) tt c.from_residual-in_err-end_token.result c.in_err-end_token.field-0.0 (TokenLost c.args.digest.now)
-    c.from_residual-in_err-end_token.ensures.1 c.end_token.ensures.idle
-    (λ clean u made.
-    let known : tenant_of_token (tables_of db).tokens c.args.digest.now ≡ Some c.in-Some._holder = sym (c.in_ok-_holder.ensures.found db at.pending at.stands (c.end_token.ensures.clean clean)) ∙ c.in-Some.is in
-    token_ends (tables_of db) at.consistent c.args.digest.now c.in-Some._holder known u made) at (c.in_err-end_token.ensures.fault db at.pending mid)
+    let ends = token_goes g (goal.at.returns-in_err-end_token-clause-ends g c).After-end_token db late at in
+    let there = c.tenant_of_token.ensures.stands db at.pending at.stands in
+    order_unwritten g.S.Store _ _ db late _ tt _ _ (TokenLost c.args.digest.now) c.from_residual-in_err-end_token.ensures.1 c.end_token.ensures.idle ends at (c.in_err-end_token.ensures.fault db at.pending there)
 
 pub returns-clause-ends : goal.returns-clause-ends
 returns-clause-ends g c db late at clean =
-    let mid = c.tenant_of_token.ensures.stands db at.pending at.stands in
-    let known : tenant_of_token (tables_of db).tokens c.args.digest.now ≡ Some c.in-Some._holder = sym (c.in_ok-_holder.ensures.found db at.pending at.stands (c.end_token.ensures.clean clean)) ∙ c.in-Some.is in
-    order_done g.S.Store c.end_token.new.conn db late (EndToken c.args.digest.now) (TokenLost c.args.digest.now) tt at.consistent (token_ends (tables_of db) at.consistent c.args.digest.now c.in-Some._holder known)
-    (c.in_ok-end_token.ensures.done db at.pending mid clean) clean
+    let ends = token_goes g (goal.at.returns-clause-ends g c).After-end_token db late at clean in
+    let there = c.tenant_of_token.ensures.stands db at.pending at.stands in
+    order_done g.S.Store _ db late _ (TokenLost c.args.digest.now) tt at.consistent ends (c.in_ok-end_token.ensures.done db at.pending there clean) clean
 
 -- ---- why it ends by a fault
 
 pub returns-in_err-_holder-clause-stops : goal.returns-in_err-_holder-clause-stops
 returns-in_err-_holder-clause-stops g c db late at =
-    unread_stops (OrderStops (tables_of db) (EndToken c.args.digest.now)) (state g.S.Store c.args.conn.now) (state g.S.Store c.args.conn.now) (state g.S.Store c.tenant_of_token.new.conn) c.from_residual.result c.in_err-_holder.field-0.0 c.from_residual.ensures.1 (survives_still (state g.S.Store c.args.conn.now)) c.tenant_of_token.ensures.survives (c.in_err-_holder.ensures.cause db at.pending at.stands at.consistent)
+    unread_stops _ _ _ _ _ _ c.from_residual.ensures.1 (survives_still _) c.tenant_of_token.ensures.survives (c.in_err-_holder.ensures.cause db at.pending at.stands at.consistent)
 
 pub returns-in_err-end_token-clause-stops : goal.returns-in_err-end_token-clause-stops
 returns-in_err-end_token-clause-stops g c db late at =
-    unwritten_stops (OrderStops (tables_of db) (EndToken c.args.digest.now)) (state g.S.Store c.args.conn.now) (state g.S.Store c.tenant_of_token.new.conn) (state g.S.Store c.end_token.new.conn) c.from_residual-in_err-end_token.result c.in_err-end_token.field-0.0 c.from_residual-in_err-end_token.ensures.1 c.tenant_of_token.ensures.survives (TokenStays c.args.digest.now (tables_of db)) c.end_token.ensures.survives
-    (λ clean refused. record {
-      write = TokenLost c.args.digest.now;
-      does = λ u made.
-          let known : tenant_of_token (tables_of db).tokens c.args.digest.now ≡ Some c.in-Some._holder = sym (c.in_ok-_holder.ensures.found db at.pending at.stands (c.end_token.ensures.clean clean)) ∙ c.in-Some.is in
-          token_ends (tables_of db) at.consistent c.args.digest.now c.in-Some._holder known u made;
-      stops = refused;
-    }) (c.in_err-end_token.ensures.cause db at.pending (c.tenant_of_token.ensures.stands db at.pending at.stands))
+    let ends = token_goes g (goal.at.returns-in_err-end_token-clause-stops g c).After-end_token db late at in
+    let there = c.tenant_of_token.ensures.stands db at.pending at.stands in
+    unwritten_stops _ _ _ _ _ _ c.from_residual-in_err-end_token.ensures.1 c.tenant_of_token.ensures.survives _ c.end_token.ensures.survives
+    (λ clean refused. record { write = TokenLost c.args.digest.now; does = ends clean; stops = refused }) (c.in_err-end_token.ensures.cause db at.pending there)
 
 -- ---- where it isn't undone, the store was open
 
 pub returns-in_err-_holder-clause-open : goal.returns-in_err-_holder-clause-open
-returns-in_err-_holder-clause-open g c clean = undone c.from_residual.result c.in_err-_holder.field-0.0 _ c.from_residual.ensures.1
+returns-in_err-_holder-clause-open g c clean = undone _ _ _ c.from_residual.ensures.1
 
 pub returns-in_default-clause-open : goal.returns-in_default-clause-open
 returns-in_default-clause-open g c clean = c.in_ok-_holder.ensures.open clean
 
 pub returns-in_err-end_token-clause-open : goal.returns-in_err-end_token-clause-open
-returns-in_err-end_token-clause-open g c clean = undone c.from_residual-in_err-end_token.result c.in_err-end_token.field-0.0 _ c.from_residual-in_err-end_token.ensures.1
+returns-in_err-end_token-clause-open g c clean = undone _ _ _ c.from_residual-in_err-end_token.ensures.1
 
 pub returns-clause-open : goal.returns-clause-open
 returns-clause-open g c clean = c.in_ok-_holder.ensures.open (c.end_token.ensures.clean clean)

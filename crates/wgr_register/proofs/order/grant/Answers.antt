@@ -1,25 +1,44 @@
-use Rattle.std.proofs.Common.{◌≡◌, None, Some, false, true, sym, ◌∙◌}
+use Rattle.std.proofs.Common.{◌≡◌, List, None, Some, false, true, sym, ◌∙◌}
 use Rattle.wgr_model.specs.Register.{id_of}
-use Rattle.wgr_model.specs.Steps.{Grant, tenant_of_token}
+use Rattle.wgr_model.specs.RowLaws.{IsRowStep}
+use Rattle.wgr_model.specs.Rows.{Tables}
+use Rattle.wgr_model.specs.Steps.{Done, Event, Grant, tenant_of_token}
 use Rattle.wgr_columns.specs.Decode.{tables_of}
-use Rattle.wgr_tables.specs.Writes.{TokenGained}
+use Rattle.wgr_tables.specs.Writes.{Changes, TokenGained}
 use Rattle.wgr_register.proofs.OrderLemmas.{held_already, nobody_gets, token_comes, tokens_by, tokens_full}
 use Rattle.wgr_register.proofs.StandLemmas.{at_read, order_done, order_unread, order_unwritten}
+use Rattle.sqlite.specs.Effect.{Database}
 use Rattle.sqlite.specs.Held.{state}
+use Rattle.sqlite.specs.State.{HasCleanDisk}
+use Rattle.wgr_register.specs.Standing.{StandsAt}
 use Rattle.wgr_sql.proofs.SurvivesLemmas.{survives_next, survives_still}
-use Rattle.wgr_register.specs.Causes.{OrderStops}
 use Rattle.wgr_register.proofs.OrderCauses.{unread_stops, unwritten_stops}
-use Rattle.wgr_entries.specs.Stops.{TokenStaysOut}
 use Rattle.wgr_register.proofs.StayLemmas.{undone}
+use Rattle.wgr_register.proofs.order.grant.Given.{Over}
+use Rattle.wgr_register.proofs.order.grant.Goals.{After-add_token}
 use Rattle.wgr_register.proofs.order.grant.Goals as goal
+
+-- what the write does, if it is made
+token_joins : (g : Over) (c : After-add_token g) (db : Database) (late : List Event) (at : StandsAt g.S.Store c.args.conn.now db late) → HasCleanDisk (state g.S.Store c.add_token.new.conn) → (u : Tables)
+    → Changes (TokenGained (record { digest = c.args.digest.now; tenant = c.in-Some.id })) (tables_of db) u → IsRowStep (tables_of db) (Grant c.args.tenant.now c.args.digest.now) Done u
+token_joins g c db late at clean =
+    let t = tables_of db in
+    let mid = c.tenant_id.ensures.stands db at.pending at.stands in
+    let counting = c.add_token.ensures.clean clean in
+    let looking = c.count_tokens.ensures.clean counting in
+    let known : id_of t.tenants c.args.tenant.now ≡ Some c.in-Some.id = sym (c.in_ok-id.ensures.found db at.pending at.stands (c.tenant_of_token.ensures.clean looking)) ∙ c.in-Some.is in
+    let free : tenant_of_token t.tokens c.args.digest.now ≡ None = sym (c.in_ok-tenant_of_token.ensures.found db at.pending mid looking) ∙ c.in-None.is in
+    let counted = c.in_ok-count.ensures.counted db at.pending (c.tenant_of_token.ensures.stands db at.pending mid) counting in
+    let room = tokens_by t c.in_ok-count.count counted false (sym c.is_full.ensures ∙ c.if-is_full.false) in
+    token_comes t at.consistent c.args.tenant.now c.args.digest.now c.in-Some.id known free room
 
 pub returns-in_err-id-clause-ends : goal.returns-in_err-id-clause-ends
 returns-in_err-id-clause-ends g c db late at proper =
-    order_unread g.S.Store c.args.conn.now c.tenant_id.new.conn db late (Grant c.args.tenant.now c.args.digest.now) c.from_residual.result c.in_err-id.field-0.0 c.from_residual.ensures.1 (c.tenant_id.ensures.stands db) at
+    order_unread g.S.Store _ _ db late _ _ _ c.from_residual.ensures.1 (c.tenant_id.ensures.stands db) at
 
 pub returns-in_default-clause-ends : goal.returns-in_default-clause-ends
 returns-in_default-clause-ends g c db late at proper = (
-  at_read g.S.Store c.args.conn.now c.tenant_id.new.conn db late (c.tenant_id.ensures.stands db) at,
+  at_read g.S.Store _ _ db late (c.tenant_id.ensures.stands db) at,
   λ clean.
       let none : id_of (tables_of db).tenants c.args.tenant.now ≡ None = sym (c.in_ok-id.ensures.found db at.pending at.stands clean) ∙ c.in_default.is in
       nobody_gets (tables_of db) at.consistent c.args.tenant.now c.args.digest.now none,
@@ -27,12 +46,12 @@ returns-in_default-clause-ends g c db late at proper = (
 
 pub returns-in_err-tenant_of_token-clause-ends : goal.returns-in_err-tenant_of_token-clause-ends
 returns-in_err-tenant_of_token-clause-ends g c db late at proper =
-    order_unread g.S.Store c.args.conn.now c.tenant_of_token.new.conn db late (Grant c.args.tenant.now c.args.digest.now) c.from_residual-in_err-tenant_of_token.result c.in_err-tenant_of_token.field-0.0 c.from_residual-in_err-tenant_of_token.ensures.1
+    order_unread g.S.Store _ _ db late _ _ _ c.from_residual-in_err-tenant_of_token.ensures.1
     (λ pending stood. c.tenant_of_token.ensures.stands db pending (c.tenant_id.ensures.stands db pending stood)) at
 
 pub returns-in_default-2-clause-ends : goal.returns-in_default-2-clause-ends
 returns-in_default-2-clause-ends g c db late at proper = (
-  at_read g.S.Store c.args.conn.now c.tenant_of_token.new.conn db late (λ pending stood. c.tenant_of_token.ensures.stands db pending (c.tenant_id.ensures.stands db pending stood)) at,
+  at_read g.S.Store _ _ db late (λ pending stood. c.tenant_of_token.ensures.stands db pending (c.tenant_id.ensures.stands db pending stood)) at,
   λ clean.
       let mid = c.tenant_id.ensures.stands db at.pending at.stands in
       let known : id_of (tables_of db).tenants c.args.tenant.now ≡ Some c.in-Some.id = sym (c.in_ok-id.ensures.found db at.pending at.stands (c.tenant_of_token.ensures.clean clean)) ∙ c.in-Some.is in
@@ -42,12 +61,12 @@ returns-in_default-2-clause-ends g c db late at proper = (
 
 pub returns-in_err-count-clause-ends : goal.returns-in_err-count-clause-ends
 returns-in_err-count-clause-ends g c db late at proper =
-    order_unread g.S.Store c.args.conn.now c.count_tokens.new.conn db late (Grant c.args.tenant.now c.args.digest.now) c.from_residual-in_err-count.result c.in_err-count.field-0.0 c.from_residual-in_err-count.ensures.1
+    order_unread g.S.Store _ _ db late _ _ _ c.from_residual-in_err-count.ensures.1
     (λ pending stood. c.count_tokens.ensures.stands db pending (c.tenant_of_token.ensures.stands db pending (c.tenant_id.ensures.stands db pending stood))) at
 
 pub returns-then-is_full-clause-ends : goal.returns-then-is_full-clause-ends
 returns-then-is_full-clause-ends g c db late at proper = (
-  at_read g.S.Store c.args.conn.now c.count_tokens.new.conn db late (λ pending stood. c.count_tokens.ensures.stands db pending (c.tenant_of_token.ensures.stands db pending (c.tenant_id.ensures.stands db pending stood))) at,
+  at_read g.S.Store _ _ db late (λ pending stood. c.count_tokens.ensures.stands db pending (c.tenant_of_token.ensures.stands db pending (c.tenant_id.ensures.stands db pending stood))) at,
   λ clean.
       let mid = c.tenant_id.ensures.stands db at.pending at.stands in
       let near = c.tenant_of_token.ensures.stands db at.pending mid in
@@ -60,85 +79,62 @@ returns-then-is_full-clause-ends g c db late at proper = (
 
 pub returns-in_err-add_token-clause-ends : goal.returns-in_err-add_token-clause-ends
 returns-in_err-add_token-clause-ends g c db late at proper =
-    let mid = c.tenant_id.ensures.stands db at.pending at.stands in
-    let near = c.tenant_of_token.ensures.stands db at.pending mid in
-    let last = c.count_tokens.ensures.stands db at.pending near in
-    order_unwritten g.S.Store c.args.conn.now c.add_token.new.conn db late (Grant c.args.tenant.now c.args.digest.now) proper c.from_residual-in_err-add_token.result c.in_err-add_token.field-0.0
-    (TokenGained (record { digest = c.args.digest.now; tenant = c.in-Some.id })) c.from_residual-in_err-add_token.ensures.1 c.add_token.ensures.idle
-    (λ clean u made.
-    let clean3 = c.add_token.ensures.clean clean in
-    let clean2 = c.count_tokens.ensures.clean clean3 in
-    let known : id_of (tables_of db).tenants c.args.tenant.now ≡ Some c.in-Some.id = sym (c.in_ok-id.ensures.found db at.pending at.stands (c.tenant_of_token.ensures.clean clean2)) ∙ c.in-Some.is in
-    let free : tenant_of_token (tables_of db).tokens c.args.digest.now ≡ None = sym (c.in_ok-tenant_of_token.ensures.found db at.pending mid clean2) ∙ c.in-None.is in
-    let room = tokens_by (tables_of db) c.in_ok-count.count (c.in_ok-count.ensures.counted db at.pending near clean3) false (sym c.is_full.ensures ∙ c.if-is_full.false) in
-    token_comes (tables_of db) at.consistent c.args.tenant.now c.args.digest.now c.in-Some.id known free room u made) at (c.in_err-add_token.ensures.fault db at.pending last)
+    let ends = token_joins g (goal.at.returns-in_err-add_token-clause-ends g c).After-add_token db late at in
+    let last = c.count_tokens.ensures.stands db at.pending (c.tenant_of_token.ensures.stands db at.pending (c.tenant_id.ensures.stands db at.pending at.stands)) in
+    order_unwritten g.S.Store _ _ db late _ proper _ _ (TokenGained (record { digest = c.args.digest.now; tenant = c.in-Some.id })) c.from_residual-in_err-add_token.ensures.1 c.add_token.ensures.idle
+    ends at (c.in_err-add_token.ensures.fault db at.pending last)
 
 pub returns-clause-ends : goal.returns-clause-ends
 returns-clause-ends g c db late at proper clean =
-    let mid = c.tenant_id.ensures.stands db at.pending at.stands in
-    let near = c.tenant_of_token.ensures.stands db at.pending mid in
-    let last = c.count_tokens.ensures.stands db at.pending near in
-    let clean3 = c.add_token.ensures.clean clean in
-    let clean2 = c.count_tokens.ensures.clean clean3 in
-    let known : id_of (tables_of db).tenants c.args.tenant.now ≡ Some c.in-Some.id = sym (c.in_ok-id.ensures.found db at.pending at.stands (c.tenant_of_token.ensures.clean clean2)) ∙ c.in-Some.is in
-    let free : tenant_of_token (tables_of db).tokens c.args.digest.now ≡ None = sym (c.in_ok-tenant_of_token.ensures.found db at.pending mid clean2) ∙ c.in-None.is in
-    let room = tokens_by (tables_of db) c.in_ok-count.count (c.in_ok-count.ensures.counted db at.pending near clean3) false (sym c.is_full.ensures ∙ c.if-is_full.false) in
-    order_done g.S.Store c.add_token.new.conn db late (Grant c.args.tenant.now c.args.digest.now) (TokenGained (record { digest = c.args.digest.now; tenant = c.in-Some.id })) proper at.consistent
-    (token_comes (tables_of db) at.consistent c.args.tenant.now c.args.digest.now c.in-Some.id known free room) (c.in_ok-add_token.ensures.done db at.pending last clean) clean
+    let ends = token_joins g (goal.at.returns-clause-ends g c).After-add_token db late at clean in
+    let last = c.count_tokens.ensures.stands db at.pending (c.tenant_of_token.ensures.stands db at.pending (c.tenant_id.ensures.stands db at.pending at.stands)) in
+    order_done g.S.Store _ db late _ (TokenGained (record { digest = c.args.digest.now; tenant = c.in-Some.id })) proper at.consistent ends (c.in_ok-add_token.ensures.done db at.pending last clean) clean
 
 -- ---- why it ends by a fault
 
 pub returns-in_err-id-clause-stops : goal.returns-in_err-id-clause-stops
 returns-in_err-id-clause-stops g c db late at =
-    unread_stops (OrderStops (tables_of db) (Grant c.args.tenant.now c.args.digest.now)) (state g.S.Store c.args.conn.now) (state g.S.Store c.args.conn.now) (state g.S.Store c.tenant_id.new.conn) c.from_residual.result c.in_err-id.field-0.0 c.from_residual.ensures.1 (survives_still (state g.S.Store c.args.conn.now)) c.tenant_id.ensures.survives (c.in_err-id.ensures.cause db at.pending at.stands at.consistent)
+    unread_stops _ _ _ _ _ _ c.from_residual.ensures.1 (survives_still _) c.tenant_id.ensures.survives (c.in_err-id.ensures.cause db at.pending at.stands at.consistent)
 
 pub returns-in_err-tenant_of_token-clause-stops : goal.returns-in_err-tenant_of_token-clause-stops
 returns-in_err-tenant_of_token-clause-stops g c db late at =
-    unread_stops (OrderStops (tables_of db) (Grant c.args.tenant.now c.args.digest.now)) (state g.S.Store c.args.conn.now) (state g.S.Store c.tenant_id.new.conn) (state g.S.Store c.tenant_of_token.new.conn) c.from_residual-in_err-tenant_of_token.result c.in_err-tenant_of_token.field-0.0 c.from_residual-in_err-tenant_of_token.ensures.1 c.tenant_id.ensures.survives c.tenant_of_token.ensures.survives (c.in_err-tenant_of_token.ensures.cause db at.pending (c.tenant_id.ensures.stands db at.pending at.stands) at.consistent)
+    unread_stops _ _ _ _ _ _ c.from_residual-in_err-tenant_of_token.ensures.1 c.tenant_id.ensures.survives c.tenant_of_token.ensures.survives (c.in_err-tenant_of_token.ensures.cause db at.pending (c.tenant_id.ensures.stands db at.pending at.stands) at.consistent)
 
 pub returns-in_err-count-clause-stops : goal.returns-in_err-count-clause-stops
 returns-in_err-count-clause-stops g c db late at =
-    unread_stops (OrderStops (tables_of db) (Grant c.args.tenant.now c.args.digest.now)) (state g.S.Store c.args.conn.now) (state g.S.Store c.tenant_of_token.new.conn) (state g.S.Store c.count_tokens.new.conn) c.from_residual-in_err-count.result c.in_err-count.field-0.0 c.from_residual-in_err-count.ensures.1 (survives_next _ _ _ c.tenant_id.ensures.survives c.tenant_of_token.ensures.survives) c.count_tokens.ensures.survives (c.in_err-count.ensures.cause db at.pending (c.tenant_of_token.ensures.stands db at.pending (c.tenant_id.ensures.stands db at.pending at.stands)))
+    let near = c.tenant_of_token.ensures.stands db at.pending (c.tenant_id.ensures.stands db at.pending at.stands) in
+    unread_stops _ _ _ _ _ _ c.from_residual-in_err-count.ensures.1 (survives_next _ _ _ c.tenant_id.ensures.survives c.tenant_of_token.ensures.survives) c.count_tokens.ensures.survives (c.in_err-count.ensures.cause db at.pending near)
 
 pub returns-in_err-add_token-clause-stops : goal.returns-in_err-add_token-clause-stops
 returns-in_err-add_token-clause-stops g c db late at =
-    unwritten_stops (OrderStops (tables_of db) (Grant c.args.tenant.now c.args.digest.now)) (state g.S.Store c.args.conn.now) (state g.S.Store c.count_tokens.new.conn) (state g.S.Store c.add_token.new.conn) c.from_residual-in_err-add_token.result c.in_err-add_token.field-0.0 c.from_residual-in_err-add_token.ensures.1 (survives_next _ _ _ (survives_next _ _ _ c.tenant_id.ensures.survives c.tenant_of_token.ensures.survives) c.count_tokens.ensures.survives) (TokenStaysOut (record { digest = c.args.digest.now; tenant = c.in-Some.id }) (tables_of db)) c.add_token.ensures.survives
-    (λ clean refused. record {
-      write = TokenGained (record { digest = c.args.digest.now; tenant = c.in-Some.id });
-      does = λ u made.
-          let mid = c.tenant_id.ensures.stands db at.pending at.stands in
-          let near = c.tenant_of_token.ensures.stands db at.pending mid in
-          let clean3 = c.add_token.ensures.clean clean in
-          let clean2 = c.count_tokens.ensures.clean clean3 in
-          let known : id_of (tables_of db).tenants c.args.tenant.now ≡ Some c.in-Some.id = sym (c.in_ok-id.ensures.found db at.pending at.stands (c.tenant_of_token.ensures.clean clean2)) ∙ c.in-Some.is in
-          let free : tenant_of_token (tables_of db).tokens c.args.digest.now ≡ None = sym (c.in_ok-tenant_of_token.ensures.found db at.pending mid clean2) ∙ c.in-None.is in
-          let room = tokens_by (tables_of db) c.in_ok-count.count (c.in_ok-count.ensures.counted db at.pending near clean3) false (sym c.is_full.ensures ∙ c.if-is_full.false) in
-          token_comes (tables_of db) at.consistent c.args.tenant.now c.args.digest.now c.in-Some.id known free room u made;
-      stops = refused;
-    }) (c.in_err-add_token.ensures.cause db at.pending (c.count_tokens.ensures.stands db at.pending (c.tenant_of_token.ensures.stands db at.pending (c.tenant_id.ensures.stands db at.pending at.stands))))
+    let ends = token_joins g (goal.at.returns-in_err-add_token-clause-stops g c).After-add_token db late at in
+    let last = c.count_tokens.ensures.stands db at.pending (c.tenant_of_token.ensures.stands db at.pending (c.tenant_id.ensures.stands db at.pending at.stands)) in
+    let survived = survives_next _ _ _ (survives_next _ _ _ c.tenant_id.ensures.survives c.tenant_of_token.ensures.survives) c.count_tokens.ensures.survives in
+    unwritten_stops _ _ _ _ _ _ c.from_residual-in_err-add_token.ensures.1 survived _ c.add_token.ensures.survives
+    (λ clean refused. record { write = TokenGained (record { digest = c.args.digest.now; tenant = c.in-Some.id }); does = ends clean; stops = refused }) (c.in_err-add_token.ensures.cause db at.pending last)
 
 -- ---- where it isn't undone, the store was open
 
 pub returns-in_err-id-clause-open : goal.returns-in_err-id-clause-open
-returns-in_err-id-clause-open g c clean = undone c.from_residual.result c.in_err-id.field-0.0 _ c.from_residual.ensures.1
+returns-in_err-id-clause-open g c clean = undone _ _ _ c.from_residual.ensures.1
 
 pub returns-in_default-clause-open : goal.returns-in_default-clause-open
 returns-in_default-clause-open g c clean = c.in_ok-id.ensures.open clean
 
 pub returns-in_err-tenant_of_token-clause-open : goal.returns-in_err-tenant_of_token-clause-open
-returns-in_err-tenant_of_token-clause-open g c clean = undone c.from_residual-in_err-tenant_of_token.result c.in_err-tenant_of_token.field-0.0 _ c.from_residual-in_err-tenant_of_token.ensures.1
+returns-in_err-tenant_of_token-clause-open g c clean = undone _ _ _ c.from_residual-in_err-tenant_of_token.ensures.1
 
 pub returns-in_default-2-clause-open : goal.returns-in_default-2-clause-open
 returns-in_default-2-clause-open g c clean = c.in_ok-id.ensures.open (c.tenant_of_token.ensures.clean clean)
 
 pub returns-in_err-count-clause-open : goal.returns-in_err-count-clause-open
-returns-in_err-count-clause-open g c clean = undone c.from_residual-in_err-count.result c.in_err-count.field-0.0 _ c.from_residual-in_err-count.ensures.1
+returns-in_err-count-clause-open g c clean = undone _ _ _ c.from_residual-in_err-count.ensures.1
 
 pub returns-then-is_full-clause-open : goal.returns-then-is_full-clause-open
 returns-then-is_full-clause-open g c clean = c.in_ok-id.ensures.open (c.tenant_of_token.ensures.clean (c.count_tokens.ensures.clean clean))
 
 pub returns-in_err-add_token-clause-open : goal.returns-in_err-add_token-clause-open
-returns-in_err-add_token-clause-open g c clean = undone c.from_residual-in_err-add_token.result c.in_err-add_token.field-0.0 _ c.from_residual-in_err-add_token.ensures.1
+returns-in_err-add_token-clause-open g c clean = undone _ _ _ c.from_residual-in_err-add_token.ensures.1
 
 pub returns-clause-open : goal.returns-clause-open
 returns-clause-open g c clean = c.in_ok-id.ensures.open (c.tenant_of_token.ensures.clean (c.count_tokens.ensures.clean (c.add_token.ensures.clean clean)))

@@ -38,37 +38,61 @@ returns-in-EndNetwork-clause-stops g c db late at = rw c.in-EndNetwork.is (c.end
 -- ---- which networks stay in memory
 
 pub returns-in-AddTenant-clause-formed : goal.returns-in-AddTenant-clause-formed
-returns-in-AddTenant-clause-formed g c db late at = stay_shown g.S.Store c.add_tenant.new.conn db late at.consistent (AddTenant c.in-AddTenant.name) (rw c.in-AddTenant.is at c.forms_hold.ensures) tt c.add_tenant.result (c.add_tenant.ensures.ends db late at (rw c.in-AddTenant.is at c.forms_hold.ensures)) (entries_of c.args.loaded.now)
+returns-in-AddTenant-clause-formed g c db late at =
+    let proper = rw c.in-AddTenant.is at c.forms_hold.ensures in
+    stay_shown g.S.Store _ db late at.consistent (AddTenant c.in-AddTenant.name) proper tt _ (c.add_tenant.ensures.ends db late at proper) (entries_of c.args.loaded.now)
 
 pub returns-in-Grant-clause-formed : goal.returns-in-Grant-clause-formed
-returns-in-Grant-clause-formed g c db late at = stay_shown g.S.Store c.grant.new.conn db late at.consistent (Grant c.in-Grant.tenant c.in-Grant.digest) (rw c.in-Grant.is at c.forms_hold.ensures) tt c.grant.result (c.grant.ensures.ends db late at (rw c.in-Grant.is at c.forms_hold.ensures)) (entries_of c.args.loaded.now)
+returns-in-Grant-clause-formed g c db late at =
+    let proper = rw c.in-Grant.is at c.forms_hold.ensures in
+    stay_shown g.S.Store _ db late at.consistent (Grant c.in-Grant.tenant c.in-Grant.digest) proper tt _ (c.grant.ensures.ends db late at proper) (entries_of c.args.loaded.now)
 
 pub returns-in-EndToken-clause-formed : goal.returns-in-EndToken-clause-formed
-returns-in-EndToken-clause-formed g c db late at = stay_shown g.S.Store c.end_token.new.conn db late at.consistent (EndToken c.in-EndToken.digest) (rw c.in-EndToken.is at c.forms_hold.ensures) tt c.end_token.result (c.end_token.ensures.ends db late at) (entries_of c.args.loaded.now)
+returns-in-EndToken-clause-formed g c db late at =
+    let proper = rw c.in-EndToken.is at c.forms_hold.ensures in
+    stay_shown g.S.Store _ db late at.consistent (EndToken c.in-EndToken.digest) proper tt _ (c.end_token.ensures.ends db late at) (entries_of c.args.loaded.now)
 
 pub returns-in-AddNetwork-clause-formed : goal.returns-in-AddNetwork-clause-formed
-returns-in-AddNetwork-clause-formed g c db late at = stay_shown g.S.Store c.add_network.new.conn db late at.consistent (AddNetwork c.in-AddNetwork.tenant c.in-AddNetwork.name c.in-AddNetwork.settings) (rw c.in-AddNetwork.is at c.forms_hold.ensures) tt c.add_network.result (c.add_network.ensures.ends db late at (rw c.in-AddNetwork.is at c.forms_hold.ensures)) (entries_of c.args.loaded.now)
+returns-in-AddNetwork-clause-formed g c db late at =
+    let proper = rw c.in-AddNetwork.is at c.forms_hold.ensures in
+    stay_shown g.S.Store _ db late at.consistent (AddNetwork c.in-AddNetwork.tenant c.in-AddNetwork.name c.in-AddNetwork.settings) proper tt _ (c.add_network.ensures.ends db late at proper) (entries_of c.args.loaded.now)
 
 pub returns-in-AddTenant-clause-current : goal.returns-in-AddTenant-clause-current
-returns-in-AddTenant-clause-current g c db late at = files_shown g.S.Store c.add_tenant.new.conn db late at.consistent (AddTenant c.in-AddTenant.name) (rw c.in-AddTenant.is at c.forms_hold.ensures) tt c.add_tenant.result (c.add_tenant.ensures.ends db late at (rw c.in-AddTenant.is at c.forms_hold.ensures)) (files_of c.args.files.now)
+returns-in-AddTenant-clause-current g c db late at =
+    let proper = rw c.in-AddTenant.is at c.forms_hold.ensures in
+    files_shown g.S.Store _ db late at.consistent (AddTenant c.in-AddTenant.name) proper tt _ (c.add_tenant.ensures.ends db late at proper) (files_of c.args.files.now)
 
 pub returns-in-Grant-clause-current : goal.returns-in-Grant-clause-current
-returns-in-Grant-clause-current g c db late at = files_shown g.S.Store c.grant.new.conn db late at.consistent (Grant c.in-Grant.tenant c.in-Grant.digest) (rw c.in-Grant.is at c.forms_hold.ensures) tt c.grant.result (c.grant.ensures.ends db late at (rw c.in-Grant.is at c.forms_hold.ensures)) (files_of c.args.files.now)
+returns-in-Grant-clause-current g c db late at =
+    let proper = rw c.in-Grant.is at c.forms_hold.ensures in
+    files_shown g.S.Store _ db late at.consistent (Grant c.in-Grant.tenant c.in-Grant.digest) proper tt _ (c.grant.ensures.ends db late at proper) (files_of c.args.files.now)
 
 pub returns-in-EndToken-clause-current : goal.returns-in-EndToken-clause-current
-returns-in-EndToken-clause-current g c db late at = files_shown g.S.Store c.end_token.new.conn db late at.consistent (EndToken c.in-EndToken.digest) (rw c.in-EndToken.is at c.forms_hold.ensures) tt c.end_token.result (c.end_token.ensures.ends db late at) (files_of c.args.files.now)
+returns-in-EndToken-clause-current g c db late at =
+    let proper = rw c.in-EndToken.is at c.forms_hold.ensures in
+    files_shown g.S.Store _ db late at.consistent (EndToken c.in-EndToken.digest) proper tt _ (c.end_token.ensures.ends db late at) (files_of c.args.files.now)
 
 pub returns-in-AddNetwork-clause-current : goal.returns-in-AddNetwork-clause-current
-returns-in-AddNetwork-clause-current g c db late at = files_shown g.S.Store c.add_network.new.conn db late at.consistent (AddNetwork c.in-AddNetwork.tenant c.in-AddNetwork.name c.in-AddNetwork.settings) (rw c.in-AddNetwork.is at c.forms_hold.ensures) tt c.add_network.result (c.add_network.ensures.ends db late at (rw c.in-AddNetwork.is at c.forms_hold.ensures)) (files_of c.args.files.now)
+returns-in-AddNetwork-clause-current g c db late at =
+    let proper = rw c.in-AddNetwork.is at c.forms_hold.ensures in
+    files_shown g.S.Store _ db late at.consistent (AddNetwork c.in-AddNetwork.tenant c.in-AddNetwork.name c.in-AddNetwork.settings) proper tt _ (c.add_network.ensures.ends db late at proper) (files_of c.args.files.now)
 
 pub returns-in-AddTenant-clause-outlines : goal.returns-in-AddTenant-clause-outlines
-returns-in-AddTenant-clause-outlines g c db late at = outlines_shown g.S.Store c.add_tenant.new.conn db late at.consistent (AddTenant c.in-AddTenant.name) (rw c.in-AddTenant.is at c.forms_hold.ensures) tt c.add_tenant.result (c.add_tenant.ensures.ends db late at (rw c.in-AddTenant.is at c.forms_hold.ensures)) (known_outline c.args.outlines.now)
+returns-in-AddTenant-clause-outlines g c db late at =
+    let proper = rw c.in-AddTenant.is at c.forms_hold.ensures in
+    outlines_shown g.S.Store _ db late at.consistent (AddTenant c.in-AddTenant.name) proper tt _ (c.add_tenant.ensures.ends db late at proper) (known_outline c.args.outlines.now)
 
 pub returns-in-Grant-clause-outlines : goal.returns-in-Grant-clause-outlines
-returns-in-Grant-clause-outlines g c db late at = outlines_shown g.S.Store c.grant.new.conn db late at.consistent (Grant c.in-Grant.tenant c.in-Grant.digest) (rw c.in-Grant.is at c.forms_hold.ensures) tt c.grant.result (c.grant.ensures.ends db late at (rw c.in-Grant.is at c.forms_hold.ensures)) (known_outline c.args.outlines.now)
+returns-in-Grant-clause-outlines g c db late at =
+    let proper = rw c.in-Grant.is at c.forms_hold.ensures in
+    outlines_shown g.S.Store _ db late at.consistent (Grant c.in-Grant.tenant c.in-Grant.digest) proper tt _ (c.grant.ensures.ends db late at proper) (known_outline c.args.outlines.now)
 
 pub returns-in-EndToken-clause-outlines : goal.returns-in-EndToken-clause-outlines
-returns-in-EndToken-clause-outlines g c db late at = outlines_shown g.S.Store c.end_token.new.conn db late at.consistent (EndToken c.in-EndToken.digest) (rw c.in-EndToken.is at c.forms_hold.ensures) tt c.end_token.result (c.end_token.ensures.ends db late at) (known_outline c.args.outlines.now)
+returns-in-EndToken-clause-outlines g c db late at =
+    let proper = rw c.in-EndToken.is at c.forms_hold.ensures in
+    outlines_shown g.S.Store _ db late at.consistent (EndToken c.in-EndToken.digest) proper tt _ (c.end_token.ensures.ends db late at) (known_outline c.args.outlines.now)
 
 pub returns-in-AddNetwork-clause-outlines : goal.returns-in-AddNetwork-clause-outlines
-returns-in-AddNetwork-clause-outlines g c db late at = outlines_shown g.S.Store c.add_network.new.conn db late at.consistent (AddNetwork c.in-AddNetwork.tenant c.in-AddNetwork.name c.in-AddNetwork.settings) (rw c.in-AddNetwork.is at c.forms_hold.ensures) tt c.add_network.result (c.add_network.ensures.ends db late at (rw c.in-AddNetwork.is at c.forms_hold.ensures)) (known_outline c.args.outlines.now)
+returns-in-AddNetwork-clause-outlines g c db late at =
+    let proper = rw c.in-AddNetwork.is at c.forms_hold.ensures in
+    outlines_shown g.S.Store _ db late at.consistent (AddNetwork c.in-AddNetwork.tenant c.in-AddNetwork.name c.in-AddNetwork.settings) proper tt _ (c.add_network.ensures.ends db late at proper) (known_outline c.args.outlines.now)

@@ -1,17 +1,22 @@
-use Rattle.std.proofs.Common.{sym, subst}
+use Rattle.std.proofs.Common.{IsTrue, List, sym, subst}
+use Rattle.sqlite.specs.Effect.{Database}
 use Rattle.sqlite.specs.Held.{state}
-use Rattle.wgr_model.specs.Steps.{Ask}
+use Rattle.sqlite.specs.State.{HasCleanDisk}
+use Rattle.wgr_model.specs.Rows.{Tables}
+use Rattle.wgr_model.specs.Steps.{Ask, Event}
 use Rattle.wgr_columns.specs.Decode.{tables_of}
 use Rattle.wgr_register.specs.Cached.{AreCurrent, files_of}
 use Rattle.wgr_opening.specs.Outlines.{AreOutlines}
 use Rattle.wgr_register.specs.Known.{known_outline}
-use Rattle.wgr_register.specs.Loaded.{AreFormed, Shows, entries_of}
+use Rattle.wgr_register.specs.Loaded.{AreFormed, Shows, UnlessFault, entries_of}
 use Rattle.wgr_register.specs.Standing.{StandsAt}
 use Rattle.wgr_register.proofs.LoadedLemmas.{unless_map}
 use Rattle.wgr_register.proofs.StandLemmas.{ask_somewhere}
 use Rattle.wgr_sql.specs.Causes.{HasCause, HasCauseOr}
 use Rattle.wgr_register.specs.Causes.{IfFault, AskStops}
 use Rattle.wgr_register.proofs.CauseLemmas.{asked_clean}
+use Rattle.wgr_register.proofs.register.Register.ask.Given.{Over}
+use Rattle.wgr_register.proofs.register.Register.ask.Goals.{After-ask-answered}
 use Rattle.wgr_register.proofs.register.Register.ask.Goals as goal
 
 pub ask-answered-requires-clause-formed : goal.ask-answered-requires-clause-formed
@@ -23,33 +28,27 @@ ask-answered-requires-clause-current g c = c.self.invariant.2
 pub ask-answered-requires-clause-outlines : goal.ask-answered-requires-clause-outlines
 ask-answered-requires-clause-outlines g c = c.self.invariant.3
 
+-- what is kept in memory is of the rows that are shown, unless a fault ended the request
+kept : (g : Over) (c : After-ask-answered g) (P : Tables → Type 0) → ((db : Database) (late : List Event) → StandsAt g.S.Store c.self.inside.conn db late → UnlessFault c.ask-answered.result (Shows g.S.Store c.ask-answered.new.conn P))
+    → HasCleanDisk (state g.S.Store c.ask-answered.new.conn) → IsTrue (state g.S.Store c.ask-answered.new.conn).is_open → UnlessFault c.ask-answered.result (P (tables_of (state g.S.Store c.ask-answered.new.conn).now))
+kept g c P next clean live =
+    let held = c.self.invariant.0.somewhere (c.ask-answered.ensures.clean clean) in
+    unless_map c.ask-answered.result (Shows g.S.Store c.ask-answered.new.conn P) (P (tables_of (state g.S.Store c.ask-answered.new.conn).now)) (λ shows. shows clean live) (next held.0 held.1 held.2)
+
 pub invariant_of-self : goal.invariant_of-self
-invariant_of-self g c = (
-  record {
-    idle = c.ask-answered.ensures.idle;
-    somewhere = λ clean.
-        let held = c.self.invariant.0.somewhere (c.ask-answered.ensures.clean clean) in
-        ask_somewhere g.S.Store g.R.Render.shown c.ask-answered.new.conn held.0 held.1 (Ask c.args.digest.now c.args.name.now c.args.now c.args.command.now) c.args.now c.ask-answered.result (c.ask-answered.ensures.ends held.0 held.1 held.2) clean;
-  },
-  λ clean live.
-      let held = c.self.invariant.0.somewhere (c.ask-answered.ensures.clean clean) in
-      let loaded = entries_of c.ask-answered.new.loaded in
-      let shown = tables_of (state g.S.Store c.ask-answered.new.conn).now in
-      c.drop_after_fault.ensures.formed shown
-      (unless_map c.ask-answered.result (Shows g.S.Store c.ask-answered.new.conn (AreFormed loaded)) (AreFormed loaded shown) (λ shows. shows clean live) (c.ask-answered.ensures.formed held.0 held.1 held.2)),
-  λ clean live.
-      let held = c.self.invariant.0.somewhere (c.ask-answered.ensures.clean clean) in
-      let files = files_of c.ask-answered.new.files in
-      let shown = tables_of (state g.S.Store c.ask-answered.new.conn).now in
-      c.drop_after_fault.ensures.current shown
-      (unless_map c.ask-answered.result (Shows g.S.Store c.ask-answered.new.conn (AreCurrent files)) (AreCurrent files shown) (λ shows. shows clean live) (c.ask-answered.ensures.current held.0 held.1 held.2)),
-  λ clean live.
-      let held = c.self.invariant.0.somewhere (c.ask-answered.ensures.clean clean) in
-      let ends = known_outline c.ask-answered.new.outlines in
-      let shown = tables_of (state g.S.Store c.ask-answered.new.conn).now in
-      c.drop_after_fault.ensures.outlines shown
-      (unless_map c.ask-answered.result (Shows g.S.Store c.ask-answered.new.conn (AreOutlines ends)) (AreOutlines ends shown) (λ shows. shows clean live) (c.ask-answered.ensures.outlines held.0 held.1 held.2)),
-)
+invariant_of-self g c =
+    let a = (goal.at.invariant_of-self g c).After-ask-answered in
+    let shown = tables_of (state g.S.Store c.ask-answered.new.conn).now in (
+      record {
+        idle = c.ask-answered.ensures.idle;
+        somewhere = λ clean.
+            let held = c.self.invariant.0.somewhere (c.ask-answered.ensures.clean clean) in
+            ask_somewhere g.S.Store g.R.Render.shown c.ask-answered.new.conn held.0 held.1 (Ask c.args.digest.now c.args.name.now c.args.now c.args.command.now) c.args.now c.ask-answered.result (c.ask-answered.ensures.ends held.0 held.1 held.2) clean;
+      },
+      λ clean live. c.drop_after_fault.ensures.formed shown (kept g a (AreFormed (entries_of c.ask-answered.new.loaded)) c.ask-answered.ensures.formed clean live),
+      λ clean live. c.drop_after_fault.ensures.current shown (kept g a (AreCurrent (files_of c.ask-answered.new.files)) c.ask-answered.ensures.current clean live),
+      λ clean live. c.drop_after_fault.ensures.outlines shown (kept g a (AreOutlines (known_outline c.ask-answered.new.outlines)) c.ask-answered.ensures.outlines clean live),
+    )
 
 pub returns-clause-ends : goal.returns-clause-ends
 returns-clause-ends g c db late at = c.ask-answered.ensures.ends db late (subst (λ h. StandsAt g.S.Store h db late) (sym c.self.view_is) at)

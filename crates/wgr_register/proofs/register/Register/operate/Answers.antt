@@ -1,5 +1,9 @@
-use Rattle.std.proofs.Common.{IsTrue, sym, subst}
+use Rattle.std.proofs.Common.{IsTrue, List, sym, subst}
+use Rattle.sqlite.specs.Effect.{Database}
 use Rattle.sqlite.specs.Held.{state}
+use Rattle.sqlite.specs.State.{HasCleanDisk}
+use Rattle.wgr_model.specs.Rows.{Tables}
+use Rattle.wgr_model.specs.Steps.{Event}
 use Rattle.wgr_orders.specs.Orders.{order_event}
 use Rattle.wgr_sql.specs.Causes.{HasCauseOr}
 use Rattle.wgr_register.specs.Causes.{IfOrderFault, OrderStops}
@@ -8,54 +12,37 @@ use Rattle.wgr_columns.specs.Decode.{tables_of}
 use Rattle.wgr_register.specs.Cached.{AreCurrent, files_of}
 use Rattle.wgr_opening.specs.Outlines.{AreOutlines}
 use Rattle.wgr_register.specs.Known.{known_outline}
-use Rattle.wgr_register.specs.Loaded.{AreFormed, Shows, entries_of}
-use Rattle.wgr_register.proofs.LoadedLemmas.{known_so}
-use Rattle.wgr_register.proofs.StayLemmas.{undone_then, unless_undone}
+use Rattle.wgr_register.specs.Loaded.{AreFormed, Shows, UnlessUndone, entries_of}
+use Rattle.wgr_register.proofs.StayLemmas.{shown_then}
 use Rattle.wgr_register.proofs.StandLemmas.{order_somewhere}
+use Rattle.wgr_register.proofs.register.Register.operate.Given.{Over}
+use Rattle.wgr_register.proofs.register.Register.operate.Goals.{After-operate-ended}
 use Rattle.wgr_register.proofs.register.Register.operate.Goals as goal
 
+-- what was kept in memory, as the order leaves it, is of the rows that are shown, unless it failed
+module _ (g : Over) (c : After-operate-ended g) (P : Tables → Type 0) (shows : Shows g.S.Store c.self.inside.conn P) (clean : HasCleanDisk (state g.S.Store c.operate-ended.new.conn))
+    (live : IsTrue (state g.S.Store c.operate-ended.new.conn).is_open) where
+  kept : (Q : Tables → Type 0) → ((db : Database) (late : List Event) → StandsAt g.S.Store c.self.inside.conn db late → P (tables_of db) → UnlessUndone c.operate-ended.result (Shows g.S.Store c.operate-ended.new.conn Q))
+      → UnlessUndone c.operate-ended.result (Q (tables_of (state g.S.Store c.operate-ended.new.conn).now))
+  kept Q next =
+      let before = c.operate-ended.ensures.clean clean in
+      let held = c.self.invariant.0.somewhere before in
+      shown_then g.S.Store c.self.inside.conn c.operate-ended.new.conn c.operate-ended.result held.0 held.2.pending P Q held.2.stands shows before (c.operate-ended.ensures.open clean) (next held.0 held.1 held.2) clean live
+
 pub invariant_of-self : goal.invariant_of-self
-invariant_of-self g c = (
-  record {
-    idle = c.operate-ended.ensures.idle;
-    somewhere = λ clean.
-        let held = c.self.invariant.0.somewhere (c.operate-ended.ensures.clean clean) in
-        order_somewhere g.S.Store c.operate-ended.new.conn held.0 held.1 (order_event c.args.order.now) c.operate-ended.result (c.operate-ended.ensures.ends held.0 held.1 held.2) clean;
-  },
-  λ clean live.
-      let before = c.operate-ended.ensures.clean clean in
-      let held = c.self.invariant.0.somewhere before in
-      let loaded = entries_of c.self.inside.loaded in
-      let kept = entries_of c.operate-ended.new.loaded in
-      let ended = c.operate-ended.result in
-      let shown = tables_of (state g.S.Store c.operate-ended.new.conn).now in
-      c.drop_after_failure.ensures.formed shown (undone_then ended (Shows g.S.Store c.operate-ended.new.conn (AreFormed kept)) (AreFormed kept shown) (λ shows. unless_undone ended (AreFormed kept shown) (shows clean live))
-      (undone_then ended (IsTrue (state g.S.Store c.self.inside.conn).is_open) (Shows g.S.Store c.operate-ended.new.conn (AreFormed kept))
-      (λ was_live. c.operate-ended.ensures.formed held.0 held.1 held.2 (known_so g.S.Store c.self.inside.conn held.0 held.2.pending (AreFormed loaded) held.2.stands c.self.invariant.1 before was_live))
-      (c.operate-ended.ensures.open clean))),
-  λ clean live.
-      let before = c.operate-ended.ensures.clean clean in
-      let held = c.self.invariant.0.somewhere before in
-      let files = files_of c.self.inside.files in
-      let kept = files_of c.operate-ended.new.files in
-      let ended = c.operate-ended.result in
-      let shown = tables_of (state g.S.Store c.operate-ended.new.conn).now in
-      c.drop_after_failure.ensures.current shown (undone_then ended (Shows g.S.Store c.operate-ended.new.conn (AreCurrent kept)) (AreCurrent kept shown) (λ shows. unless_undone ended (AreCurrent kept shown) (shows clean live))
-      (undone_then ended (IsTrue (state g.S.Store c.self.inside.conn).is_open) (Shows g.S.Store c.operate-ended.new.conn (AreCurrent kept))
-      (λ was_live. c.operate-ended.ensures.current held.0 held.1 held.2 (known_so g.S.Store c.self.inside.conn held.0 held.2.pending (AreCurrent files) held.2.stands c.self.invariant.2 before was_live))
-      (c.operate-ended.ensures.open clean))),
-  λ clean live.
-      let before = c.operate-ended.ensures.clean clean in
-      let held = c.self.invariant.0.somewhere before in
-      let ends = known_outline c.self.inside.outlines in
-      let kept = known_outline c.operate-ended.new.outlines in
-      let ended = c.operate-ended.result in
-      let shown = tables_of (state g.S.Store c.operate-ended.new.conn).now in
-      c.drop_after_failure.ensures.outlines shown (undone_then ended (Shows g.S.Store c.operate-ended.new.conn (AreOutlines kept)) (AreOutlines kept shown) (λ shows. unless_undone ended (AreOutlines kept shown) (shows clean live))
-      (undone_then ended (IsTrue (state g.S.Store c.self.inside.conn).is_open) (Shows g.S.Store c.operate-ended.new.conn (AreOutlines kept))
-      (λ was_live. c.operate-ended.ensures.outlines held.0 held.1 held.2 (known_so g.S.Store c.self.inside.conn held.0 held.2.pending (AreOutlines ends) held.2.stands c.self.invariant.3 before was_live))
-      (c.operate-ended.ensures.open clean))),
-)
+invariant_of-self g c =
+    let a = (goal.at.invariant_of-self g c).After-operate-ended in
+    let shown = tables_of (state g.S.Store c.operate-ended.new.conn).now in (
+      record {
+        idle = c.operate-ended.ensures.idle;
+        somewhere = λ clean.
+            let held = c.self.invariant.0.somewhere (c.operate-ended.ensures.clean clean) in
+            order_somewhere g.S.Store c.operate-ended.new.conn held.0 held.1 (order_event c.args.order.now) c.operate-ended.result (c.operate-ended.ensures.ends held.0 held.1 held.2) clean;
+      },
+      λ clean live. c.drop_after_failure.ensures.formed shown (kept g a (AreFormed (entries_of c.self.inside.loaded)) c.self.invariant.1 clean live (AreFormed (entries_of c.operate-ended.new.loaded)) c.operate-ended.ensures.formed),
+      λ clean live. c.drop_after_failure.ensures.current shown (kept g a (AreCurrent (files_of c.self.inside.files)) c.self.invariant.2 clean live (AreCurrent (files_of c.operate-ended.new.files)) c.operate-ended.ensures.current),
+      λ clean live. c.drop_after_failure.ensures.outlines shown (kept g a (AreOutlines (known_outline c.self.inside.outlines)) c.self.invariant.3 clean live (AreOutlines (known_outline c.operate-ended.new.outlines)) c.operate-ended.ensures.outlines),
+    )
 
 pub returns-clause-ends : goal.returns-clause-ends
 returns-clause-ends g c db late at = c.operate-ended.ensures.ends db late (subst (λ h. StandsAt g.S.Store h db late) (sym c.self.view_is) at)
