@@ -33,7 +33,6 @@ numbers_rise id peers up i j d below low =
     let le = IsNonDecreasingBy-from_sort (λ (x : ℕ). x) (map key peers) up i j 0 below (omega (arith, low, length-map peers key)) in
     omega (arith, le, at_i, at_j)
 
--- what is shown of a network's peers in the order of their ids
 -- the rows of a network's peers, and those of their addresses
 abbrev peer_rows_of : ℕ → Tables → List PeerRow
 peer_rows_of id t = filter (λ p. nat_eq p.network id) t.peers
@@ -41,6 +40,7 @@ peer_rows_of id t = filter (λ p. nat_eq p.network id) t.peers
 abbrev address_rows_of : ℕ → Tables → List AllowedRow
 address_rows_of id t = filter (λ a. nat_eq a.network id && not a.is_route) t.allowed
 
+-- what is shown of a network's peers in the order of their ids
 pub arranged_peers : {T : Type 0} (id : ℕ) (n : NetworkValue) → IsNetwork n → (show : Peer → T) (key : T → ℕ) → ((p : Peer) → key (show p) ≡ peer_id id p.number)
     → (shown all : List T) → IsPermutation all (map show n.peers) → IsPermutation all shown → IsSorted nat_cmp (map key shown) → shown ≡ map show n.peers
 arranged_peers id n rules show key keyed shown all own listed up =

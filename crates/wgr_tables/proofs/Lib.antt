@@ -38,6 +38,7 @@ pub mod ArrangeLemmas
 pub mod LoadLemmas
 pub mod ToldLemmas
 pub mod AskedLemmas
+-- Why a step, a change or a commit fails, and steps in a loop.
 pub mod StopLemmas
 pub mod ChangeStops
 pub mod Loops
