@@ -85,9 +85,7 @@ class Network:
 
     def __init__(self, test, host, letter, port):
         self.host, self.name = host, f"wgr{letter}{mark()}{next(NUMBERS)}"
-        folder = tempfile.TemporaryDirectory()
-        test.addCleanup(folder.cleanup)
-        self.folder = Path(folder.name)
+        self.folder = Path(test.enterContext(tempfile.TemporaryDirectory()))
         self.private = private_key()
         self.public = public_key(self.private)
         self.write("url", f"http://127.0.0.1:{port}/networks/office")
@@ -132,10 +130,7 @@ class OfHosts(unittest.TestCase):
         return space
 
     def serve(self, database):
-        server = Server(database)
-        server.__enter__()
-        self.addCleanup(server.__exit__)
-        return server
+        return self.enterContext(Server(database))
 
 
 class OneNetwork(OfHosts):
@@ -144,9 +139,7 @@ class OneNetwork(OfHosts):
     pool = "10.8.0.0/24"
 
     def setUp(self):
-        folder = tempfile.TemporaryDirectory()
-        self.addCleanup(folder.cleanup)
-        self.folder = Path(folder.name)
+        self.folder = Path(self.enterContext(tempfile.TemporaryDirectory()))
         self.database = str(self.folder / "register.db")
         order("init", self.database)
         order("tenant-add", self.database, "acme")

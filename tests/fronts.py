@@ -25,14 +25,10 @@ class Front(unittest.TestCase):
     """A proxy before a real `wgr serve`. A class below this starts the proxy."""
 
     def setUp(self):
-        folder = tempfile.TemporaryDirectory()
-        self.addCleanup(folder.cleanup)
-        self.folder = Path(folder.name)
+        self.folder = Path(self.enterContext(tempfile.TemporaryDirectory()))
         # nginx's workers run as another user.
         self.folder.chmod(0o711)
-        self.serving = Server(make_register(folder.name))
-        self.serving.__enter__()
-        self.addCleanup(self.serving.__exit__)
+        self.serving = self.enterContext(Server(make_register(self.folder)))
         make_certificate(self.folder)
         self.port = free_port()
         self.start(self.serving.port)

@@ -106,10 +106,7 @@ class Sending(Files):
         self.socket = self.path("orders")
 
     def serve(self, database=None, **words):
-        server = Server(database or self.db, **{"orders": self.socket, **words})
-        server.__enter__()
-        self.addCleanup(server.__exit__)
-        return server
+        return self.enterContext(Server(database or self.db, **{"orders": self.socket, **words}))
 
     def do(self, *orders):
         """Does these orders as commands on the file."""

@@ -140,15 +140,11 @@ class Serving(unittest.TestCase):
     maxDiff = None
 
     def setUp(self):
-        folder = tempfile.TemporaryDirectory()
-        self.addCleanup(folder.cleanup)
-        self.database = make_register(folder.name)
+        folder = self.enterContext(tempfile.TemporaryDirectory())
+        self.database = make_register(folder)
 
     def serve(self, **words):
-        server = Server(self.database, **words)
-        server.__enter__()
-        self.addCleanup(server.__exit__)
-        return server
+        return self.enterContext(Server(self.database, **words))
 
 
 def read_all(link):

@@ -42,16 +42,14 @@ class Shipped(unittest.TestCase):
     maxDiff = None
 
     def setUp(self):
-        folder = scratch()
-        self.addCleanup(folder.cleanup)
-        self.folder = Path(folder.name)
-        self.database = make_register(folder.name)
+        self.folder = Path(self.enterContext(scratch()))
+        self.database = make_register(self.folder)
         self.bin = self.folder / "bin"
         self.bin.mkdir()
         os.symlink(program.path, self.bin / "wgr")
         # The tests' own Python, without what is installed for it: the scripts need its standard library alone.
         self.stand_in("python3", f'exec {sys.executable} -S "$@"')
-        self.known = os.environ | {"PATH": f"{self.bin}:{DIST}:{os.environ['PATH']}", "ROOM": folder.name, "DB": self.database}
+        self.known = os.environ | {"PATH": f"{self.bin}:{DIST}:{os.environ['PATH']}", "ROOM": str(self.folder), "DB": self.database}
 
     def stand_in(self, name, text):
         """A command of this name that the scripts find before the system's."""
@@ -70,10 +68,7 @@ class Shipped(unittest.TestCase):
         return Left(done.returncode, done.stdout, done.stderr)
 
     def serve(self, database=None, **words):
-        server = Server(database or self.database, **words)
-        server.__enter__()
-        self.addCleanup(server.__exit__)
-        return server
+        return self.enterContext(Server(database or self.database, **words))
 
     def copies(self, folder="copies"):
         return sorted((self.folder / folder).glob("*.db"))

@@ -197,15 +197,10 @@ class Faults(Backing):
     """Each write and each sync fails in turn, or the service is killed before it."""
 
     def faulty(self):
-        faulty = Faulty().__enter__()
-        self.addCleanup(faulty.__exit__)
-        return faulty
+        return self.enterContext(Faulty())
 
     def start(self, faulty):
-        server = faulty.serve(self.db, orders=self.socket)
-        server.__enter__()
-        self.addCleanup(server.__exit__)
-        return server
+        return self.enterContext(faulty.serve(self.db, orders=self.socket))
 
     def test_calls_that_fail(self):
         self.init(ACME)

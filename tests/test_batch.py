@@ -80,10 +80,8 @@ class Batch(unittest.TestCase):
     maxDiff = None
 
     def setUp(self):
-        folder = tempfile.TemporaryDirectory()
-        self.addCleanup(folder.cleanup)
-        self.folder = Path(folder.name)
-        self.database = make_register(folder.name)
+        self.folder = Path(self.enterContext(tempfile.TemporaryDirectory()))
+        self.database = make_register(self.folder)
 
     def test_two_requests(self):
         left = batch(

@@ -145,15 +145,12 @@ CASES = [
 
 class Clock(unittest.TestCase):
     def test_cases(self):
-        folder = tempfile.TemporaryDirectory()
-        self.addCleanup(folder.cleanup)
+        folder = self.enterContext(tempfile.TemporaryDirectory())
         servers = []
         for place, _ in enumerate(CASES):
-            own = Path(folder.name) / str(place)
+            own = Path(folder) / str(place)
             own.mkdir()
-            servers.append(Server(make_register(own)))
-            servers[-1].__enter__()
-            self.addCleanup(servers[-1].__exit__)
+            servers.append(self.enterContext(Server(make_register(own))))
         with ThreadPoolExecutor(len(CASES)) as pool:
             seen = pool.map(lambda case, server: list(case[1](server)), CASES, servers)
             for (name, _), rows in zip(CASES, seen, strict=True):
@@ -166,9 +163,8 @@ class Broken(unittest.TestCase):
     """A clock that gives no moment: the connection fails, is reported and counts, and the next one is answered."""
 
     def setUp(self):
-        folder = tempfile.TemporaryDirectory()
-        self.addCleanup(folder.cleanup)
-        self.database = make_register(folder.name)
+        folder = self.enterContext(tempfile.TemporaryDirectory())
+        self.database = make_register(folder)
 
     @needs_faults()
     def test_a_clock_that_gives_no_moment(self):

@@ -49,9 +49,8 @@ class Earlier(unittest.TestCase):
     maxDiff = None
 
     def setUp(self):
-        folder = tempfile.TemporaryDirectory()
-        self.addCleanup(folder.cleanup)
-        self.database = str(Path(folder.name) / "earlier.db")
+        folder = self.enterContext(tempfile.TemporaryDirectory())
+        self.database = str(Path(folder) / "earlier.db")
         Path(self.database).write_bytes(gzip.decompress(FILE.read_bytes()))
 
     def test_what_it_shows(self):

@@ -33,11 +33,9 @@ class Examples(unittest.TestCase):
     maxDiff = None
 
     def setUp(self):
-        folder = tempfile.TemporaryDirectory()
-        self.addCleanup(folder.cleanup)
-        self.folder = Path(folder.name)
+        self.folder = Path(self.enterContext(tempfile.TemporaryDirectory()))
         os.symlink(program.path, self.folder / "wgr")
-        self.known = os.environ | {"PATH": f"{folder.name}:{os.environ['PATH']}"}
+        self.known = os.environ | {"PATH": f"{self.folder}:{os.environ['PATH']}"}
 
     def shell(self, command):
         return subprocess.run(

@@ -40,9 +40,8 @@ with socket.socket(socket.AF_UNIX) as listener:
 @unittest.skipUnless(all(Path(path).exists() for path in ["/usr/bin/python3", "/usr/bin/dbus-daemon", "/usr/bin/curl"]), "without python3, dbus or curl in /usr/bin")
 class Frozen(unittest.TestCase):
     def setUp(self):
-        folder = tempfile.TemporaryDirectory()
-        self.addCleanup(folder.cleanup)
-        self.system = System(folder.name, UNITS)
+        folder = self.enterContext(tempfile.TemporaryDirectory())
+        self.system = System(folder, UNITS)
         for name in BUS:
             (self.system.units / name).write_bytes(Path(f"/lib/systemd/system/{name}").read_bytes())
         self.system.start()

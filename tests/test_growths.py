@@ -282,11 +282,8 @@ class Serving(unittest.TestCase):
     loads = True
 
     def setUp(self):
-        folder = scratch()
-        self.addCleanup(folder.cleanup)
-        self.folder = folder.name
-        self.faulty = Faulty().__enter__()
-        self.addCleanup(self.faulty.__exit__)
+        self.folder = self.enterContext(scratch())
+        self.faulty = self.enterContext(Faulty())
         self.server = None
         self.addCleanup(self.end)
 

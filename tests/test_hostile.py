@@ -79,26 +79,26 @@ class Hostile(Script):
             text = self.spoilt(text)
         return text
 
-    def spoilt(self, text):
+    def disturbed(self, text):
+        """Texts that are this one cut or doubled, or with bytes of others in it."""
         place, length = self.random.randrange(len(text) + 1), self.random.randrange(1, 9)
         front, back = text[:place], text[place:]
+        return [
+            front,
+            front + self.random.choice(HOSTILE) + back,
+            front + self.random.choice(HOSTILE) + back[1:],
+            front + back[length:],
+            front + back[:length] + back,
+            front + self.random.randbytes(length) + back,
+            back + front,
+            text + text,
+        ]
+
+    def spoilt(self, text):
         lines = text.split(b"\r\n")
         lines.insert(1 + self.random.randrange(3), self.random.choice(FIELDS))
-        return self.random.choice(
-            [
-                front,
-                front + self.random.choice(HOSTILE) + back,
-                front + self.random.choice(HOSTILE) + back[1:],
-                front + back[length:],
-                front + back[:length] + back,
-                front + self.random.randbytes(length) + back,
-                back + front,
-                text.replace(b"\r\n", b"\n"),
-                text + text,
-                b"\r\n\n" + text,
-                b"\r\n".join(lines),
-            ]
-        )
+        ends = [text.replace(b"\r\n", b"\n"), b"\r\n\n" + text, b"\r\n".join(lines)]
+        return self.random.choice(self.disturbed(text) + ends)
 
 
 class LongRun(unittest.TestCase):

@@ -57,11 +57,8 @@ class Shut(Serving):
         return {"call": self.faulty.calls - 1, "how": ONCE}
 
     def serve(self, **words):
-        self.faulty = Faulty().__enter__()
-        self.addCleanup(self.faulty.__exit__)
-        server = self.faulty.serve(self.database, **words)
-        server.__enter__()
-        self.addCleanup(server.__exit__)
+        self.faulty = self.enterContext(Faulty())
+        server = self.enterContext(self.faulty.serve(self.database, **words))
         # The first change makes the log.
         self.assertEqual(server.send(add(1)), done(peer(1, 1, "10.8.0.2/32")))
         return server

@@ -136,9 +136,8 @@ class Crowd:
 
 class Large(unittest.TestCase):
     def setUp(self):
-        folder = tempfile.TemporaryDirectory()
-        self.addCleanup(folder.cleanup)
-        self.database = str(Path(folder.name) / "reg.db")
+        folder = self.enterContext(tempfile.TemporaryDirectory())
+        self.database = str(Path(folder) / "reg.db")
         order("init", self.database)
         order("tenant-add", self.database, "acme")
         order("token-grant", self.database, "acme", token="abc")

@@ -98,9 +98,8 @@ class Tenants(OfHosts):
     """Three tenants on one host, each with a network and a peer."""
 
     def setUp(self):
-        folder = tempfile.TemporaryDirectory()
-        self.addCleanup(folder.cleanup)
-        self.database = str(Path(folder.name) / "register.db")
+        folder = self.enterContext(tempfile.TemporaryDirectory())
+        self.database = str(Path(folder) / "register.db")
         order("init", self.database)
         self.host = self.space("host")
         self.nets = [Network(self, self.host, letter, 0) for letter in "abc"]

@@ -122,9 +122,8 @@ FOREIGN = [
 class Opening(unittest.TestCase):
     @classmethod
     def setUpClass(cls):
-        cls.folder = tempfile.TemporaryDirectory()
-        cls.addClassCleanup(cls.folder.cleanup)
-        cls.register = str(Path(cls.folder.name) / "good.db")
+        cls.folder = Path(cls.enterClassContext(tempfile.TemporaryDirectory()))
+        cls.register = str(cls.folder / "good.db")
         orders = [["init"]]
         for tenant, name, pool, port in [("acme", "office", "10.8.0.0/24", "1"), ("bolt", "lab", "10.9.0.0/24", "2")]:
             words = ["--pool", pool, "--host", "vpn.example.net", "--port", port, "--capacity", "4096"]
@@ -143,7 +142,7 @@ class Opening(unittest.TestCase):
 
     def opened_after(self, statements):
         """What an order is answered once the statements are done, and whether the file stayed."""
-        database = Path(self.folder.name) / "changed.db"
+        database = self.folder / "changed.db"
         shutil.copyfile(self.register, database)
         self.do(str(database), statements)
         before = database.read_bytes()

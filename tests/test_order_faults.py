@@ -6,7 +6,6 @@ As `test_stops.py` and `test_growths.py` do with the commands; the rows that are
 import itertools
 import shutil
 import unittest
-from concurrent.futures import ThreadPoolExecutor
 from contextlib import suppress
 from pathlib import Path
 
@@ -16,7 +15,7 @@ from register_file import failed
 from sending import answered, command, line
 from serving import Server
 from test_growths import LOOK, NOW, make_base, rows
-from test_stops import ORDERS, Order, make_logged_base, stop_calls, stop_machine
+from test_stops import ORDERS, EachStop, Order
 
 DONE, NO_MEMORY = b"0 done\n", b"1 no_memory\n"
 STRIDE = 1 if WHOLE else 23
@@ -60,25 +59,9 @@ class Sent(Order):
 
 
 @needs_faults()
-class Stops(unittest.TestCase):
-    maxDiff = None
-
-    def each(self, stop):
-        with scratch() as folder, ThreadPoolExecutor(2) as pool:
-            base = make_logged_base(folder)
-            stopped = {word: pool.submit(stop, Sent(base, word, *words), turn) for turn, (word, words) in enumerate(ORDERS.items())}
-            for word, future in stopped.items():
-                wrong, count = future.result()
-                tell(f"{word} over a socket", count, "stops")
-                with self.subTest(word, stops=count):
-                    self.assertEqual(wrong[:5], [])
-                    self.assertGreater(count, 6)
-
-    def test_each_call(self):
-        self.each(stop_calls)
-
-    def test_the_machine(self):
-        self.each(stop_machine)
+class Stops(EachStop, unittest.TestCase):
+    def words(self, base):
+        return {f"{word} over a socket": Sent(base, word, *words) for word, words in ORDERS.items()}
 
 
 @needs_faults()
@@ -88,18 +71,14 @@ class Growths(unittest.TestCase):
     maxDiff = None
 
     def setUp(self):
-        folder = scratch()
-        self.addCleanup(folder.cleanup)
-        self.folder, self.base = folder.name, make_base(folder.name)
-        self.path, self.socket = f"{folder.name}/run.db", f"{folder.name}/orders"
-        self.faulty = Faulty().__enter__()
-        self.addCleanup(self.faulty.__exit__)
+        self.folder = self.enterContext(scratch())
+        self.base, self.path, self.socket = make_base(self.folder), f"{self.folder}/run.db", f"{self.folder}/orders"
+        self.faulty = self.enterContext(Faulty())
 
     def start(self):
         shutil.copyfile(self.base, self.path)
         Path(f"{self.path}-wal").unlink(missing_ok=True)
-        self.server = self.faulty.serve(self.path, count=1, now=NOW, orders=self.socket).__enter__()
-        self.addCleanup(self.server.__exit__)
+        self.server = self.enterContext(self.faulty.serve(self.path, count=1, now=NOW, orders=self.socket))
 
     def end(self):
         """The rows, once it has ended by a request."""

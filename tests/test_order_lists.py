@@ -21,7 +21,7 @@ from plain_orders import answer_line
 from program import Left, run
 from sending import answered, shown
 from serving import Server, request
-from test_hostile import HOSTILE, Hostile, rarely
+from test_hostile import Hostile, rarely
 from test_worlds import NAMES, TENANTS
 
 EVENTS, SEGMENT = 60_000 if WHOLE else 3_000, 150
@@ -50,22 +50,8 @@ class Orders(Hostile):
         return self.spoilt_line(text) if self.random.random() < 0.3 else text
 
     def spoilt_line(self, text):
-        place, length = self.random.randrange(len(text) + 1), self.random.randrange(1, 9)
-        front, back = text[:place], text[place:]
-        return self.random.choice(
-            [
-                front,
-                front + self.random.choice(HOSTILE) + back,
-                front + self.random.choice(HOSTILE) + back[1:],
-                front + back[length:],
-                front + back[:length] + back,
-                front + self.random.randbytes(length) + back,
-                text.replace(b" ", b"  ", 1),
-                text + text,
-                b" " + text,
-                text.replace(b"\n", b"\r\n"),
-            ]
-        )
+        blanks = [text.replace(b" ", b"  ", 1), b" " + text, text.replace(b"\n", b"\r\n")]
+        return self.random.choice(self.disturbed(text) + blanks)
 
 
 class Lists(unittest.TestCase):

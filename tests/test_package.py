@@ -121,12 +121,11 @@ class Made(unittest.TestCase):
 
     @classmethod
     def setUpClass(cls):
-        folder = tempfile.TemporaryDirectory()
-        cls.addClassCleanup(folder.cleanup)
-        done, cls.package = make(folder.name)
+        folder = cls.enterClassContext(tempfile.TemporaryDirectory())
+        done, cls.package = make(folder)
         if done.returncode != 0:
             raise AssertionError(done.stderr)
-        cls.files = Path(folder.name) / "files"
+        cls.files = Path(folder) / "files"
         subprocess.run(["dpkg-deb", "-x", cls.package, cls.files], check=True)
 
     def read(self, path):
@@ -255,9 +254,7 @@ class Installed(Made):
     """The package installed into a folder in the place of the root, and taken away again."""
 
     def setUp(self):
-        folder = tempfile.TemporaryDirectory()
-        self.addCleanup(folder.cleanup)
-        self.root = Path(folder.name)
+        self.root = Path(self.enterContext(tempfile.TemporaryDirectory()))
         for name in ["etc", "var/lib/dpkg/info", "var/lib/dpkg/updates", "var/lib/dpkg/triggers"]:
             (self.root / name).mkdir(parents=True)
         for name in ["status", "available"]:

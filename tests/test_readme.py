@@ -90,9 +90,7 @@ class Page(unittest.TestCase):
         return made
 
     def setUp(self):
-        folder = tempfile.TemporaryDirectory()
-        self.addCleanup(folder.cleanup)
-        self.folder = Path(folder.name)
+        self.folder = Path(self.enterContext(tempfile.TemporaryDirectory()))
         os.symlink(program.path, self.folder / "wgr")
         os.symlink(TOP / "dist", self.folder / "dist")
         self.server = self.machine("server")

@@ -26,11 +26,9 @@ NETWORK = ["acme", "office", "--pool", "10.8.0.0/24", "--host", "vpn.example.net
 
 class Restarts(unittest.TestCase):
     def start(self, units):
-        folder = tempfile.TemporaryDirectory()
-        self.addCleanup(folder.cleanup)
-        self.folder = Path(folder.name)
+        self.folder = Path(self.enterContext(tempfile.TemporaryDirectory()))
         self.folder.chmod(0o755)
-        self.system = System(folder.name, ["wgr.service", *units])
+        self.system = System(self.folder, ["wgr.service", *units])
         self.addCleanup(self.system.stop)
         self.system.start()
         self.system.make_register(TOKEN)

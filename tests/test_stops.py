@@ -319,17 +319,15 @@ def stop_machine(word, turn):
     return wrong, count
 
 
-@needs_faults()
-class Stops(unittest.TestCase):
+class EachStop:
+    """Stops of each of the words that `words` gives by their names. A class below this is a test."""
+
     maxDiff = None
 
     def each(self, stop):
         with scratch() as folder, ThreadPoolExecutor(2) as pool:
-            base = make_logged_base(folder)
-            makers = {"init": lambda: Init(None, "init"), "batch": lambda: Batch(base), "serve": lambda: Serve(base)}
-            for word, words in ORDERS.items():
-                makers[word] = lambda word=word, words=words: Order(base, word, *words)
-            stopped = {name: pool.submit(stop, make(), turn) for turn, (name, make) in enumerate(makers.items())}
+            words = self.words(make_logged_base(folder))
+            stopped = {name: pool.submit(stop, word, turn) for turn, (name, word) in enumerate(words.items())}
             for name, future in stopped.items():
                 wrong, count = future.result()
                 tell(name, count, "stops")
@@ -342,3 +340,10 @@ class Stops(unittest.TestCase):
 
     def test_the_machine(self):
         self.each(stop_machine)
+
+
+@needs_faults()
+class Stops(EachStop, unittest.TestCase):
+    def words(self, base):
+        orders = {word: Order(base, word, *words) for word, words in ORDERS.items()}
+        return {"init": Init(None, "init"), "batch": Batch(base), "serve": Serve(base)} | orders

@@ -182,10 +182,8 @@ class Served(unittest.TestCase):
     maxDiff = None
 
     def setUp(self):
-        folder = scratch()
-        self.addCleanup(folder.cleanup)
-        self.folder = folder.name
-        self.database = make_register(folder.name)
+        self.folder = self.enterContext(scratch())
+        self.database = make_register(self.folder)
 
 
 class Messages(Served):
@@ -239,8 +237,7 @@ class Streams(Served):
 
     def setUp(self):
         super().setUp()
-        self.faulty = Faulty().__enter__()
-        self.addCleanup(self.faulty.__exit__)
+        self.faulty = self.enterContext(Faulty())
 
     def answers(self, message, look=LOOK, **wanted):
         """What a new service writes to a message where this fails, what it shows then, and what it prints."""

@@ -22,9 +22,7 @@ ANSWERED = b"HTTP/1.1 200 OK\r\n"
 
 class Terminated(unittest.TestCase):
     def setUp(self):
-        folder = tempfile.TemporaryDirectory()
-        self.addCleanup(folder.cleanup)
-        self.folder = Path(folder.name)
+        self.folder = Path(self.enterContext(tempfile.TemporaryDirectory()))
         base = str(self.folder / "base.db")
         order("init", base)
         order("tenant-add", base, "acme")

@@ -50,9 +50,7 @@ class Host:
 @needs("ip", "wg", "wg-quick", "wireguard-go", "ping", "curl", root=True)
 class Tunnel(unittest.TestCase):
     def setUp(self):
-        folder = tempfile.TemporaryDirectory()
-        self.addCleanup(folder.cleanup)
-        self.folder = Path(folder.name)
+        self.folder = Path(self.enterContext(tempfile.TemporaryDirectory()))
         self.server, self.client = Host("a"), Host("b")
         for host in [self.server, self.client]:
             shell(f"ip netns add {host.space}")

@@ -31,12 +31,11 @@ def settings(name):
 class Files(unittest.TestCase):
     def copied(self):
         """A folder with all units, whose programs and man pages need not be installed where the tests run."""
-        folder = tempfile.TemporaryDirectory()
-        self.addCleanup(folder.cleanup)
+        folder = self.enterContext(tempfile.TemporaryDirectory())
         for name in UNITS:
             text = re.sub(r"/usr/(local/(bin|lib/wgr)|sbin)/[\w-]+", shutil.which("true"), (DIST / name).read_text())
-            (Path(folder.name) / name).write_text(re.sub(r"Documentation=.*\n", "", text))
-        return Path(folder.name)
+            (Path(folder) / name).write_text(re.sub(r"Documentation=.*\n", "", text))
+        return Path(folder)
 
     @needs("systemd-analyze")
     def test_units(self):
@@ -82,9 +81,8 @@ class Running(unittest.TestCase):
     """The service and its socket, with a register that has a tenant."""
 
     def setUp(self):
-        folder = tempfile.TemporaryDirectory()
-        self.addCleanup(folder.cleanup)
-        self.system = System(folder.name, ALL, drop_ins=QUICKLY)
+        folder = self.enterContext(tempfile.TemporaryDirectory())
+        self.system = System(folder, ALL, drop_ins=QUICKLY)
         self.addCleanup(self.system.stop)
         self.system.start()
 
@@ -183,9 +181,8 @@ class Following(unittest.TestCase):
     """wgr-net@ and wgr-sync@ with a register on the same host."""
 
     def setUp(self):
-        folder = tempfile.TemporaryDirectory()
-        self.addCleanup(folder.cleanup)
-        self.system = System(folder.name, ["wgr-net@.service", "wgr-sync@.service", "wgr-sync@.timer"], scripts=["wgr-net", "wgr-sync"])
+        folder = self.enterContext(tempfile.TemporaryDirectory())
+        self.system = System(folder, ["wgr-net@.service", "wgr-sync@.service", "wgr-sync@.timer"], scripts=["wgr-net", "wgr-sync"])
         self.addCleanup(self.system.stop)
         self.system.start()
         private = self.system.run("wg", "genkey").stdout
