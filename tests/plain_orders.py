@@ -39,7 +39,7 @@ def value_of(field, text):
     if field == "key":
         return text if is_key(text) else None
     if field == "pool":
-        return text if prefix_of(text) and "/" in text else None
+        return text if prefix_of(text) else None
     return host_of(text) if field == "host" else number_of(text, MOST[field])
 
 

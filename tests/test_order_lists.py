@@ -69,12 +69,16 @@ class Lists(unittest.TestCase):
                 now = max(0, place * SEGMENT // 2 - self.random.choice([0, 0, 0, 500]))
                 self.serve(now, [(kind, self.event(kind)) for kind in self.kinds(first=place == 0)])
             self.look_at_all()
-            # The script reaches what it should compare.
-            self.assertLessEqual({200, 400, 401, 404, 409}, {int(reply[9:12]) for reply in self.replies})
-            wanted = "name_held no_such_tenant digest_held no_such_token no_network port_held bad_order done pool_overlaps"
-            self.assertLessEqual(set(wanted.split()), {answer.split()[1].decode() for answer in self.answers})
-            self.assertLessEqual({"name", "tenant", "token", "pool"}, {answer.split()[2].decode() for answer in self.answers if b" bad_field " in answer})
             tell("random requests and orders", EVENTS, f"compared, {len(self.replies)} replies differ")
+            if seed == 1:
+                self.look_at_what_was_reached()
+
+    def look_at_what_was_reached(self):
+        """The first seed's script reaches what it should compare; another's may lack some of it."""
+        self.assertLessEqual({200, 400, 401, 404, 409}, {int(reply[9:12]) for reply in self.replies})
+        wanted = "name_held no_such_tenant digest_held no_such_token no_network port_held bad_order bad_field done pool_overlaps"
+        self.assertLessEqual(set(wanted.split()), {answer.split()[1].decode() for answer in self.answers})
+        self.assertLessEqual({"name", "tenant", "token", "pool"}, {answer.split()[2].decode() for answer in self.answers if b" bad_field " in answer})
 
     def kinds(self, first):
         """Of each five events, some two are orders; the first ones add the tenants and their tokens."""
@@ -91,10 +95,10 @@ class Lists(unittest.TestCase):
         return text.encode
 
     def serve(self, now, events):
-        ends = self.random.random() < 0.5
+        ends = self.random.random() < 0.5 and events[-1][0] == "request"
         count = sum(kind == "request" for kind, _ in events)
-        with Server(self.database, count=count + (0 if ends and events[-1][0] == "request" else 1), now=now, orders=self.socket) as server:
-            for kind, make in events:
+        with Server(self.database, count=count if ends else count + 1, now=now, orders=self.socket) as server:
+            for place, (kind, make) in enumerate(events, 1):
                 text = make()
                 if kind == "request":
                     self.compare(now, text, server.send(text), self.plain.answer(now, text))
@@ -103,9 +107,10 @@ class Lists(unittest.TestCase):
                     due = answer_line(self.plain, text)
                     self.compare(now, text, answered(self.socket, text), due)
                     self.answers[due] = text
-                if self.readings.random() < READ:
+                # Behind its last request the service may have ended.
+                if self.readings.random() < READ and not (ends and place == len(events)):
                     self.read(now)
-            if ends and events[-1][0] == "request":
+            if ends:
                 self.assertEqual(server.ended(), Left(0))
 
     def compare(self, now, text, given, due):
