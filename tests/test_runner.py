@@ -2,6 +2,7 @@
 
 import shutil
 import subprocess
+import sys
 import tempfile
 import unittest
 from pathlib import Path
@@ -69,6 +70,11 @@ RUNS = [
 
 
 class Runner(unittest.TestCase):
+    def test_an_earlier_python(self):
+        script = "import runpy, sys; sys.version_info = (3, 10); runpy.run_path(sys.argv[1], run_name='__main__')"
+        ran = subprocess.run([sys.executable, "-c", script, HERE / "run", "nobody"], stdout=subprocess.PIPE, stderr=subprocess.STDOUT, text=True)
+        self.assertEqual((ran.returncode, ran.stdout), (1, "tests/run: Python 3.11 or later is needed\n"))
+
     def test_runs(self):
         for name, files, names, status, last, printed in RUNS:
             with self.subTest(name), tempfile.TemporaryDirectory() as folder:
