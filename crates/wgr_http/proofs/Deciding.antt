@@ -1,17 +1,18 @@
 -- Which beginnings of a message decide it.
-use Rattle.std.proofs.Common.{◌≡◌, ℕ, ◌+◌, ◌<◌, ◌≤◌, List, ◌++◌, length, drop, arith, refl, sym, ◌∙◌, ap, subst, append-nil, length-append, false, inl, inr, ◌⊎◌, codes}
-use Rattle.std.specs.Prelude.{Option, Some, None, Err, ◌==◌}
+use Rattle.std.proofs.Common.{◌≡◌, ℕ, ◌+◌, ◌<◌, ◌≤◌, List, ◌++◌, length, drop, arith, sym, ◌∙◌, ap, subst, append-nil, length-append, inl, inr, ◌⊎◌, codes}
+use Rattle.std.specs.Prelude.{Option, Some, None, Result, Err}
 use Rattle.std.specs.Io.KnownBytes.{Consumes, IsAtEnd}
-use Rattle.std.proofs.lemmas.Bool.{lt-ltb}
 use Rattle.httparse.specs.Grammar.{RequestHead, print_request}
 use Rattle.httparse.proofs.GrammarLemmas.{request_unique}
 use Rattle.wgr_http.specs.Extent.{wanted, extent, HasExtent}
 use Rattle.wgr_http.specs.Field.{Occurrence, in_head}
-use Rattle.wgr_http.specs.Head.{HasHead, HasNoHead}
-use Rattle.wgr_http.specs.Message.{message_of, headless, Answers, headed, unheaded}
+use Rattle.wgr_http.specs.Head.{HasHead, HasNoHead, IsRefused}
+use Rattle.wgr_http.specs.Message.{message_of, refused, Answers, headed, unheaded, MessageView}
 use Rattle.wgr_http.specs.Reading.{IsDecided, AnswersAs, IsNoMore}
-use Rattle.wgr_http.specs.declared.message.MessageFault.TheVariants.{TooLarge}
+use Rattle.wgr_http.specs.declared.message.MessageFault.{MessageFault}
+use Rattle.wgr_http.specs.declared.message.MessageFault.TheVariants.{BadHead}
 use Rattle.wgr_http.proofs.Growing.{head_grows, no_head_grows, answers_unique, judged_grows}
+use Rattle.wgr_http.proofs.Refused.{long_grows, refused_grows, refused_none}
 
 pub rest_length : (bytes : List ℕ) (h : RequestHead) (rest : List ℕ) → HasHead bytes h rest → length bytes ≡ length (print_request h) + length rest
 rest_length bytes h rest has = ap length has.reads.1 ∙ length-append (print_request h) rest
@@ -32,18 +33,21 @@ extent_decides bytes more n e le =
     let has = head_grows bytes more e.0 (drop (length (print_request e.0)) bytes) e.1 in
     head_decides (bytes ++ more) e.0 (drop (length (print_request e.0)) bytes ++ more) has (omega (arith, le, e.2))
 
-pub too_large : (bytes : List ℕ) → 8192 < length bytes → headless bytes ≡ TooLarge
-too_large bytes lt =
-    let some : (length bytes == 0) ≡ false = grind (arith, lt) in
-    rw (some, lt-ltb 8192 (length bytes) lt) refl
+-- what no bytes can make a head
+pub refused_decides : (bytes : List ℕ) → IsRefused bytes → IsDecided bytes
+refused_decides bytes never more r answers =
+    let is : r ≡ Err BadHead = answers_unique bytes r (Err BadHead) answers (unheaded BadHead (refused_none bytes never) (refused never)) in
+    let still = refused_grows bytes more never in
+    subst (Answers (bytes ++ more)) (sym is) (unheaded BadHead (refused_none (bytes ++ more) still) (refused still))
+
+long_decides : (bytes more : List ℕ) (r : Result MessageView MessageFault) → HasNoHead bytes → 8192 < length bytes → Answers bytes r → Answers (bytes ++ more) r
+long_decides bytes more r none lt (headed h rest has) = absurd (none h rest has)
+long_decides bytes more r none lt (unheaded f none2 is) =
+    unheaded f (no_head_grows bytes more (omega (arith, lt)) none) (long_grows bytes more f lt is)
 
 -- no head in the first 8,192 bytes
 pub no_head_decides : (bytes : List ℕ) → HasNoHead bytes → 8192 < length bytes → IsDecided bytes
-no_head_decides bytes none lt more r answers =
-    let is : r ≡ Err TooLarge = answers_unique bytes r (Err (headless bytes)) answers (unheaded none) ∙ ap (λ e. Err e) (too_large bytes lt) in
-    let lt2 : 8192 < length (bytes ++ more) = omega (arith, lt, length-append bytes more) in
-    let le : 8192 ≤ length bytes = omega (arith, lt) in
-    subst (Answers (bytes ++ more)) (ap (λ e. Err e) (too_large (bytes ++ more) lt2) ∙ sym is) (unheaded (no_head_grows bytes more le none))
+no_head_decides bytes none lt more r = long_decides bytes more r none lt
 
 -- what was read of a reader's bytes is decided, or is all of them
 pub read_of : (old new : Option (List ℕ)) (bytes : List ℕ) → Consumes old new bytes → IsDecided bytes ⊎ IsAtEnd new → AnswersAs bytes old

@@ -1,11 +1,9 @@
 -- A message has the bytes that its head wants, so it ends where it does.
-use Rattle.std.proofs.Common.{◌≡◌, ℕ, ◌+◌, ◌<◌, ◌≤◌, List, ◌++◌, length, arith, refl, sym, ◌∙◌, ap, subst, length-append, inl, inr, codes, rules}
-use Rattle.std.specs.Prelude.{Option, Some, None, Result, Ok, Err}
+use Rattle.std.proofs.Common.{◌≡◌, ℕ, ◌≤◌, List, ◌++◌, length, arith, refl, subst, inl, inr, codes}
+use Rattle.std.specs.Prelude.{Option, Some, None, Result, Ok}
 use Rattle.std.proofs.lemmas.Bool.{cases_lt, lt-ltb, le-ltb}
-use Rattle.httparse.specs.Grammar.{RequestHead, print_request}
 use Rattle.wgr_http.specs.Extent.{asked_length, wanted, extent}
 use Rattle.wgr_http.specs.Field.{Occurrence, absent, once, repeated, in_head}
-use Rattle.wgr_http.specs.Head.{HasHead}
 use Rattle.wgr_http.specs.Length.{length_value, max_body}
 use Rattle.wgr_http.specs.Message.{Answers, headed, unheaded, MessageView, judged, sized_by, token_given, with_body}
 use Rattle.wgr_http.specs.declared.message.MessageFault.{MessageFault}
@@ -48,7 +46,7 @@ ends bytes more r m (headed h rest has) is =
     let room : wanted authorization size coding ≤ length rest = message_is_there h.method h.target authorization size coding rest m is in
     let le : extent h ≤ length bytes = omega (arith, room, rest_length bytes h rest has) in
     head_decides bytes h rest has le more (Ok m) (subst (Answers bytes) is (headed h rest has))
-ends bytes more r m (unheaded none) is = cc is
+ends bytes more r m (unheaded f none a) is = cc is
 
 pub messages_end : (bytes more : List ℕ) (m : MessageView) → Answers bytes (Ok m) → Answers (bytes ++ more) (Ok m)
 messages_end bytes more m answers = ends bytes more (Ok m) m answers refl

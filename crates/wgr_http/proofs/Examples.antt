@@ -1,16 +1,18 @@
 -- What heads and the bytes after them are, tokens and replies, by computation.
-use Rattle.std.proofs.Common.{◌≡◌, ℕ, List, [], ◌∷◌, ◌++◌, length, codes, Option, Some, None, refl}
+use Rattle.std.proofs.Common.{◌≡◌, ℕ, true, List, [], ◌∷◌, length, take, arith, codes, Some, None, refl}
 use Rattle.std.specs.Fmt.{digits}
 use Rattle.std.specs.Prelude.{Result, Ok, Err}
 use Rattle.httparse.proofs.OnLiterals.{httparse_on_literals}
-use Rattle.httparse.specs.Grammar.{RequestHead, Field, crlf}
+use Rattle.httparse.specs.Grammar.{Field, crlf}
 use Rattle.wgr_http.specs.Extent.{wanted}
 use Rattle.wgr_http.specs.Field.{absent, once}
-use Rattle.wgr_http.specs.Message.{MessageView, headless, message_of}
+use Rattle.wgr_http.specs.Head.{IsRefused, MayBecomeHead}
+use Rattle.wgr_http.specs.Message.{MessageView, IsHeadless, empty, refused, long, cut, message_of}
 use Rattle.wgr_http.specs.Reply.{first_lines, last_lines, reply_bytes}
 use Rattle.wgr_http.specs.Token.{token_in}
+use Rattle.wgr_http.specs.Unfinished.{begun, open_target}
 use Rattle.wgr_http.specs.declared.message.MessageFault.{MessageFault}
-use Rattle.wgr_http.specs.declared.message.MessageFault.TheVariants.{BadHead, TooLarge, LengthRequired, Truncated}
+use Rattle.wgr_http.specs.declared.message.MessageFault.TheVariants.{BadFields, BadHead, TooLarge, LengthRequired, Truncated}
 use Rattle.wgr_http.specs.declared.reply.Kind.TheVariants.{Json, Text}
 use Rattle.wgr_http.specs.declared.status_code.StatusCode.TheVariants as status
 
@@ -45,12 +47,12 @@ unfolding httparse_on_literals
 length_of_a_get = refl
 
 -- where two checks fail, the first one tells
-two_tokens_and_a_coding : asked (codes "POST") (token ∷ coding ∷ line (codes "authorization") (codes "") ∷ []) [] ≡ Err BadHead
+two_tokens_and_a_coding : asked (codes "POST") (token ∷ coding ∷ line (codes "authorization") (codes "") ∷ []) [] ≡ Err BadFields
 unfolding httparse_on_literals
 two_tokens_and_a_coding = refl
 
 two_lengths_and_a_coding : asked (codes "POST")
-    (line (codes "Content-Length") (codes " 0") ∷ line (codes "content-length") (codes " 0") ∷ coding ∷ []) [] ≡ Err BadHead
+    (line (codes "Content-Length") (codes " 0") ∷ line (codes "content-length") (codes " 0") ∷ coding ∷ []) [] ≡ Err BadFields
 unfolding httparse_on_literals
 two_lengths_and_a_coding = refl
 
@@ -70,11 +72,11 @@ post_without_length : asked (codes "POST") (token ∷ []) (codes "{}") ≡ Err L
 unfolding httparse_on_literals
 post_without_length = refl
 
-no_digits : asked (codes "POST") (line (codes "Content-Length") (codes " ") ∷ []) [] ≡ Err BadHead
+no_digits : asked (codes "POST") (line (codes "Content-Length") (codes " ") ∷ []) [] ≡ Err BadFields
 unfolding httparse_on_literals
 no_digits = refl
 
-sign : asked (codes "POST") (line (codes "Content-Length") (codes " +2") ∷ []) (codes "{}") ≡ Err BadHead
+sign : asked (codes "POST") (line (codes "Content-Length") (codes " +2") ∷ []) (codes "{}") ≡ Err BadFields
 unfolding httparse_on_literals
 sign = refl
 
@@ -83,7 +85,7 @@ twenty_digits : asked (codes "POST") (line (codes "Content-Length") (codes " 000
 unfolding httparse_on_literals
 twenty_digits = refl
 
-twenty_one_digits : asked (codes "POST") (line (codes "Content-Length") (codes " 000000000000000000001") ∷ []) (codes "{}") ≡ Err BadHead
+twenty_one_digits : asked (codes "POST") (line (codes "Content-Length") (codes " 000000000000000000001") ∷ []) (codes "{}") ≡ Err BadFields
 unfolding httparse_on_literals
 twenty_one_digits = refl
 
@@ -100,14 +102,36 @@ unfolding httparse_on_literals
 last_byte_is_missing = refl
 
 -- no head
-no_bytes : headless [] ≡ Truncated
-no_bytes = refl
+no_bytes : IsHeadless [] Truncated
+no_bytes = empty refl
 
-bytes_8192 : (bytes : List ℕ) → length bytes ≡ 8192 → headless bytes ≡ BadHead
-bytes_8192 bytes is = rw is refl
+bytes_8192 : (bytes : List ℕ) → length bytes ≡ 8192 → IsHeadless bytes BadHead
+bytes_8192 bytes is = cut (omega (arith, is)) (omega (arith, is))
 
-bytes_8193 : (bytes : List ℕ) → length bytes ≡ 8193 → headless bytes ≡ TooLarge
-bytes_8193 bytes is = rw is refl
+bytes_8193 : (bytes : List ℕ) → length bytes ≡ 8193 → MayBecomeHead (take 8192 bytes) → IsHeadless bytes TooLarge
+bytes_8193 bytes is may = long may (omega (arith, is))
+
+refused_8193 : (bytes : List ℕ) → length bytes ≡ 8193 → IsRefused bytes → IsHeadless bytes BadHead
+refused_8193 bytes is never = refused never
+
+-- what has begun: a request line and two fields, though the last has one byte; and a CR begins none
+two_fields : begun true (codes "\r\n\nGET / HTTP/1.1\r\nA: b\nC") ≡ 3
+two_fields = refl
+
+one_field : begun true (codes "GET / HTTP/1.1\r\nA: b\r\n\r") ≡ 2
+one_field = refl
+
+target_begins : open_target (codes "GET ") ≡ Some []
+target_begins = refl
+
+target_goes_on : open_target (codes "\nGET /a") ≡ Some (codes "/a")
+target_goes_on = refl
+
+target_has_ended : open_target (codes "GET /a ") ≡ None
+target_has_ended = refl
+
+method_goes_on : open_target (codes "GET") ≡ None
+method_goes_on = refl
 
 -- what is read of a body
 largest_body_is_wanted : wanted absent (once (codes "2097152")) absent ≡ 2097152

@@ -1,11 +1,10 @@
 -- The headers of a name, one header after another.
-use Rattle.std.proofs.Common.{◌≡◌, ℕ, ◌+◌, ◌<◌, ◌≤◌, List, [], ◌∷◌, ◌++◌, length, take, drop, map, get_or, arith, refl, sym, ◌∙◌, ap, true, false, append_assoc}
+use Rattle.std.proofs.Common.{◌≡◌, ℕ, ◌+◌, ◌<◌, List, [], ◌∷◌, ◌++◌, length, take, drop, map, get_or, refl, sym, ◌∙◌, ap, true, false}
 use Rattle.std.proofs.lemmas.List.{take_more, map-append, take-append-drop, append-nil}
 use Rattle.std.proofs.lemmas.List.Elements.{filter_map-append}
 use Rattle.std.specs.Str.{str_eq_ignore_ascii_case}
 use Rattle.httparse.specs.declared.spans.HeaderSpan.{HeaderSpan}
 use Rattle.httparse.specs.Spans.{header_bytes}
-use Rattle.std.specs.Borrow.{Bor}
 use Rattle.wgr_http.specs.Field.{IsField, values, value_if, occurrence, field_view}
 use Rattle.wgr_http.specs.declared.field_lines.FieldLines.{FieldLines}
 use Rattle.wgr_http.specs.declared.field_lines.FieldLines.TheVariants.{Absent, Once, Repeated}

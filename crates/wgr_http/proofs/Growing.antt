@@ -1,6 +1,6 @@
 -- More bytes after a message that is decided change nothing.
-use Rattle.std.proofs.Common.{◌≡◌, ℕ, ◌+◌, ◌-◌, ◌<◌, ◌≤◌, List, ◌++◌, length, take, drop, arith, refl, sym, ◌∙◌, ap, append_assoc, length-append, inl, inr}
-use Rattle.std.specs.Prelude.{Option, Some, None, IfSome, Result}
+use Rattle.std.proofs.Common.{◌≡◌, ℕ, ◌≤◌, List, ◌++◌, length, take, drop, arith, refl, sym, ◌∙◌, ap, append_assoc, length-append, inl, inr}
+use Rattle.std.specs.Prelude.{Option, Some, None, Result, Err}
 use Rattle.std.proofs.lemmas.List.{take-append-le, take-append-drop}
 use Rattle.std.proofs.lemmas.Bool.{cases_lt, lt-ltb, le-ltb}
 use Rattle.httparse.specs.Grammar.{RequestHead, print_request}
@@ -12,6 +12,7 @@ use Rattle.wgr_http.specs.Length.{length_value, max_body}
 use Rattle.wgr_http.specs.Message.{Answers, headed, unheaded, MessageView, judged, sized, sized_by, token_given, with_body}
 use Rattle.wgr_http.specs.declared.message.MessageFault.{MessageFault}
 use Rattle.wgr_http.proofs.HeadLemmas.{reads_front}
+use Rattle.wgr_http.proofs.Refused.{headless_unique}
 
 -- a head stays the head
 pub head_grows : (bytes more : List ℕ) (h : RequestHead) (rest : List ℕ) → HasHead bytes h rest → HasHead (bytes ++ more) h (rest ++ more)
@@ -38,9 +39,9 @@ pub answers_unique : (bytes : List ℕ) (r s : Result MessageView MessageFault) 
 answers_unique bytes r s (headed h rest a) (headed k rest2 b) =
     let same = request_unique bytes h k rest rest2 a.reads b.reads in
     rw (same.0, same.1) refl
-answers_unique bytes r s (headed h rest a) (unheaded none) = absurd (none h rest a)
-answers_unique bytes r s (unheaded none) (headed k rest2 b) = absurd (none k rest2 b)
-answers_unique bytes r s (unheaded none) (unheaded none2) = refl
+answers_unique bytes r s (headed h rest a) (unheaded f none a2) = absurd (none h rest a)
+answers_unique bytes r s (unheaded f none a) (headed k rest2 b) = absurd (none k rest2 b)
+answers_unique bytes r s (unheaded f none a) (unheaded g none2 b) = ap (λ e. Err e) (headless_unique bytes f g a b)
 
 sized_grows : (rest more : List ℕ) (n : ℕ) → asked_length (Some n) ≤ length rest → sized (rest ++ more) n ≡ sized rest n
 sized_grows rest more n enough = elim (cases_lt max_body n) [

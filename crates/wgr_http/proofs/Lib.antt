@@ -6,5 +6,10 @@ pub mod FieldLemmas
 pub mod Growing
 pub mod HeadLemmas
 pub mod InTime
+pub mod LineLemmas
 pub mod ReadLemmas
+pub mod Refused
+pub mod RoomLemmas
+pub mod TargetLemmas
+pub mod TextLemmas
 pub mod Undecided

@@ -2,7 +2,7 @@
 use Rattle.std.specs.Prelude.{◌≡◌, ℕ, ◌<◌, ◌≤◌, ◌++◌, List, length, Result, Ok}
 use Rattle.httparse.specs.Grammar.{RequestHead}
 use Rattle.wgr_http.specs.Extent.{extent}
-use Rattle.wgr_http.specs.Head.{HasHead, HasNoHead}
+use Rattle.wgr_http.specs.Head.{HasHead, HasNoHead, IsRefused, MayBecomeHead}
 use Rattle.wgr_http.specs.Message.{Answers, MessageView}
 use Rattle.wgr_http.specs.Reading.{IsDecided}
 use Rattle.wgr_http.specs.declared.message.MessageFault.{MessageFault}
@@ -19,7 +19,11 @@ MessagesEnd = (bytes more : List ℕ) (m : MessageView) → Answers bytes (Ok m)
 abbrev pub HeadsDecide : Type 0
 HeadsDecide = (bytes : List ℕ) (h : RequestHead) (rest : List ℕ) → HasHead bytes h rest → extent h ≤ length bytes → IsDecided bytes
 
--- and so do 8,193 bytes without a head
+-- and so do bytes that no others can make a head
+abbrev pub RefusedHeadsDecide : Type 0
+RefusedHeadsDecide = (bytes : List ℕ) → IsRefused bytes → IsDecided bytes
+
+-- and 8,193 bytes without a head
 abbrev pub LongHeadsDecide : Type 0
 LongHeadsDecide = (bytes : List ℕ) → HasNoHead bytes → 8193 ≤ length bytes → IsDecided bytes
 
@@ -27,6 +31,6 @@ LongHeadsDecide = (bytes : List ℕ) → HasNoHead bytes → 8193 ≤ length byt
 abbrev pub ShortBodiesAreOpen : Type 0
 ShortBodiesAreOpen = (bytes : List ℕ) (h : RequestHead) (rest : List ℕ) → HasHead bytes h rest → length bytes < extent h → ¬ (IsDecided bytes)
 
--- and so it is after 8,192 bytes at most without a head
-abbrev pub ShortHeadsAreOpen : Type 0
-ShortHeadsAreOpen = (bytes : List ℕ) → HasNoHead bytes → length bytes ≤ 8192 → ¬ (IsDecided bytes)
+-- and so it is after 8,192 bytes at most without a head that may still become one
+abbrev pub UnfinishedHeadsAreOpen : Type 0
+UnfinishedHeadsAreOpen = (bytes : List ℕ) → HasNoHead bytes → MayBecomeHead bytes → length bytes ≤ 8192 → ¬ (IsDecided bytes)

@@ -7,4 +7,6 @@ pub mod Message
 pub mod Reading
 pub mod Reply
 pub mod StatusCode
+pub mod Text
 pub mod Token
+pub mod Unfinished

@@ -15,7 +15,7 @@ use httparse::spans::{EMPTY_HEADER_SPAN, HeaderSpan, RequestSpans, parse_request
 pub(crate) const MAX_HEAD: usize = 8192;
 
 /// The most header fields of a head.
-const MAX_HEADERS: usize = 32;
+pub(crate) const MAX_HEADERS: usize = 32;
 
 /// The parts of a head that decide what the message is.
 #[derive(Clone, Copy)]
@@ -119,8 +119,8 @@ fn spans_of(bytes: &[u8], headers: &mut [HeaderSpan; MAX_HEADERS]) -> Option<Req
     }
 }
 
-// The bytes in which the head has to lie.
-fn front_of(bytes: &[u8]) -> &[u8]
+/// The bytes in which the head has to lie.
+pub(crate) fn front_of(bytes: &[u8]) -> &[u8]
     ensures { result.now ≡ take 8192 bytes.now }
 {
     if bytes.len() > MAX_HEAD {

@@ -13,7 +13,9 @@ mod message;
 mod reading;
 mod reply;
 mod status_code;
+mod text;
 mod token;
+mod unfinished;
 
 pub use message::{Message, MessageFault};
 pub use reading::read_message;

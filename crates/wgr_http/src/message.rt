@@ -2,13 +2,14 @@
 ghost use Rattle.std.specs.Prelude.{◌≡◌};
 ghost use Rattle.wgr_http.specs.Field.{field_view};
 ghost use Rattle.wgr_http.specs.Length.{length_value};
-ghost use Rattle.wgr_http.specs.Message.{Answers, body_view, fault_name, fault_status, headless, judged, sized_by, view_result};
+ghost use Rattle.wgr_http.specs.Message.{Answers, IsHeadless, body_view, fault_name, fault_status, judged, sized_by, view_result};
 
 use crate::StatusCode;
 use crate::field_lines::FieldLines;
 use crate::head::{Head, MAX_HEAD};
 use crate::length::{MAX_BODY, length_of};
 use crate::token::token_of;
+use crate::unfinished::may_become_head;
 
 /// A request message, as slices of its bytes. What comes after its body is no part of it.
 #[derive(Clone, Copy)]
@@ -25,10 +26,14 @@ pub struct Message<'a> {
 /// Why bytes are no message.
 #[derive(Clone, Copy, Debug, PartialEq, Eq)]
 pub enum MessageFault {
-    /// There is no head, or two `Authorization` or `Content-Length` lines, or a length that is no
-    /// number of 1 to 20 digits.
+    /// There is no head: the bytes end before it does, or no bytes can follow that make them a head
+    /// of at most 32 fields.
     BadHead,
-    /// The head has more than 8,192 bytes, or the body more than 2,097,152.
+    /// Two `Authorization` or `Content-Length` lines, or a length that is no number of 1 to 20 digits.
+    /// It is reported as `BadHead` is. As one fault with it, such a head would be known from all but
+    /// its last byte.
+    BadFields,
+    /// The head may be one and has more than 8,192 bytes, or the body more than 2,097,152.
     TooLarge,
     /// A `Transfer-Encoding`, or a POST without `Content-Length`.
     LengthRequired,
@@ -43,6 +48,7 @@ impl MessageFault {
     {
         match self {
             MessageFault::BadHead => StatusCode::BadRequest,
+            MessageFault::BadFields => StatusCode::BadRequest,
             MessageFault::TooLarge => StatusCode::ContentTooLarge,
             MessageFault::LengthRequired => StatusCode::LengthRequired,
             MessageFault::Truncated => StatusCode::BadRequest,
@@ -55,6 +61,7 @@ impl MessageFault {
     {
         match self {
             MessageFault::BadHead => "bad_head",
+            MessageFault::BadFields => "bad_head",
             MessageFault::TooLarge => "too_large",
             MessageFault::LengthRequired => "length_required",
             MessageFault::Truncated => "truncated",
@@ -94,12 +101,12 @@ fn judge<'a>(
         (field_view content_length.entry) (field_view transfer_encoding.entry) rest.now }
 {
     let token = match authorization {
-        FieldLines::Repeated => return Err(MessageFault::BadHead),
+        FieldLines::Repeated => return Err(MessageFault::BadFields),
         FieldLines::Absent => None,
         FieldLines::Once(credentials) => token_of(credentials),
     };
     let length = match content_length {
-        FieldLines::Repeated => return Err(MessageFault::BadHead),
+        FieldLines::Repeated => return Err(MessageFault::BadFields),
         FieldLines::Absent => None,
         FieldLines::Once(value) => Some(value),
     };
@@ -125,7 +132,7 @@ fn body_of<'a>(value: &[u8], rest: &'a [u8]) -> Result<&'a [u8], MessageFault>
     ensures { body_view result ≡ sized_by rest.now (length_value value.now) }
 {
     let Some(length) = length_of(value) else {
-        return Err(MessageFault::BadHead);
+        return Err(MessageFault::BadFields);
     };
     if length > MAX_BODY {
         return Err(MessageFault::TooLarge);
@@ -139,11 +146,13 @@ fn body_of<'a>(value: &[u8], rest: &'a [u8]) -> Result<&'a [u8], MessageFault>
 
 // The fault of bytes that have no head.
 fn headless_fault(bytes: &[u8]) -> MessageFault
-    ensures { result ≡ headless bytes.now }
+    ensures { IsHeadless bytes.now result }
 {
     if bytes.is_empty() {
         MessageFault::Truncated
-    } else if bytes.len() > MAX_HEAD {
+    } else if bytes.len() <= MAX_HEAD {
+        MessageFault::BadHead
+    } else if may_become_head(bytes) {
         MessageFault::TooLarge
     } else {
         MessageFault::BadHead

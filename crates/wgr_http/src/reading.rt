@@ -7,6 +7,7 @@ ghost use Rattle.wgr_http.specs.Head.{HasNoHead};
 ghost use Rattle.wgr_http.specs.Reading.{AnswersAs, IsDecided, IsNoMore, IsReadInTime, IsReadOn};
 
 use crate::head::{MAX_HEAD, extent_of};
+use crate::unfinished::may_become_head;
 use wgr_io::{Read, ReadFault};
 
 /// How many bytes are requested from a reader at once.
@@ -17,8 +18,7 @@ const CHUNK: usize = 16384;
 /// Afterwards it has a beginning of the reader's bytes, also where a fault is returned. The end of a
 /// head isn't known before it is read, so a read may take bytes after the message. A connection has
 /// one request, so none of a next one is lost. The head is parsed again after each read: at most 8,193
-/// times, for a client that sends single bytes. Bytes that can't become a head are read on too, since
-/// only their number decides between `BadHead` and `TooLarge`.
+/// times, for a client that sends single bytes. Bytes that can't become a head aren't read on.
 pub fn read_message<R: Read>(input: &mut R, message: &mut Vec<u8>) -> Result<(), ReadFault>
     ensures bytes { Consumes (R.remaining input.old) (R.remaining input.new) message.new.items }
     ensures whole { OnOk result (AnswersAs message.new.items (R.remaining input.old)) }
@@ -54,7 +54,7 @@ fn read_head<R: Read>(
         → IsReadInTime start (R.pieces input.new) message.new.items }
     ensures some { IfOk result (λ found. IfSome found (HasExtent message.new.items)) }
     ensures none { IfOk result (λ found. IfNone found (HasNoHead message.new.items
-        × ((8192 < length message.new.items) ⊎ IsAtEnd (R.remaining input.new)))) }
+        × (IsDecided message.new.items ⊎ IsAtEnd (R.remaining input.new)))) }
     ensures short { length message.new.items ≤ 8193 }
     ensures sound { OnOk result (R.failed input.new ≡ R.failed input.old) }
 
@@ -65,6 +65,9 @@ fn read_head<R: Read>(
         let extent = extent_of(message);
         if extent.is_some() {
             return Ok(extent);
+        }
+        if !may_become_head(message) {
+            return Ok(None);
         }
         let room = MAX_HEAD + 1 - message.len();
         if read_some(input, chunk, message, room)? == 0 {

@@ -2,6 +2,7 @@
 //! from RFC 9112; no row is copied from this crate's answers.
 ghost use Rattle.std.specs.Prelude.{◌<◌, map, Some};
 
+use crate::unfinished::may_become_head;
 use crate::{Kind, Message, MessageFault, StatusCode, is_token, read_message, write_reply};
 use std::alloc::AllocGlobal;
 use std::io;
@@ -86,14 +87,63 @@ fn heads_at_their_limits(rt: HostRuntime) -> io::Result<()> {
         (1, 8170, 8193, "too_large"),
         (1, 8170, 8192, "bad_head"),
         (32, 0, 8192, "message"),
+        (32, 8169, 8193, "too_large"),
         (33, 0, 8192, "bad_head"),
-        (33, 8192, 8193, "too_large"),
+        (33, 8192, 8193, "bad_head"),
+        (33, 8192, 9000, "bad_head"),
     ];
     for (fields, value, most, wanted) in rows {
         let bytes = head(&rt, fields, value);
         check(&rt, &bytes[..most.min(bytes.len())], wanted);
     }
     Ok(())
+}
+
+/// Beginnings, and whether bytes can follow that make each a head.
+#[test]
+fn beginnings(rt: HostRuntime) {
+    let rows: [(&[u8], bool); 19] = [
+        (b"", true),
+        (b"\r\n\r", true),
+        (b"\r\r", false),
+        (b"GET / HTTP/1.1\r\nA: b\r\n\r", true),
+        (b"GET / HTTP/1.1\r\nA: \x01", false),
+        (b"GET / HTTP/1.1\r\nA: \x80", true),
+        (b"GET / HTTP/1.1\r\nHost ", false),
+        (b"GET / HTTP/1.1\r\n ", false),
+        (b"GET / HTTP/2", false),
+        (b"GET / \n", false),
+        (b"GET  ", false),
+        (b"\x16\x03\x01", false),
+        (b"GET /\xFF", false),
+        (b"GET /\xC3", true),
+        (b"GET /\xC3 ", false),
+        (b"GET /\xC3\xA4 HTTP/1", true),
+        (b"GET /\xED\xA0", false),
+        (b"GET /\xF0\x9F\x98", true),
+        (b"GET /a b", false),
+    ];
+    for (bytes, open) in rows {
+        assert_eq!(rt; may_become_head(bytes), open, "{bytes:?}");
+    }
+}
+
+/// The 33rd field is one too many from its first byte on.
+#[test]
+fn fields_that_have_begun(rt: HostRuntime) {
+    let bytes = head(&rt, 33, 8192);
+    // a request line of 16 bytes, and 32 lines of 5
+    for (count, open) in [(176, true), (177, false), (8192, false), (8193, false)] {
+        assert_eq!(rt;
+            may_become_head(&bytes[..count.min(bytes.len())]),
+            open,
+            "{count}"
+        );
+    }
+    let mut bytes = head(&rt, 32, 0);
+    // all but its last LF
+    bytes.truncate(177);
+    assert!(rt; may_become_head(&bytes));
 }
 
 /// The message's token where its one field line is this.
@@ -236,6 +286,31 @@ fn reads_stop_with_the_message(rt: HostRuntime) {
     }
 }
 
+/// Bytes that can't become a head are refused by the first of them that makes it so, however they come.
+#[test]
+fn refused_at_once(rt: HostRuntime) {
+    let rows: [(&[u8], usize); 3] = [
+        (b"GET / HTTP/1.1\r\nA: \x7F and more", 20),
+        (b"\x16\x03\x01\x02\x00\x01\x00\x01\xFC\x03\x03", 1),
+        (b"GET /\xC3\xA4\xC3/ HTTP/1.1\r\n\r\n", 9),
+    ];
+    let mut message = Vec::new(rt.alloc());
+    for (bytes, calls) in rows {
+        for (piece, made) in [(1usize, calls), (40, 1)] {
+            let mut input = Recorded {
+                rt: &rt,
+                bytes,
+                piece,
+                given: Vec::new(rt.alloc()),
+                failed: false,
+            };
+            assert!(rt; read_message(&mut input, &mut message).is_ok());
+            assert_eq!(rt; input.given.len(), made);
+            check(&rt, &message, "bad_head");
+        }
+    }
+}
+
 #[test]
 fn replies(rt: HostRuntime) -> io::Result<()> {
     let rows = [
@@ -272,6 +347,7 @@ fn replies(rt: HostRuntime) -> io::Result<()> {
     }
     for (fault, status) in [
         (MessageFault::BadHead, 400),
+        (MessageFault::BadFields, 400),
         (MessageFault::TooLarge, 413),
         (MessageFault::LengthRequired, 411),
         (MessageFault::Truncated, 400),

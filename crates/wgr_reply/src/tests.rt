@@ -203,7 +203,7 @@ fn refusals(rt: HostRuntime) {
 
 #[test]
 fn faults(rt: HostRuntime) {
-    let rows: [(RequestFault, &str, &str, &str); 11] = [
+    let rows: [(RequestFault, &str, &str, &str); 12] = [
         (
             RequestFault::UnknownToken,
             NOBODY,
@@ -248,6 +248,12 @@ fn faults(rt: HostRuntime) {
         ),
         (
             RequestFault::Message(MessageFault::BadHead),
+            BAD,
+            "",
+            r#"{"error":"bad_head"}"#,
+        ),
+        (
+            RequestFault::Message(MessageFault::BadFields),
             BAD,
             "",
             r#"{"error":"bad_head"}"#,

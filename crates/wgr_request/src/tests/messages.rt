@@ -10,6 +10,7 @@ use wgr_text::write_key;
 fn fault_words(fault: RequestFault) -> (&'static str, &'static str) {
     match fault {
         RequestFault::Message(MessageFault::BadHead) => ("bad_head", ""),
+        RequestFault::Message(MessageFault::BadFields) => ("bad_head", ""),
         RequestFault::Message(MessageFault::TooLarge) => ("too_large", ""),
         RequestFault::Message(MessageFault::LengthRequired) => ("length_required", ""),
         RequestFault::Message(MessageFault::Truncated) => ("truncated", ""),

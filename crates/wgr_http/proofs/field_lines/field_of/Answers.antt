@@ -1,9 +1,8 @@
-use Rattle.std.proofs.Common.{◌≡◌, ℕ, ◌+◌, ◌<◌, ◌≤◌, List, [], ◌∷◌, ◌++◌, map, take, drop, length, get_or, refl, sym, ◌∙◌, ap, arith, true, false, inl, inr}
+use Rattle.std.proofs.Common.{◌≡◌, ℕ, ◌+◌, List, get_or, refl, sym, ◌∙◌, arith, true, false, inl, inr}
 use Rattle.std.specs.Str.{str_eq_ignore_ascii_case}
 use Rattle.httparse.specs.declared.spans.HeaderSpan.{HeaderSpan}
 use Rattle.httparse.specs.Spans.{header_bytes}
-use Rattle.wgr_http.specs.Field.{values}
-use Rattle.wgr_http.specs.declared.field_lines.FieldLines.TheVariants.{Absent, Once, Repeated}
+use Rattle.wgr_http.specs.declared.field_lines.FieldLines.TheVariants.{Absent}
 use Rattle.wgr_http.proofs.FieldLemmas.{values_hit, values_miss, values_front, second}
 use Rattle.wgr_http.proofs.field_lines.field_of.Goals as goal
 use Rattle.wgr_http.proofs.field_lines.field_of.Goals.{then-same_name+in-Absent, else-same_name}

@@ -1,5 +1,5 @@
-use Rattle.std.proofs.Common.{◌≡◌, arith, length, take, sym}
-use Rattle.std.proofs.lemmas.List.{length-take, length-take-le, take_all}
+use Rattle.std.proofs.Common.{arith, sym}
+use Rattle.std.proofs.lemmas.List.{length-take-le, take_all}
 use Rattle.wgr_http.proofs.head.front_of.Goals as goal
 
 pub slice_bounds-result-end : goal.slice_bounds-result-end

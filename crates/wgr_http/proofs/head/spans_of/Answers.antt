@@ -1,4 +1,4 @@
-use Rattle.std.proofs.Common.{◌≡◌, ◌∙◌, length}
+use Rattle.std.proofs.Common.{◌∙◌, length}
 use Rattle.std.specs.declared.result.Result.TheVariants.{Ok}
 use Rattle.httparse.specs.declared.Status.TheVariants.{Partial}
 use Rattle.wgr_http.proofs.HeadLemmas.{head_from_front, no_head}

@@ -1,4 +1,4 @@
-use Rattle.std.proofs.Common.{◌≡◌, ◌+◌, ◌-◌, ◌*◌, get_or, arith, ap, ◌∙◌, ℕ}
+use Rattle.std.proofs.Common.{◌≡◌, ◌-◌, get_or, arith, ℕ}
 use Rattle.wgr_http.proofs.DigitLemmas.{number_small, number_more, digit_range}
 use Rattle.wgr_http.proofs.length.number_of.Goals as goal
 

@@ -1,10 +1,9 @@
-use Rattle.std.proofs.Common.{◌≡◌, ◌≤◌, ◌<◌, ◌++◌, ℕ, List, [], Option, Some, None, Result, Ok, Err, OnOk, IfSome, IfNone, length, subst, sym, inl, inr, ◌⊎◌, ap}
+use Rattle.std.proofs.Common.{◌≡◌, ◌≤◌, ◌++◌, ℕ, List, [], Option, Result, Ok, Err, OnOk, length, subst, sym, inl, inr, ◌⊎◌}
 use Rattle.std.specs.Io.KnownBytes.{Consumes, IsAtEnd}
 use Rattle.std.proofs.KnownBytes.{Consumes-nil}
-use Rattle.wgr_http.specs.Head.{HasNoHead}
 use Rattle.wgr_http.specs.Extent.{HasExtent}
 use Rattle.wgr_http.specs.Reading.{IsDecided, AnswersAs, IsNoMore}
-use Rattle.wgr_http.proofs.Deciding.{extent_decides, no_head_decides, read_of, no_more}
+use Rattle.wgr_http.proofs.Deciding.{extent_decides, read_of, no_more}
 use Rattle.wgr_http.proofs.reading.read_message.Goals as goal
 
 -- read to the end of the body, or to the end of the input
@@ -14,10 +13,6 @@ body_read old new head message more n (Err e) has is took why = tt
 body_read old new head message more n (Ok u) has is took (inl enough) =
     read_of old new message took (inl (subst IsDecided (sym is) (extent_decides head more n has (subst (λ (x : List ℕ). n ≤ length x) is enough))))
 body_read old new head message more n (Ok u) has is took (inr end) = read_of old new message took (inr end)
-
-none_read : (old new : Option (List ℕ)) (message : List ℕ) → HasNoHead message → Consumes old new message → (8192 < length message) ⊎ IsAtEnd new → AnswersAs message old
-none_read old new message none took (inl long) = read_of old new message took (inl (no_head_decides message none long))
-none_read old new message none took (inr end) = read_of old new message took (inr end)
 
 none_taken : (a : Option (List ℕ)) (message : List ℕ) → message ≡ [] → Consumes a a message
 none_taken a message is = subst (Consumes a a) (sym is) (Consumes-nil a)
@@ -32,7 +27,7 @@ returns-in-Some-clause-whole g c =
 pub returns-in-None-clause-whole : goal.returns-in-None-clause-whole
 returns-in-None-clause-whole g c =
     let none = rw c.in-None.is at c.in_ok-extent.ensures.none in
-    none_read (g.R.Read.remaining c.args.input.now) _ c.read_head.new.message.items none.0 (c.in_ok-extent.ensures.bytes _ (none_taken (g.R.Read.remaining c.args.input.now) _ c.clear.ensures.items)) none.1
+    read_of (g.R.Read.remaining c.args.input.now) _ c.read_head.new.message.items (c.in_ok-extent.ensures.bytes _ (none_taken (g.R.Read.remaining c.args.input.now) _ c.clear.ensures.items)) none.1
 
 pub returns-in-Some-clause-no_more : goal.returns-in-Some-clause-no_more
 returns-in-Some-clause-no_more g c =

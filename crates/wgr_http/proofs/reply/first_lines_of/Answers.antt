@@ -1,4 +1,4 @@
-use Rattle.std.proofs.Common.{◌≡◌, ◌++◌, append_assoc, codes, rules, sym, ◌∙◌}
+use Rattle.std.proofs.Common.{append_assoc, ◌∙◌}
 use Rattle.std.proofs.lemmas.Result.{IfOk-weaker}
 use Rattle.wgr_http.specs.Reply.{first_lines}
 use Rattle.wgr_http.proofs.reply.first_lines_of.Goals as goal

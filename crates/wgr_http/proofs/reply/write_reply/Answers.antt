@@ -1,4 +1,4 @@
-use Rattle.std.proofs.Common.{◌≡◌, refl}
+use Rattle.std.proofs.Common.{refl}
 use Rattle.wgr_http.specs.Reply.{last_lines}
 use Rattle.wgr_http.proofs.reply.write_reply.Goals as goal
 

@@ -15,4 +15,4 @@ returns-in-Some c =
     (rw all at c.judge.ensures)
 
 pub returns-in-None : goal.returns-in-None
-returns-in-None c = rw c.headless_fault.ensures (unheaded c.in-None.ensures.none)
+returns-in-None c = unheaded c.headless_fault.result c.in-None.ensures.none c.headless_fault.ensures
