@@ -15,7 +15,7 @@ pub use admit::{admit_network, checked_pool, is_full, new_id};
 pub use census::{Census, Counted};
 pub use forms::{digest_has_form, name_has_form, settings_have_forms};
 pub use holding::{Holding, Tenant, Token};
-pub use listing::put_entry;
+pub use listing::ByName;
 pub use look::{is_same, place_of, unused_id};
 pub use order::{Order, Settings};
 pub use refusal::{OrderFault, OrderRefusal};

@@ -1,5 +1,5 @@
 //! Lookups, each a walk along one list.
-ghost use Rattle.std.specs.Prelude.{◌≡◌, ◌<◌, length, map, nat_eq, false, MatchOption, None, IfOk};
+ghost use Rattle.std.specs.Prelude.{◌≡◌, ◌+◌, ◌<◌, ◌||◌, ℕ, length, map, nat_eq, slice_index_or, false, MatchOption, None, IfOk};
 ghost use Rattle.std.specs.List.{list_any};
 ghost use Rattle.wgr_model.specs.Register.{is_same};
 ghost use Rattle.wgr_model.specs.Consistent.{IsId, max_entries};
@@ -9,6 +9,7 @@ ghost use Rattle.wgr_orders.specs.Places.{IsPlace};
 use crate::holding::Holding;
 use std::alloc::{AllocError, Global};
 use wgr_core::{Host, Port};
+use wgr_model::MAX_ENTRIES;
 
 /// Whether two texts are byte for byte the same.
 pub fn is_same(one: &[u8], other: &[u8]) -> bool
@@ -61,15 +62,43 @@ pub fn unused_id(ids: &[u32]) -> u32
     ensures id { IsId result }
     ensures unused { list_any (nat_eq result) ids.now ≡ false }
 {
+    let mut used = [false; MAX_ENTRIES + 1];
+    lowest(&mut used, ids)
+}
+
+// The lowest id that isn't among these, with a flag for each id, of which none is set.
+fn lowest(used: &mut [bool], ids: &[u32]) -> u32
+    requires room { length ids.now < max_entries }
+    requires all { length used.old ≡ max_entries + 1 }
+    requires clear { (id : ℕ) → id < max_entries + 1 → slice_index_or used.old id false ≡ false }
+    ensures id { IsId result }
+    ensures unused { list_any (nat_eq result) ids.now ≡ false }
+{
+    mark_all(used, ids);
     let mut id = 1;
-    while is_among(ids, id) {
+    while used[id as usize] {
         id += 1;
     }
     id
 }
 
-fn is_among(ids: &[u32], id: u32) -> bool
-    ensures { result ≡ list_any (nat_eq id) ids.now }
+// Sets the flag of each of these ids that has one.
+fn mark_all(used: &mut [bool], ids: &[u32])
+    ensures len { length used.new ≡ length used.old }
+    ensures marked { (id : ℕ) → id < length used.old → slice_index_or used.new id false ≡ (slice_index_or used.old id false || list_any (nat_eq id) ids.now) }
 {
-    ids.iter().any(|used| id == *used)
+    for id in ids {
+        mark(used, *id);
+    }
+}
+
+// Sets the flag of this id, if it has one.
+fn mark(used: &mut [bool], id: u32)
+    ensures len { length used.new ≡ length used.old }
+    ensures marked { (other : ℕ) → other < length used.old → slice_index_or used.new other false ≡ (slice_index_or used.old other false || nat_eq other id) }
+{
+    let place = id as usize;
+    if place < used.len() {
+        used[place] = true;
+    }
 }

@@ -1,14 +1,16 @@
 //! Pools that have an address in common.
-ghost use Rattle.std.specs.Prelude.{◌≡◌, ◌<◌, length, slice_index_or, drop, IfOk};
+ghost use Rattle.std.specs.Prelude.{◌≡◌, ◌<◌, List, length, slice_index_or, drop, IfOk};
 ghost use Rattle.std.specs.Option.{option_map};
+ghost use Rattle.wgr_orders.specs.Names.{NamesOf};
 ghost use Rattle.wgr_orders.specs.Orders.{refusal_of};
 ghost use Rattle.wgr_model.specs.Consistent.{overlaps};
-ghost use Rattle.wgr_model.specs.Register.{Bytes};
+ghost use Rattle.wgr_model.specs.Register.{Bytes, Tenant};
 ghost use Rattle.wgr_model.specs.Steps.{comes_before, first_of, name_of, overlapping, pool_refusal};
 
 use crate::holding::{Holding, Tenant};
 use crate::refusal::OrderRefusal;
 use std::alloc::{AllocError, Global};
+use std::collections::BTreeMap;
 use std::marker::Model;
 use wgr_core::Pool;
 
@@ -37,7 +39,8 @@ pub(crate) fn overlap_refusal(
 ) -> Result<Option<OrderRefusal>, AllocError>
     ensures { IfOk result (λ refusal. option_map refusal_of refusal ≡ pool_refusal (overlapping tenants.now networks.now pool.now)) }
 {
-    let overlapping = overlapping(alloc, tenants, networks, pool)?;
+    let tenant_names = names_by_id(alloc, tenants)?;
+    let overlapping = overlapping(alloc, &tenant_names, networks, pool)?;
     if overlapping.is_empty() {
         return Ok(None);
     }
@@ -51,11 +54,11 @@ pub(crate) fn overlap_refusal(
 // The names of each network whose pool has an address in common with this one.
 fn overlapping(
     alloc: Global,
-    tenants: &[Tenant],
+    tenants: &BTreeMap<u32, &str>,
     networks: &[Holding],
     pool: &Pool,
 ) -> Result<Vec<Names>, AllocError>
-    ensures { IfOk result (λ names. names.items ≡ overlapping tenants.now networks.now pool.now) }
+    ensures { (named : List Tenant) → NamesOf named tenants.now → IfOk result (λ names. names.items ≡ overlapping named networks.now pool.now) }
 {
     let mut names = Vec::new(alloc);
     for holding in networks {
@@ -76,16 +79,31 @@ fn overlaps(one: &Pool, other: &Pool) -> bool
     !one.prefix().disjoint(&other.prefix())
 }
 
-// The name of the tenant of this id.
-fn name_of(tenants: &[Tenant], id: u32) -> &str
-    ensures { result.now ≡ name_of tenants.now id }
+// The names of the tenants by their ids; of several with one id, the first one's.
+fn names_by_id<'a>(
+    alloc: Global,
+    tenants: &'a [Tenant],
+) -> Result<BTreeMap<u32, &'a str>, AllocError>
+    ensures { IfOk result (λ names. NamesOf tenants.now names) }
 {
-    for tenant in tenants {
-        if tenant.id == id {
-            return tenant.name.as_str();
-        }
+    let mut names = BTreeMap::new(alloc);
+    let mut rest = tenants.len();
+    while rest > 0 {
+        rest -= 1;
+        let tenant = &tenants[rest];
+        names.insert(tenant.id, tenant.name.as_str())?;
     }
-    ""
+    Ok(names)
+}
+
+// The name of the tenant of this id.
+fn name_of<'a>(names: &BTreeMap<u32, &'a str>, id: u32) -> &'a str
+    ensures { (tenants : List Tenant) → NamesOf tenants names.now → result.now ≡ name_of tenants id }
+{
+    match names.get(&id) {
+        Some(name) => *name,
+        None => "",
+    }
 }
 
 // The place of the first names: in byte order by the tenant's, then by the network's.

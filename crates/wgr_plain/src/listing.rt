@@ -5,7 +5,7 @@ ghost use Rattle.wgr_model.specs.Listing.{EntriesOf};
 use crate::ask::copied;
 use std::alloc::{AllocError, Global};
 use wgr_core::{Items, Name, Network};
-use wgr_orders::{Holding, put_entry};
+use wgr_orders::{ByName, Holding};
 
 // Copies of the networks of the tenant of this id, in the order of their names.
 pub(crate) fn listed(
@@ -15,15 +15,15 @@ pub(crate) fn listed(
 ) -> Result<Items<(Name, Network)>, AllocError>
     ensures { IfOk result (λ entries. EntriesOf networks.now id entries) }
 {
-    let mut entries = Vec::new(alloc);
+    let mut listed = ByName::new(alloc);
     let mut rest = networks.len();
     while rest > 0 {
         rest -= 1;
         let holding = &networks[rest];
         if holding.tenant == id {
             let network = copied(alloc, &holding.network)?;
-            put_entry(&mut entries, holding.name.copy()?, network)?;
+            listed.put(holding.name.copy()?, network)?;
         }
     }
-    Ok(Items::of(entries))
+    Ok(Items::of(listed.into_entries(alloc)?))
 }

@@ -27,16 +27,27 @@ use sqlite::{Alter, Connection, Row};
 use std::alloc::Global;
 use wgr_core::{Name, Network};
 use wgr_entries::{networks_of_tenant, read_settled, tenant_of_token};
-use wgr_orders::{Holding, put_entry};
+use wgr_orders::{ByName, Holding};
 use wgr_tables::Fault;
 
 // Puts a network in the place for its name.
-fn put(entries: &mut Vec<(Name, Network)>, name: Name, network: Network) -> Result<(), Fault>
-    ensures put { OnOk result (entries.new.items ≡ put_entry name network entries.old.items) }
+fn put(networks: &mut ByName, name: Name, network: Network) -> Result<(), Fault>
+    ensures put { OnOk result (networks.new ≡ put_entry name network networks.old) }
     ensures memory { IfErr result (λ why. why ≡ NoMemory) }
 {
-    match put_entry(entries, name, network) {
+    match networks.put(name, network) {
         Ok(()) => Ok(()),
+        Err(_) => Err(Fault::NoMemory),
+    }
+}
+
+// The names with their networks, in order.
+fn entries_of(alloc: Global, networks: ByName) -> Result<Vec<(Name, Network)>, Fault>
+    ensures entries { IfOk result (λ entries. entries.items ≡ networks) }
+    ensures memory { IfErr result (λ why. why ≡ NoMemory) }
+{
+    match networks.into_entries(alloc) {
+        Ok(entries) => Ok(entries),
         Err(_) => Err(Fault::NoMemory),
     }
 }
@@ -46,14 +57,14 @@ fn entries_in(alloc: Global, rows: &[Row]) -> Result<Vec<(Name, Network)>, Fault
     ensures entries { IfOk result (λ entries. entries.items ≡ by_name (map (λ r. settled (network_in r)) rows.now)) }
     ensures only { IfErr result (λ why. why ≡ Store → AreOf IsKeptNetwork stored_network rows.now → ⊥) }
 {
-    let mut entries = Vec::new(alloc);
+    let mut networks = ByName::new(alloc);
     let mut rest = rows.len();
     while rest > 0 {
         rest -= 1;
         let Holding { name, network, .. } = read_settled(alloc, &rows[rest])?;
-        put(&mut entries, name, network)?;
+        put(&mut networks, name, network)?;
     }
-    Ok(entries)
+    entries_of(alloc, networks)
 }
 
 // The networks of the tenant of this id, as they were added. Their peers aren't read.

@@ -10,21 +10,21 @@ loop-rest-init c =
     let networks = c.args.networks.now in
     record {
       within = omega arith;
-      listed = none_listed (drop (length networks) networks) c.args.id c.new-entries.result.items (nil_from_length (drop (length networks) networks) (simp (length-drop) (omega arith))) c.new-entries.ensures.items;
+      listed = none_listed (drop (length networks) networks) c.args.id c.new-listed.result (nil_from_length (drop (length networks) networks) (simp (length-drop) (omega arith))) c.new-listed.ensures;
     }
 
-pub loop-rest-preserved-in_ok-put_entry : goal.loop-rest-preserved-in_ok-put_entry
-loop-rest-preserved-in_ok-put_entry c =
+pub loop-rest-preserved-in_ok-put : goal.loop-rest-preserved-in_ok-put
+loop-rest-preserved-in_ok-put c =
     let hs = c.args.networks.now in
     let h : Holding = c.index-networks-rest.result in
     let rest = c.loop-rest.rest in
     let tenant : h.tenant ≡ c.args.id = sym (ap {A = Holding} (λ x. x.tenant) c.holding.view_is) ∙ c.if-holding-id.true in
     let name : c.in_ok-copy.field-0 ≡ h.name = c.in_ok-copy.ensures ∙ ap {A = Holding} (λ x. x.name) c.holding.view_is in
     let network : c.in_ok-network.network ≡ h.network = c.in_ok-network.ensures ∙ ap {A = Holding} (λ x. x.network) c.holding.view_is in
-    let put : c.put_entry.new.entries.items ≡ put_entry h.name h.network c.loop-rest.entries.items = c.in_ok-put_entry.ensures ∙ ap₂ (λ q n. put_entry q n c.loop-rest.entries.items) name network in
+    let put : c.put.new.self ≡ put_entry h.name h.network c.loop-rest.listed = c.in_ok-put.ensures ∙ ap₂ (λ q n. put_entry q n c.loop-rest.listed) name network in
     let cut : drop (rest - 1) hs ≡ h ∷ drop rest hs = step_back hs rest h c.loop-rest-test.true c.loop-rest.invariant.within c.index-networks-rest.is in
-    let more = one_listed h (drop rest hs) c.args.id c.loop-rest.entries.items (eq-eqb h.tenant c.args.id tenant) c.loop-rest.invariant.listed in
+    let more = one_listed h (drop rest hs) c.args.id c.loop-rest.listed (eq-eqb h.tenant c.args.id tenant) c.loop-rest.invariant.listed in
     record {
       within = omega arith;
-      listed = subst (λ xs. EntriesOf xs c.args.id c.put_entry.new.entries.items) (sym cut) (subst (λ (es : Entries). EntriesOf (h ∷ drop rest hs) c.args.id es) (sym put) more);
+      listed = subst (λ xs. EntriesOf xs c.args.id c.put.new.self) (sym cut) (subst (λ (es : Entries). EntriesOf (h ∷ drop rest hs) c.args.id es) (sym put) more);
     }

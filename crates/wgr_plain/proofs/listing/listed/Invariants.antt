@@ -6,7 +6,7 @@ use Rattle.wgr_plain.proofs.listing.listed.Given as goal
 abbrev pub invariant-loop-rest : goal.invariant-loop-rest
 invariant-loop-rest l = record {
   within : l.rest ≤ length l.networks;
-  listed : EntriesOf (drop l.rest l.networks) l.id l.entries.items;
+  listed : EntriesOf (drop l.rest l.networks) l.id l.listed;
 }
 
 abbrev pub decreases-loop-rest : goal.decreases-loop-rest

@@ -19,7 +19,7 @@ loop-rest-init c =
     let rows = c.args.rows.now in
     record {
       within = omega arith;
-      there = c.new-entries.ensures.items ∙ none_by_name ∙ ap (λ (rs : List Row). by_name (map (λ r. settled (network_in r)) rs)) (sym (nil_from_length (drop (length rows) rows) (simp (length-drop) (omega arith))));
+      there = c.new-networks.ensures ∙ none_by_name ∙ ap (λ (rs : List Row). by_name (map (λ r. settled (network_in r)) rs)) (sym (nil_from_length (drop (length rows) rows) (simp (length-drop) (omega arith))));
     }
 
 pub loop-rest-preserved : goal.loop-rest-preserved
@@ -35,7 +35,7 @@ loop-rest-preserved c =
       within = omega arith;
       there =
           c.in_ok-put.ensures.put
-          ∙ ap₂ (λ q n. put_entry q n c.loop-rest.entries.items) (ap {A = Holding} (λ x. x.name) whole) (ap {A = Holding} (λ x. x.network) whole)
+          ∙ ap₂ (λ q n. put_entry q n c.loop-rest.networks) (ap {A = Holding} (λ x. x.name) whole) (ap {A = Holding} (λ x. x.network) whole)
           ∙ ap (put_entry h.name h.network) c.loop-rest.invariant.there
           ∙ one_by_name h later
           ∙ ap (λ (rs : List Row). by_name (map (λ r. settled (network_in r)) rs)) (sym cut);

@@ -8,7 +8,7 @@ use Rattle.wgr_register.proofs.list.entries_in.Given as goal
 abbrev pub invariant-loop-rest : goal.invariant-loop-rest
 invariant-loop-rest l = record {
   within : l.rest ≤ length l.rows;
-  there : l.entries.items ≡ by_name (map (λ r. settled (network_in r)) (drop l.rest l.rows));
+  there : l.networks ≡ by_name (map (λ r. settled (network_in r)) (drop l.rest l.rows));
 }
 
 abbrev pub decreases-loop-rest : goal.decreases-loop-rest

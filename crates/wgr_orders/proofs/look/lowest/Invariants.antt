@@ -1,7 +1,7 @@
 use Rattle.std.proofs.Common.{◌≡◌, ℕ, ◌<◌, ◌≤◌, ◌-◌, true, nat_eq}
 use Rattle.std.specs.List.{list_any}
 use Rattle.wgr_model.specs.Consistent.{IsId}
-use Rattle.wgr_orders.proofs.look.unused_id.Given as goal
+use Rattle.wgr_orders.proofs.look.lowest.Given as goal
 
 -- the ids below are used
 abbrev pub invariant-loop-id : goal.invariant-loop-id
