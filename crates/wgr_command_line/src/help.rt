@@ -266,17 +266,20 @@ pub(crate) const SERVE: &str = "\
 Prints `listening` once the address is bound, and answers as many connections as --count says,
 one after the other, each with one request. HOST is an IPv4 address, or an IPv6 address in
 brackets. The time of all requests is that of --now; without it, the clock gives the time of
-each. A client that sends nothing keeps the next clients waiting: put a proxy in front, which
-also does TLS.
+each. All of a request has to come within 10 seconds of its connection, and the reply has to be
+taken within 10 more; else the connection is ended. A slow client keeps the next ones waiting for
+that long: put a proxy in front, which also does TLS.
 
 With --orders, it also takes orders and readings from `wgr send`, over a Unix socket at PATH with
 mode 0600, whose folder must be the operator's own. A socket that a stopped service left there is
 replaced; any other file there is refused with `device`. Waiting orders and readings come before
-requests, and do not count as connections.
+requests, and do not count as connections. Each has 5 seconds to come, and its answer 5.
 
 Messages on standard error, with the exit status, and what to do:
-  wgr: connection           a connection failed; the next one is answered
-  wgr: order                an order or reading over the socket failed; the service continues
+  wgr: connection           a connection failed or was too slow; the next one is answered
+  wgr: order                an order or reading over the socket did; the service continues
+  wgr: unavailable          a request was answered 503, or an order or reading failed: memory or
+                               the disk; see `no_memory` and `store`
   wgr: bad_field host:port  2  HOST:PORT has the wrong form: correct it
   wgr: bad_field count      2  --count is not a whole number up to 9223372036854775807
   wgr: bad_field now        2  --now is not a whole number up to 9223372036854775807
@@ -305,19 +308,25 @@ Sends an order to the service that listens at PATH (`wgr serve` with --orders), 
   network-end TENANT NAME
 
 The fields are those of the command of the same name, which does the same on a file: see its
---help. As there, the token of `token-grant` and of `token-end` is read from standard input.
-No word may be empty or contain a space. One that begins with `-` must come after `--`.
+--help. As there, the token of `token-grant` and of `token-end` is read from standard input, and
+is refused as a word, and so is an option of another command. No word may be empty or contain a
+space. One that begins with `-` must come after `--`.
 
 Or asks the service for a reading, which changes nothing:
   status                    prints its figures, lines `name value` for Prometheus
   show [TENANT] [--json]    prints what `wgr show` prints of a file
   backup FILE               copies the register to FILE and FILE-wal, and prints `done`; FILE
-                            begins with `/`, and its folder is one that the service can write
+                            begins with `/`, and its folder is one that the service can write.
+                            A service that is killed meanwhile may leave FILE-wal and files whose
+                            names begin with FILE.part
 
 Messages on standard error besides that command's, with the exit status, and what to do:
-  wgr: bad_order       2  the words are no order and no reading: check number and spelling
+  wgr: bad_order       2  the words are no order and no reading: check number and spelling, give
+                          a token by standard input, and an option only to its own word
   wgr: bad_field file  2  FILE does not begin with `/`: give its whole path
-  wgr: file_exists     2  FILE is there already, and stays as it is: take another name
+  wgr: file_exists     2  FILE, or a file that SQLite would use with it (FILE-wal, FILE-shm,
+                          FILE-journal), is there already, or would be one of the register's:
+                          all stays as it is; take another name
   wgr: device          1  no service listens at PATH, or the connection broke: it is then unknown
                           whether an order was carried out, so check before you send it again;
                           or the copy cannot be made, and there is no FILE: check its folder

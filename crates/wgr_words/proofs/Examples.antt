@@ -6,6 +6,7 @@ use Rattle.std.specs.Str.{chars, is_utf8}
 use Rattle.wgr_words.specs.Asked.{OrderAsked, DigestEnd, NetworkAdd, NetworkEnd, TenantAdd, TokenEnd, TokenGrant}
 use Rattle.wgr_words.specs.Line.{LineAsked, first_line, is_line, line_in, line_text, words_in}
 use Rattle.wgr_words.specs.Reading.{ReadingAsked, Backup, Show, Status, reading_in_line}
+use Rattle.wgr_words.specs.Sent.{may_be_sent, sent_line}
 
 -- the order of a line, and its token
 abbrev read : List ℕ → Option LineAsked
@@ -192,3 +193,33 @@ longest_is_a_line = refl
 
 pub longer_is_none : is_line (repeat 4096 (codes "a") ∷ []) ≡ false
 longer_is_none = refl
+
+-- ---- sending
+
+pub token_is_apart : may_be_sent (codes "token-grant" ∷ codes "acme" ∷ []) None false ≡ true
+token_is_apart = refl
+
+pub token_among_the_words : may_be_sent (codes "token-grant" ∷ codes "acme" ∷ codes "secret" ∷ []) None false ≡ false
+token_among_the_words = refl
+
+pub ended_token_among_the_words : may_be_sent (codes "token-end" ∷ codes "secret" ∷ []) None false ≡ false
+ended_token_among_the_words = refl
+
+pub digest_by_its_option : may_be_sent (codes "token-end" ∷ []) (Some (codes "00ff")) false ≡ true
+digest_by_its_option = refl
+
+pub option_of_another_word : may_be_sent (codes "tenant-add" ∷ []) None true ≡ false
+option_of_another_word = refl
+
+-- behind `--`, where it is a name
+pub name_like_an_option : may_be_sent (codes "tenant-add" ∷ codes "--json" ∷ []) None false ≡ true
+name_like_an_option = refl
+
+pub option_for_a_tenant : may_be_sent (codes "show" ∷ codes "--json" ∷ []) None false ≡ false
+option_for_a_tenant = refl
+
+pub tenant_as_json : sent_line (codes "show" ∷ codes "acme" ∷ []) None true [] ≡ codes "show" ∷ codes "acme" ∷ codes "--json" ∷ []
+tenant_as_json = refl
+
+pub token_behind_the_words : sent_line (codes "token-grant" ∷ codes "acme" ∷ []) None false (codes "secret") ≡ codes "token-grant" ∷ codes "acme" ∷ codes "secret" ∷ []
+token_behind_the_words = refl

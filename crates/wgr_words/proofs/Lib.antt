@@ -3,3 +3,4 @@ pub mod Examples
 pub mod LineLemmas
 pub mod OrderLemmas
 pub mod ReadingLemmas
+pub mod SentLemmas

@@ -2,4 +2,5 @@ pub mod Asked
 pub mod Line
 pub mod Order
 pub mod Reading
+pub mod Sent
 pub mod Words

@@ -16,14 +16,16 @@ mod line;
 mod numbers;
 mod order;
 mod reading;
+mod sent;
 mod words;
 mod written;
 
 pub use field::{WordFault, WordField, read_endpoint_field, read_whole_field};
 pub use input::read_first_line;
-pub use laws::{readings_are_no_orders, written_words_are_read};
+pub use laws::{readings_are_no_orders, sent_as_asked, written_words_are_read};
 pub use line::{LINE_MOST, LineFault, OrderLine, order_in, read_line};
 pub use order::order_of;
 pub use reading::{Reading, reading_in};
+pub use sent::may_be_sent;
 pub use words::{NetworkWords, OrderWords};
 pub use written::{is_line, write_line};
