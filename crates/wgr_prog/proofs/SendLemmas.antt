@@ -8,8 +8,9 @@ use Rattle.wgr_service.specs.Network.{Log, Logs, called, ended}
 use Rattle.wgr_service.proofs.ConnectionLemmas.{logs_more}
 use Rattle.wgr_words.specs.Line.{is_line, line_text}
 use Rattle.wgr_words.specs.Order.{Input, IsTaken}
+use Rattle.wgr_words.specs.Sent.{option_words}
 use Rattle.wgr_words.specs.Words.{line_of}
-use Rattle.wgr_prog.specs.Sending.{Call, MayBreak, SendsLine, SendsToken, has_failed, option_words}
+use Rattle.wgr_prog.specs.Sending.{Call, MayBreak, SendsLine, SendsToken, has_failed}
 use Rattle.wgr_prog.specs.declared.send.SendFault.{SendFault}
 use Rattle.wgr_prog.specs.declared.send.SendFault.TheVariants as fault
 

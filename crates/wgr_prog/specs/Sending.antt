@@ -1,12 +1,12 @@
 -- An order or a reading that is sent to a running service.
-use Rattle.std.specs.Prelude.{ℕ, ◌≡◌, ◌⊎◌, ◌++◌, ◌||◌, Bool, true, false, List, [], ◌∷◌, Option, Some, None, IfSome, IsUtf8, MatchBool, Result, Ok, Err, codes, if◌then◌else◌}
-use Rattle.std.specs.Str.{bytes_eq}
+use Rattle.std.specs.Prelude.{ℕ, ◌≡◌, ◌⊎◌, ◌++◌, ◌||◌, Bool, true, false, List, [], ◌∷◌, Option, Some, None, IfSome, IsUtf8, MatchBool, Result, Ok, Err}
 use Rattle.std.specs.declared.vec.Vec.{Vec}
 use Rattle.std.specs.declared.alloc.Global.{Global}
 use Rattle.std.specs.Io.KnownBytes.{Appends}
 use Rattle.wgr_service.specs.Network.{Contact, Log, Logs, called, ended}
 use Rattle.wgr_words.specs.Line.{is_line, line_text}
 use Rattle.wgr_words.specs.Order.{Input, IsTaken}
+use Rattle.wgr_words.specs.Sent.{asks_token, line_words, may_be_sent, option_words}
 use Rattle.wgr_words.specs.Words.{line_of}
 use Rattle.wgr_prog.specs.Messages.{ReportsDone, ReportsText}
 use Rattle.wgr_prog.specs.Reply.{Reply, Done, Shown, Undone, reply_in}
@@ -14,23 +14,7 @@ use Rattle.wgr_prog.specs.declared.messages.TheConstants.{FAULT, REFUSED}
 use Rattle.wgr_prog.specs.declared.send.SendFault.{SendFault}
 use Rattle.wgr_prog.specs.declared.send.SendFault.TheVariants as fault
 
--- ---- the line
-
--- whether the order has a token that isn't among the words
-abbrev pub asks_token : List (List ℕ) → Option (List ℕ) → Bool
-asks_token words (Some digest) = false
-asks_token (word ∷ []) None = bytes_eq word (codes "token-end")
-asks_token (word ∷ field ∷ []) None = bytes_eq word (codes "token-grant")
-asks_token words None = false
-
--- the option that is a line's last word, if it is given
-abbrev pub option_words : Bool → List (List ℕ)
-option_words is_json = if is_json then codes "--json" ∷ [] else []
-
--- the words of a line that has no such token
-abbrev pub line_words : List (List ℕ) → Option (List ℕ) → Bool → List (List ℕ)
-line_words words None is_json = words ++ option_words is_json
-line_words words (Some digest) is_json = words ++ codes "--digest" ∷ digest ∷ option_words is_json
+-- ---- the token
 
 -- the text makes no word of a line
 abbrev pub IsNoWord : List ℕ → Type 0
@@ -94,9 +78,15 @@ SendsToken path words is_json before after old new (Err fault.Device) = ((after 
 SendsToken path words is_json before after old new (Err fault.NoMemory) = ((after ≡ before) × (new.failed ≡ old.failed)) ⊎ SendsTaken path words is_json before after old new (Err fault.NoMemory)
 SendsToken path words is_json before after old new answer = SendsTaken path words is_json before after old new answer
 
+-- the words are sent with the token that they ask for, or as they are
+abbrev pub SendsWhole : List ℕ → List (List ℕ) → Option (List ℕ) → Bool → Log → Log → Input → Input → Result (Vec ℕ Global) SendFault → Type 0
+SendsWhole path words digest is_json before after old new answer =
+    MatchBool (asks_token words digest) (SendsToken path words is_json before after old new answer) ((new ≡ old) × SendsLine path (line_words words digest is_json) before after answer)
+
+-- so they are if they ask for an order or a reading; else no connection is made, and nothing is read
 abbrev pub Sends : List ℕ → List (List ℕ) → Option (List ℕ) → Bool → Log → Log → Input → Input → Result (Vec ℕ Global) SendFault → Type 0
 Sends path words digest is_json before after old new answer =
-    MatchBool (asks_token words digest) (SendsToken path words is_json before after old new answer) ((new ≡ old) × SendsLine path (line_words words digest is_json) before after answer)
+    MatchBool (may_be_sent words digest is_json) (SendsWhole path words digest is_json before after old new answer) ((answer ≡ Err fault.BadOrder) × (after ≡ before) × (new ≡ old))
 
 -- ---- what is printed
 

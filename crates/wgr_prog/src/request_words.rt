@@ -215,18 +215,20 @@ fn serve_all<S: Start, N: Network, W: Write, E: Write>(
 ) -> (Result<(), Failure>, Closed<S>)
     ensures { ServesAll ⟦<FileFrom<S> as Disk>⟧ (image_at S.Start) result.1 serving.now (N.log network.old) (N.log network.new) (output_of W.contents W.failed out.old) (output_of W.contents W.failed out.new) result.0 }
 {
+    // They are found before, so that they are those of the register that is opened.
+    let copies = FileCopies::new(rt.alloc(), rt, path);
     let mut office = match open_office(rt, path, start) {
         Ok(office) => office,
         Err(Unopened { fault, files }) => return (Err(Failure::Register(fault)), files),
     };
-    let served = listen(rt, path, &mut office, serving, network, out, err);
+    let served = listen(rt, copies, &mut office, serving, network, out, err);
     (served, close_office(office))
 }
 
 // Listens, prints `listening`, and serves connections.
 fn listen<S: Start, N: Network, W: Write, E: Write>(
     rt: &HostRuntime,
-    path: &str,
+    copies: FileCopies<'_, HostRuntime>,
     office: &mut Office<FileStore<FileFrom<S>>>,
     serving: &Serving<'_>,
     network: &mut N,
@@ -246,7 +248,7 @@ fn listen<S: Start, N: Network, W: Write, E: Write>(
         return Err(Failure::Device);
     }
     let alloc = rt.alloc();
-    let mut desk = Desk::new(FileCopies::new(alloc, rt, path), seconds_now(rt));
+    let mut desk = Desk::new(copies, seconds_now(rt));
     let Serving { count, moment, .. } = *serving;
     match serve_connections(alloc, office, network, &mut desk, count, moment, err) {
         Ending::Served => Ok(()),

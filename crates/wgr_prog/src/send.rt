@@ -4,10 +4,11 @@ ghost use Rattle.std.specs.declared.vec.Vec.{Vec};
 ghost use Rattle.std.specs.declared.alloc.Global.{Global};
 ghost use Rattle.std.specs.Io.KnownBytes.{Appends};
 ghost use Rattle.wgr_prog.specs.Reply.{reply_in};
-ghost use Rattle.wgr_prog.specs.Sending.{IsNoWord, MayBreak, Sends, SendsLine, SendsToken, ReportsReply, ReportsSent, asks_token, line_words, option_words, send_status};
+ghost use Rattle.wgr_prog.specs.Sending.{IsNoWord, MayBreak, Sends, SendsLine, SendsToken, SendsWhole, ReportsReply, ReportsSent, send_status};
 ghost use Rattle.wgr_prog.specs.declared.send.SendFault.{SendFault as Failed};
 ghost use Rattle.wgr_words.specs.Line.{is_line, line_text};
 ghost use Rattle.wgr_words.specs.Order.{input_of};
+ghost use Rattle.wgr_words.specs.Sent.{asks_token, line_words, option_words};
 ghost use Rattle.wgr_words.specs.Words.{line_of};
 
 use crate::messages::{self, FAULT, REFUSED, device, no_memory, refusal};
@@ -16,12 +17,12 @@ use std::alloc::{AllocError, Global};
 use std::str;
 use wgr_io::{Read, ReadFault, Write, read_to_end, write_all};
 use wgr_service::Network;
-use wgr_words::{is_line, write_line};
+use wgr_words::{is_line, may_be_sent, write_line};
 
 /// Why no reply came.
 #[derive(Clone, Copy, Debug, PartialEq, Eq)]
 pub(crate) enum SendFault {
-    /// The words make no line.
+    /// The words ask for no order and no reading, or make no line.
     BadOrder,
     /// The token makes no word of a line.
     BadToken,
@@ -109,7 +110,7 @@ fn report_text<E: Write>(text: &[u8], err: &mut E) {
     }
 }
 
-// Sends the line of these words, and returns all of the reply.
+// Sends the words of an order or of a reading, and returns all of the reply.
 fn send<N: Network, R: Read>(
     alloc: Global,
     path: &str,
@@ -120,6 +121,24 @@ fn send<N: Network, R: Read>(
     input: &mut R,
 ) -> Result<Vec<u8>, SendFault>
     ensures { Sends path.now (map (λ word. word.now) words.now) (option_map (λ text. text.now) digest.entry) is_json (N.log network.old) (N.log network.new) (input_of R.remaining R.failed input.old) (input_of R.remaining R.failed input.new) result }
+{
+    if !may_be_sent(words, digest, is_json) {
+        return Err(SendFault::BadOrder);
+    }
+    send_whole(alloc, path, words, digest, is_json, network, input)
+}
+
+// Sends the words, with the token that they ask for.
+fn send_whole<N: Network, R: Read>(
+    alloc: Global,
+    path: &str,
+    words: &[&str],
+    digest: Option<&str>,
+    is_json: bool,
+    network: &mut N,
+    input: &mut R,
+) -> Result<Vec<u8>, SendFault>
+    ensures { SendsWhole path.now (map (λ word. word.now) words.now) (option_map (λ text. text.now) digest.entry) is_json (N.log network.old) (N.log network.new) (input_of R.remaining R.failed input.old) (input_of R.remaining R.failed input.new) result }
 {
     if asks_token(words, digest) {
         send_with_token(alloc, path, words, is_json, network, input)

@@ -22,7 +22,7 @@ use Rattle.wgr_office.proofs.BetweenLemmas.{call_kept, calls_more, passed}
 use Rattle.wgr_office.proofs.RunLemmas.{ask_served}
 use Rattle.wgr_service.specs.Batch.{IsCut}
 use Rattle.wgr_service.specs.Connections.{AreServed, AreSound, AreWritten, Asked, Exchange, HasCounted, HasMet, HasOutcome, IsServed, Meeting, Ordered, Outcome, Reports, answer_of, answered, asked_of, contacts_of, cut, door_of, exchange_of, exchanges, failed, failure_line, is_request_at, line_of, meeting_of, missed, moment_of, requests_in, shown, unavailable_line, unspelled, weight}
-use Rattle.wgr_service.specs.Lines.{fault_text, settled}
+use Rattle.wgr_service.specs.Lines.{fault_text, is_read, settled}
 use Rattle.wgr_service.specs.Network.{Contact, Log, Logs}
 use Rattle.wgr_service.specs.Readings.{HasTaken, Reads, is_reading_available, is_taken_available, reading_text, taken_text}
 use Rattle.wgr_service.specs.Reports.{IsReport, report_line}
@@ -36,6 +36,7 @@ use Rattle.wgr_service.specs.declared.report.Report.TheVariants as report
 use Rattle.wgr_service.specs.declared.taken.Taken.{Taken}
 use Rattle.wgr_service.specs.declared.taken.Taken.TheVariants as taken
 use Rattle.wgr_words.specs.Reading.{ReadingAsked}
+use Rattle.wgr_words.specs.declared.line.LineFault.{LineFault}
 
 -- ---- what is written
 
@@ -94,6 +95,15 @@ shown_reported m asked end r whole told = by (is_reading_available end) refl tol
     by false is (inl same) = subst (λ (k : Report). Reports k (shown m asked end)) (sym same) (whole, is)
     by false is (inr same) = subst (λ (k : Report). Reports k (shown m asked end)) (sym same) (whole, is)
 
+-- and of a line that spells nothing
+unspelled_reported : (m : Meeting) (why : LineFault) (r : Report) → m.write_failed ≡ false → IsReport (is_read why) r → Reports r (unspelled m why)
+unspelled_reported m why r whole told = by (is_read why) refl told
+  where
+    by : (read : Bool) → is_read why ≡ read → IsReport read r → Reports r (unspelled m why)
+    by true is fine = subst (λ (k : Report). Reports k (unspelled m why)) (sym fine) (whole, is)
+    by false is (inl same) = subst (λ (k : Report). Reports k (unspelled m why)) (sym same) (whole, is)
+    by false is (inr same) = subst (λ (k : Report). Reports k (unspelled m why)) (sym same) (whole, is)
+
 -- ---- readings before and between events
 
 module _ {S : Type 0} (g : Ghosts S) where
@@ -148,13 +158,13 @@ module _ {S : Type 0} (g : Ghosts S) (now clock : Option ℕ) (before after : En
   order = meeting_of door.Orders clock before after
 
   pub line_answered : (old mid new : Held S) (end : Taken) (r : Report) → HasTaken g old mid before.input end → Appends before.written after.written (taken_text end)
-      → after.read_failed ≡ before.read_failed → after.write_failed ≡ before.write_failed → IsReport (is_taken_available end) r → Keeps g mid new → (is_taken_available end ≡ true → new ≡ mid) → HasMet g old new now order r
+      → after.read_failed ≡ before.read_failed → after.write_failed ≡ before.write_failed → IsReport (is_taken_available end) r → Keeps g mid new → ((why : LineFault) → end ≡ taken.Order (line_end.Unspelled why) → new ≡ mid) → HasMet g old new now order r
   line_answered old mid new (taken.Order (line_end.Ended ended)) r takes written read wrote told keeps same =
       let x = Ordered takes.0 ended in
       (answered order x, (((refl, takes.1), written, read ∙ sound.0, wrote ∙ sound.1), call_kept g old mid new (asked_of x) (settled ended) takes.2 keeps), refl, reported order x r told, refl)
   line_answered old mid new (taken.Order (line_end.Unspelled why)) r takes written read wrote told keeps same =
       let whole = wrote ∙ sound.1 in
-      (unspelled order why, ((refl, takes.1, subst (λ b. MatchBool b (IsCut before.written after.written (fault_text why)) (Appends before.written after.written (fault_text why))) (sym whole) written, read ∙ sound.0), same refl ∙ takes.0), refl, subst (λ (k : Report). Reports k (unspelled order why)) (sym told) whole, refl)
+      (unspelled order why, ((refl, takes.1, subst (λ b. MatchBool b (IsCut before.written after.written (fault_text why)) (Appends before.written after.written (fault_text why))) (sym whole) written, read ∙ sound.0), same why refl ∙ takes.0), refl, unspelled_reported order why r whole told, refl)
   line_answered old mid new (taken.Reading end) r takes written read wrote told keeps same =
       let whole = wrote ∙ sound.1 in
       (shown order takes.0 end, ((refl, takes.1, subst (λ b. MatchBool b (IsCut before.written after.written (reading_text end)) (Appends before.written after.written (reading_text end))) (sym whole) written, read ∙ sound.0), reads_kept g old mid new takes.0 end takes.2 keeps), refl, shown_reported order takes.0 end r whole told, refl)
@@ -174,27 +184,27 @@ line_is : (r : Report) (outcome : Outcome) → Reports r outcome → report_line
 line_is report.Fine (answered m x) is = ap (λ b. cond b [] unavailable_line) (sym is)
 line_is report.Fine (cut m x) is = absurd is
 line_is report.Fine (shown m asked end) is = ap (λ b. cond b [] unavailable_line) (sym is.1) ∙ ap (λ b. cond b (failure_line m.door) (cond (is_reading_available end) [] unavailable_line)) (sym is.0)
-line_is report.Fine (unspelled m why) is = ap (λ b. cond b (failure_line m.door) []) (sym is)
+line_is report.Fine (unspelled m why) is = ap (λ b. cond b [] unavailable_line) (sym is.1) ∙ ap (λ b. cond b (failure_line m.door) (cond (is_read why) [] unavailable_line)) (sym is.0)
 line_is report.Fine (failed m) is = absurd is
-line_is report.Fine missed is = absurd is
+line_is report.Fine (missed at) is = absurd is
 line_is report.Unavailable (answered m x) is = ap (λ a. cond (is_available a) [] unavailable_line) (sym is)
 line_is report.Unavailable (cut m x) is = absurd is
 line_is report.Unavailable (shown m asked end) is = ap (λ b. cond b [] unavailable_line) (sym is.1) ∙ ap (λ b. cond b (failure_line m.door) (cond (is_reading_available end) [] unavailable_line)) (sym is.0)
-line_is report.Unavailable (unspelled m why) is = absurd is
+line_is report.Unavailable (unspelled m why) is = ap (λ b. cond b [] unavailable_line) (sym is.1) ∙ ap (λ b. cond b (failure_line m.door) (cond (is_read why) [] unavailable_line)) (sym is.0)
 line_is report.Unavailable (failed m) is = absurd is
-line_is report.Unavailable missed is = absurd is
+line_is report.Unavailable (missed at) is = absurd is
 line_is report.Shut (answered m x) is = ap (λ a. cond (is_available a) [] unavailable_line) (sym is)
 line_is report.Shut (cut m x) is = absurd is
 line_is report.Shut (shown m asked end) is = ap (λ b. cond b [] unavailable_line) (sym is.1) ∙ ap (λ b. cond b (failure_line m.door) (cond (is_reading_available end) [] unavailable_line)) (sym is.0)
-line_is report.Shut (unspelled m why) is = absurd is
+line_is report.Shut (unspelled m why) is = ap (λ b. cond b [] unavailable_line) (sym is.1) ∙ ap (λ b. cond b (failure_line m.door) (cond (is_read why) [] unavailable_line)) (sym is.0)
 line_is report.Shut (failed m) is = absurd is
-line_is report.Shut missed is = absurd is
+line_is report.Shut (missed at) is = absurd is
 line_is report.Failed (answered m x) is = absurd is
 line_is report.Failed (cut m x) is = refl
 line_is report.Failed (shown m asked end) is = ap (λ b. cond b (failure_line m.door) (cond (is_reading_available end) [] unavailable_line)) (sym is)
-line_is report.Failed (unspelled m why) is = ap (λ b. cond b (failure_line m.door) []) (sym is)
+line_is report.Failed (unspelled m why) is = ap (λ b. cond b (failure_line m.door) (cond (is_read why) [] unavailable_line)) (sym is)
 line_is report.Failed (failed m) is = refl
-line_is report.Failed missed is = refl
+line_is report.Failed (missed at) is = refl
 
 pub report_is : (at : Door) (r : Report) (outcome : Outcome) → door_of outcome ≡ at → Reports r outcome → report_line at r ≡ line_of outcome
 report_is at r outcome door reports = ap (λ d. report_line d r) (sym door) ∙ line_is r outcome reports
@@ -274,7 +284,7 @@ module _ {S : Type 0} (g : Ghosts S) (old : Held S) (now : Option ℕ) where
     served_more (shown m asked end) one = with_none (shown m asked end) refl one.0 one.1.0
     served_more (unspelled m why) one = with_none (unspelled m why) refl one.0 (same_kept one.1)
     served_more (failed m) one = with_none (failed m) refl one.0 (same_kept one.1)
-    served_more missed one = with_none missed refl one.0 (same_kept one.1)
+    served_more (missed at) one = with_none (missed at) refl one.0 (same_kept one.1)
 
   pub all_served : (new : Held S) (asked_for count : ℕ) (ended : Ending) (outcomes : List Outcome) → RowsAreIsolated → AreServedSoFar g old new now count outcomes → HasCounted ended asked_for outcomes → AreServed g old new now asked_for ended outcomes
   all_served new asked_for count ended outcomes law so_far counted =

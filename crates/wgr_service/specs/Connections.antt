@@ -24,7 +24,7 @@ use Rattle.wgr_register.specs.declared.fault.OrderFault.{OrderFault}
 use Rattle.wgr_words.specs.Reading.{ReadingAsked}
 use Rattle.wgr_words.specs.declared.line.LineFault.{LineFault}
 use Rattle.wgr_service.specs.Batch.{IsCut}
-use Rattle.wgr_service.specs.Lines.{SpellsFirst, SpellsNone, ended_text, fault_text, settled}
+use Rattle.wgr_service.specs.Lines.{SpellsFirst, SpellsNone, ended_text, fault_text, is_read, settled}
 use Rattle.wgr_service.specs.Network as network
 use Rattle.wgr_service.specs.Readings.{Reads, SpellsFirstReading, is_reading_available, reading_text}
 use Rattle.wgr_service.specs.declared.connections.Ending.{Ending}
@@ -68,29 +68,29 @@ pub record Meeting : Type 0 where
   pub write_failed : Bool
 
 -- a message or an order was answered and its answer written; it was answered, but writing that failed; a reading was
--- answered; a line spelled neither an order nor a reading, and nothing was done; nothing was done or written; or no
--- connection could be accepted
+-- answered; a line spelled neither an order nor a reading, and nothing was done; nothing was done or written; or the
+-- connection could not be accepted
 pub data Outcome : Type 0 where
   answered : Meeting → Exchange → Outcome
   cut : Meeting → Exchange → Outcome
   shown : Meeting → ReadingAsked → ReadingEnd → Outcome
   unspelled : Meeting → LineFault → Outcome
   failed : Meeting → Outcome
-  missed : Outcome
+  missed : Door → Outcome
 
 abbrev pub exchange_of : Outcome → Option Exchange
 exchange_of (answered m x) = Some x
 exchange_of (cut m x) = Some x
 exchange_of other = None
 
--- where the connection came; one that could not be accepted counts as a request's
+-- where the connection came
 abbrev pub door_of : Outcome → Door
 door_of (answered m x) = m.door
 door_of (cut m x) = m.door
 door_of (shown m asked end) = m.door
 door_of (unspelled m why) = m.door
 door_of (failed m) = m.door
-door_of missed = door.Requests
+door_of (missed at) = at
 
 -- what is written to standard error for a connection that failed
 abbrev pub failure_line : Door → Bytes
@@ -106,9 +106,9 @@ abbrev pub line_of : Outcome → Bytes
 line_of (answered m x) = cond (is_available (answer_of x)) [] unavailable_line
 line_of (cut m x) = failure_line m.door
 line_of (shown m asked end) = cond m.write_failed (failure_line m.door) (cond (is_reading_available end) [] unavailable_line)
-line_of (unspelled m why) = cond m.write_failed (failure_line m.door) []
+line_of (unspelled m why) = cond m.write_failed (failure_line m.door) (cond (is_read why) [] unavailable_line)
 line_of (failed m) = failure_line m.door
-line_of missed = failure_line door.Requests
+line_of (missed at) = failure_line at
 
 -- what is added to the network's log
 abbrev pub met : Meeting → List network.Contact
@@ -120,7 +120,7 @@ contacts_of (cut m x) = met m
 contacts_of (shown m asked end) = met m
 contacts_of (unspelled m why) = met m
 contacts_of (failed m) = met m
-contacts_of missed = network.missed ∷ []
+contacts_of (missed at) = network.missed at ∷ []
 
 -- the given moment, if any, or else the clock's
 abbrev pub moment_of : Option ℕ → Option ℕ → Option ℕ
@@ -143,7 +143,7 @@ IsServed now (shown m asked end) =
 IsServed now (unspelled m why) =
     (m.door ≡ door.Orders) × IfSome m.input (λ all. SpellsNone all why) × MatchBool m.write_failed (IsCut m.before m.after (fault_text why)) (Appends m.before m.after (fault_text why)) × (m.read_failed ≡ false)
 IsServed now (failed m) = (m.after ≡ m.before) × (m.write_failed ≡ false) × ((m.read_failed ≡ true) ⊎ ((m.door ≡ door.Requests) × (moment_of now m.clock ≡ None)))
-IsServed now missed = Unit {0}
+IsServed now (missed at) = Unit {0}
 
 -- one message or order was answered, whatever the rows of the register were; a reading kept them; or nothing was done
 abbrev pub Moves : {S : Type 0} → Ghosts S → Held S → Held S → Outcome → Type 0
@@ -159,18 +159,19 @@ HasOutcome g old new now outcome = IsServed now outcome × Moves g old new outco
 abbrev pub IsUnavailable : Outcome → Type 0
 IsUnavailable (answered m x) = answer_of x ≡ givens.Unavailable
 IsUnavailable (shown m asked end) = (m.write_failed ≡ false) × (is_reading_available end ≡ false)
+IsUnavailable (unspelled m why) = (m.write_failed ≡ false) × (is_read why ≡ false)
 IsUnavailable other = ⊥
 
 -- which outcome is reported as
 abbrev pub Reports : Report → Outcome → Type 0
 Reports report.Fine (answered m x) = is_available (answer_of x) ≡ true
 Reports report.Fine (shown m asked end) = (m.write_failed ≡ false) × (is_reading_available end ≡ true)
-Reports report.Fine (unspelled m why) = m.write_failed ≡ false
+Reports report.Fine (unspelled m why) = (m.write_failed ≡ false) × (is_read why ≡ true)
 Reports report.Failed (cut m x) = Unit {0}
 Reports report.Failed (shown m asked end) = m.write_failed ≡ true
 Reports report.Failed (unspelled m why) = m.write_failed ≡ true
 Reports report.Failed (failed m) = Unit {0}
-Reports report.Failed missed = Unit {0}
+Reports report.Failed (missed at) = Unit {0}
 Reports report.Unavailable outcome = IsUnavailable outcome
 Reports report.Shut outcome = IsUnavailable outcome
 Reports other outcome = ⊥

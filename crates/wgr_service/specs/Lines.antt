@@ -1,5 +1,5 @@
 -- Orders that come as lines: what one does, and how it is answered.
-use Rattle.std.specs.Prelude.{◌≡◌, ◌⊎◌, ◌++◌, ℕ, Bool, true, Option, Some, None, Result, Ok, Err, IfSome, codes}
+use Rattle.std.specs.Prelude.{◌≡◌, ◌⊎◌, ◌++◌, ℕ, Bool, true, false, Option, Some, None, Result, Ok, Err, IfSome, codes}
 use Rattle.sqlite.specs.Store.{Ghosts}
 use Rattle.sqlite.specs.Held.{Held}
 use Rattle.wgr_model.specs.Register.{Bytes}
@@ -94,7 +94,12 @@ abbrev pub TakesLine : {S : Type 0} → Ghosts S → Held S → Held S → Optio
 TakesLine g old new input (line_end.Ended ended) = (order : Order) × IfSome input (λ all. SpellsFirst all order) × HasOrdered g old new order ended
 TakesLine g old new input (line_end.Unspelled why) = (new ≡ old) × IfSome input (λ all. SpellsNone all why)
 
--- whether neither memory nor the store failed as the order was carried out
+-- whether there was memory to read the line
+abbrev pub is_read : LineFault → Bool
+is_read line_fault.NoMemory = false
+is_read why = true
+
+-- whether neither memory nor the store failed
 abbrev pub is_end_available : LineEnd → Bool
 is_end_available (line_end.Ended ended) = is_available (settled ended)
-is_end_available (line_end.Unspelled why) = true
+is_end_available (line_end.Unspelled why) = is_read why

@@ -5,15 +5,15 @@ use Rattle.wgr_model.specs.Register.{Bytes}
 use Rattle.wgr_service.specs.declared.network.Door.{Door}
 
 -- An address and a port were bound, or a Unix socket for orders at a path. A connection was made to such a socket: its
--- path, what was to be read from it, and what had been written to it. No connection could be accepted; or one was
--- accepted: where it came, the clock's time then, what was still to be read from it, and what had been written to it. It
+-- path, what was to be read from it, and what had been written to it. One that came here could not be accepted; or one
+-- was accepted: where it came, the clock's time then, what was still to be read from it, and what had been written to it. It
 -- was ended: what had been written to it then, and whether a read and a write had failed. Bytes and moments are given
 -- where they are known.
 pub data Contact : Type 0 where
   bound : IpAddr → ℕ → Contact
   bound_orders : Bytes → Contact
   called : Bytes → Option Bytes → Option Bytes → Contact
-  missed : Contact
+  missed : Door → Contact
   came : Door → Option ℕ → Option Bytes → Option Bytes → Contact
   ended : Option Bytes → Bool → Bool → Contact
 

@@ -23,6 +23,7 @@ figures_of started tally register loaded cached =
     ∷ (codes "wgr_service_orders_total{status=\"1\"}", tally.orders.failed)
     ∷ (codes "wgr_service_orders_total{status=\"2\"}", tally.orders.refused)
     ∷ (codes "wgr_service_failed_connections_total", tally.failed)
+    ∷ (codes "wgr_service_late_connections_total", tally.late)
     ∷ (codes "wgr_service_tenants", register.tenants)
     ∷ (codes "wgr_service_tokens", register.tokens)
     ∷ (codes "wgr_service_networks", register.networks)

@@ -11,8 +11,8 @@ ghost use Rattle.wgr_service.specs.declared.network.Door.TheVariants as door;
 
 use crate::copies::Archive;
 use crate::desk::Desk;
-use crate::network::{Arrival, Door, Network};
-use crate::report::{Report, report_of, write_report};
+use crate::network::{Arrival, Door, Missed, Network};
+use crate::report::{Report, report_of, report_of_taken, write_report};
 use crate::taken::{take_line, write_taken};
 use sqlite::Alter;
 use std::alloc::Global;
@@ -33,8 +33,9 @@ pub enum Ending {
 /// or a line from each, answers it, and writes the answer. It ends earlier if the store fails for good.
 ///
 /// A message's moment is `now`, or else the clock's time after its connection was accepted (seconds
-/// since 1970-01-01). For a connection that fails, `wgr: connection` or `wgr: order` is written to `err`; it
-/// counts too, if it isn't an order's. For an answer that is Unavailable, `wgr: unavailable` is written.
+/// since 1970-01-01). For a connection that fails, as one does that takes longer than its limit, `wgr: connection`
+/// or `wgr: order` is written to `err`; it counts too, if it isn't an order's. For an answer that is Unavailable,
+/// `wgr: unavailable` is written.
 ///
 /// The register handles the answered messages and orders like a list of events, so each tenant's replies and
 /// rows are those that its own requests and the accepted orders about it give on its own rows alone. Where the
@@ -115,16 +116,14 @@ fn serve_one<S: Alter, N: Network, A: Archive>(
     ensures outcome { (outcome : Outcome) × HasOutcome S.Store office.old office.new now outcome × (door_of outcome ≡ result.0) × Reports result.1 outcome
         × Logs (N.log network.old) (N.log network.new) (contacts_of outcome) }
 {
-    let Ok(
-        Arrival {
-            door,
-            mut reader,
-            mut writer,
-            clock,
-        },
-    ) = network.next()
-    else {
-        return (Door::Requests, Report::Failed);
+    let Arrival {
+        door,
+        mut reader,
+        mut writer,
+        clock,
+    } = match network.next() {
+        Ok(arrival) => arrival,
+        Err(Missed { door }) => return (door, Report::Failed),
     };
     let report = serve_arrival(
         alloc,
@@ -136,7 +135,7 @@ fn serve_one<S: Alter, N: Network, A: Archive>(
         &mut reader,
         &mut writer,
     );
-    network.end(reader, writer);
+    desk.count_pace(network.end(reader, writer));
     (door, report)
 }
 
@@ -212,7 +211,7 @@ fn serve_order<S: Alter, A: Archive, R: Read, W: Write>(
     };
     desk.count_taken(&taken);
     match write_taken(&taken, out) {
-        Ok(()) => report_of(office, taken.is_available()),
+        Ok(()) => report_of_taken(office, &taken),
         Err(_) => Report::Failed,
     }
 }

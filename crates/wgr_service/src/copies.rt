@@ -1,20 +1,22 @@
 //! Copies of a register's files, made while it is served.
+use crate::names::{ENDS, Names, folder_of, name_of, open_again};
+use crate::new_file::NewFile;
 use std::alloc::{AllocError, Global};
-use std::fs::{self, File, Files, OpenFile, Permissions};
+use std::fs::{self, File, Files, OpenFile};
 use std::io;
-use std::os::unix::fs::PermissionsExt;
+use std::os::unix::fs::symlink;
 
-/// Who may read a copy: its owner.
-const MODE: u32 = 0o600;
+/// How many names are tried for the parts of a copy.
+const PART_NAMES: usize = 1000;
 
 /// Why no copy is made.
 #[derive(Clone, Copy, Debug, PartialEq, Eq)]
 pub enum CopyFault {
-    /// There is a file of this name.
+    /// Something has one of the copy's names, or the register may have a file of this name.
     Exists,
     /// Memory was refused.
     NoMemory,
-    /// A file can't be read or written.
+    /// A file can't be read or written, or this process doesn't have the register open.
     Device,
 }
 
@@ -37,7 +39,7 @@ impl From<io::Error> for CopyFault {
 /// The files of a register that is served, to be copied between two requests.
 pub trait Archive {
     /// Copies the database's file to `file`, and its log to `file` with `-wal` behind it. Neither is there before,
-    /// and `file` appears only once all of both is on the disk.
+    /// and `file` appears only once all of both is on the disk. What else is there stays.
     fn copy(&mut self, file: &str) -> Result<(), CopyFault>;
 }
 
@@ -46,85 +48,144 @@ pub trait Archive {
 pub struct FileCopies<'a, H: Files> {
     alloc: Global,
     host: &'a H,
-    path: &'a str,
+    register: Result<Names, CopyFault>,
 }
 
-impl<'a, H: Files> FileCopies<'a, H> {
-    /// Those of the database in the file at this path.
-    pub fn new(alloc: Global, host: &'a H, path: &'a str) -> FileCopies<'a, H> {
-        FileCopies { alloc, host, path }
+/// A copy of both files that doesn't have its names yet.
+#[derive(Drop)]
+struct Parts<'a, H: Files> {
+    file: NewFile<'a, H>,
+    log: NewFile<'a, H>,
+}
+
+impl<'a, H: AllocGlobal + Clone + Drop + Files> FileCopies<'a, H> {
+    /// Those of the database at this path. It is asked now where links there lead, so the register is opened after
+    /// this. Its files are copied as this process has them open, whatever has their names by then.
+    pub fn new(alloc: Global, host: &'a H, path: &str) -> FileCopies<'a, H> {
+        let register = match Names::resolve(alloc, host, path) {
+            Ok(names) => Ok(names),
+            Err(error) => Err(CopyFault::from(error)),
+        };
+        FileCopies {
+            alloc,
+            host,
+            register,
+        }
     }
 
-    // Copies both files under names of their own, and puts both in place. A file of this name is never replaced.
-    fn copy_by(&self, file: &str, parts: &Names) -> Result<(), CopyFault> {
-        if fs::symlink_metadata(self.host, file).is_ok() {
-            return Err(CopyFault::Exists);
+    // Whether something has a name that SQLite would use for the copy, or the register may have a file of it.
+    fn is_taken(&self, register: &Names, file: &str) -> Result<bool, AllocError> {
+        for end in ENDS {
+            let path = format!(in self.alloc; "{file}{end}")?;
+            if fs::symlink_metadata(self.host, path.as_str()).is_ok() {
+                return Ok(true);
+            }
+            if register.include(self.host, path.as_str()) {
+                return Ok(true);
+            }
         }
-        let copy = Names::new(self.alloc, file)?;
-        let register = Names::new(self.alloc, self.path)?;
-        self.copy_synced(&register.file, &parts.file)?;
-        self.copy_synced(&register.log, &parts.log)?;
-        fs::rename(self.host, parts.log.as_str(), copy.log.as_str())?;
-        match fs::hard_link(self.host, parts.file.as_str(), file) {
-            Ok(()) => self.last(&copy),
+        Ok(false)
+    }
+
+    // Makes the parts of a copy under names that nothing has.
+    fn make_parts(&self, file: &str) -> Result<Parts<'a, H>, CopyFault> {
+        for number in 0..PART_NAMES {
+            match self.make_pair(format!(in self.alloc; "{file}.part{number}")?) {
+                Err(CopyFault::Exists) => {}
+                made => return made,
+            }
+        }
+        Err(CopyFault::Exists)
+    }
+
+    fn make_pair(&self, file: String) -> Result<Parts<'a, H>, CopyFault> {
+        let log = format!(in self.alloc; "{file}-wal")?;
+        let file = NewFile::make(self.host, file)?;
+        match NewFile::make(self.host, log) {
+            Ok(log) => Ok(Parts { file, log }),
             Err(error) => {
-                let _ = fs::remove_file(self.host, copy.log.as_str());
+                file.remove();
                 Err(CopyFault::from(error))
             }
         }
     }
 
-    // Makes the names of a copy last, or takes both away.
-    fn last(&self, copy: &Names) -> Result<(), CopyFault> {
-        let synced = self.sync_folder(&copy.file);
-        if synced.is_err() {
-            let _ = fs::remove_file(self.host, copy.file.as_str());
-            let _ = fs::remove_file(self.host, copy.log.as_str());
+    // Copies the register's files into the parts, and gives the copy its names. Returns its log.
+    fn copy_by(
+        &self,
+        register: &Names,
+        parts: &mut Parts<'a, H>,
+        copy: &Names,
+    ) -> Result<NewFile<'a, H>, CopyFault> {
+        let mut file = open_again(self.host, &register.file)?;
+        let mut log = open_again(self.host, &register.log)?;
+        parts.file.fill(&mut file)?;
+        parts.log.fill(&mut log)?;
+        let name = format!(in self.alloc; "{}", copy.log)?;
+        let mut beside = NewFile::make(self.host, name)?;
+        let named = match beside.fill(&mut log) {
+            Ok(()) => self.give_name(parts.file.path(), &copy.file),
+            Err(error) => Err(error),
+        };
+        match named {
+            Ok(()) => Ok(beside),
+            Err(error) => {
+                beside.remove();
+                Err(CopyFault::from(error))
+            }
         }
-        synced
     }
 
-    fn copy_synced(&self, from: &str, to: &str) -> Result<(), CopyFault> {
-        fs::copy(self.host, from, to)?;
-        fs::set_permissions(self.host, to, Permissions::from_mode(MODE))?;
-        File::open(self.host, to)?.sync_all()?;
-        Ok(())
+    // Gives the part of the database the copy's name. No call of std renames a file only where nothing has the name,
+    // but a symbolic link is made only there, and the rename takes its place. Until then it leads to the parts, which
+    // are a whole copy.
+    fn give_name(&self, part: &str, file: &str) -> io::Result<()> {
+        self.sync_folder(file)?;
+        symlink(self.host, name_of(part), file)?;
+        let renamed = fs::rename(self.host, part, file);
+        if renamed.is_err() {
+            let _ = fs::remove_file(self.host, file);
+        }
+        renamed
+    }
+
+    // Makes the names of a copy last, or takes both away.
+    fn last(&self, copy: &Names, log: &NewFile<'a, H>) -> Result<(), CopyFault> {
+        match self.sync_folder(&copy.file) {
+            Ok(()) => Ok(()),
+            Err(error) => {
+                let _ = fs::remove_file(self.host, copy.file.as_str());
+                log.remove();
+                Err(CopyFault::from(error))
+            }
+        }
     }
 
     // Makes the names in a file's folder last.
-    fn sync_folder(&self, file: &str) -> Result<(), CopyFault> {
-        let folder = match file.rfind('/') {
-            Some(0) | None => "/",
-            Some(end) => &file[..end],
-        };
-        File::open(self.host, folder)?.sync_all()?;
-        Ok(())
+    fn sync_folder(&self, file: &str) -> io::Result<()> {
+        File::open(self.host, folder_of(file))?.sync_all()
     }
 }
 
-impl<H: Files> Archive for FileCopies<'_, H> {
+impl<H: AllocGlobal + Clone + Drop + Files> Archive for FileCopies<'_, H> {
     fn copy(&mut self, file: &str) -> Result<(), CopyFault> {
-        let part = format!(in self.alloc; "{file}.part")?;
-        let parts = Names::new(self.alloc, &part)?;
-        let copied = self.copy_by(file, &parts);
-        let _ = fs::remove_file(self.host, parts.file.as_str());
-        let _ = fs::remove_file(self.host, parts.log.as_str());
-        copied
-    }
-}
-
-/// The names of a database's two files.
-#[derive(Drop)]
-struct Names {
-    file: String,
-    log: String,
-}
-
-impl Names {
-    fn new(alloc: Global, file: &str) -> Result<Names, AllocError> {
-        Ok(Names {
-            file: format!(in alloc; "{file}")?,
-            log: format!(in alloc; "{file}-wal")?,
-        })
+        let register = match &self.register {
+            Ok(names) => names,
+            Err(why) => return Err(*why),
+        };
+        let copy = Names::new(self.alloc, file)?;
+        if self.is_taken(register, file)? {
+            return Err(CopyFault::Exists);
+        }
+        let mut parts = self.make_parts(file)?;
+        let copied = self.copy_by(register, &mut parts, &copy);
+        parts.log.remove();
+        match copied {
+            Ok(log) => self.last(&copy, &log),
+            Err(why) => {
+                parts.file.remove();
+                Err(why)
+            }
+        }
     }
 }

@@ -2,6 +2,7 @@
 ghost use Rattle.std.specs.Prelude.{◌≡◌, IfOk};
 ghost use Rattle.wgr_service.specs.Status.{status_text};
 
+use crate::network::Pace;
 use crate::report::Report;
 use crate::taken::Taken;
 use std::alloc::{AllocError, Global};
@@ -16,6 +17,8 @@ pub(crate) struct Tally {
     pub(crate) orders: Orders,
     /// Connections that could not be accepted, read, or fully answered.
     pub(crate) failed: u64,
+    /// Those of them of which a limit of time was over.
+    pub(crate) late: u64,
 }
 
 #[derive(Clone, Copy)]
@@ -70,6 +73,7 @@ impl<A> Desk<A> {
                     refused: 0,
                 },
                 failed: 0,
+                late: 0,
             },
         }
     }
@@ -108,6 +112,13 @@ impl<A> Desk<A> {
     pub(crate) fn count_report(&mut self, report: Report) {
         if let Report::Failed = report {
             add_one(&mut self.tally.failed);
+        }
+    }
+
+    /// Counts a connection that was late.
+    pub(crate) fn count_pace(&mut self, pace: Pace) {
+        if let Pace::Late = pace {
+            add_one(&mut self.tally.late);
         }
     }
 }
@@ -162,6 +173,7 @@ pub(crate) fn status_text(
                 tally.orders.refused,
             ),
             ("wgr_service_failed_connections_total", tally.failed),
+            ("wgr_service_late_connections_total", tally.late),
             ("wgr_service_tenants", register.tenants),
             ("wgr_service_tokens", register.tokens),
             ("wgr_service_networks", register.networks),

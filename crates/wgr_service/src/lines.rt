@@ -37,11 +37,14 @@ impl LineEnd {
         }
     }
 
-    // Whether neither memory nor the store failed as an order was carried out.
+    // Whether neither memory nor the store failed.
     pub(crate) fn is_available(&self) -> bool
         ensures { result ≡ is_end_available self.now }
     {
-        !matches!(self, LineEnd::Ended(Err(OrderFault::Fault(_))))
+        !matches!(
+            self,
+            LineEnd::Ended(Err(OrderFault::Fault(_))) | LineEnd::Unspelled(LineFault::NoMemory)
+        )
     }
 }
 

@@ -1,5 +1,5 @@
 //! The network as a server sees it: incoming connections, and the clock read for each.
-ghost use Rattle.std.specs.Prelude.{◌≡◌, ◌<◌, ◌≤◌, ℕ, [], ◌∷◌, false, IfOk, OnErr, OnOk};
+ghost use Rattle.std.specs.Prelude.{◌≡◌, ◌<◌, ◌≤◌, ℕ, [], ◌∷◌, false, IfErr, IfOk, OnErr, OnOk};
 ghost use Rattle.wgr_service.specs.Network.{Log, Logs, bound, bound_orders, called, came, ended, missed};
 
 use std::net::IpAddr;
@@ -25,6 +25,22 @@ pub struct Arrival<R, W> {
     /// The clock's time after it was accepted, in whole seconds since 1970-01-01 00:00 UTC; none if
     /// the clock failed.
     pub clock: Option<u64>,
+}
+
+/// A connection that could not be accepted.
+#[derive(Clone, Copy, Debug, PartialEq, Eq)]
+pub struct Missed {
+    /// Where it came.
+    pub door: Door,
+}
+
+/// Whether a connection kept to its limits of time.
+#[derive(Clone, Copy, Debug, PartialEq, Eq)]
+pub enum Pace {
+    /// No read and no write failed as its limit was over.
+    InTime,
+    /// One did.
+    Late,
 }
 
 /// The network as a server sees it.
@@ -58,11 +74,12 @@ pub trait Network {
         ensures kept { OnErr result (log self.new ≡ log self.old) };
 
     /// Waits for the next connection, and then reads the clock. Orders that wait come before requests.
-    fn next(&mut self) -> Result<Arrival<Self::Reader, Self::Writer>, DeviceError>
+    fn next(&mut self) -> Result<Arrival<Self::Reader, Self::Writer>, Missed>
         ensures came { IfOk result (λ it. Logs (log self.old) (log self.new) (came it.door it.clock (Self.Reader.remaining it.reader) (Self.Writer.contents it.writer) ∷ [])) }
         ensures sound { IfOk result (λ it. (Self.Reader.failed it.reader ≡ false) × (Self.Writer.failed it.writer ≡ false)) }
-        ensures missed { OnErr result (Logs (log self.old) (log self.new) (missed ∷ [])) }
+        ensures missed { IfErr result (λ it. Logs (log self.old) (log self.new) (missed it.door ∷ [])) }
         ensures fewer { IfOk result (λ it. it.door ≡ Door.Orders → orders self.new < orders self.old) }
+        ensures fewer_missed { IfErr result (λ it. it.door ≡ Door.Orders → orders self.new < orders self.old) }
         ensures no_more { orders self.new ≤ orders self.old };
 
     /// Connects to the Unix socket with this path, at which a service takes orders.
@@ -71,8 +88,10 @@ pub trait Network {
         ensures sound { IfOk result (λ it. (Self.Reader.failed it.0 ≡ false) × (Self.Writer.failed it.1 ≡ false)) }
         ensures kept { OnErr result (log self.new ≡ log self.old) };
 
-    /// Shuts down writing, waits for what the client still sends, and closes the connection.
-    fn end(&mut self, reader: Self::Reader, writer: Self::Writer)
+    /// Shuts down writing, waits for what the client still sends, and closes the connection. Only one of which a
+    /// read or a write had failed was late.
+    fn end(&mut self, reader: Self::Reader, writer: Self::Writer) -> Pace
         ensures ended { Logs (log self.old) (log self.new) (ended (Self.Writer.contents writer) (Self.Reader.failed reader) (Self.Writer.failed writer) ∷ []) }
+        ensures in_time { Self.Reader.failed reader ≡ false → Self.Writer.failed writer ≡ false → result ≡ Pace.InTime }
         ensures no_more { orders self.new ≤ orders self.old };
 }

@@ -2,12 +2,19 @@
 ghost use Rattle.std.specs.Prelude.{◌≡◌, false, true};
 ghost use Rattle.wgr_office.specs.Between.{Keeps};
 ghost use Rattle.wgr_service.specs.Connections.{AreWritten, failure_line};
+ghost use Rattle.wgr_service.specs.Readings.{is_taken_available};
 ghost use Rattle.wgr_service.specs.Reports.{IsReport, report_line};
+ghost use Rattle.wgr_service.specs.declared.lines.LineEnd.TheVariants as line_end;
+ghost use Rattle.wgr_service.specs.declared.taken.Taken.TheVariants as taken_as;
+ghost use Rattle.wgr_words.specs.declared.line.LineFault.{LineFault};
 
+use crate::lines::LineEnd;
 use crate::network::Door;
+use crate::taken::Taken;
 use sqlite::Alter;
 use wgr_io::{Write, write_all};
 use wgr_office::Office;
+use wgr_words::LineFault;
 
 /// What the loop over connections knows of one that was served.
 #[derive(Clone, Copy, Debug, PartialEq, Eq)]
@@ -34,6 +41,19 @@ pub(crate) fn report_of<S: Alter>(office: &mut Office<S>, is_available: bool) ->
         Report::Shut
     } else {
         Report::Unavailable
+    }
+}
+
+/// The report of a line whose end was written. One that spells nothing has asked nothing of the store.
+pub(crate) fn report_of_taken<S: Alter>(office: &mut Office<S>, taken: &Taken) -> Report
+    ensures report { IsReport (is_taken_available taken.now) result }
+    ensures same { (why : LineFault) → taken.now ≡ taken_as.Order (line_end.Unspelled why) → office.new ≡ office.old }
+    ensures keeps { Keeps S.Store office.old office.new }
+{
+    match taken {
+        Taken::Order(LineEnd::Unspelled(LineFault::NoMemory)) => Report::Unavailable,
+        Taken::Order(LineEnd::Unspelled(_)) => Report::Fine,
+        asked => report_of(office, asked.is_available()),
     }
 }
 

@@ -1,20 +1,26 @@
 //! The system's sockets and its clock.
-ghost use Rattle.std.specs.Prelude.{◌≡◌, ◌/◌, ◌<◌, ◌≤◌, false, None, IfOk, IfSome};
+ghost use Rattle.std.specs.Prelude.{◌≡◌, ◌/◌, ◌<◌, ◌≤◌, false, None, IfErr, IfOk, IfSome};
 ghost use Rattle.std.specs.Time.{system_time_nanos};
 ghost use Rattle.wgr_service.specs.declared.network.Door.TheVariants as door;
+ghost use Rattle.wgr_service.specs.declared.network.Pace.TheVariants as pace;
 
-use crate::doors::OrderDoor;
-use crate::network::{Arrival, Door, Network};
+use crate::doors::{OrderDoor, RequestDoor};
+use crate::limit::{Limit, most_time};
+use crate::network::{Arrival, Door, Missed, Network, Pace};
+use crate::silent::Waiting;
+use crate::socket::Socket;
 use crate::stream::Stream;
 use std::alloc::Global;
 use std::fs::Files;
-use std::net::{IpAddr, Net, OpenListener, OpenStream, TcpListener};
+use std::net::{IpAddr, Net};
 use std::os::unix::net::UnixStream;
 use std::time::{Clock, Duration, SystemTime, UNIX_EPOCH};
 use std::{io, thread};
 use wgr_io::{Device, DeviceError, Read};
 
-/// How long each read waits for what a client still sends.
+/// How long what a client still sends after its reply is read and dropped, and how long each read waits for it.
+const REST_MILLIS: u64 = 1000;
+
 const PATIENCE_MILLIS: u64 = 250;
 
 /// How many such reads are made at most.
@@ -34,7 +40,7 @@ const PAUSE_MILLIS: u64 = 100;
 pub struct Sockets<'a, H: Net> {
     alloc: Global,
     host: &'a H,
-    listener: Option<H::Listener>,
+    requests: Option<RequestDoor<H>>,
     orders: Option<OrderDoor>,
     orders_left: u64,
 }
@@ -45,60 +51,81 @@ impl<'a, H: Clock + Net> Sockets<'a, H> {
         Sockets {
             alloc,
             host,
-            listener: None,
+            requests: None,
             orders: None,
             orders_left: u64::MAX,
         }
     }
 
-    // Waits for the next connection. Orders that wait come first.
-    fn accept(&mut self) -> io::Result<(Door, Stream<'a, H>)>
+    // Waits for the next connection, and says at which listener none could be accepted. Orders that wait come first.
+    fn accept(&mut self) -> Result<(Door, Socket<H>, Limit), Missed>
         ensures fewer { IfOk result (λ it. it.0 ≡ door.Orders → self.new.orders_left < self.old.orders_left) }
+        ensures fewer_missed { IfErr result (λ it. it.door ≡ door.Orders → self.new.orders_left < self.old.orders_left) }
         ensures no_more { self.new.orders_left ≤ self.old.orders_left }
     {
         for _ in 0..u64::MAX {
-            if let Some(stream) = self.waiting_order()? {
-                return Ok((Door::Orders, stream));
+            match self.waiting_order() {
+                Ok(Some(stream)) => {
+                    let limit = Limit::begun(most_time(Door::Orders), self.host);
+                    return Ok((Door::Orders, Socket::Order(stream), limit));
+                }
+                Ok(None) => {}
+                Err(_) => return Err(Missed { door: Door::Orders }),
             }
-            if let Some(stream) = self.waiting_request()? {
-                return Ok((Door::Requests, stream));
+            match self.waiting_request() {
+                Ok(Some(one)) => {
+                    return Ok((Door::Requests, Socket::Request(one.stream), one.limit));
+                }
+                Ok(None) => {}
+                Err(_) => return Err(Missed {
+                    door: Door::Requests,
+                }),
             }
-            if let Some(door) = &mut self.orders {
-                door.sleep()?;
+            if self.sleep().is_err() {
+                break;
             }
         }
-        Err(io::Error::from(io::ErrorKind::TimedOut))
+        Err(Missed {
+            door: Door::Requests,
+        })
     }
 
     // The next order's connection, if one waits.
-    fn waiting_order(&mut self) -> io::Result<Option<Stream<'a, H>>>
+    fn waiting_order(&mut self) -> io::Result<Option<UnixStream>>
         ensures fewer { IfOk result (λ found. IfSome found (λ _. self.new.orders_left < self.old.orders_left)) }
+        ensures fewer_missed { IfErr result (λ _. self.new.orders_left < self.old.orders_left) }
         ensures no_more { self.new.orders_left ≤ self.old.orders_left }
     {
-        let Some(door) = &self.orders else {
+        let Some(door) = &mut self.orders else {
             return Ok(None);
         };
         if self.orders_left == 0 {
             return Ok(None);
         }
-        match door.accept()? {
-            Some(stream) => {
-                self.orders_left -= 1;
-                Ok(Some(Stream::accepted(self.host, stream)?))
-            }
-            None => Ok(None),
+        let found = door.accept();
+        if !matches!(found, Ok(None)) {
+            self.orders_left -= 1;
+        }
+        found
+    }
+
+    // The next request's connection to be served, if one waits.
+    fn waiting_request(&mut self) -> io::Result<Option<Waiting<H>>>
+        ensures { self.new.orders_left ≡ self.old.orders_left }
+    {
+        match &mut self.requests {
+            Some(door) => door.accept(self.host),
+            None => Err(io::Error::from(io::ErrorKind::NotConnected)),
         }
     }
 
-    // The next request's connection, if one waits; without a socket for orders it is waited for.
-    fn waiting_request(&self) -> io::Result<Option<Stream<'a, H>>> {
-        let Some(listener) = &self.listener else {
-            return Err(io::Error::from(io::ErrorKind::NotConnected));
-        };
-        match listener.accept() {
-            Ok((stream, _)) => Ok(Some(Stream::Request(stream))),
-            Err(error) if error.kind() == io::ErrorKind::WouldBlock => Ok(None),
-            Err(error) => Err(error),
+    // Waits until there may be a connection to be served.
+    fn sleep(&mut self) -> io::Result<()>
+        ensures { self.new.orders_left ≡ self.old.orders_left }
+    {
+        match &mut self.requests {
+            Some(door) => door.sleep(self.host),
+            None => Ok(()),
         }
     }
 }
@@ -115,10 +142,10 @@ impl<'a, H: Clock + Files + Net> Network for Sockets<'a, H> {
     ghost orders = { λ s. s.orders_left };
 
     fn listen(&mut self, address: IpAddr, port: u16) -> Result<(), DeviceError> {
-        match TcpListener::bind(self.host, (address, port)) {
-            Ok(listener) => {
+        match RequestDoor::open(self.alloc, self.host, address, port) {
+            Ok(door) => {
                 self.orders = None;
-                self.listener = Some(listener);
+                self.requests = Some(door);
                 Ok(())
             }
             Err(_) => Err(DeviceError),
@@ -126,10 +153,10 @@ impl<'a, H: Clock + Files + Net> Network for Sockets<'a, H> {
     }
 
     fn listen_orders(&mut self, path: &str) -> Result<(), DeviceError> {
-        let Some(listener) = &self.listener else {
+        let Some(requests) = &self.requests else {
             return Err(DeviceError);
         };
-        match OrderDoor::open(self.alloc, self.host, listener, path) {
+        match OrderDoor::open(self.alloc, self.host, requests, path) {
             Ok(door) => {
                 self.orders = Some(door);
                 Ok(())
@@ -138,19 +165,20 @@ impl<'a, H: Clock + Files + Net> Network for Sockets<'a, H> {
         }
     }
 
-    fn next(
-        &mut self,
-    ) -> Result<Arrival<Device<Stream<'a, H>>, Device<Stream<'a, H>>>, DeviceError> {
+    fn next(&mut self) -> Result<Arrival<Device<Stream<'a, H>>, Device<Stream<'a, H>>>, Missed> {
+        let mut missed = Missed {
+            door: Door::Requests,
+        };
         for _ in 0..ACCEPTS {
             match self.accept() {
-                Ok((door, stream)) => {
-                    let clock = seconds_now(self.host);
-                    return arrival(door, stream, clock);
+                Ok((door, socket, limit)) => return arrival(self.host, door, socket, limit),
+                Err(why) => {
+                    missed = why;
+                    thread::sleep(self.host, Duration::from_millis(PAUSE_MILLIS));
                 }
-                Err(_) => thread::sleep(self.host, Duration::from_millis(PAUSE_MILLIS)),
             }
         }
-        Err(DeviceError)
+        Err(missed)
     }
 
     fn call(
@@ -160,36 +188,53 @@ impl<'a, H: Clock + Files + Net> Network for Sockets<'a, H> {
         let Ok(stream) = UnixStream::connect(self.host, path) else {
             return Err(DeviceError);
         };
-        let stream = Stream::called(self.host, stream);
-        match stream.try_clone() {
-            Ok(other) => Ok((Device::new(stream), Device::new(other))),
+        match Stream::called(self.host, stream) {
+            Ok((reader, writer)) => Ok((Device::new(reader), Device::new(writer))),
             Err(_) => Err(DeviceError),
         }
     }
 
-    fn end(&mut self, reader: Device<Stream<'a, H>>, writer: Device<Stream<'a, H>>) {
-        if writer.inner.shutdown_write().is_ok() {
-            read_rest(reader);
+    fn end(&mut self, reader: Device<Stream<'a, H>>, writer: Device<Stream<'a, H>>) -> Pace {
+        let pace = pace_of(&reader, &writer);
+        if pace == Pace::InTime && writer.inner.shutdown_write().is_ok() {
+            read_rest(self.host, reader);
         }
+        pace
     }
 }
 
-// The connection of this socket, if there is a second handle to it.
+// The connection of this socket, if it has both its ends.
 fn arrival<'a, H: Clock + Net>(
+    host: &'a H,
     door: Door,
-    stream: Stream<'a, H>,
-    clock: Option<u64>,
-) -> Result<Arrival<Device<Stream<'a, H>>, Device<Stream<'a, H>>>, DeviceError>
-    ensures { IfOk result (λ it. (it.door ≡ door) × (it.reader.failed ≡ false) × (it.writer.failed ≡ false)) }
+    socket: Socket<H>,
+    limit: Limit,
+) -> Result<Arrival<Device<Stream<'a, H>>, Device<Stream<'a, H>>>, Missed>
+    ensures ok { IfOk result (λ it. (it.door ≡ door) × (it.reader.failed ≡ false) × (it.writer.failed ≡ false)) }
+    ensures missed { IfErr result (λ it. it.door ≡ door) }
 {
-    match stream.try_clone() {
-        Ok(other) => Ok(Arrival {
+    match Stream::accepted(host, socket, limit) {
+        Ok((reader, writer)) => Ok(Arrival {
             door,
-            reader: Device::new(stream),
-            writer: Device::new(other),
-            clock,
+            reader: Device::new(reader),
+            writer: Device::new(writer),
+            clock: seconds_now(host),
         }),
-        Err(_) => Err(DeviceError),
+        Err(_) => Err(Missed { door }),
+    }
+}
+
+// Whether a read or a write failed as its limit was over.
+fn pace_of<'a, H: Clock + Net>(
+    reader: &Device<Stream<'a, H>>,
+    writer: &Device<Stream<'a, H>>,
+) -> Pace
+    ensures in_time { reader.now.failed ≡ false → writer.now.failed ≡ false → result ≡ pace.InTime }
+{
+    if (reader.failed && reader.inner.is_late()) || (writer.failed && writer.inner.is_late()) {
+        Pace::Late
+    } else {
+        Pace::InTime
     }
 }
 
@@ -208,16 +253,15 @@ fn seconds_of(time: SystemTime) -> Option<u64>
 
 // Reads what a tenant's client still sends: the system resets a connection that is closed with bytes
 // unread, and the client may then lose its reply. A Unix socket keeps what was written to it.
-fn read_rest<'a, H: Clock + Net>(mut rest: Device<Stream<'a, H>>) {
-    let Stream::Request(stream) = &rest.inner else {
-        return;
-    };
-    let patience = Duration::from_millis(PATIENCE_MILLIS);
-    if stream.set_read_timeout(Some(patience)).is_err() {
+fn read_rest<'a, H: Clock + Net>(host: &'a H, mut rest: Device<Stream<'a, H>>) {
+    if rest.inner.door() == Door::Orders {
         return;
     }
+    let mut limit = Limit::begun(Duration::from_millis(REST_MILLIS), host);
+    let patience = Duration::from_millis(PATIENCE_MILLIS);
     let mut chunk = [0; REST_CHUNK];
     for _ in 0..REST_READS {
+        rest.inner.set_limit(limit.left(host).min(patience));
         match rest.read(&mut chunk) {
             Ok(0) | Err(_) => return,
             Ok(_) => {}

@@ -1,135 +1,146 @@
-//! The socket of a connection.
+//! One end of a connection: its socket, with a limit on the time of all reads, or of all writes.
+ghost use Rattle.std.specs.Prelude.{length};
+ghost use Rattle.std.specs.Io.{ReadsAtMost, WritesAtMost};
+
+use crate::limit::{Limit, most_time};
+use crate::network::{Door, Pace};
+use crate::socket::Socket;
 use std::io;
-use std::net::{Net, OpenStream, Shutdown};
+use std::io::{Read as _, Write as _};
+use std::net::Net;
 use std::os::unix::net::UnixStream;
-use std::time::{Clock, Duration, Instant};
+use std::time::{Clock, Duration};
 
-/// How long all reads of an order's connection may take, and all writes of its answer, so that no client of its
-/// socket holds up the service.
-const ORDER_SECONDS: u64 = 5;
+/// How many bytes one write has at most. The system waits anew for each part of a longer one.
+const WRITE_MOST: usize = 32768;
 
-/// The socket of a connection.
+/// One end of a connection.
 #[derive(Drop)]
-pub enum Stream<'a, H: Net> {
-    /// Of a tenant's request, without a time limit.
-    Request(H::Stream),
-    /// Of an operator's order, with the moments at which it has to be read, if there is one, and at which its
-    /// answer has to be written, once that began. An answer may take long to make, as a large copy does.
-    Order {
-        host: &'a H,
-        stream: UnixStream,
-        until: Option<Instant>,
-        answer_until: Option<Instant>,
-    },
+pub struct Stream<'a, H: Net> {
+    host: &'a H,
+    socket: Socket<H>,
+    limit: Option<Limit>,
+    pace: Pace,
 }
 
 impl<'a, H: Clock + Net> Stream<'a, H> {
-    /// The socket of an order that was accepted now.
-    pub(crate) fn accepted(host: &'a H, stream: UnixStream) -> io::Result<Stream<'a, H>> {
-        let until = deadline(host)?;
-        Ok(Stream::Order {
-            host,
-            stream,
-            until,
-            answer_until: None,
-        })
+    /// The ends of a connection that was accepted: what is read, by this limit, and what is written. An order's has
+    /// a limit or isn't served.
+    pub(crate) fn accepted(
+        host: &'a H,
+        socket: Socket<H>,
+        reading: Limit,
+    ) -> io::Result<(Stream<'a, H>, Stream<'a, H>)> {
+        let writing = Limit::new(most_time(socket.door()));
+        if socket.door() == Door::Orders && !reading.is_begun() {
+            return Err(io::Error::from(io::ErrorKind::Other));
+        }
+        let other = socket.try_clone()?;
+        Ok((
+            Stream::new(host, socket, Some(reading)),
+            Stream::new(host, other, Some(writing)),
+        ))
     }
 
-    /// The socket of an order that this program gives. A service answers it as soon as it has served what came
-    /// before.
-    pub(crate) fn called(host: &'a H, stream: UnixStream) -> Stream<'a, H> {
-        Stream::Order {
+    /// The ends of a connection to a service. It has no limit: the service answers as soon as it has served what
+    /// came before.
+    pub(crate) fn called(
+        host: &'a H,
+        stream: UnixStream,
+    ) -> io::Result<(Stream<'a, H>, Stream<'a, H>)> {
+        let socket = Socket::Order(stream);
+        let other = socket.try_clone()?;
+        Ok((
+            Stream::new(host, socket, None),
+            Stream::new(host, other, None),
+        ))
+    }
+
+    fn new(host: &'a H, socket: Socket<H>, limit: Option<Limit>) -> Stream<'a, H> {
+        Stream {
             host,
-            stream,
-            until: None,
-            answer_until: None,
+            socket,
+            limit,
+            pace: Pace::InTime,
         }
     }
 
-    /// A second handle to the same socket.
-    pub(crate) fn try_clone(&self) -> io::Result<Stream<'a, H>> {
-        match self {
-            Stream::Request(stream) => Ok(Stream::Request(stream.try_clone()?)),
-            Stream::Order {
-                host,
-                stream,
-                until,
-                answer_until,
-            } => Ok(Stream::Order {
-                host: *host,
-                stream: stream.try_clone()?,
-                until: *until,
-                answer_until: *answer_until,
-            }),
-        }
+    /// Where the connection came.
+    pub(crate) fn door(&self) -> Door {
+        self.socket.door()
+    }
+
+    /// Whether a read or a write failed as its limit was over.
+    pub(crate) fn is_late(&self) -> bool {
+        self.pace == Pace::Late
+    }
+
+    /// Lets the reads, or the writes, that come take this time together.
+    pub(crate) fn set_limit(&mut self, length: Duration) {
+        self.limit = Some(Limit::new(length));
     }
 
     pub(crate) fn shutdown_write(&self) -> io::Result<()> {
-        match self {
-            Stream::Request(stream) => stream.shutdown(Shutdown::Write),
-            Stream::Order { stream, .. } => stream.shutdown(Shutdown::Write),
+        self.socket.shutdown_write()
+    }
+
+    // What is left of the limit, if there is one. It is an error if nothing is: the system takes a time of 0 for
+    // no limit.
+    fn time_left(&mut self) -> io::Result<Option<Duration>> {
+        let Some(limit) = &mut self.limit else {
+            return Ok(None);
+        };
+        let left = limit.left(self.host);
+        if left.is_zero() {
+            return Err(io::Error::from(io::ErrorKind::TimedOut));
+        }
+        Ok(Some(left))
+    }
+
+    fn read_in_time(&mut self, buf: &mut [u8]) -> io::Result<usize>
+        ensures { ReadsAtMost result buf.new }
+    {
+        let left = self.time_left()?;
+        self.socket.set_read_timeout(left)?;
+        self.socket.read(buf)
+    }
+
+    fn write_in_time(&mut self, buf: &[u8]) -> io::Result<usize>
+        ensures { WritesAtMost result buf.now }
+    {
+        let left = self.time_left()?;
+        self.socket.set_write_timeout(left)?;
+        self.socket.write(&buf[..buf.len().min(WRITE_MOST)])
+    }
+
+    // Notes whether a limit was over. The system tells that as a socket that would wait.
+    fn note(&mut self, kind: io::ErrorKind) {
+        if matches!(kind, io::ErrorKind::TimedOut | io::ErrorKind::WouldBlock) {
+            self.pace = Pace::Late;
         }
     }
 }
 
 impl<'a, H: Clock + Net> io::Read for Stream<'a, H> {
     fn read(&mut self, buf: &mut [u8]) -> io::Result<usize> {
-        match self {
-            Stream::Request(stream) => stream.read(buf),
-            Stream::Order {
-                host,
-                stream,
-                until,
-                ..
-            } => {
-                stream.set_read_timeout(left_until(*host, *until)?)?;
-                stream.read(buf)
-            }
+        let read = self.read_in_time(buf);
+        if let Err(error) = &read {
+            self.note(error.kind());
         }
+        read
     }
 }
 
 impl<'a, H: Clock + Net> io::Write for Stream<'a, H> {
     fn write(&mut self, buf: &[u8]) -> io::Result<usize> {
-        match self {
-            Stream::Request(stream) => stream.write(buf),
-            Stream::Order {
-                host,
-                stream,
-                until,
-                answer_until,
-            } => {
-                if until.is_some() && answer_until.is_none() {
-                    *answer_until = deadline(*host)?;
-                }
-                stream.set_write_timeout(left_until(*host, *answer_until)?)?;
-                stream.write(buf)
-            }
+        let written = self.write_in_time(buf);
+        if let Err(error) = &written {
+            self.note(error.kind());
         }
+        written
     }
 
     fn flush(&mut self) -> io::Result<()> {
-        match self {
-            Stream::Request(stream) => stream.flush(),
-            Stream::Order { stream, .. } => stream.flush(),
-        }
+        self.socket.flush()
     }
-}
-
-// The moment at which what begins now has to be over.
-fn deadline<C: Clock>(clock: &C) -> io::Result<Option<Instant>> {
-    Ok(Instant::now(clock)?.checked_add(Duration::from_secs(ORDER_SECONDS)))
-}
-
-// The time from now to this moment, if there is one. It is an error if it is over: the system takes a time of 0
-// for no limit.
-fn left_until<C: Clock>(clock: &C, until: Option<Instant>) -> io::Result<Option<Duration>> {
-    let Some(until) = until else {
-        return Ok(None);
-    };
-    let left = until.duration_since(Instant::now(clock)?);
-    if left.is_zero() {
-        return Err(io::Error::from(io::ErrorKind::TimedOut));
-    }
-    Ok(Some(left))
 }

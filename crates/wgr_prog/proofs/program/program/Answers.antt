@@ -98,3 +98,8 @@ returns-in-Ok-Serve g c =
 pub returns-in-Ok-Show : goal.returns-in-Ok-Show
 returns-in-Ok-Show g c =
     serves _ _ _ _ _ _ _ _ _ _ (rw c.in-Ok-Show.field-0-is at c.in-Ok-Show.ensures.ok) (refl, c.run_show.ensures (g.R.Read.remaining c.args.input.now) (g.R.Read.failed c.args.input.now))
+
+pub returns-in-Ok-Send : goal.returns-in-Ok-Send
+returns-in-Ok-Send g c =
+    let ran = rw c.deref-in-Ok-Send.ensures.value at c.run_send.ensures in
+    serves _ _ _ _ _ _ _ _ _ _ (rw c.in-Ok-Send.field-0-is at c.in-Ok-Send.ensures.ok) (tt, record { answer = ran.0; sends = ran.1; reported = ran.2 })

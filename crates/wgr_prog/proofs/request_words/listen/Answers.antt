@@ -26,8 +26,8 @@ returns-in-Served g c =
       (search rules, search rules),
     )
 
-pub returns-in-Shut : goal.returns-in-Shut
-returns-in-Shut g c =
+pub returns : goal.returns
+returns g c =
     let (outcomes, served, written, logged) = c.serve_connections.ensures.served in
     let s = c.args.serving.now in
     let before = g.N.Network.log c.args.network.now in

@@ -1,8 +1,9 @@
 use Rattle.std.proofs.Common.{ℕ, ◌≡◌, true, List, Bor, ◌++◌, [], ◌∷◌, map, subst, ap, ◌∙◌}
 use Rattle.wgr_words.specs.Line.{is_line}
 use Rattle.wgr_words.specs.Order.{input_of}
+use Rattle.wgr_words.specs.Sent.{option_words}
 use Rattle.wgr_words.specs.Words.{line_of}
-use Rattle.wgr_prog.specs.Sending.{SendsLine, option_words}
+use Rattle.wgr_prog.specs.Sending.{SendsLine}
 use Rattle.wgr_prog.proofs.SendLemmas.{with_token}
 use Rattle.wgr_prog.proofs.send.send_with_token.Goals as goal
 

@@ -1,8 +1,7 @@
 use Rattle.wgr_service.specs.Connections.{ends_of}
 use Rattle.wgr_service.proofs.ConnectionLemmas.{line_answered, line_broken, line_unread}
 use Rattle.wgr_service.proofs.connections.serve_order.Goals as goal
-use Rattle.std.proofs.Common.{◌≡◌, true, refl, sym, subst}
-use Rattle.wgr_service.specs.Reports.{IsReport}
+use Rattle.std.proofs.Common.{refl}
 
 pub returns-in-Err-clause-outcome : goal.returns-in-Err-clause-outcome
 returns-in-Err-clause-outcome g c now clock sound =
@@ -14,8 +13,8 @@ pub returns-in-Ok-write_taken-clause-outcome : goal.returns-in-Ok-write_taken-cl
 returns-in-Ok-write_taken-clause-outcome g c now clock sound =
     let before = ends_of g.R.Read.remaining g.R.Read.failed g.W.Write.contents g.W.Write.failed c.args.input.now c.args.out.now in
     let after = ends_of g.R.Read.remaining g.R.Read.failed g.W.Write.contents g.W.Write.failed c.take_line.new.input c.write_taken.new.out in
-    line_answered g.S.Store now clock before after sound c.args.office.now c.take_line.new.office c.report_of.new.office c.in-Ok.taken c.report_of.result c.in-Ok.ensures.ok c.in-Ok-write_taken.ensures.ok
-    c.in-Ok.ensures.sound c.in-Ok-write_taken.ensures.sound (subst (λ b. IsReport b c.report_of.result) c.is_available.ensures c.report_of.ensures.report) c.report_of.ensures.keeps (λ is. c.report_of.ensures.same (subst (λ b. b ≡ true) (sym c.is_available.ensures) is))
+    line_answered g.S.Store now clock before after sound c.args.office.now c.take_line.new.office c.report_of_taken.new.office c.in-Ok.taken c.report_of_taken.result c.in-Ok.ensures.ok c.in-Ok-write_taken.ensures.ok
+    c.in-Ok.ensures.sound c.in-Ok-write_taken.ensures.sound c.report_of_taken.ensures.report c.report_of_taken.ensures.keeps c.report_of_taken.ensures.same
 
 pub returns-clause-outcome : goal.returns-clause-outcome
 returns-clause-outcome g c now clock sound =
