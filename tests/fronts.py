@@ -24,11 +24,13 @@ def make_certificate(folder):
 class Front(unittest.TestCase):
     """A proxy before a real `wgr serve`. A class below this starts the proxy."""
 
+    make_register = staticmethod(make_register)
+
     def setUp(self):
         self.folder = Path(self.enterContext(tempfile.TemporaryDirectory()))
         # nginx's workers run as another user.
         self.folder.chmod(0o711)
-        self.serving = self.enterContext(Server(make_register(self.folder)))
+        self.serving = self.enterContext(Server(self.make_register(self.folder)))
         make_certificate(self.folder)
         self.port = free_port()
         self.start(self.serving.port)
@@ -45,15 +47,17 @@ class Front(unittest.TestCase):
         self.addCleanup(process.wait)
         self.addCleanup(process.terminate)
 
-    def link(self, context=None):
-        link = http.client.HTTPSConnection("127.0.0.1", self.port, timeout=60, context=context or ssl._create_unverified_context())
+    def link(self, context=None, source="127.0.0.1"):
+        """A connection from an address of this host."""
+        context = context or ssl._create_unverified_context()
+        link = http.client.HTTPSConnection("127.0.0.1", self.port, timeout=60, context=context, source_address=(source, 0))
         link.connect()
         return link
 
     def ask(self, method, path, body=None, token=TOKEN, link=None):
         """The status, the body and the fields of the reply."""
         own = link or self.link()
-        own.request(method, path, body, {"Authorization": f"Bearer {token}"})
+        own.request(method, path, body, {"Authorization": f"Bearer {token}"} if token else {})
         reply = own.getresponse()
         given = reply.status, reply.read(), reply.headers
         if link is None:

@@ -17,6 +17,7 @@ from serving import PEERS, SERVER_KEY, TOKEN, done, key, peer, request
 from tools import needs
 
 DUMP = "/networks/office/dump"
+OWNER = "/networks/office/owner/10.8.0.2"
 LARGEST = 2_097_152
 
 
@@ -47,8 +48,8 @@ class AnyFront:
             for target in ["/networks?x=1", "/%6eetworks", "/v1", "/v1/networks%2f", "/networks/office/owner/10.8.0.2%2f32"]:
                 self.assertEqual(self.ask("GET", target)[0] // 100, 4, target)
         with self.subTest("many at once"), ThreadPoolExecutor(32) as pool:
-            asked = [pool.submit(self.ask, "GET", PEERS) for _ in range(100)]
-            self.assertEqual({one.result()[:2] for one in asked}, {(200, b'{"peers":[' + wanted + b"]}")})
+            asked = [pool.submit(self.ask, "GET", OWNER) for _ in range(100)]
+            self.assertEqual({one.result()[:2] for one in asked}, {(200, b'{"number":1}')})
         with self.subTest("nobody's token"):
             status, body, fields = self.ask("GET", PEERS, token="nobodys")
             self.assertEqual((status, body, fields["WWW-Authenticate"]), (401, b'{"error":"unknown_token"}', "Bearer"))
@@ -194,6 +195,9 @@ class ByHAProxy(AnyFront, HAProxy):
             [(digest,)] = file.execute("SELECT digest FROM token").fetchall()
         self.assertEqual(lines[0]["digest"], digest.hex())
         self.assertEqual(lines[0]["digest"], hashlib.sha256(TOKEN.encode()).hexdigest())
+
+    def test_refusals_that_are_no_guesses(self):
+        self.assertEqual({self.ask("GET", "/networks/none/peers")[0] for _ in range(250)}, {404})
 
     def test_the_file(self):
         told = run("haproxy", "-c", "-f", self.folder / "haproxy.cfg", allowed=None, environment={"CREDENTIALS_DIRECTORY": str(self.folder)})
