@@ -6,10 +6,10 @@
 typedef unsigned long size_t;
 
 enum { SYS_write = 1, SYS_close = 3, SYS_mmap = 9, SYS_pread64 = 17, SYS_pwrite64 = 18, SYS_getpid = 39, SYS_sendto = 44 };
-enum { SYS_recvfrom = 45, SYS_kill = 62, SYS_ftruncate = 77, SYS_clock_gettime = 228, SYS_openat = 257 };
+enum { SYS_recvfrom = 45, SYS_kill = 62, SYS_ftruncate = 77, SYS_rename = 82, SYS_unlink = 87, SYS_symlink = 88, SYS_clock_gettime = 228, SYS_openat = 257 };
 enum { O_WRONLY = 1, O_RDWR = 2, O_CREAT = 0100, O_APPEND = 02000, O_CLOEXEC = 02000000, HERE = -100 };
 enum { EIO = 5, ENOMEM = 12, EINVAL = 22, ENOSPC = 28, EPIPE = 32, ECONNRESET = 104, SIGKILL = 9 };
-enum { PROT_READ_WRITE = 3, MAP_SHARED = 1, STDOUT = 1 };
+enum { PROT_READ_WRITE = 3, MAP_SHARED = 1, MSG_PEEK = 2, STDOUT = 1 };
 
 long syscall(long, ...);
 int *__errno_location(void);
@@ -26,7 +26,7 @@ struct state {
     /* The growth of memory of this number (from 0) is refused, and each behind it where `lasting` isn't 0; the
        growths seen, and those refused. */
     volatile long growth, growths, refused, lasting;
-    /* The call of this number that writes, cuts or syncs a file meets `how`; the calls seen, and those met. */
+    /* The call of this number that writes, cuts, syncs or names a file meets `how`; the calls seen, and those met. */
     volatile long call, calls, met, how;
     /* The read of a socket of this number fails; the reads seen; the most bytes that one gives, 0 for any. */
     volatile long receive, receives, receive_most;
@@ -92,7 +92,7 @@ static void stop(void) {
     for (;;) continue;
 }
 
-/* What the next call that writes, cuts or syncs meets, or 0. */
+/* What the next call that writes, cuts, syncs or names a file meets, or 0. */
 static int meets(void) {
     if (!state || !state->armed) return 0;
     long now = state->calls++, how = state->how;
@@ -149,6 +149,21 @@ static int synced(int file) {
     return 0;
 }
 
+/* A name that is made, changed or taken away is a call like a write. */
+static int named(long call, const char *path, const char *other) {
+    int how = meets();
+    if (fails(how, EIO)) return -1;
+    long done = syscall(call, path, other);
+    if (how == TORN) stop();
+    return done;
+}
+
+int rename(const char *path, const char *other) { return named(SYS_rename, path, other); }
+
+int symlink(const char *path, const char *other) { return named(SYS_symlink, path, other); }
+
+int unlink(const char *path) { return named(SYS_unlink, path, 0); }
+
 int fsync(int file) { return synced(file); }
 
 int fdatasync(int file) { return synced(file); }
@@ -169,7 +184,8 @@ long write(int file, const void *bytes, size_t length) {
 /* Sockets */
 
 long recv(int link, void *bytes, size_t length, int flags) {
-    if (state && state->armed) {
+    /* Looking at the first byte takes nothing. */
+    if (state && state->armed && !(flags & MSG_PEEK)) {
         if (state->receives++ == state->receive) {
             errno = ECONNRESET;
             return -1;

@@ -8,14 +8,10 @@ import hashlib
 import json
 import re
 
+import plain_messages
 import serving
 from plain_network import MOST_NUMBER, Network, Refused, is_full, prefix_of
 
-TOKEN_BYTE = rb"[A-Za-z0-9!#$%&'*+\-.^_`|~]"
-FIELD = TOKEN_BYTE + rb"+:[\t\x20-\x7e\x80-\xff]*\r?\n"
-HEAD = re.compile(
-    rb"(?:\r?\n)*(" + TOKEN_BYTE + rb"+) ([\x21-\x7e\x80-\xff]+) HTTP/1\.[01]\r?\n((?:" + FIELD + rb")*)\r?\n"
-)
 # A part of a path; a target beyond ASCII has no path.
 NAME = "([!-.0-~]+)"
 PEER = rf"/networks/{NAME}/peers/([1-9][0-9]{{0,6}})"
@@ -41,48 +37,6 @@ MEMBERS = {
     "unroute": ["prefix"],
 }
 MOST_END, MOST_COUNT = 2**53 - 1, 2**63 - 1
-
-
-def head_of(text):
-    """The method, target, fields and body of a message."""
-    found = HEAD.match(text[:8_192])
-    if not text:
-        raise Refused(400, "truncated")
-    fields = [line.partition(b":") for line in found[3].split(b"\n")[:-1]] if found else []
-    if not found or len(fields) > 32 or not is_utf8(found[2]):
-        raise Refused(*((413, "too_large") if len(text) > 8_192 else (400, "bad_head")))
-    named = {}
-    for name, _, value in fields:
-        named.setdefault(name.lower(), []).append(value.removesuffix(b"\r").strip(b" \t"))
-    return found[1], found[2].decode(), named, text[found.end() :]
-
-
-def is_utf8(text):
-    try:
-        return text.decode() is not None
-    except UnicodeDecodeError:
-        return False
-
-
-def message_of(text):
-    """The method, target, token and body of a message."""
-    method, target, fields, body = head_of(text)
-    tokens, lengths = fields.get(b"authorization", []), fields.get(b"content-length", [])
-    if len(tokens) > 1 or len(lengths) > 1:
-        raise Refused(400, "bad_head")
-    if b"transfer-encoding" in fields:
-        raise Refused(411, "length_required")
-    if lengths and not re.fullmatch(rb"[0-9]{1,20}", lengths[0]):
-        raise Refused(400, "bad_head")
-    if method == b"POST" and not lengths:
-        raise Refused(411, "length_required")
-    length = int(lengths[0]) if lengths else 0
-    if length > 2_097_152:
-        raise Refused(413, "too_large")
-    if length > len(body):
-        raise Refused(400, "truncated")
-    token = re.fullmatch(rb"(?i:bearer) +([!-~]{1,128})", tokens[0]) if tokens else None
-    return method.decode(), target, token and token[1], body[:length]
 
 
 def asked_of(method, target):
@@ -224,7 +178,7 @@ class Register:
     def answer(self, now, text):
         """The reply to a message."""
         try:
-            method, target, token, body = message_of(text)
+            method, target, token, body = plain_messages.read(text)
             what, words = asked_of(method, target)
             if token is None:
                 raise Refused(401, "unknown_token")

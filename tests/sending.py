@@ -78,6 +78,8 @@ def send(path, order, **streams):
     """What `wgr send` leaves."""
     word, fields, digest, text = parts_of(order)
     options = [] if digest is None else ["--digest", digest]
+    if word == "show" and fields[-1:] == ["--json"]:
+        options, fields = ["--json"], fields[:-1]
     return program.run(["send", str(path), *options, "--", word, *fields], text, **streams)
 
 

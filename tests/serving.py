@@ -1,9 +1,11 @@
 """A running `wgr serve`, requests to it, and the replies that are due."""
 
 import json
+import select
 import socket
 import subprocess
 import tempfile
+import time
 import unittest
 from pathlib import Path
 
@@ -82,6 +84,16 @@ def has_ipv6():
     return True
 
 
+def sockets_of(process):
+    """The lines of the kernel's table of TCP over IPv4, as this process sees it."""
+    return Path(f"/proc/{process}/net/tcp").read_text().splitlines()[1:]
+
+
+def ports_of(line):
+    """The ports of both ends, as the kernel writes them."""
+    return [end.partition(":")[2] for end in line.split()[1:3]]
+
+
 class Server:
     """`wgr serve` on a port of its own, until the block ends or its connections are counted down."""
 
@@ -109,16 +121,28 @@ class Server:
         self.process.kill()
         self.process.communicate()
 
+    def logged(self):
+        """The next line that the service logs, once it does; none in the tests' time limit is a failure."""
+        log = self.process.stderr
+        assert select.select([log], [], [], program.LIMIT)[0], "nothing is logged"
+        return log.readline()
+
     def ended(self):
-        """What the program leaves once all its connections are served."""
+        """What the program leaves once all its connections are served, but for the lines that `logged` took."""
         out, err = self.process.communicate(timeout=program.LIMIT)
         return program.Left(self.process.returncode, out, err)
 
     def connect(self):
         return socket.create_connection((self.host, self.port), timeout=program.LIMIT)
 
-    def send(self, *parts, close=True):
-        """All that is answered to these bytes, which are sent one part after the other."""
+    def has_read(self, link):
+        """Waits until the service has read all that was sent over a connection: from then on it serves this client."""
+        ends = [f"{number:04X}" for number in (self.port, link.getsockname()[1])]
+        while any(int(line.split()[4].partition(":")[2], 16) for line in sockets_of(self.process.pid) if ports_of(line) == ends):
+            time.sleep(0.01)
+
+    def send(self, *parts, close=False):
+        """All that is answered to these bytes, which are sent one part after the other; by default the client could send more."""
         with self.connect() as link:
             link.setsockopt(socket.IPPROTO_TCP, socket.TCP_NODELAY, 1)
             for part in parts:

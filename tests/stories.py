@@ -21,7 +21,7 @@ from test_package import release
 PAGE = blocks_of("docs/OPERATIONS.md")
 COPY = re.compile(r"\d{8}T\d{6}\.\d{3}Z\.db")
 # Commands of the system that say what they do, of which the page shows nothing.
-TALK = re.compile(r"(apt install|nginx -t|systemctl enable) ")
+TALK = re.compile(r"(apt install|nginx -t|systemctl enable|systemctl disable) ")
 URL = "https://wgr.example.net"
 
 

@@ -54,13 +54,15 @@ def an_end_that_comes(server):
 
 
 def the_moment_of_a_connection(server):
-    """It is that at which the service takes it: of the second, once the first is answered."""
+    """It is that at which the service begins to read it: of the second, once the first is answered."""
     end = int(time.time()) + 3
     own = add_until(server, end)
     with server.connect() as first, server.connect() as second:
+        first.sendall(LIST[:1])
+        time.sleep(0.5)
         second.sendall(LIST)
         wait_until(end + 0.2)
-        first.sendall(LIST)
+        first.sendall(LIST[1:])
         yield "taken before the end", read_all(first), done({"peers": [own]})
         yield "taken after the end", read_all(second), NOBODY
 

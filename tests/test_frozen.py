@@ -17,7 +17,7 @@ if importlib.util.find_spec("first_process"):
 else:
     needs_systemd = unittest.skip("without tests/first_process.py, which starts a systemd")
 
-UNITS = ["wgr.service", "wgr-http.service", "wgr-http.socket", "wgr-alert@.service", "wgr-backup.service", "wgr-figures.service", "wgr-probe.service"]
+UNITS = ["wgr.service", "wgr-space.service", "wgr-http.service", "wgr-http.socket", "wgr-alert@.service", "wgr-backup.service", "wgr-figures.service", "wgr-probe.service"]
 TOOLS = ["wgr-backup", "wgr-figures", "wgr-probe"]
 BUS = ["dbus.service", "dbus.socket"]
 
@@ -50,7 +50,7 @@ class Frozen(unittest.TestCase):
             ["mount", "-t", "tmpfs", "none", "/var/backups"],
             ["mkdir", "-p", "/usr/local/share/wgr", "/var/lib/prometheus/node-exporter"],
             ["cp", *(DIST / name for name in TOOLS), "/usr/local/bin"],
-            ["cp", DIST / "wgr_copies.py", "/usr/local/share/wgr"],
+            ["cp", DIST / "wgr_copies.py", DIST / "wgr_figures.py", "/usr/local/share/wgr"],
             ["systemctl", "start", *reversed(BUS)],
         )
         self.system.make_register("abc")
@@ -90,8 +90,12 @@ class Frozen(unittest.TestCase):
         # A register that isn't served is copied without a pause.
         self.assertGreater(int((copy.parent / "pauses").read_text().split()[1]), 0)
         self.assertEqual(self.system.show("wgr.service", "ActiveState", "FreezerState"), ("active", "running"))
-        self.assertEqual(sorted(path.name for path in self.inside("/var/lib/wgr").iterdir()), ["register.db", "register.db-wal"])
         self.assertEqual((copy.stat().st_mode & 0o777, copy.stat().st_uid), (0o600, 0))
+
+    def check_rest(self, state="inactive"):
+        """Once the figures are written, or have failed, there is nothing beside the register."""
+        self.wait_for("wgr-figures.service", "ActiveState", state)
+        self.assertEqual(sorted(path.name for path in self.inside("/var/lib/wgr").iterdir()), ["register.db", "register.db-wal"])
 
     def force_freezing(self):
         """Takes away the socket at which the service would be asked for a copy."""
@@ -100,6 +104,7 @@ class Frozen(unittest.TestCase):
     def test_a_frozen_service(self):
         self.force_freezing()
         self.make_a_copy()
+        self.check_rest("failed")
 
     def test_a_copy_and_its_figures(self):
         # If it froze the unit, this would be told.
@@ -113,6 +118,26 @@ class Frozen(unittest.TestCase):
             time.sleep(0.05)
         self.assertIn('wgr_network_peers{tenant="acme",network="office"} 1\n', figures.read_text())
         self.assertIn('wgr_service_requests_total{status="200"} 1\n', figures.read_text())
+        with self.subTest("figures without another copy"):
+            self.ask("-d", json.dumps({"key": key(2)}))
+            self.run_all(["systemctl", "start", "wgr-figures.service"])
+            self.assertIn('wgr_network_peers{tenant="acme",network="office"} 2\n', figures.read_text())
+            self.assertIn('wgr_network_last_report_timestamp_seconds{tenant="acme",network="office"} 0\n', figures.read_text())
+            self.check_rest()
+            self.assertEqual(self.system.run("cat", "/var/lib/wgr-figures/state.json").stdout, "{}")
+        with self.subTest("the copy is made beside the register"):
+            self.run_all(["mkdir", "-p", "/run/words", "/var/lib/wgr/eu1"])
+            self.inside("/run/words/wgr").write_text('#!/bin/sh\necho "$*" >>/run/words/told\nexec /usr/local/bin/wgr "$@"\n')
+            self.run_all(["chmod", "+x", "/run/words/wgr"])
+            for service, folder, status in [("wgr", "wgr", 0), ("wgr-eu1", "wgr/eu1", 1)]:
+                words = ["env", "PATH=/run/words:/usr/local/bin:/usr/bin:/bin", "wgr-figures", "--status", f"/run/{service}/orders"]
+                self.system.run(*words, "/var/backups/wgr", "/run/words/wgr.prom", allowed=[status])
+                told = self.inside("/run/words/told").read_text()
+                self.assertIn(f"send /run/{service}/orders backup /var/lib/{folder}/wgr-figures.db\n", told)
+        with self.subTest("a service that is stopped"):
+            self.run_all(["systemctl", "stop", "wgr.service"])
+            self.system.run("systemctl", "start", "wgr-figures.service", allowed=[1])
+            self.assertIn('wgr_network_peers{tenant="acme",network="office"} 1\n', figures.read_text())
 
     def test_a_copy_that_is_killed_leaves_nothing_frozen(self):
         self.force_freezing()
@@ -124,6 +149,25 @@ class Frozen(unittest.TestCase):
         self.wait_for("wgr.service", "FreezerState", "running")
         self.assertEqual(self.ask(), {"peers": []})
         self.assertEqual(list(self.inside("/var/backups/wgr").glob("*.db")), [])
+
+    def test_the_probe_sees_a_register_that_is_removed(self):
+        """The service answers, and is not restarted, by which what it has would be lost; a start then says that there is none."""
+        self.run_all(["systemctl", "start", "wgr-probe.service"])
+        before = self.system.show("wgr.service", "MainPID")
+        self.run_all(["mv", "/var/lib/wgr/register.db", "/var/lib/wgr/register.db-wal", "/var/backups"])
+        self.system.run("systemctl", "start", "wgr-probe.service", allowed=[1])
+        self.assertEqual(self.system.show("wgr-probe.service", "ExecMainStatus"), ("1",))
+        self.assertEqual(self.system.show("wgr.service", "MainPID"), before)
+        self.system.run("systemctl", "restart", "wgr.service", allowed=[1])
+
+    def test_the_probe_sees_a_clock_that_has_jumped(self):
+        """The service isn't restarted, since it would not start."""
+        before = self.system.show("wgr.service", "MainPID")
+        self.inside("/var/lib/wgr/clock").write_text(f"{int(time.time()) + 3600}\n")
+        self.system.run("systemctl", "start", "wgr-probe.service", allowed=[1])
+        self.assertEqual(self.system.show("wgr-probe.service", "ExecMainStatus"), ("1",))
+        self.assertEqual(self.system.show("wgr.service", "MainPID"), before)
+        self.run_all(["wgr-clock", "accept", "/var/lib/wgr/register.db"], ["systemctl", "start", "wgr-probe.service"])
 
     def test_the_probe_restarts_at_503(self):
         before = self.system.show("wgr.service", "MainPID")

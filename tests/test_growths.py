@@ -308,7 +308,7 @@ class Serving(unittest.TestCase):
     def ask(self, message, growth, lasting=0):
         """The reply to a message at which this growth is refused, and whether it was; `shown` is what follows."""
         self.faulty.arm(growth=growth, lasting=lasting)
-        reply = self.server.send(message)
+        reply = self.server.send(message, close=message == ASKED["truncated"])
         met = self.faulty.refused
         self.faulty.disarm()
         self.shown = self.server.send(LOOK)
@@ -335,6 +335,9 @@ class Serving(unittest.TestCase):
         for name, message in asked.items():
             with self.subTest(name):
                 counts = self.sweep(message, 1 if name in whole else stride, lasting)
+                if counts[0] == 0:
+                    # On a busy machine the message comes late, and the first growth was that of the list of silent clients.
+                    counts = self.sweep(message, 1, lasting)
                 self.assertGreater(counts[0], 0)
                 total += sum(counts)
         tell(f"{len(asked)} requests by serve", total, "growths refused")

@@ -11,6 +11,7 @@ import unittest
 
 from faulty import WHOLE, scratch, tell
 from plain import Register, digest_of
+from plain_messages import is_open
 from program import Left, run
 from serving import SERVER_KEY, Server, key, request
 from test_batch import batch, replies
@@ -152,7 +153,7 @@ class LongRun(unittest.TestCase):
         with Server(self.database, count=len(asked) if ends else 10_000, now=now) as server:
             for message in asked:
                 place = self.random.randrange(len(message) + 1) if self.random.random() < 0.1 else 0
-                self.compare(now, message, server.send(message[:place], message[place:]))
+                self.compare(now, message, server.send(message[:place], message[place:], close=is_open(message)))
             if ends:
                 self.assertEqual(server.ended(), Left(0))
 

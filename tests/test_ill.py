@@ -42,7 +42,7 @@ class Reported(Serving):
             faulty.disarm()
             self.assertEqual(server.send(LIST), done({"peers": [peer(1, 1, "10.8.0.2/32")]}))
             self.assertEqual(server.send(add(3)), done(peer(2, 3, "10.8.0.3/32")))
-            self.assertEqual(server.send(b""), refused(400, "truncated"))
+            self.assertEqual(server.send(b"", close=True), refused(400, "truncated"))
             self.assertEqual(server.ended(), Left(0, b"", LINE))
 
 
@@ -83,9 +83,12 @@ class Shut(Serving):
         server = self.serve()
         wanted = self.lasts(server)
         with server.connect() as first, server.connect() as second:
+            # Whoever has sent something first is served first.
+            first.sendall(add(3)[:1])
+            server.has_read(first)
             second.sendall(add(4))
             self.faulty.arm(**wanted)
-            first.sendall(add(3))
+            first.sendall(add(3)[1:])
             self.assertEqual(server.ended(), Left(1, b"", LINE + b"wgr: store\n"))
             with suppress(ConnectionResetError):
                 self.assertEqual(second.recv(1), b"")

@@ -17,6 +17,7 @@ from contextlib import closing
 
 from faulty import WHOLE, scratch, tell
 from plain import Register, digest_of
+from plain_messages import is_open
 from plain_orders import answer_line
 from program import Left, run
 from sending import answered, shown
@@ -101,7 +102,7 @@ class Lists(unittest.TestCase):
             for place, (kind, make) in enumerate(events, 1):
                 text = make()
                 if kind == "request":
-                    self.compare(now, text, server.send(text), self.plain.answer(now, text))
+                    self.compare(now, text, server.send(text, close=is_open(text)), self.plain.answer(now, text))
                     self.replies.add(self.plain.answer(now, text))
                 else:
                     due = answer_line(self.plain, text)

@@ -203,6 +203,50 @@ class Refused(Sending):
         with self.subTest("4,096 bytes in all"):
             self.assertEqual(send(self.socket, ("tenant-add", 4_084 * "x")), refused("bad_field name"))
 
+    def test_a_token_among_the_words(self):
+        """Every user of the machine could see it. As the command on a file does, nothing is done, and nothing read."""
+        self.init(ACME)
+        self.do(GRANT)
+        before = self.rows()
+        folder = os.open(self.folder, os.O_RDONLY)
+        self.addCleanup(os.close, folder)
+        server = self.serve(count=1)
+        for words in [["token-grant", "acme", "secret"], ["token-end", "abc"], ["--digest", SECOND, "token-grant", "acme"], ["token-end", "--", "--digest", SECOND]]:
+            for path in [self.socket, self.path("none")]:
+                with self.subTest(words=words, path=path):
+                    self.assertEqual(run(["send", path, *words], stdin=folder), refused("bad_order"))
+                    self.assertEqual(run([words[0], self.db, *words[1:]], stdin=folder).status, 2)
+        server.send(LIST)
+        self.assertEqual(server.ended(), Left(0))
+        self.assertEqual(self.rows(), before)
+
+    def test_options_of_other_words(self):
+        """None is sent as a field."""
+        self.init(ACME)
+        self.do(NETWORK)
+        before = self.rows()
+        server = self.serve(count=1)
+        hexes = ["--digest", SECOND]
+        rows = [["tenant-add", "--json"], ["--json", "tenant-add"], ["tenant-add", "bolt", "--json"], ["token-grant", "--json"], ["token-grant", "acme", "--json"]]
+        rows += [["token-end", "--json"], ["token-end", "--json", *hexes], ["network-end", "acme", "--json"], ["network-end", "acme", "office", "--json"]]
+        rows += [["backup", "--json"], ["backup", self.path("copy.db"), "--json"], ["status", "--json"]]
+        rows += [[*words, *hexes] for words in [["tenant-add"], ["tenant-add", "bolt"], ["network-end", "acme", "office"], ["status"], ["show"], ["show", "acme"], ["show", "--json"]]]
+        for words in rows:
+            with self.subTest(words=words):
+                self.assertEqual(run(["send", self.socket, *words], b"secret"), refused("bad_order"))
+        self.assertEqual(run(["send", self.socket, "tenant-add", "--json", "--", "--json"]), refused("bad_order"))
+        server.send(LIST)
+        self.assertEqual(server.ended(), Left(0))
+        self.assertEqual(self.rows(), before)
+
+    def test_names_like_options(self):
+        """Behind `--`, as for the command on a file."""
+        self.init()
+        self.serve()
+        for name in ["-x", "--json", "--digest"]:
+            with self.subTest(name):
+                self.assertEqual(run(["send", self.socket, "tenant-add", "--", name]), DONE)
+
     def test_nobody_serves(self):
         self.init(ACME)
         gone = self.path("gone")

@@ -45,6 +45,7 @@ def status_text(requests=(0,) * 9, orders=(0, 0, 0), failed=0, rows=(0, 0, 0, 0,
     lines = [f'wgr_service_requests_total{{status="{status}"}} {count}' for status, count in zip(STATUSES, requests, strict=True)]
     lines += [f'wgr_service_orders_total{{status="{status}"}} {count}' for status, count in enumerate(orders)]
     lines.append(f"wgr_service_failed_connections_total {failed}")
+    lines.append("wgr_service_late_connections_total 0")
     names = ["tenants", "tokens", "networks", "peers", "routes", "networks_in_memory", "files_in_memory"]
     lines += [f"wgr_service_{name} {count}" for name, count in zip(names, [*rows, *kept], strict=True)]
     return "".join(f"{each}\n" for each in lines)
@@ -191,7 +192,7 @@ class Status(Reading):
             ("413", TOO_LARGE),
         ]
         for status, message in asked:
-            self.assertIn(f"HTTP/1.1 {status} ".encode(), server.send(message))
+            self.assertIn(f"HTTP/1.1 {status} ".encode(), server.send(message, close=not message))
         self.assertEqual(self.status()[1], status_text(requests=(3, 4, 1, 2, 1, 5, 1, 1, 0), rows=(2, 1, 2, 12, 3), kept=(2, 0)))
 
     def test_orders_are_counted_by_their_status(self):
@@ -312,11 +313,11 @@ class Status(Reading):
             server = faulty.serve(self.db, orders=self.socket)
             faulty.arm(clock=FAILS)
             with server:
-                # It reads the clock once it listens, and again for a connection, which it drops.
+                # It reads the clock once it listens, and again for a connection, which it drops and counts.
                 with self.assertRaises((OSError, AssertionError)):
                     self.status()
                 faulty.disarm()
-                self.assertEqual(self.status(), (0, status_text()))
+                self.assertEqual(self.status(), (0, status_text(failed=1)))
 
 
 class Between(Reading):

@@ -28,7 +28,7 @@ class Restarts(unittest.TestCase):
     def start(self, units):
         self.folder = Path(self.enterContext(tempfile.TemporaryDirectory()))
         self.folder.chmod(0o755)
-        self.system = System(self.folder, ["wgr.service", *units])
+        self.system = System(self.folder, ["wgr.service", "wgr-space.service", *units])
         self.addCleanup(self.system.stop)
         self.system.start()
         self.system.make_register(TOKEN)

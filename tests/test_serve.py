@@ -21,8 +21,6 @@ class Serve(Serving):
         post = b"POST " + PEERS.encode() + b" HTTP/1.1\r\nAuthorization: Bearer abc\r\n"
         body = 2_097_152 * b" "
         rows = [
-            ("nothing", b"", refused(400, "truncated")),
-            ("an empty line is wanting", head, bad),
             ("two tokens", head + b"authorization: Bearer abc\r\n\r\n", bad),
             ("another scheme", head.replace(b"Bearer", b"Basic") + b"\r\n", refused(401, "unknown_token")),
             ("the scheme in capitals", head.replace(b"Bearer", b"BEARER ") + b"\r\n", networks),
@@ -30,7 +28,6 @@ class Serve(Serving):
             ("a length with a sign", head + b"Content-Length: +1\r\n\r\n0", bad),
             ("chunks", post + b"Transfer-Encoding: chunked\r\n\r\n0\r\n\r\n", refused(411, "length_required")),
             ("no length", post + b"\r\n", refused(411, "length_required")),
-            ("a body that is cut", post + b"Content-Length: 3\r\n\r\n{}", refused(400, "truncated")),
             ("the longest head", longest, networks),
             ("a byte more", longest.replace(b"xxx", b"xxxx", 1), large),
             ("33 fields", head + 32 * b"X: y\r\n" + b"\r\n", bad),
@@ -48,8 +45,10 @@ class Serve(Serving):
                 self.assertEqual(server.send(message), due)
         with self.subTest("one byte at a time"):
             self.assertEqual(server.send(*[bytes([byte]) for byte in head + b"\r\n"]), networks)
-        with self.subTest("a client that keeps its side open"):
-            self.assertEqual(server.send(head + b"\r\n", close=False), networks)
+        cut = refused(400, "truncated")
+        for name, message, due in [("nothing", b"", cut), ("an empty line is wanting", head, bad), ("a body that is cut", post + b"Content-Length: 3\r\n\r\n{}", cut)]:
+            with self.subTest(name):
+                self.assertEqual(server.send(message, close=True), due)
         self.assertEqual(server.ask("GET", PEERS), done({"peers": []}))
 
     def test_a_request_that_is_cut(self):
@@ -58,7 +57,7 @@ class Serve(Serving):
         for length in range(len(ADD)):
             with self.subTest(length):
                 name = "bad_head" if 0 < length < body else "truncated"
-                self.assertEqual(server.send(ADD[:length]), refused(400, name))
+                self.assertEqual(server.send(ADD[:length], close=True), refused(400, name))
         self.assertEqual(server.send(ADD), done(peer(1, 1, "10.8.0.2/32")))
 
     def test_connections_are_counted(self):

@@ -248,11 +248,17 @@ class Sent(Reading):
             with self.subTest(words):
                 self.assertEqual(self.answered(words, b"0 3\nabc"), (Left(0, b"abc"), " ".join(words).encode() + b"\n"))
         self.assertEqual(self.answered(("backup", "/a/b"), b"0 done\n"), (DONE, b"backup /a/b\n"))
-        for words in [["show", "acme", "--json"], ["--json", "show", "acme"]]:
+        rows = [
+            (["show", "--json"], b"show --json\n"),
+            (["show", "acme", "--json"], b"show acme --json\n"),
+            (["--json", "show", "acme"], b"show acme --json\n"),
+            (["--json", "show", "--", "--json"], b"show --json --json\n"),
+        ]
+        for words, due in rows:
             with self.subTest(words, by="option"):
                 service = Service(self.path("other"), b"0 3\nabc")
                 self.assertEqual(run(["send", self.path("other"), *words]), Left(0, b"abc"))
-                self.assertEqual(service.ended(), b"show acme --json\n")
+                self.assertEqual(service.ended(), due)
                 os.unlink(self.path("other"))
 
     def test_whole_replies(self):
@@ -308,9 +314,12 @@ class Sent(Reading):
     def test_words_that_make_no_reading(self):
         self.init()
         self.serve()
-        for words in [("show", ""), ("show", "a b"), ("show", "a\n"), ("status", ""), ("backup", "/a b"), ("show", "--json", "acme")]:
+        rows = [("show", ""), ("show", "a b"), ("show", "a\n"), ("status", ""), ("status", "acme"), ("backup", "/a b"), ("backup",)]
+        # Behind `--` it is no option, and no line asks for a tenant of this name.
+        rows += [("show", "--json"), ("show", "acme", "--json"), ("show", "--json", "acme")]
+        for words in rows:
             with self.subTest(words):
-                self.assertEqual(send(self.socket, words), refused("bad_order"))
+                self.assertEqual(run(["send", self.socket, "--", *words]), refused("bad_order"))
 
 
 class Stops(Reading):

@@ -7,11 +7,13 @@ connection is met in turn. Each message is answered the same by `serve` and by `
 import ipaddress
 import re
 import shutil
+import signal
 import socket
 import unittest
 from contextlib import suppress
 
 from faulty import WHOLE, Faulty, needs_faults, scratch
+from malformed import MALFORMED, UNFINISHED
 from program import Left
 from serving import Server, done, key, make_register, peer, read_all, refused, request
 from test_batch import batch
@@ -21,9 +23,8 @@ PEERS = "/networks/office/peers"
 ADD, LOOK = request("POST", PEERS, {"key": key(1)}), request("GET", PEERS)
 ADDED, NOBODY = done(peer(1, 1, "10.8.0.2/32")), done({"peers": []})
 THERE = done({"peers": [peer(1, 1, "10.8.0.2/32")]})
-BAD, LARGE, NO_PATH = refused(400, "bad_head"), refused(413, "too_large"), refused(404, "no_such_path")
-BODY, CUT = refused(400, "bad_field", field="body"), refused(400, "truncated")
-UNKNOWN = refused(401, "unknown_token")
+NO_PATH, UNKNOWN = refused(404, "no_such_path"), refused(401, "unknown_token")
+BODY = refused(400, "bad_field", field="body")
 GET = b"GET " + PEERS.encode() + b" HTTP/1.1\r\n"
 TOKEN = b"Authorization: Bearer abc\r\n"
 POST = b"POST " + PEERS.encode() + b" HTTP/1.1\r\n" + TOKEN
@@ -43,27 +44,13 @@ def field(name):
     return refused(400, "bad_field", field=name)
 
 
+# Messages that their client ends by closing its side; `test_open_sides.py` has those that are malformed without that.
+ENDED = {**MALFORMED, **UNFINISHED}
 # Messages that leave the register without peers, and the reply to each.
 MESSAGES = [
-    ("one byte", b"G", BAD),
-    ("one NUL", b"\0", BAD),
-    ("8,192 bytes that are no head", 8_192 * b"x", BAD),
-    ("8,193 bytes that are no head", 8_193 * b"x", LARGE),
-    ("NULs without an end", 100_000 * b"\0", LARGE),
-    ("line ends without an end", 8_193 * b"\r\n", LARGE),
-    ("a TLS hello", b"\x16\x03\x01\x02\x00\x01\x00\x01\xfc\x03\x03" + bytes(range(256)), BAD),
-    ("the preface of HTTP/2", b"PRI * HTTP/2.0\r\n\r\nSM\r\n\r\n", BAD),
-    ("HTTP/0.9", b"GET /networks\r\n\r\n", BAD),
     ("HTTP/1.0", GET.replace(b"1.1", b"1.0") + TOKEN + b"\r\n", NOBODY),
-    ("HTTP/2.0", GET.replace(b"1.1", b"2.0") + TOKEN + b"\r\n", BAD),
     ("empty lines before the head", b"\r\n\n\r\n" + LOOK, NOBODY),
     ("lines that end in a newline alone", LOOK.replace(b"\r\n", b"\n"), NOBODY),
-    ("lines that end in a carriage return alone", LOOK.replace(b"\r\n", b"\r"), BAD),
-    ("a blank before the method", b" " + LOOK, BAD),
-    ("two blanks before the target", LOOK.replace(b"GET ", b"GET  "), BAD),
-    ("a tab before the target", LOOK.replace(b"GET ", b"GET\t"), BAD),
-    ("a NUL in the target", LOOK.replace(b"/peers", b"/pe\0ers"), BAD),
-    ("a target that is not UTF-8", LOOK.replace(b"/peers", b"/pe\xffers"), BAD),
     ("a target beyond ASCII", LOOK.replace(b"/peers", "/pe\u00e9rs".encode()), NO_PATH),
     ("a target with a host", LOOK.replace(b" /", b" http://wgr/"), NO_PATH),
     ("an asterisk as target", LOOK.replace(PEERS.encode(), b"*"), NO_PATH),
@@ -76,39 +63,14 @@ MESSAGES = [
     ("a network by no name", LOOK.replace(b"office", b"off%69ce"), refused(404, "no_such_network")),
     ("a number with a plus", request("DELETE", f"{PEERS}/+1"), NO_PATH),
     ("a number of 400 digits", request("DELETE", f"{PEERS}/{400 * '1'}"), NO_PATH),
-    ("a field without a colon", GET + b"Authorization\r\n\r\n", BAD),
-    ("a field without a name", GET + TOKEN + b": x\r\n\r\n", BAD),
-    ("a blank before a colon", GET + b"Authorization : Bearer abc\r\n\r\n", BAD),
-    ("a field on two lines", GET + TOKEN + b"X: a\r\n b\r\n\r\n", BAD),
-    ("a NUL in a value", GET + TOKEN + b"X: a\0b\r\n\r\n", BAD),
-    ("a carriage return in a value", GET + TOKEN + b"X: a\rb\r\n\r\n", BAD),
     ("bytes beyond ASCII in a value", GET + TOKEN + b"X: \xff\x80\r\n\r\n", NOBODY),
-    ("bytes beyond ASCII in a name", GET + TOKEN + b"X\xff: a\r\n\r\n", BAD),
     ("32 fields", GET + TOKEN + 31 * b"X: y\r\n" + b"\r\n", NOBODY),
-    ("33 fields", GET + TOKEN + 32 * b"X: y\r\n" + b"\r\n", BAD),
-    ("33 fields in more than 8,192 bytes", GET + TOKEN + 32 * (b"X: " + 256 * b"y" + b"\r\n") + b"\r\n", LARGE),
     ("an empty token", GET + b"Authorization: Bearer \r\n\r\n", UNKNOWN),
     ("a token of 129 bytes", GET + b"Authorization: Bearer " + 129 * b"a" + b"\r\n\r\n", UNKNOWN),
     ("a token of 7,000 bytes", GET + b"Authorization: Bearer " + 7_000 * b"a" + b"\r\n\r\n", UNKNOWN),
     ("two tokens in one value", GET + b"Authorization: Bearer abc abc\r\n\r\n", UNKNOWN),
     ("a tab behind the scheme", GET + b"Authorization: Bearer\tabc\r\n\r\n", UNKNOWN),
     ("a token beyond ASCII", GET + b"Authorization: Bearer ab\xe7\r\n\r\n", UNKNOWN),
-    ("a length of no digits", sized(b""), BAD),
-    ("a length of 21 digits", sized(b"000000000000000000054", b"{}"), BAD),
-    ("a length with a plus", sized(b"+54", b"{}"), BAD),
-    ("a length below zero", sized(b"-1"), BAD),
-    ("a length in hexadecimal", sized(b"0x2", b"{}"), BAD),
-    ("two lengths in one value", sized(b"2, 2", b"{}"), BAD),
-    ("a length with a blank", sized(b"5 4", b"{}"), BAD),
-    ("the largest length of 20 digits", sized(20 * b"9", b"{}"), LARGE),
-    ("a length of 64 bits", sized(b"18446744073709551615", b"{}"), LARGE),
-    ("a length of 64 bits and one more", sized(b"18446744073709551616", b"{}"), LARGE),
-    ("a length of 2 MiB and one more", sized(b"2097153", b"{}"), LARGE),
-    ("two equal lengths", POST + 2 * b"Content-Length: 2\r\n" + b"\r\n{}", BAD),
-    ("a body that is one byte short", sized(b"3", b"{}"), CUT),
-    ("a length of 2 MiB and no body", sized(b"2097152"), CUT),
-    ("an encoding and a length", POST + b"Content-Length: 2\r\nTransfer-Encoding: chunked\r\n\r\n{}", refused(411, "length_required")),
-    ("a GET with an encoding", GET + TOKEN + b"Transfer-Encoding: identity\r\n\r\n", refused(411, "length_required")),
     ("an empty body", posted(b""), BODY),
     ("1,000 arrays without an end", posted(1_000 * b"["), BODY),
     ("1,000 arrays", posted(1_000 * b"[" + 1_000 * b"]"), BODY),
@@ -192,10 +154,14 @@ class Messages(Served):
             for name, message, due in MESSAGES:
                 with self.subTest(name):
                     self.assertEqual(server.send(message), due)
+            for name, (message, due) in ENDED.items():
+                with self.subTest(name):
+                    self.assertEqual(server.send(message, close=True), due)
             self.assertEqual(server.send(LOOK), NOBODY)
-        left = batch(self.database, 100, [message for _, message, _ in MESSAGES])
+        rows = [row[-2:] for row in [*MESSAGES, *ENDED.values()]]
+        left = batch(self.database, 100, [message for message, _ in rows])
         with self.subTest("all in files"):
-            self.assertEqual(left, Left(0, b"".join(due for _, _, due in MESSAGES)))
+            self.assertEqual(left, Left(0, b"".join(due for _, due in rows)))
 
     def test_messages_that_add_a_peer(self):
         end = request("DELETE", f"{PEERS}/%d")
@@ -285,10 +251,12 @@ class Streams(Served):
                     self.assertEqual(left, (ADDED[:number], THERE, Left(0, b"", b"wgr: connection\n")))
 
     def test_two_clients(self):
-        """Both are there before the first is served."""
+        """Both have sent all before the first is served."""
         with Server(self.database, count=2, now=100) as server:
+            server.process.send_signal(signal.SIGSTOP)
             with server.connect() as first, server.connect() as second:
                 second.sendall(LOOK)
                 first.sendall(ADD)
+                server.process.send_signal(signal.SIGCONT)
                 self.assertEqual([read_all(first), read_all(second)], [ADDED, THERE])
             self.assertEqual(server.ended(), Left(0))
