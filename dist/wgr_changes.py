@@ -63,6 +63,8 @@ def put_in_place(file, copy, register):
 def change_register(register, edit):
     """Lets `edit` change the rows of a copy of the register, which takes its place, and says how the old one is called."""
     os.umask(0o077)
+    # What a link leads to is changed, and not the link.
+    register = Path(register).resolve()
     refused = judge(register)
     if refused:
         fail(f"{register} can't be opened: {refused}")

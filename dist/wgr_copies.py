@@ -1,14 +1,14 @@
-"""What the tools that read a copy of the register have in common. wgr-backup makes such copies."""
+"""What the tools that read a register have in common: in a copy, as wgr-backup makes it, or at the running service."""
 
 import base64
 import ipaddress
-import os
 import re
 import sqlite3
-import sys
-import tempfile
+import subprocess
 from datetime import datetime, timezone
 from pathlib import Path
+
+from wgr_figures import fail
 
 # The version of the tables that the tools read.
 VERSION = 1
@@ -18,13 +18,9 @@ EMPTY_LOG = 56
 NAME = re.compile(r"\d{8}T\d{6}\.\d{3}Z\.db")
 
 
-def fail(why):
-    sys.exit(f"{Path(sys.argv[0]).name}: {why}")
-
-
 def has_log(path):
-    """Whether the log beside the file has changes that the file lacks."""
-    log = Path(f"{path}-wal")
+    """Whether the log beside the file has changes that the file lacks. Where a link leads to it, that is beside the file itself."""
+    log = Path(f"{Path(path).resolve()}-wal")
     return log.exists() and log.stat().st_size > EMPTY_LOG
 
 
@@ -40,21 +36,35 @@ def open_copy(path):
     if has_log(path):
         fail(f"{path} has a log beside it: wgr show {path} puts it into the file")
     link = sqlite3.connect(uri_of(path), uri=True)
-    try:
-        versions = link.execute("SELECT version FROM meta").fetchall()
-    except sqlite3.Error as error:
-        fail(f"{path} is no register: {error}")
-    if versions != [(VERSION,)]:
-        fail(f"{path} is no register whose tables have version {VERSION}")
+    why = fault_of(link)
+    if why:
+        fail(f"{path} is {why}")
     return link
 
 
+def fault_of(link):
+    """Why the tools don't read a database; nothing where they do."""
+    try:
+        versions = link.execute("SELECT version FROM meta").fetchall()
+    except sqlite3.Error as error:
+        return f"no register: {error}"
+    return None if versions == [(VERSION,)] else f"no register whose tables have version {VERSION}"
+
+
+def send(orders, *words, seconds=None):
+    """What the service at a socket answers to an order or a reading, and nothing; or nothing, and why."""
+    try:
+        told = subprocess.run(["wgr", "send", orders, *words], stdin=subprocess.DEVNULL, capture_output=True, text=True, timeout=seconds)
+    except FileNotFoundError:
+        return None, "wgr isn't installed"
+    except subprocess.TimeoutExpired:
+        return None, f"no answer within {seconds} s"
+    return (told.stdout, None) if told.returncode == 0 else (None, told.stderr.strip() or f"status {told.returncode}")
+
+
 def newest(folder):
-    """The newest copy in a folder of wgr-backup."""
-    found = sorted(path for path in Path(folder).glob("*.db") if NAME.fullmatch(path.name))
-    if not found:
-        fail(f"there is no copy in {folder}")
-    return found[-1]
+    """The newest copy in a folder of wgr-backup; nothing where there is none."""
+    return max((path for path in Path(folder).glob("*.db") if NAME.fullmatch(path.name)), default=None)
 
 
 def moment_of(path):
@@ -80,41 +90,3 @@ def key_text(key):
 
 def endpoint_text(host, port):
     return f"[{host}]:{port}" if ":" in host else f"{host}:{port}"
-
-
-def write_whole(path, text):
-    """Puts a file in its place at once, so that nobody reads a part of it; everybody may read it."""
-    path = Path(path)
-    file = tempfile.NamedTemporaryFile("w", dir=path.parent, prefix=f".{path.name}.", delete=False)
-    try:
-        with file:
-            file.write(text)
-        os.chmod(file.name, 0o644)
-        os.rename(file.name, path)
-    except BaseException:
-        os.unlink(file.name)
-        raise
-
-
-class Figures:
-    """A text in the format that Prometheus reads: `add` begins a figure, `put` gives it a value."""
-
-    def __init__(self, **labels):
-        self.lines = []
-        self.labels = labels
-
-    def add(self, name, what, value=None, kind="gauge"):
-        self.name = name
-        self.lines += [f"# HELP {name} {what}", f"# TYPE {name} {kind}"]
-        if value is not None:
-            self.put(value)
-
-    def put(self, value, **labels):
-        shown = ",".join(f'{name}="{label}"' for name, label in {**self.labels, **labels}.items())
-        self.lines.append(f"{self.name}{f'{{{shown}}}' if shown else ''} {value}")
-
-    def write(self, path):
-        try:
-            write_whole(path, "".join(f"{line}\n" for line in self.lines))
-        except OSError as error:
-            fail(f"{path} can't be written: {error.strerror}")

@@ -16,6 +16,8 @@ from test_copies import HELD, Load
 from test_orders import ACME, GRANT, IN_TURN, NETWORK
 
 COPIED = (0, "done")
+# What may have a name.
+THINGS = ["file", "folder", "link", "loose"]
 # Copies under load.
 COPIES = 100
 
@@ -32,6 +34,20 @@ class Backing(Sending):
     def names(self):
         """Names in the folder that begin as the copy's."""
         return sorted(path.name for path in self.folder.glob("copy.db*"))
+
+    def put(self, kind, path):
+        """Something of this kind at the path."""
+        if kind == "folder":
+            os.mkdir(path)
+        elif kind == "file":
+            Path(path).write_bytes(bytes(300_000))
+        else:
+            os.symlink({"link": self.db, "loose": self.path("none")}[kind], path)
+
+    def things(self):
+        """Each name in the folder, and what has it."""
+        kinds = {stat.S_IFREG: "file", stat.S_IFDIR: "folder", stat.S_IFLNK: "link", stat.S_IFSOCK: "socket"}
+        return {(path.name, kinds[stat.S_IFMT(path.lstat().st_mode)]) for path in self.folder.iterdir()}
 
     def joined(self, copy=None):
         """All rows of a copy, which `wgr show` opens and tests, and puts its log into the file."""
@@ -121,20 +137,29 @@ class Copies(Backing):
         self.assertEqual({path: Path(path).read_bytes() for path in own}, own)
         self.assertEqual([(self.folder / name).read_bytes() for name in self.names()], [*own.values()])
 
-    def test_what_a_killed_service_left(self):
-        """The next copy takes its place, though it is shorter."""
+    def test_files_with_names_of_parts(self):
+        """They stay, whatever they are."""
         self.init(ACME)
         self.serve()
         self.assertEqual(send(self.socket, ("tenant-add", "bolt")), DONE)
-        for place, names in enumerate([[".part"], [".part-wal"], ["-wal"], [".part", ".part-wal"], [".part-wal", "-wal"], [".part", ".part-wal", "-wal"]]):
-            with self.subTest(names):
-                copy = self.path(f"copy{place}.db")
-                for name in names:
-                    Path(copy + name).write_bytes(bytes(300_000))
-                self.assertEqual(self.back_up(copy), COPIED)
-                self.assertEqual([row[1] for row in self.joined(copy)["tenant"]], ["acme", "bolt"])
-                left = {path.name for path in self.folder.glob(f"copy{place}.db*")}
-                self.assertLessEqual(left, {f"copy{place}.db", f"copy{place}.db-wal"})
+        for place, ends in enumerate([[".part"], [".part-wal"], [".part0"], [".part0-wal"], [".part0", ".part1-wal", ".part2"]]):
+            for kind in THINGS:
+                with self.subTest(ends=ends, kind=kind):
+                    copy = self.path(f"copy{place}-{kind}.db")
+                    for end in ends:
+                        self.put(kind, copy + end)
+                    before = self.things()
+                    self.assertEqual(self.back_up(copy), COPIED)
+                    self.assertEqual(set(self.things() - before), {(Path(copy).name, "file"), (f"{Path(copy).name}-wal", "file")})
+                    self.assertLessEqual(before, self.things())
+                    self.assertEqual([row[1] for row in self.joined(copy)["tenant"]], ["acme", "bolt"])
+
+    def test_one_name_each(self):
+        self.init(ACME)
+        self.serve()
+        self.assertEqual(self.back_up(), COPIED)
+        for name in self.names():
+            self.assertEqual(os.lstat(self.path(name)).st_nlink, 1, name)
 
 
 class Refused(Backing):
@@ -161,6 +186,15 @@ class Refused(Backing):
                 self.assertEqual(self.back_up(self.path(name)), (2, "file_exists"))
                 self.assertEqual(send(self.socket, ("backup", self.path(name))), refused("file_exists"))
         self.assertEqual({path.name: path.read_bytes() for path in self.folder.iterdir() if path.is_file()}, before)
+        for kind in THINGS:
+            with self.subTest("a log that is there", kind=kind):
+                copy = self.path(f"beside-{kind}")
+                self.put(kind, f"{copy}-wal")
+                for end in [".part", ".part-wal", ".part0", ".part0-wal"]:
+                    self.put(kind, copy + end)
+                things = self.things()
+                self.assertEqual(self.back_up(copy), (2, "file_exists"))
+                self.assertEqual(self.things(), things)
         self.assertEqual((os.listdir(self.path("folder")), os.readlink(self.path("link"))), ([], self.path("file")))
         self.assertEqual(tell_line(self.socket, ("tenant-add", "bolt")), (2, "name_held"))
 
@@ -194,7 +228,7 @@ class Refused(Backing):
 
 @needs_faults()
 class Faults(Backing):
-    """Each write and each sync fails in turn, or the service is killed before it."""
+    """Each call that syncs or names a file fails in turn, or the service is killed before it."""
 
     def faulty(self):
         return self.enterContext(Faulty())
@@ -210,21 +244,28 @@ class Faults(Backing):
         faulty.arm()
         self.assertEqual(self.back_up(), COPIED)
         total = faulty.calls
-        # Both files are synced, and their folder.
-        self.assertGreaterEqual(total, 3)
+        # Each of the three files is synced, and their folder before and behind its names, which are two calls.
+        self.assertGreaterEqual(total, 7)
+        before = self.things()
         for call in range(total):
             with self.subTest(call):
                 copy = self.path(f"copy{call}.db")
                 faulty.arm(call=call, how=ONCE)
-                self.assertEqual(self.back_up(copy), (1, "device"))
+                answer = self.back_up(copy)
                 faulty.disarm()
-                self.assertFalse(os.path.lexists(copy))
-                self.assertEqual(self.back_up(copy), COPIED)
-                self.assertEqual([row[1] for row in self.joined(copy)["tenant"]], ["acme", "bolt"])
+                if answer == COPIED:
+                    # What failed is that a part was taken away.
+                    self.assertEqual([row[1] for row in self.joined(copy)["tenant"]], ["acme", "bolt"])
+                    self.assertEqual(self.things() - before, {(f"copy{call}.db{end}", "file") for end in ["", "-wal", ".part0-wal"]})
+                else:
+                    self.assertEqual((answer, self.things() - before), ((1, "device"), set()))
+                    self.assertEqual(self.back_up(copy), COPIED)
+                    self.assertEqual([row[1] for row in self.joined(copy)["tenant"]], ["acme", "bolt"])
+                before = self.things()
         self.assertEqual(send(self.socket, ("tenant-add", "cato")), DONE)
 
     def test_stops(self):
-        """What has the copy's name is all of it; and the next service makes one where there is none."""
+        """What has the copy's name is all of it, and each file has one name; and the next service makes one where there is none."""
         self.init(ACME)
         faulty = self.faulty()
         server = self.start(faulty)
@@ -232,6 +273,7 @@ class Faults(Backing):
         self.assertEqual(self.back_up(), COPIED)
         total = faulty.calls
         server.__exit__()
+        there = set()
         for call in range(total):
             with self.subTest(call):
                 copy = self.path(f"copy{call}.db")
@@ -241,11 +283,19 @@ class Faults(Backing):
                 self.assertEqual(answered(self.socket, line(("backup", copy))), b"")
                 self.assertEqual(server.ended().status, KILLED)
                 faulty.disarm()
+                self.assertEqual({path.lstat().st_nlink for path in self.folder.iterdir()}, {1})
+                due = ["acme", *(f"t{number}" for number in range(call + 1))]
+                there.add(os.path.lexists(copy))
+                if os.path.lexists(copy):
+                    self.assertEqual([row[1] for row in self.joined(copy)["tenant"]], due)
                 with Server(self.db, orders=self.socket):
-                    due = (2, "file_exists") if os.path.lexists(copy) else COPIED
-                    self.assertEqual(self.back_up(copy), due)
-                names = [row[1] for row in self.joined(copy)["tenant"]]
-                self.assertEqual(names, ["acme", *(f"t{number}" for number in range(call + 1))])
+                    if os.path.lexists(copy) or os.path.lexists(f"{copy}-wal"):
+                        self.assertEqual(self.back_up(copy), (2, "file_exists"))
+                        for end in ["", "-wal"]:
+                            Path(copy + end).unlink(missing_ok=True)
+                    self.assertEqual(self.back_up(copy), COPIED)
+                self.assertEqual([row[1] for row in self.joined(copy)["tenant"]], due)
+        self.assertEqual(there, {False, True})
 
 
 class Orders(threading.Thread):

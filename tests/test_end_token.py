@@ -203,7 +203,7 @@ class EndToken(Tokens):
 
 
 class ByTheService(Tokens):
-    """With --orders the running service ends the tokens, which a copy lists."""
+    """With --orders the running service ends the tokens, and says which there are; a copy isn't read."""
 
     def setUp(self):
         super().setUp()
@@ -236,12 +236,32 @@ class ByTheService(Tokens):
         told = f"wgr-end-token: {DIGESTS[TOKEN]} isn't ended: wgr: no_such_token\n"
         self.assertEqual(self.end("--digest", DIGESTS[TOKEN]), Left(1, b"", told.encode()))
 
+    def test_a_token_that_the_copy_lacks(self):
+        """It was granted after the copy, or is granted while the others end."""
+        self.assertEqual(self.run_script("wgr", "send", "orders", "token-grant", "acme", text="later"), Left(0, b"done\n"))
+        real = (self.bin / "wgr").resolve()
+        granted = f'printf meanwhile | {real} send "$2" token-grant acme >/dev/null'
+        self.stand_in("wgr", f'[[ "$*" != *token-end* || -e $ROOM/granted ]] || {{ touch $ROOM/granted; {granted}; }}\nexec {real} "$@"')
+        self.assertEqual(self.run_script("wgr-end-token", "--orders", "orders", "--tenant", "acme"), Left(0, b"done\n"))
+        self.assertTrue((self.folder / "granted").exists())
+        for token in [TOKEN, "acme-2", "later", "meanwhile"]:
+            with self.subTest(token):
+                self.assertEqual(self.server.ask("GET", "/networks", token=token), refused(401, "unknown_token"))
+
+    def test_a_name_that_begins_with_a_hyphen(self):
+        for order in ["tenant-add", "token-grant"]:
+            self.assertEqual(self.run_script("wgr", "send", "orders", order, "--", "-x", text="hyphen"), Left(0, b"done\n"))
+        self.assertEqual(self.run_script("wgr-end-token", "--orders", "orders", "--tenant=-x"), Left(0, b"done\n"))
+        self.assertEqual(self.server.ask("GET", "/networks", token="hyphen"), refused(401, "unknown_token"))
+
     def test_refusals(self):
         rows = [
             ("a tenant that isn't there", ["--tenant", "dune"], "there is no tenant dune"),
-            ("a tenant without a token", ["--tenant", "corp"], "corp has no token in copy.db"),
+            ("a tenant without a token", ["--tenant", "corp"], "corp has no token"),
+            ("no tenant's name", ["--tenant", ""], "the service doesn't show : wgr: bad_order"),
             ("a digest that none has", ["--digest", NOBODYS], f"{NOBODYS} isn't ended: wgr: no_such_token"),
-            ("no service", ["--orders", "none", "--tenant", "bolt"], f"{DIGESTS['bolt-1']} isn't ended: wgr: device"),
+            ("no service", ["--orders", "none", "--tenant", "bolt"], "the service doesn't show bolt: wgr: device"),
+            ("no service for a digest", ["--orders", "none", "--digest", DIGESTS[TOKEN]], f"{DIGESTS[TOKEN]} isn't ended: wgr: device"),
         ]
         for name, words, told in rows:
             with self.subTest(name):

@@ -197,6 +197,40 @@ class Pools(Shipped):
         left = self.run_script("wgr-free-pool", "24", "first.db", "second.db", "--within", "10.8.0.0/16")
         self.assertEqual(left, Left(0, b"10.8.2.0/24\n"))
 
+    def test_services(self):
+        """The pools of each service and of each copy that is named count, those of now."""
+        os.rename(self.database, self.folder / "first.db")
+        for name, pool in [("second.db", "10.8.1.0/24"), ("third.db", "10.8.2.0/24")]:
+            shutil.copy(self.folder / "first.db", self.folder / name)
+            order("network-end", str(self.folder / name), "acme", "office")
+            network_add(str(self.folder / name), "acme", "lab", pool)
+        for name in ["first", "second"]:
+            self.serve(str(self.folder / f"{name}.db"), orders=self.folder / name)
+        rows = [
+            ("one", ["--orders", "first"], "10.8.1.0/24"),
+            ("another", ["--orders", "second"], "10.8.0.0/24"),
+            ("two", ["--orders", "first", "--orders", "second"], "10.8.2.0/24"),
+            ("one and a copy", ["third.db", "--orders", "first"], "10.8.1.0/24"),
+            ("two and a copy", ["--orders", "first", "--orders", "second", "third.db"], "10.8.3.0/24"),
+        ]
+        for name, words, due in rows:
+            with self.subTest(name):
+                self.assertEqual(self.run_script("wgr-free-pool", "24", *words, "--within", "10.8.0.0/16"), Left(0, f"{due}\n".encode()))
+        with self.subTest("a network that was just added"):
+            added = self.run_script("wgr", "send", "first", "network-add", "acme", "new", "10.8.1.0/24", "h", "1", key(9), "9")
+            self.assertEqual(added, Left(0, b"done\n"))
+            self.assertEqual(self.run_script("wgr-free-pool", "24", "--orders", "first", "--within", "10.8.0.0/16"), Left(0, b"10.8.2.0/24\n"))
+        with self.subTest("nobody takes orders at one of them"):
+            left = self.run_script("wgr-free-pool", "24", "--orders", "first", "--orders", "none")
+            self.assertEqual(left, Left(1, b"", b"wgr-free-pool: the service at none doesn't show its networks: wgr: device\n"))
+        with self.subTest("no copy"):
+            left = self.run_script("wgr-free-pool", "24", "--orders", "first", "none.db")
+            self.assertEqual(left, Left(1, b"", b"wgr-free-pool: there is no copy none.db\n"))
+        with self.subTest("neither"):
+            left = self.run_script("wgr-free-pool", "24")
+            told = b"wgr-free-pool: error: COPY or --orders is needed, for each register"
+            self.assertEqual((left.status, left.out, left.err.splitlines()[-1]), (2, b"", told))
+
     def test_lengths(self):
         for words in [["31"], ["24", "--within", "10.8.0.0/25"], ["47", "--within", "fd00::/8"]]:
             with self.subTest(words):
