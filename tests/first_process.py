@@ -18,7 +18,7 @@ DIST = Path(__file__).resolve().parent.parent / "dist"
 SYSTEMD = "/lib/systemd/systemd"
 GROUPS = next((Path(path) for path in ["/sys/fs/cgroup/unified", "/sys/fs/cgroup"] if Path(path, "cgroup.procs").exists()), None)
 APART = ["unshare", "--fork", "--kill-child", "--pid", "--mount", "--uts", "--ipc", "--net", "--cgroup", "--propagation", "private"]
-TARGETS = ["sysinit", "basic", "shutdown", "sockets", "timers", "paths", "slices", "multi-user", "network", "network-online", "network-pre"]
+TARGETS = ["sysinit", "basic", "shutdown", "sockets", "timers", "paths", "slices", "multi-user", "network", "network-online", "network-pre", "time-sync"]
 NUMBERS = itertools.count()
 
 # What becomes the first process, with the folder of the test and the program.
@@ -28,7 +28,7 @@ mount --make-rshared /
 mount -t proc proc /proc
 mount -t cgroup2 cgroup2 /sys/fs/cgroup
 for folder in /run /usr/local /var/lib /var/log; do mount -t tmpfs -o mode=755 tmpfs "$folder"; done
-mkdir -p /run/lock /run/netns /run/etc /var/lib/private /var/lib/wgr /usr/local/bin /usr/local/lib/wgr
+mkdir -p /run/lock /run/netns /run/etc /var/lib/private /var/lib/wgr /usr/local/bin /usr/local/lib/wgr /usr/local/share/wgr
 cp -a /etc/. /run/etc
 mount --bind /run/etc /etc
 mkdir -m 700 /etc/wgr
@@ -37,7 +37,9 @@ echo 'wgr:x:990:' >> /etc/group
 chown wgr:wgr /var/lib/wgr
 chmod 700 /var/lib/wgr
 install -m 755 "$2" /usr/local/bin/wgr
+install -m 755 {DIST}/wgr-clock /usr/local/bin
 cp -p -r "$1"/lib/. /usr/local/lib/wgr
+cp "$1"/share/* /usr/local/share/wgr
 ip link set lo up
 exec env -i PATH="$PATH" container=test SYSTEMD_UNIT_PATH="$1/units" SYSTEMD_LOG_TARGET=null {SYSTEMD} --system --show-status=no
 """
@@ -59,10 +61,12 @@ class System:
     def __init__(self, folder, units, scripts=("wgr-listens",), drop_ins=None):
         self.folder = Path(folder)
         self.units, self.begin = self.folder / "units", self.folder / "begin"
-        for place in ["units", "lib"]:
+        for place in ["units", "lib", "share"]:
             (self.folder / place).mkdir()
         for name in scripts:
             shutil.copy(DIST / name, self.folder / "lib")
+        for module in DIST.glob("wgr_*.py"):
+            shutil.copy(module, self.folder / "share")
         for name in TARGETS:
             shutil.copy(f"/lib/systemd/system/{name}.target", self.units)
         (self.units / "default.target").write_text("[Unit]\nRequires=basic.target\nAfter=basic.target\n")

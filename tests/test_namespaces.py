@@ -2,12 +2,30 @@
 
 import json
 import os
+import re
 import tempfile
 from pathlib import Path
 
 from following import TOOLS, Network, OfHosts, OneNetwork, inside, mark, private_key, public_key, run
 from serving import network_add, order, request
 from tools import needs
+
+
+def count(space, name):
+    """How many packets of ICMP, of both families, a namespace has counted under a name."""
+    told = inside(space, "sh", "-c", "cat /proc/net/snmp; cat /proc/net/snmp6 || true").stdout.splitlines()
+    names, values = [line.split() for line in told if line.startswith("Icmp: ")]
+    six = [int(line.split()[1]) for line in told if line.split()[0] == f"Icmp6{name}"]
+    return int(values[names.index(name)]) + sum(six)
+
+
+# A program that fails, and its words there as a pattern of bash.
+FAULTS = [
+    ("ip", '"link set "*" netns "*'),
+    ("nsenter", '*" ipv4/conf/"*/send_redirects*'),
+    # Where the kernel has WireGuard, these aren't asked for anything.
+    *([] if os.path.exists("/sys/module/wireguard") else [("wireguard-go", "*"), ("wg", "show*")]),
+]
 
 
 @needs(*TOOLS, root=True)
@@ -17,6 +35,10 @@ class Namespaces(OneNetwork):
         port = f":{51820:04X} "
         return any(port in inside(space, "cat", f"/proc/net/{table}").stdout for table in ["udp", "udp6"])
 
+    def redirects(self):
+        """Whether redirects are sent: for all interfaces, for new ones and for this one."""
+        return [inside(self.net.name, "cat", f"/proc/sys/net/ipv4/conf/{name}/send_redirects").stdout.strip() for name in ["all", "default", self.net.name]]
+
     def test_a_namespace_of_its_own(self):
         self.net.sync()
         with self.subTest("the socket stays with the host"):
@@ -25,6 +47,8 @@ class Namespaces(OneNetwork):
             self.assertNotIn(self.net.name, run("ip", "-n", self.net.host, "link").stdout)
         with self.subTest("peers reach one another"):
             self.assertEqual(inside(self.net.name, "cat", "/proc/sys/net/ipv4/ip_forward").stdout, "1\n")
+        with self.subTest("they aren't told of another way"):
+            self.assertEqual(self.redirects(), ["0", "0", "0"])
         with self.subTest("one that is there already stays"):
             before = self.net.state_of_interface()
             self.assertIn("there already", self.net.net("up", allowed=(1,)).stderr)
@@ -36,21 +60,73 @@ class Namespaces(OneNetwork):
 
     def test_what_fails_leaves_nothing(self):
         self.net.net("down")
-        for program in ["ip", "nsenter"]:
-            with self.subTest(program):
-                self.fails_at(program)
+        for program, where in [("nsenter", "*ip_forward*"), *FAULTS]:
+            with self.subTest(program, where=where):
+                self.fails_at("up", program, where)
                 self.assertNotIn(self.net.name, run("ip", "netns").stdout.split())
                 self.assertNotIn(self.net.name, run("ip", "-n", self.net.host, "link").stdout)
 
-    def fails_at(self, program):
-        """Makes the namespace, where this program fails once the interface is there."""
-        folder = self.folder / program
-        folder.mkdir()
+    def fails_at(self, word, program, where):
+        """Runs wgr-net where a program fails at some of its words."""
+        folder = Path(self.enterContext(tempfile.TemporaryDirectory()))
         path = run("bash", "-c", f"type -P {program}").stdout.strip()
-        where = '[[ "$*" != "link set"* ]] || exit 1' if program == "ip" else "exit 1"
-        (folder / program).write_text(f'#!/bin/bash\n{where}\nexec {path} "$@"\n')
+        (folder / program).write_text(f'#!/bin/bash\n[[ "$*" != {where} ]] || {{ touch {folder}/failed; exit 1; }}\nexec {path} "$@"\n')
         (folder / program).chmod(0o755)
-        self.net.net("up", allowed=(1,), environment={"PATH": f"{folder}:{os.environ['PATH']}"})
+        self.net.net(word, allowed=(1,), environment={"PATH": f"{folder}:{os.environ['PATH']}"})
+        self.assertTrue((folder / "failed").exists())
+
+    def kept(self):
+        """What is in the namespace besides the interface, and the namespace itself."""
+        told = inside(self.net.name, "ip", "-o", "address").stdout
+        lines = [line for line in told.splitlines() if f" {self.net.name} " not in line]
+        return os.stat(f"/run/netns/{self.net.name}").st_ino, lines
+
+    def followed(self):
+        """The interface after a round, without its number, which each new one has anew."""
+        self.net.sync()
+        return [re.sub(r"(?m)^\d+: ", "", text) for text in self.net.state_of_interface()]
+
+    def add_by_hand(self):
+        inside(self.net.name, "ip", "link", "add", "by-hand", "type", "veth", "peer", "name", "by-hand-too")
+        inside(self.net.name, "ip", "address", "add", "192.0.2.9/24", "dev", "by-hand")
+
+    def test_what_is_missing_is_made_again(self):
+        self.add()
+        self.add_by_hand()
+        followed, before, kept = self.followed(), self.net.state_of_interface(), self.kept()
+        with self.subTest("nothing is missing"):
+            self.assertEqual(self.net.net("again").stderr, "")
+            self.assertEqual((self.net.state_of_interface(), self.kept()), (before, kept))
+        with self.subTest("the interface is missing"):
+            inside(self.net.name, "ip", "link", "delete", self.net.name)
+            inside(self.net.name, "sh", "-c", "echo 1 >/proc/sys/net/ipv4/conf/default/send_redirects")
+            self.net.net("again")
+            self.assertEqual(self.redirects(), ["0", "1", "0"])
+            self.assertEqual(self.kept(), kept)
+            self.assertEqual((self.followed(), self.listens(self.net.host)), (followed, True))
+        with self.subTest("the namespace is missing"):
+            self.net.net("down")
+            self.net.net("again")
+            self.assertEqual((self.followed(), self.listens(self.net.host)), (followed, True))
+
+    def test_what_fails_again_leaves_what_was_there(self):
+        self.add_by_hand()
+        inside(self.net.name, "ip", "link", "delete", self.net.name)
+        kept = self.kept()
+        for program, where in FAULTS:
+            with self.subTest(program, where=where):
+                self.fails_at("again", program, where)
+                self.assertEqual(self.kept(), kept)
+                for space in [self.net.name, self.net.host]:
+                    self.assertNotIn(self.net.name, run("ip", "-n", space, "link").stdout)
+
+    def test_a_name_that_is_no_namespace(self):
+        self.net.net("down")
+        place = Path("/run/netns") / self.net.name
+        place.touch()
+        self.assertIn("cannot enter the namespace", self.net.net("again", allowed=(1,)).stderr)
+        self.net.net("down")
+        self.assertFalse(place.exists())
 
 
 class Client:
@@ -71,17 +147,42 @@ class Client:
     def start(self, file, addresses):
         """The interface by the register's file, in which the server is this one, and addresses on its side."""
         inside(self.space, "wireguard-go", self.name)
+        self.configure(file)
+        for address in addresses:
+            run("ip", "-n", self.space, "address", "add", f"{address}/{128 if ':' in address else 32}", "dev", self.name)
+        run("ip", "-n", self.space, "link", "set", self.name, "up")
+        run("ip", "-n", self.space, "route", "add", "fd00::/8" if ":" in addresses[0] else "10.0.0.0/8", "dev", self.name)
+
+    def configure(self, file):
+        """Sets what the file says, so that its peer begins anew."""
         text = file.replace("[Interface]", f"[Interface]\nPrivateKey = {self.private}").replace("vpn.example.net", self.server)
         inside(self.space, "wg", "setconf", self.name, "/dev/stdin", text=text)
-        for address in addresses:
-            run("ip", "-n", self.space, "address", "add", f"{address}/32", "dev", self.name)
-        run("ip", "-n", self.space, "link", "set", self.name, "up")
-        run("ip", "-n", self.space, "route", "add", "10.0.0.0/8", "dev", self.name)
 
     def answered(self):
         """How many pings came to this machine."""
-        names, values = [line.split() for line in inside(self.space, "cat", "/proc/net/snmp").stdout.splitlines() if line.startswith("Icmp: ")]
-        return int(values[names.index("InEchos")])
+        return count(self.space, "InEchos")
+
+
+@needs(*TOOLS, "ping", root=True)
+class Redirects(OneNetwork):
+    """Two peers of one network, which reach one another through the server alone."""
+
+    addresses = ["10.8.0.2", "10.8.0.3"]
+
+    def test_none_is_sent(self):
+        clients = [Client(self, self.net.host, number) for number in range(2)]
+        made = [self.ask("POST", "peers", {"key": client.public, "keepalive": 1}) for client in clients]
+        self.net.sync()
+        for client, peer, address in zip(clients, made, self.addresses):
+            reply = self.register.send(request("GET", f"/networks/office/peers/{peer['number']}/file/wg"))
+            client.start(reply.partition(b"\r\n\r\n")[2].decode(), [address])
+        inside(clients[0].space, "ping", "-c", "3", "-i", "0.2", "-W", "5", self.addresses[1])
+        self.assertEqual(clients[1].answered(), 3)
+        self.assertEqual(count(self.net.name, "OutRedirects"), 0)
+
+
+class RedirectsOfIPv6(Redirects):
+    pool, addresses = "fd00:8::/64", ["fd00:8::2", "fd00:8::3"]
 
 
 # The tenants' pools, the routes to the one peer of each, and the addresses that its server pings there: two have the

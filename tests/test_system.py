@@ -205,7 +205,7 @@ class Opened(Files):
                 server.environment = server.environment | {"WGR_RECORD": record}
                 faulty.arm()
                 with server:
-                    for message in [LIST, b"x"]:
-                        server.send(message)
+                    server.send(LIST)
+                    server.send(b"x", close=True)
                     self.assertEqual(server.ended(), Left(0))
                 self.assertEqual(opened_in(record), files)

@@ -1,6 +1,5 @@
 """The units of dist/: well-formed, as narrow as they were, and run by a real systemd where that can be started."""
 
-import json
 import os
 import re
 import shutil
@@ -12,20 +11,20 @@ import unittest
 from pathlib import Path
 
 from first_process import DIST, System, needs_systemd
-from serving import TOKEN, key
+from serving import TOKEN
 from tools import needs
 
 UNITS = sorted(path.name for pattern in ["*.service", "*.socket", "*.timer"] for path in DIST.glob(pattern))
 # Of each service that is confined, what `systemd-analyze security` counts at most, in tenths: 100 is not confined at all.
-EXPOSURE = {"wgr.service": 8, "wgr-http.service": 7, "wgr-haproxy.service": 9, "wgr-sync@.service": 26, "wgr-net@.service": 46}
+EXPOSURE = {"wgr.service": 8, "wgr-space.service": 7, "wgr-http.service": 7, "wgr-haproxy.service": 9, "wgr-clock.service": 6, "wgr-sync@.service": 26, "wgr-sync.service": 26, "wgr-net@.service": 46}
 # A unit and the one of several registers, which differs in its names alone.
-INSTANCES = [("wgr.service", "wgr@.service"), ("wgr-http.socket", "wgr-http@.socket"), ("wgr-http.service", "wgr-http@.service")]
+INSTANCES = [("wgr.service", "wgr@.service"), ("wgr-space.service", "wgr-space@.service"), ("wgr-http.socket", "wgr-http@.socket"), ("wgr-http.service", "wgr-http@.service"), ("wgr-clock.service", "wgr-clock@.service"), ("wgr-clock.timer", "wgr-clock@.timer")]
 
 
 def settings(name):
     """The settings of a unit, without what differs between the units of one register and those of several."""
     lines = [line for line in (DIST / name).read_text().splitlines() if line and line[0] != "#"]
-    return re.sub(r"[@/ -]%i", "", "\n".join(lines).replace(" wgr-haproxy.service", ""))
+    return re.sub(r"[@/ -]%i", "", "\n".join(lines))
 
 
 class Files(unittest.TestCase):
@@ -58,9 +57,16 @@ class Files(unittest.TestCase):
                 self.assertEqual(told.returncode, 0, told.stdout[-200:])
 
     def test_a_crash_loop_of_the_largest_register_counts_as_failed(self):
-        text = (DIST / "wgr.service").read_text()
-        interval, burst, pause = (int(re.search(rf"(?m)^{name}=(\d+)$", text)[1]) for name in ["StartLimitIntervalSec", "StartLimitBurst", "RestartSec"])
-        self.assertLess(burst * (LONGEST_START + pause), interval)
+        for name, start in [("wgr.service", LONGEST_START), ("wgr-sync.service", 0)]:
+            with self.subTest(name):
+                text = (DIST / name).read_text()
+                interval, burst, pause = (int(re.search(rf"(?m)^{it}=(\d+)$", text)[1]) for it in ["StartLimitIntervalSec", "StartLimitBurst", "RestartSec"])
+                self.assertLess(burst * (start + pause), interval)
+
+    def test_rounds_are_confined_alike(self):
+        one, all_networks = [(DIST / name).read_text().partition("\nCapabilityBoundingSet=")[2].partition("\n\n")[0] for name in ["wgr-sync@.service", "wgr-sync.service"]]
+        self.assertEqual(one.rstrip(), all_networks)
+        self.assertIn("ProtectSystem=strict", one)
 
     def test_units_of_several_registers(self):
         for one, several in INSTANCES:
@@ -68,7 +74,7 @@ class Files(unittest.TestCase):
                 self.assertEqual(settings(several), settings(one))
 
 
-ALL = ["wgr.service", "wgr@.service", "wgr-http.socket", "wgr-http.service", "wgr-http@.socket", "wgr-http@.service", "wgr-alert@.service"]
+ALL = ["wgr.service", "wgr@.service", "wgr-space.service", "wgr-space@.service", "wgr-http.socket", "wgr-http.service", "wgr-http@.socket", "wgr-http@.service", "wgr-alert@.service"]
 # A crash loop takes less time so; what makes it count as failed is the unit's own interval.
 QUICKLY = {"wgr.service": "[Unit]\nStartLimitBurst=4\n[Service]\nRestartSec=10ms\n"}
 # The longest start that docs/OPERATIONS.md has, in seconds.
@@ -95,9 +101,11 @@ class Running(unittest.TestCase):
 
     def test_the_service(self):
         system = self.system
-        with self.subTest("without a register it doesn't start, and hasn't failed"):
-            system.run("systemctl", "start", "wgr")
-            self.assertEqual(system.show("wgr", "ActiveState", "ConditionResult", "Result"), ("inactive", "no", "success"))
+        with self.subTest("without a register it doesn't start, and says so"):
+            for word in ["start", "restart"]:
+                left = system.run("systemctl", word, "wgr", allowed=[1])
+                self.assertIn("Assertion failed", left.stderr)
+            self.assertEqual(system.show("wgr", "ActiveState", "AssertResult"), ("inactive", "no"))
         system.make_register(TOKEN)
         with self.subTest("it has started once it listens"):
             system.run("systemctl", "start", "wgr-http.socket", "wgr")
@@ -131,12 +139,7 @@ class Running(unittest.TestCase):
         system.make_register(TOKEN)
         system.run("systemctl", "start", "wgr")
         self.assertEqual(system.send("tenant-add", "bolt").stdout, "done\n")
-        [process] = system.processes("wgr.service")
-        os.kill(process, 9)
-        end = time.monotonic() + 30
-        while system.processes("wgr.service") in ([], [process]) or system.show("wgr", "ActiveState") != ("active",):
-            self.assertLess(time.monotonic(), end)
-            time.sleep(0.05)
+        self.assertEqual(self.kill(), "active")
         self.assertEqual(system.send("tenant-add", "bolt", allowed=[2]).stderr, "wgr: name_held\n")
         system.run("systemctl", "stop", "wgr")
         self.assertEqual(system.send("tenant-add", "cato", allowed=[1]).stderr, "wgr: device\n")
@@ -157,6 +160,28 @@ class Running(unittest.TestCase):
             self.assertEqual(self.system.show("wgr-alert@wgr.service", "Result", "ExecMainStatus"), ("success", "0"))
             self.assertNotEqual(self.system.show("wgr-alert@wgr.service", "ExecMainExitTimestampMonotonic"), ("0",))
 
+    def kill(self):
+        """Kills the service, and waits until it has started anew or has failed; gives the state."""
+        before, end = self.system.show("wgr", "MainPID"), time.monotonic() + 30
+        self.system.run("kill", "-9", *before)
+        while time.monotonic() < end:
+            state, process = self.system.show("wgr", "ActiveState", "MainPID")
+            if state == "failed" or state == "active" and process not in before:
+                return state
+            time.sleep(0.02)
+
+    def test_stops_by_hand_are_never_too_many(self):
+        """More of them than starts may be in a row; then a service that is killed again and again fails all the same."""
+        system = self.system
+        system.make_register(TOKEN)
+        system.run("systemctl", "start", "wgr")
+        for words in 4 * [["restart"]] + 4 * [["stop"], ["start"]]:
+            system.run("systemctl", *words, "wgr")
+        self.assertEqual(system.show("wgr", "ActiveState", "SubState"), ("active", "running"))
+        with self.subTest("killed again and again"):
+            self.assertEqual([self.kill() for _ in range(4)], ["active", "active", "active", "failed"])
+            self.assertEqual(system.show("wgr", "ActiveState", "Result"), ("failed", "signal"))
+
     def test_two_registers(self):
         for name, token in [("eu1", "first"), ("eu2", "second")]:
             self.system.run("install", "-d", "-o", "wgr", "-g", "wgr", "-m", "700", f"/var/lib/wgr/{name}")
@@ -173,44 +198,3 @@ class Running(unittest.TestCase):
             os.kill(self.system.processes("system-wgr.slice/wgr@eu1.service")[0], 9)
             self.assertTrue(self.through("/run/wgr-http-eu2.sock", token="second").endswith(" 200"))
             self.assertEqual(self.system.send("token-end", service="wgr-eu2", text="second").stdout, "done\n")
-
-
-@needs_systemd
-@needs("wg", "wireguard-go", "curl", "jq", "nsenter", root=True)
-class Following(unittest.TestCase):
-    """wgr-net@ and wgr-sync@ with a register on the same host."""
-
-    def setUp(self):
-        folder = self.enterContext(tempfile.TemporaryDirectory())
-        self.system = System(folder, ["wgr-net@.service", "wgr-sync@.service", "wgr-sync@.timer"], scripts=["wgr-net", "wgr-sync"])
-        self.addCleanup(self.system.stop)
-        self.system.start()
-        private = self.system.run("wg", "genkey").stdout
-        public = self.system.run("wg", "pubkey", text=private).stdout.strip()
-        self.system.make_register(TOKEN)
-        words = ["--pool", "10.8.0.0/24", "--host", "vpn.example.net", "--port", "51820", "--key", public, "--capacity", "9"]
-        self.system.order("network-add", "acme", "office", *words)
-        serve = "/usr/local/bin/wgr serve /var/lib/wgr/register.db 127.0.0.1:9000 --count 9000"
-        self.system.run("sh", "-c", f"{serve} >/run/served 2>&1 & until grep -q listening /run/served; do sleep 0.02; done")
-        self.system.run("mkdir", "-m", "700", "/etc/wgr/vpn1")
-        for name, text in [("url", "http://127.0.0.1:9000/networks/office\n"), ("token", f"{TOKEN}\n"), ("key", private)]:
-            self.system.run("sh", "-c", f"umask 077; cat >/etc/wgr/vpn1/{name}", text=text)
-
-    def peers(self):
-        return self.system.run("ip", "netns", "exec", "vpn1", "wg", "show", "vpn1", "peers", allowed=None).stdout.split()
-
-    def test_a_network_is_followed(self):
-        add = ["curl", "-s", "-H", f"Authorization: Bearer {TOKEN}", "-d", json.dumps({"key": key(1)}), "http://127.0.0.1:9000/networks/office/peers"]
-        self.system.run(*add)
-        self.system.run("systemctl", "start", "wgr-sync@vpn1.timer")
-        end = time.monotonic() + 20
-        while self.peers() != [key(1)] and time.monotonic() < end:
-            time.sleep(0.05)
-        self.assertEqual(self.peers(), [key(1)])
-        with self.subTest("a round ends well"):
-            self.system.run("systemctl", "start", "wgr-sync@vpn1")
-            self.assertEqual(self.system.show("wgr-sync@vpn1", "Result", "ExecMainStatus"), ("success", "0"))
-        with self.subTest("the end of the namespace is the end of the rounds"):
-            self.system.run("systemctl", "stop", "wgr-net@vpn1")
-            self.assertEqual(self.system.run("ip", "netns").stdout, "")
-            self.assertEqual(self.system.show("wgr-sync@vpn1.timer", "ActiveState"), ("inactive",))
