@@ -1,19 +1,23 @@
 """What tests of wgr-net and wgr-sync need: a host with the networks of tenants, and a look at what is asked."""
 
+import ctypes
 import itertools
 import json
 import os
+import socket
 import socketserver
 import subprocess
 import tempfile
 import threading
 import unittest
+from concurrent.futures import ThreadPoolExecutor
+from contextlib import suppress
 from pathlib import Path
 
 import program
 from serving import TOKEN, Server, network_add, order, request
 
-TOOLS = ["ip", "wg", "wireguard-go", "curl", "jq", "nsenter", "bash"]
+TOOLS = ["ip", "wg", "wireguard-go", "nsenter", "bash"]
 DIST = Path(__file__).resolve().parent.parent / "dist"
 # No name is used twice, since a wireguard-go that ends removes the socket of its name.
 NUMBERS = itertools.count()
@@ -25,9 +29,9 @@ def mark():
 
 
 def run(*words, text=None, allowed=(0,), environment=None):
-    done = subprocess.run(
-        list(map(str, words)), input=text, capture_output=True, text=True, timeout=program.LIMIT, env={**os.environ, **(environment or {})}
-    )
+    # Where systemd runs the tests, their wgr-sync isn't its own.
+    known = {name: value for name, value in os.environ.items() if name != "INVOCATION_ID"} | (environment or {})
+    done = subprocess.run(list(map(str, words)), input=text, capture_output=True, text=True, timeout=program.LIMIT, env=known)
     assert allowed is None or done.returncode in allowed, (words, done)
     return done
 
@@ -45,16 +49,30 @@ def public_key(private):
     return run("wg", "pubkey", text=private).stdout.strip()
 
 
+def listen_inside(space):
+    """A socket that listens in a network namespace, into which this thread goes for good."""
+    with open(f"/run/netns/{space}") as found:
+        if ctypes.CDLL(None, use_errno=True).setns(found.fileno(), 0) != 0:
+            raise OSError(ctypes.get_errno(), "setns")
+    return socket.create_server(("127.0.0.1", 0))
+
+
 class Between:
     """A server between wgr-sync and the register, which keeps all that is asked.
 
     `before` is called with the method and the path of each request. `instead` has replies of its own by the end of a path.
+    It listens in a network namespace, or in that of the tests.
     """
 
-    def __init__(self, register):
+    def __init__(self, register, space=None):
         self.register, self.asked, self.instead = register, [], {}
         self.before = lambda method, path: None
-        self.server = socketserver.ThreadingTCPServer(("127.0.0.1", 0), self.handler())
+        self.server = socketserver.ThreadingTCPServer(("127.0.0.1", 0), self.handler(), bind_and_activate=space is None)
+        if space is not None:
+            self.server.socket.close()
+            with ThreadPoolExecutor(1) as pool:
+                self.server.socket = pool.submit(listen_inside, space).result()
+            self.server.server_address = self.server.socket.getsockname()
         self.server.daemon_threads = True
         threading.Thread(target=self.server.serve_forever, args=(0.01,), daemon=True).start()
         self.port = self.server.server_address[1]
@@ -62,18 +80,24 @@ class Between:
     def handler(between):
         class Handler(socketserver.StreamRequestHandler):
             def handle(self):
-                head = b""
-                while not head.endswith(b"\r\n\r\n"):
-                    head += self.rfile.readline()
+                head = line = self.rfile.readline()
+                while line not in [b"\r\n", b""]:
+                    line = self.rfile.readline()
+                    head += line
                 lengths = [int(line.split(b":")[1]) for line in head.split(b"\r\n") if line.lower().startswith(b"content-length:")]
                 message = head + self.rfile.read(sum(lengths))
                 between.asked.append(message)
                 method, path, _ = head.decode().split(" ", 2)
                 between.before(method, path)
-                own = between.instead.get(path.rpartition("/")[2])
-                self.wfile.write(between.register.send(message) if own is None else own)
+                # Without a register, or a client that waits, there is no reply.
+                with suppress(OSError):
+                    between.answer(message, path.rpartition("/")[2], self.connection)
 
         return Handler
+
+    def answer(self, message, end, link):
+        own = self.instead.get(end)
+        link.sendall(self.register.send(message) if own is None else own)
 
     def stop(self):
         self.server.shutdown()
@@ -102,6 +126,10 @@ class Network:
     def sync(self, **more):
         """One round of wgr-sync."""
         return run(DIST / "wgr-sync", self.name, self.folder, **more)
+
+    def kept(self):
+        """What rounds have kept, but for how many of them failed."""
+        return {path.name: path.read_text() for path in (self.folder / "state").iterdir() if path.name != "failures"}
 
     def peers(self):
         """The public keys of the interface's peers."""
@@ -158,6 +186,10 @@ class OneNetwork(OfHosts):
         reply = self.register.send(request(method, f"/networks/office/{path}", body))
         self.assertTrue(reply.startswith(b"HTTP/1.1 200 "), reply)
         return json.loads(reply.partition(b"\r\n\r\n")[2])
+
+    def stop_register(self):
+        self.net.write("url", f"http://127.0.0.1:{self.register.port}/networks/office")
+        self.register.__exit__()
 
     def add(self, **members):
         """A new peer: its number and its public key."""
