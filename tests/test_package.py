@@ -1,4 +1,4 @@
-"""The Debian package that tools/package makes of the released program."""
+"""The Debian package of the released program that tools/package makes; test_server_package.py has the other one."""
 
 import gzip
 import hashlib
@@ -17,9 +17,10 @@ TOP = Path(__file__).resolve().parent.parent
 DIST = TOP / "dist"
 RELEASE = DIST / "release/RELEASE"
 DOCUMENTS = "usr/share/doc/wgr"
+ARCHITECTURES = {"wgr": "amd64", "wgr-server": "all"}
 
-TOOLS = [f"wgr-{name}" for name in ["backup", "change-network", "client", "end-token", "figures", "free-pool", "history", "probe"]]
-TOOL_UNITS = ["wgr-backup.service", "wgr-backup.timer", "wgr-figures.service", "wgr-figures.timer", "wgr-probe.service", "wgr-probe.timer"]
+TOOLS = [f"wgr-{name}" for name in ["backup", "change-network", "client", "clock", "end-token", "figures", "free-pool", "history", "probe"]]
+TOOL_UNITS = [f"wgr-{name}.{kind}" for name in ["backup", "clock", "clock@", "figures", "probe"] for kind in ["service", "timer"]]
 
 # Each file of the package and the file of the repository that it is, the program and what is made of others apart.
 COPIED = {
@@ -35,19 +36,18 @@ COPIED = {
     **{f"usr/lib/wgr/{name}": DIST / name for name in ["wgr-listens", "wgr-net", "wgr-sync"]},
     **{f"{DOCUMENTS}/docs/{page.name}": page for page in (TOP / "docs").iterdir()},
     f"{DOCUMENTS}/examples/prometheus-alerts.yml": DIST / "prometheus-alerts.yml",
-    **{f"usr/share/wgr/{name}": DIST / name for name in ["wgr_changes.py", "wgr_copies.py"]},
-    "usr/share/man/man8/wgr-tools.8.gz": DIST / "wgr-tools.8",
+    **{f"usr/share/wgr/{module.name}": module for module in DIST.glob("wgr_*.py")},
+    **{f"usr/share/man/man8/{name}.gz": DIST / name for name in ["wgr.8", "wgr-net.8", "wgr-sync.8", "wgr-tools.8"]},
     # The scripts, and their man page under the name of each.
     **{f"usr/bin/{name}": DIST / name for name in TOOLS},
     **{f"usr/share/man/man8/{name}.8.gz": DIST / "wgr-tools.8" for name in TOOLS},
 }
-SERVICES = ["wgr", "wgr@", "wgr-alert@", "wgr-haproxy", "wgr-http", "wgr-http@", "wgr-net@", "wgr-sync@"]
+SERVICES = ["wgr", "wgr@", "wgr-alert@", "wgr-haproxy", "wgr-http", "wgr-http@", "wgr-net@", "wgr-space", "wgr-space@", "wgr-sync", "wgr-sync@"]
 UNITS = [*(f"{name}.service" for name in SERVICES), "wgr-haproxy.socket", "wgr-http.socket", "wgr-http@.socket", "wgr-sync@.timer"]
 MADE = {
     *(f"usr/lib/systemd/system/{name}" for name in TOOL_UNITS),
     "usr/bin/wgr",
     *(f"usr/lib/systemd/system/{name}" for name in UNITS),
-    "usr/share/man/man8/wgr.8.gz",
     f"{DOCUMENTS}/changelog.gz",
     f"{DOCUMENTS}/copyright",
 }
@@ -110,19 +110,21 @@ def release():
     return dict(line.split(" ", 1) for line in RELEASE.read_text().splitlines())
 
 
-def make(folder, top=TOP, **environment):
-    """What tools/package leaves, and the package's path. The package's modes don't come from the user's umask."""
+def make(folder, top=TOP, name="wgr", **environment):
+    """What tools/package leaves, and a package's path. The package's modes don't come from the user's umask."""
     done = subprocess.run([top / "tools/package", folder], capture_output=True, env={**os.environ, **environment}, umask=0o077)
-    return done, Path(folder) / f"wgr_{release()['version']}_amd64.deb"
+    return done, Path(folder) / f"{name}_{release()['version']}_{ARCHITECTURES[name]}.deb"
 
 
 class Made(unittest.TestCase):
     """Tests over one package, and its files below `self.files`."""
 
+    name = "wgr"
+
     @classmethod
     def setUpClass(cls):
         folder = cls.enterClassContext(tempfile.TemporaryDirectory())
-        done, cls.package = make(folder)
+        done, cls.package = make(folder, name=cls.name)
         if done.returncode != 0:
             raise AssertionError(done.stderr)
         cls.files = Path(folder) / "files"
@@ -136,19 +138,10 @@ class Made(unittest.TestCase):
         return subprocess.run(["dpkg-deb", "-f", self.package, name], check=True, capture_output=True, text=True).stdout.rstrip("\n")
 
 
-@unittest.skipUnless(RELEASE.is_file(), "there is no release")
-@needs("dpkg-deb", "xz")
-class Package(Made):
-    def test_files(self):
-        there = {str(path.relative_to(self.files)) for path in self.files.rglob("*") if not path.is_dir()}
-        self.assertEqual(there, MADE | COPIED.keys())
-        for path, source in COPIED.items():
-            with self.subTest(path):
-                self.assertEqual(self.read(path), source.read_bytes())
-        with self.subTest("the program"):
-            self.assertEqual(hashlib.sha256(self.read("usr/bin/wgr")).hexdigest(), release()["program"])
-        with self.subTest("the man page"):
-            self.assertEqual(self.read("usr/share/man/man8/wgr.8.gz"), (DIST / "wgr.8").read_bytes())
+class Common:
+    """What is so of each package."""
+
+    units = []
 
     def test_owners_and_modes(self):
         listed = subprocess.run(["dpkg-deb", "--fsys-tarfile", self.package], check=True, stdout=subprocess.PIPE).stdout
@@ -161,6 +154,62 @@ class Package(Made):
                     mode = 0o777 if entry.issym() else 0o755 if is_run else 0o644
                     self.assertEqual((entry.uid, entry.gid, entry.mode), (0, 0, mode))
 
+    def test_units(self):
+        for name in self.units:
+            with self.subTest(name):
+                unit = self.read(f"usr/lib/systemd/system/{name}").decode()
+                # Nothing else of it differs from the one that is installed by hand.
+                self.assertEqual(unit, (DIST / name).read_text().replace("/usr/local/", "/usr/"))
+                for program in re.findall(r"(?m)^Exec\w+=[+-]*(/usr/(?:bin|lib)/wgr\S*)", unit):
+                    self.assertTrue(os.access(self.files / program[1:], os.X_OK), program)
+
+    def test_the_changelog(self):
+        entries, here = {}, None
+        for line in (TOP / "CHANGELOG.md").read_text().splitlines():
+            if line.startswith("## "):
+                here = entries.setdefault(line[3:].partition(", ")[0], []) if ", " in line else []
+            elif line.startswith("- "):
+                here.append(line[2:])
+        parts = re.findall(r"(?ms)^wgr \((.*?)\) unstable; urgency=medium\n\n(.*?)\n -- (.*?)  (.*?)\n", self.read(f"usr/share/doc/{self.name}/changelog.gz").decode())
+        self.assertEqual(parts[0][0], release()["version"])
+        told = {version: [" ".join(item.split()) for item in text.split("  * ")[1:]] for version, text, _, _ in parts}
+        self.assertEqual(told, entries)
+        self.assertEqual({maintainer for _, _, maintainer, _ in parts}, {self.field("Maintainer")})
+
+    def test_the_copyright(self):
+        told = self.read(f"usr/share/doc/{self.name}/copyright").decode()
+        notice = (TOP / "NOTICE").read_text()
+        apache = notice.index("\nLicense: Apache-2.0\n ")
+        self.assertTrue(told.startswith(notice[:apache]))
+        self.assertIn("/usr/share/common-licenses/Apache-2.0", told[apache:])
+        self.assertNotIn("TERMS AND CONDITIONS", told[apache:])
+
+    def test_the_same_again(self):
+        with tempfile.TemporaryDirectory() as folder:
+            done, package = make(folder, name=self.name, TZ="Asia/Tokyo", LC_ALL="C.UTF-8")
+            self.assertEqual(done.returncode, 0, done.stderr)
+            self.assertEqual(package.read_bytes(), self.package.read_bytes())
+
+    @needs("lintian")
+    def test_lintian(self):
+        told = subprocess.run(["lintian", "--allow-root", "--fail-on", "error,warning", self.package], capture_output=True, text=True)
+        self.assertEqual((told.returncode, told.stdout), (0, ""), told.stderr)
+
+
+@unittest.skipUnless(RELEASE.is_file(), "there is no release")
+@needs("dpkg-deb", "xz")
+class Package(Common, Made):
+    units = UNITS
+
+    def test_files(self):
+        there = {str(path.relative_to(self.files)) for path in self.files.rglob("*") if not path.is_dir()}
+        self.assertEqual(there, MADE | COPIED.keys())
+        for path, source in COPIED.items():
+            with self.subTest(path):
+                self.assertEqual(self.read(path), source.read_bytes())
+        with self.subTest("the program"):
+            self.assertEqual(hashlib.sha256(self.read("usr/bin/wgr")).hexdigest(), release()["program"])
+
     def test_fields(self):
         needed = max(tuple(map(int, found.split(b"."))) for found in re.findall(rb"GLIBC_([0-9]+(?:\.[0-9]+)+)", self.read("usr/bin/wgr")))
         sizes = [1 if path.is_dir() or path.is_symlink() else -(-path.stat().st_size // 1024) for path in [self.files / "usr", *self.files.rglob("usr/**/*")]]
@@ -171,15 +220,6 @@ class Package(Made):
             self.assertIn(f"libc6 (>= {'.'.join(map(str, needed))})", self.field("Depends").split(", "))
         with self.subTest("Maintainer"):
             self.assertRegex(self.field("Maintainer"), r"^[\w ]+ <[\w.]+@[\w.]+>$")
-
-    def test_units(self):
-        for name in UNITS:
-            with self.subTest(name):
-                unit = self.read(f"usr/lib/systemd/system/{name}").decode()
-                # Nothing else of it differs from the one that is installed by hand.
-                self.assertEqual(unit, (DIST / name).read_text().replace("/usr/local/", "/usr/"))
-                for program in re.findall(r"(?m)^Exec\w+=[+-]*(/usr/(?:bin|lib)/wgr\S*)", unit):
-                    self.assertTrue(os.access(self.files / program[1:], os.X_OK), program)
 
     def test_the_units_of_the_tools(self):
         for name in TOOL_UNITS:
@@ -199,34 +239,8 @@ class Package(Made):
         script = 'mount -t overlay overlay -o "lowerdir=$0/usr:/usr" /usr && for tool; do "$tool" --help || exit; done'
         ran = subprocess.run(["unshare", "-m", "bash", "-c", script, self.files, *TOOLS], capture_output=True, text=True)
         self.assertEqual((ran.returncode, ran.stderr), (0, ""))
-        self.assertEqual(ran.stdout.count("usage: "), len(TOOLS) - 1)
-
-    def test_the_changelog(self):
-        entries, here = {}, None
-        for line in (TOP / "CHANGELOG.md").read_text().splitlines():
-            if line.startswith("## "):
-                here = entries.setdefault(line[3:].partition(", ")[0], []) if ", " in line else []
-            elif line.startswith("- "):
-                here.append(line[2:])
-        parts = re.findall(r"(?ms)^wgr \((.*?)\) unstable; urgency=medium\n\n(.*?)\n -- (.*?)  (.*?)\n", self.read(f"{DOCUMENTS}/changelog.gz").decode())
-        self.assertEqual(parts[0][0], release()["version"])
-        told = {version: [" ".join(item.split()) for item in text.split("  * ")[1:]] for version, text, _, _ in parts}
-        self.assertEqual(told, entries)
-        self.assertEqual({maintainer for _, _, maintainer, _ in parts}, {self.field("Maintainer")})
-
-    def test_the_copyright(self):
-        told = self.read(f"{DOCUMENTS}/copyright").decode()
-        notice = (TOP / "NOTICE").read_text()
-        apache = notice.index("\nLicense: Apache-2.0\n ")
-        self.assertTrue(told.startswith(notice[:apache]))
-        self.assertIn("/usr/share/common-licenses/Apache-2.0", told[apache:])
-        self.assertNotIn("TERMS AND CONDITIONS", told[apache:])
-
-    def test_the_same_again(self):
-        with tempfile.TemporaryDirectory() as folder:
-            done, package = make(folder, TZ="Asia/Tokyo", LC_ALL="C.UTF-8")
-            self.assertEqual(done.returncode, 0, done.stderr)
-            self.assertEqual(package.read_bytes(), self.package.read_bytes())
+        # wgr-backup and wgr-clock say it in other words.
+        self.assertEqual(ran.stdout.count("usage: "), len(TOOLS) - 2)
 
     def test_releases_that_are_refused(self):
         for name, damage, told in REFUSED:
@@ -241,17 +255,9 @@ class Package(Made):
                 self.assertEqual((done.returncode, package.exists()), (1, False))
                 self.assertIn(told, done.stderr)
 
-    @needs("lintian")
-    def test_lintian(self):
-        told = subprocess.run(["lintian", "--allow-root", "--fail-on", "error,warning", self.package], capture_output=True, text=True)
-        self.assertEqual((told.returncode, told.stdout), (0, ""), told.stderr)
 
-
-@unittest.skipUnless(RELEASE.is_file(), "there is no release")
-@unittest.skipUnless(os.geteuid() == 0, "dpkg needs root")
-@needs("dpkg", "dpkg-deb", "xz", "systemd-sysusers", "systemd-tmpfiles", "deb-systemd-helper")
-class Installed(Made):
-    """The package installed into a folder in the place of the root, and taken away again."""
+class Root(Made):
+    """A folder in the place of the root, into which packages are installed."""
 
     def setUp(self):
         self.root = Path(self.enterContext(tempfile.TemporaryDirectory()))
@@ -272,6 +278,13 @@ class Installed(Made):
         paths = [str(path.relative_to(self.root)) for path in self.root.rglob("*")]
         there = {path for path in paths if not any(path.startswith(name) for name in own)}
         return there - {"etc", "var", "var/lib", "var/lib/dpkg", "var/lib/systemd"}
+
+
+@unittest.skipUnless(RELEASE.is_file(), "there is no release")
+@unittest.skipUnless(os.geteuid() == 0, "dpkg needs root")
+@needs("dpkg", "dpkg-deb", "xz", "systemd-sysusers", "systemd-tmpfiles", "deb-systemd-helper")
+class Installed(Root):
+    """The package installed, and taken away again."""
 
     def test_an_installation(self):
         self.dpkg("-i", self.package)
@@ -298,6 +311,9 @@ class Installed(Made):
                 for file in files:
                     (self.root / file).parent.mkdir(exist_ok=True)
                     (self.root / file).write_text("kept")
+                for name in ["wgr-figures", "wgr-sync"]:
+                    (self.root / "var/lib" / name).mkdir()
+                    (self.root / "var/lib" / name / "state").touch()
                 self.dpkg("-i", self.package)
                 self.dpkg("-r", "wgr")
                 self.dpkg("-P", "wgr")
