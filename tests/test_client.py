@@ -3,6 +3,7 @@
 import json
 import os
 import re
+import shutil
 import socket
 import subprocess
 import threading
@@ -11,7 +12,7 @@ import unittest
 from pathlib import Path
 
 from program import Left
-from serving import PEERS, SERVER_KEY, TOKEN
+from serving import PEERS, SERVER_KEY, TOKEN, refused
 from shipped import Shipped
 from tools import needs
 
@@ -25,6 +26,17 @@ AllowedIPs = 10.8.0.0/24
 Endpoint = vpn.example.net:51820
 PersistentKeepalive = 25
 """
+
+
+# What wg-quick reads of a file: its own settings, then what it passes on to wg.
+PARSER = """
+source <(sed '/^if .*# -eq 1/,$d; /^auto_su$/d' "$(command -v wg-quick)")
+parse_options "$1"
+echo "$INTERFACE|${ADDRESSES[*]}|${DNS[*]}|${DNS_SEARCH[*]}|$MTU"
+echo "$WG_CONFIG"
+"""
+NO_ENTRY = "argument --dns: {!r} is neither an address nor a host name"
+NO_MTU = "argument --mtu: {!r} is no number from 576 to 65535"
 
 
 class Proxy:
@@ -43,7 +55,8 @@ class Proxy:
             except OSError:
                 return
             with link:
-                reply = self.server.send(self.read_request(link))
+                # It passes on where the client stopped, too.
+                reply = self.server.send(self.read_request(link), close=True)
                 link.sendall((self.acts.pop(0) if self.acts else lambda reply: reply)(reply))
 
     def read_request(self, link):
@@ -75,7 +88,18 @@ def redirected(_):
     return b"HTTP/1.1 307 Temporary Redirect\r\nLocation: http://127.0.0.1:1/\r\nContent-Length: 0\r\nConnection: close\r\n\r\n"
 
 
-@needs("wg")
+def unavailable(_):
+    return refused(503, "unavailable")
+
+
+def too_many(_):
+    return b"HTTP/1.1 429 Too Many Requests\r\nConnection: close\r\n\r\n" + b'{"error":"too_many_requests"}'
+
+
+def unknown(_):
+    return refused(401, "unknown_token")
+
+
 class Client(Shipped):
     def setUp(self):
         super().setUp()
@@ -102,6 +126,26 @@ class Client(Shipped):
         self.assertEqual(self.peers()[-1]["key"], self.public(private))
         self.assertEqual([name for name in self.names(".") if "laptop" in name], ["laptop.conf"])
 
+    def without_sleep(self, url, *words):
+        """What the client leaves if it doesn't sleep between its tries."""
+        script = Path(__file__).resolve().parent.parent / "dist/wgr-client"
+        text = f"""
+import runpy, sys, time
+time.sleep = lambda _: None
+sys.argv = ["wgr-client", "--url", {url!r}, *{words!r}]
+runpy.run_path({str(script)!r}, run_name="__main__")
+"""
+        return self.run_script("python3", "-c", text, WGR_TOKEN_FILE=str(self.folder / "token"))
+
+    def through(self, acts, *words):
+        """The same if this is done with the replies."""
+        proxy = Proxy(self.server, acts)
+        self.addCleanup(proxy.close)
+        return self.without_sleep(f"http://127.0.0.1:{proxy.port}", *words)
+
+
+@needs("wg")
+class Peers(Client):
     def test_a_session(self):
         networks = "office\t10.8.0.0/24\tvpn.example.net:51820\t4096\n"
         self.assertEqual(self.client("networks"), Left(0, networks.encode()))
@@ -202,14 +246,99 @@ class Client(Shipped):
 
     def test_no_service(self):
         self.server.__exit__()
-        left = self.run_script("python3", "-c", f"""
-import runpy, sys, time
-time.sleep = lambda _: None
-sys.argv = ["wgr-client", "--url", "{self.url}", "networks"]
-runpy.run_path("{Path(__file__).resolve().parent.parent}/dist/wgr-client", run_name="__main__")
-""", WGR_TOKEN=TOKEN)
+        left = self.without_sleep(self.url, "networks")
         self.assertEqual(left.status, 1)
         self.assertRegex(left.err, rb"^wgr-client: http://127.0.0.1:\d+ doesn't answer: .*Connection refused")
+
+    def test_keys_of_refused_peers(self):
+        """A refusal leaves no key, unless a peer may have it: then the same words finish what was cut off."""
+        good, outside = ["add", "office", "laptop.conf"], ["add", "office", "laptop.conf", "--address", "10.9.0.1"]
+        rows = [
+            ("an address outside of the pool", outside, [], "refused: outside_pool", False),
+            ("a label that is none", [*good, "--label", "\t"], [], "refused: bad_field, field label", False),
+            ("no such network", ["add", "lab", "laptop.conf"], [], "refused: no_such_network", False),
+            ("nobody's token", good, [unknown], "refused: unknown_token", False),
+            ("a try that a proxy can't pass on, then a refusal behind the look for the key", outside, [bad_gateway], "refused: outside_pool", False),
+            ("a reply that is lost, then a refusal before it", good, [lost, unknown], "refused: unknown_token", True),
+            ("a refusal to show the file", good, [lambda reply: reply, unknown], "refused: unknown_token", True),
+            ("unavailable", good, [unavailable] * 5, "refused: unavailable", True),
+            ("too many requests", good, [too_many] * 5, "refused: too_many_requests", True),
+            ("no reply", good, [lost] * 5, None, True),
+            ("another's reply", good, [redirected], "refused: status 307", True),
+        ]
+        for name, words, acts, told, is_kept in rows:
+            with self.subTest(name):
+                left = self.through(acts, *words)
+                self.assertEqual(left.status, 1)
+                if told:
+                    self.assertEqual(left.err, f"wgr-client: {told}\n".encode())
+                self.assertEqual([name for name in self.names(".") if "laptop" in name], ["laptop.conf.key"] if is_kept else [])
+                if is_kept:
+                    kept = (self.folder / "laptop.conf.key").read_text()
+                    with self.subTest("a refusal of another run's"):
+                        self.assertEqual(self.client("add", "lab", "laptop.conf").status, 1)
+                        self.assertEqual((self.folder / "laptop.conf.key").read_text(), kept)
+                    self.assertEqual(self.client(*good).status, 0)
+                    self.assertIn(f"PrivateKey = {kept}", (self.folder / "laptop.conf").read_text())
+                    self.check_file(self.peers()[-1]["number"])
+                    (self.folder / "laptop.conf").unlink()
+
+    def test_settings_for_wg_quick(self):
+        """They are in the file, and wg-quick reads them as they were meant."""
+        pool, everything = "10.8.0.0/24", "0.0.0.0/0, ::/0"
+        rows = [
+            ("none", [], [], pool, "|||"),
+            ("a name server", ["--dns", "10.8.0.1"], ["DNS = 10.8.0.1"], pool, "|10.8.0.1||"),
+            (
+                "servers and search domains", ["--dns", "10.8.0.1, corp.example,fd00::1,lan"],
+                ["DNS = 10.8.0.1, corp.example, fd00::1, lan"], pool, "|10.8.0.1 fd00::1|corp.example lan|",
+            ),
+            ("the least MTU", ["--mtu", "576"], ["MTU = 576"], pool, "|||576"),
+            ("the greatest", ["--mtu", "65535"], ["MTU = 65535"], pool, "|||65535"),
+            ("a full tunnel", ["--full-tunnel"], [], everything, "|||"),
+            (
+                "all", ["--full-tunnel", "--mtu", "1280", "--dns", "1.1.1.1"],
+                ["DNS = 1.1.1.1", "MTU = 1280"], everything, "|1.1.1.1||1280",
+            ),
+        ]
+        for number, (name, words, lines, allowed, read) in enumerate(rows, 1):
+            with self.subTest(name):
+                self.assertEqual(self.client("add", "office", "laptop.conf", *words), Left(0, f"peer {number}: laptop.conf\n".encode()))
+                text = (self.folder / "laptop.conf").read_text()
+                private = re.search("PrivateKey = (.*)\n", text)[1]
+                due = FILE.format(private="\n".join([private, *lines]), last=number + 1, server=SERVER_KEY).replace(pool, allowed)
+                self.assertEqual(text, due)
+                self.check_by_wg_quick(private, f"laptop|10.8.0.{number + 1}/32{read}", allowed)
+                (self.folder / "laptop.conf").unlink()
+
+    def check_by_wg_quick(self, private, read, allowed):
+        if not shutil.which("wg-quick"):
+            return
+        passed = f"[Interface]\nPrivateKey = {private}\n\n[Peer]\nPublicKey = {SERVER_KEY}\nAllowedIPs = {allowed}\n"
+        passed += "Endpoint = vpn.example.net:51820\nPersistentKeepalive = 25\n"
+        left = self.run_script("bash", "-c", PARSER, "wg-quick", self.folder / "laptop.conf")
+        self.assertEqual((left.out.decode().rstrip("\n"), left.err), (f"{read}\n{passed}".rstrip("\n"), b""))
+        if os.geteuid() == 0:
+            left = self.run_script("wg-quick", "strip", self.folder / "laptop.conf")
+            self.assertEqual((left.out.decode().rstrip("\n"), left.err), (passed.rstrip("\n"), b""))
+
+    def test_settings_that_are_none(self):
+        """They are told before anything is asked or made."""
+        entries = ["", "10.8.0.256", "1.2.3", "10.8.0.1/32", "fe80::1%eth0", "a" * 64]
+        entries += [f"10.8.0.1,{name}" for name in ["", "a b", "-a", "a\nPostUp = b"]]
+        rows = [(["--dns", entry], NO_ENTRY.format(entry.split(",")[-1])) for entry in entries]
+        rows.append((["--dns", "corp.example"], "argument --dns: wg-quick takes search domains only with the address of a name server"))
+        rows += [(["--mtu", text], NO_MTU.format(text)) for text in ["575", "65536", "", "1420.0", "-1", "1_500", "\u0661\u0664\u0662\u0660"]]
+        rows.append((["--full-tunnel", "--mtu", "1279"], "argument --mtu: with --full-tunnel it is at least 1280, which IPv6 needs"))
+        before = self.names(".")
+        for words, told in rows:
+            with self.subTest(words):
+                option, *rest = words
+                words = [f"{option}={rest[0]}"] if len(rest) == 1 else words
+                left = self.client("add", "office", "laptop.conf", *words)
+                self.assertEqual((left.status, left.out), (2, b""))
+                self.assertIn(f"error: {told}\n".encode(), left.err)
+                self.assertEqual((self.names("."), self.peers()), (before, []))
 
 
 if __name__ == "__main__":
