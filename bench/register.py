@@ -151,15 +151,21 @@ def insert(database, table, rows):
     database.executemany(statement, rows)
 
 
-def make(path, networks, peers, every=1):
-    """Makes a register of so many networks, each of a tenant of its own and with so many peers.
-
-    Each peer has a route. The tables are made by the texts with which `wgr` makes them.
-    """
+def make_tables(path):
+    """A register without entries, whose tables are made by the texts with which `wgr` makes them."""
     database = sqlite3.connect(path)
     database.execute("PRAGMA journal_mode = WAL")
     for text in re.findall(r'"((?:CREATE|INSERT) [^"]*)"', MAKING.read_text(encoding="utf-8")):
         database.execute(text)
+    return database
+
+
+def make(path, networks, peers, every=1):
+    """Makes a register of so many networks, each of a tenant of its own and with so many peers.
+
+    Each peer has a route.
+    """
+    database = make_tables(path)
     all_networks = [Network(number, networks, every) for number in range(1, networks + 1)]
     numbers = range(1, peers + 1)
     insert(database, "tenant", ([it.number, it.tenant] for it in all_networks))
