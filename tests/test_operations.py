@@ -3,13 +3,14 @@
 import hashlib
 import json
 import shutil
+import time
 import unittest
 
 from commands import TOP
 from hosts import needs_host
-from serving import key
+from serving import key, request
 from stories import PAGE, URL, Story
-from test_package import RELEASE, TOOLS, release
+from test_package import ARCHITECTURES, RELEASE, TOOLS, release
 
 # The story that runs each block, by the block's heading and its place below it.
 FOLLOWED = {
@@ -35,13 +36,17 @@ FOLLOWED = {
     ("Who had which address when", 1): "package",
     ("Figures, and a probe", 0): "package",
     ("Figures, and a probe", 1): "package",
+    ("The clock", 0): "package",
+    ("The clock", 1): "package",
     ("Changing a network", 0): "package",
     ("Changing a network", 1): "package",
     ("A second host that takes over", 0): "package",
     ("A second host that takes over", 1): "package",
     ("Reading the file", 0): "by hand",
     ("A server that follows its network", 0): "by hand",
+    ("More files of a network", 0): "package",
     ("Taking over an existing WireGuard server", 0): "package",
+    ("Taking over an existing WireGuard server", 1): "package",
 }
 # What a reader who is new to the program looks for first, and where on the page, or from it, that is.
 QUESTIONS = [
@@ -93,6 +98,7 @@ class ByPackage(Story):
         self.probe()
         self.keep_a_history()
         self.restore()
+        self.set_the_clock()
         self.change_a_network()
         self.end_tokens()
         self.lose_the_host()
@@ -136,13 +142,18 @@ class ByPackage(Story):
 
     def let_it_follow(self):
         """The interface of the server is another now, with the same key and peers; rounds keep a preshared key."""
-        self.do("systemctl disable --now wg-quick@wg0", "install -d -m 700 /etc/wgr/office", "umask 077", "cp wg0.key /etc/wgr/office/key", "cp acme.token /etc/wgr/office/token")
-        self.do(f"echo {URL}/networks/office > /etc/wgr/office/url", "systemctl enable --now wgr-sync@office.timer", "systemctl start wgr-sync@office")
-        show = "ip netns exec office wg show office"
+        self.do("install -d -m 700 /etc/wgr/acme-office", "cd /etc/wgr/acme-office", "umask 077", "cp /root/wg0.key key", "cp /root/acme.token token", f"echo {URL}/networks/office > url")
+        self.do(f"wg set wg0 peer {key(1)} endpoint 192.0.2.1:4711")
+        self.host.inside("/etc/wgr/acme-office/settings").write_text(PAGE["More files of a network"][0])
+        self.followed.add(("More files of a network", 0))
+        self.follow("Taking over an existing WireGuard server", 1)
+        self.do("systemctl start wgr-sync@acme-office")
+        show = "ip netns exec acme-office wg show acme-office"
         self.assertEqual(set(self.do(f"{show} peers").split()), {key(1), key(2), key(3)})
-        self.do("wg genpsk > preshared", f"ip netns exec office wg set office peer {key(2)} preshared-key preshared", "systemctl start wgr-sync@office")
+        self.assertIn(f"{key(1)}\t192.0.2.1:4711\n", self.do(f"{show} endpoints"))
+        self.do("wg genpsk > preshared", f"ip netns exec acme-office wg set acme-office peer {key(2)} preshared-key preshared", "systemctl start wgr-sync@acme-office")
         self.assertIn(f"{key(2)}\t{self.do('cat preshared')}", self.do(f"{show} preshared-keys"))
-        self.do("systemctl disable --now wgr-sync@office.timer", "systemctl stop wgr-net@office")
+        self.do("systemctl disable --now wgr-sync@acme-office.timer", "systemctl stop wgr-net@acme-office")
 
     def peers(self):
         status, told = self.ask("/networks/office/peers")
@@ -183,6 +194,20 @@ class ByPackage(Story):
             asked = "for file in aside.*/register.db; do sqlite3 $file 'select max(id & 1048575) from peer'; done"
             self.assertEqual(self.do(asked), "8\n8\n")
         self.follow("To restore", 1)
+
+    def set_the_clock(self):
+        """Of the host, which was off for two days; then the clock is as far ahead, and a change deletes a peer too early."""
+        self.host.inside("/var/lib/wgr/clock").write_text(f"{int(time.time()) - 172_800}\n")
+        with self.host.shell() as shell:
+            self.assertEqual(shell.run("systemctl restart wgr").status, 1)
+        self.follow("The clock", 0)
+        self.add(8, end=int(time.time()) + 86_400)
+        self.assertEqual(self.ask("/networks/office/peers/8/routes", {"prefix": "192.168.5.0/24"})[0], 200)
+        self.do("wgr-backup /var/backups/wgr", "systemctl stop wgr")
+        message = request("POST", "/networks/office/peers", {"key": key(9)}, token=self.do("cat acme.token").strip())
+        self.host.inside("/tmp/message").write_bytes(message)
+        self.do(f"sudo -u wgr wgr batch /var/lib/wgr/register.db --now {int(time.time()) + 172_800} /tmp/message", "systemctl start wgr", "wgr-backup /var/backups/wgr")
+        self.follow("The clock", 1)
 
     def change_a_network(self):
         self.follow("Changing a network", 0)
@@ -243,7 +268,7 @@ class ByPackage(Story):
         """What it stops and what it keeps."""
         self.do("systemctl enable --now wgr-backup.timer wgr-probe.timer", "apt-get -y remove wgr")
         self.assertEqual(self.do("systemctl list-units --plain --no-legend --state=active 'wgr*'"), "")
-        self.do("apt-get -y purge wgr", "getent passwd wgr", "test -e /var/lib/wgr/register.db", "test -e /etc/wgr/office/key")
+        self.do("apt-get -y purge wgr", "getent passwd wgr", "test -e /var/lib/wgr/register.db", "test -e /etc/wgr/acme-office/key")
         self.assertEqual(self.do("find /etc/systemd/system -name 'wgr*' -path '*.wants/*'"), "")
 
 
@@ -315,3 +340,43 @@ class ByHand(Story):
         self.assertEqual(self.ask("/networks/office/peers")[0], 200)
         with self.subTest("nothing else is left of the one by hand"):
             self.assertEqual(self.do("find /usr/local /etc/systemd/system -name '*wgr*' -not -path '*.wants/*'"), "")
+
+
+@unittest.skipUnless(RELEASE.is_file(), "there is no release")
+@needs_host("apt", "dpkg-deb", "wg", "wireguard-go", "xz")
+class OnAServer(Story):
+    """The package of a WireGuard server, which has no register."""
+
+    unit = r"system-wgr\x2dnet.slice/wgr-net@office.service"
+
+    def units(self):
+        """Those that run, by name."""
+        return self.do("systemctl list-units --plain --no-legend --state=active 'wgr*' | cut -d ' ' -f 1").split()
+
+    def start_networks(self):
+        self.do("systemctl start wgr-net@office wgr-net@lab wgr-sync@office.timer")
+        for name in ["office", "lab"]:
+            self.do(f"ip -n {name} link show dev {name}")
+
+    def test_the_story(self):
+        self.do("tools/package /tmp", folder="/root/wgr")
+        version = release()["version"]
+        install = {name: f"apt-get -y install /tmp/{name}_{version}_{kind}.deb" for name, kind in ARCHITECTURES.items()}
+        self.do(install["wgr-server"])
+        self.assertEqual(self.do("find /etc/systemd/system -name 'wgr*'"), "")
+        with self.subTest("it can follow"):
+            self.start_networks()
+        with self.subTest("the other package replaces it, and its networks start again"):
+            self.do(install["wgr"])
+            self.assertEqual(self.do("dpkg-query -W -f '${db:Status-Abbrev}${Package} ' 'wgr*'"), "ii wgr rc wgr-server ")
+            self.start_networks()
+        with self.subTest("and back"):
+            self.do(install["wgr-server"])
+            self.start_networks()
+        with self.subTest("an upgrade leaves the tunnels"):
+            [before] = self.host.processes(self.unit)
+            self.do(f"dpkg -i /tmp/wgr-server_{version}_all.deb")
+            self.assertEqual(self.host.processes(self.unit), [before])
+        with self.subTest("a removal ends all of it"):
+            self.do("apt-get -y purge wgr-server")
+            self.assertEqual((self.units(), self.do("ip netns")), ([], ""))

@@ -18,7 +18,7 @@ UNITS = ["wgr-backup.service", "wgr-backup.timer", "wgr-figures.service", "wgr-f
 class Tools(unittest.TestCase):
     @needs("shellcheck")
     def test_shellcheck(self):
-        told = subprocess.run(["shellcheck", DIST / "wgr-backup"], capture_output=True, text=True)
+        told = subprocess.run(["shellcheck", DIST / "wgr-backup", DIST / "wgr-clock"], capture_output=True, text=True)
         self.assertEqual((told.returncode, told.stdout), (0, ""))
 
     @needs("systemd-analyze")
