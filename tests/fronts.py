@@ -6,10 +6,10 @@ import socket
 import ssl
 import subprocess
 import tempfile
-import time
 import unittest
 from pathlib import Path
 
+import program
 from serving import TOKEN, Server, free_port, make_register
 
 DIST = Path(__file__).resolve().parent.parent / "dist"
@@ -34,12 +34,14 @@ class Front(unittest.TestCase):
         make_certificate(self.folder)
         self.port = free_port()
         self.start(self.serving.port)
-        for _ in range(100):
-            try:
-                return self.link().close()
-            except OSError:
-                time.sleep(0.05)
-        self.fail(self.log())
+        self.assertTrue(program.in_time(self.is_up), self.log())
+
+    def is_up(self):
+        try:
+            self.link().close()
+        except OSError:
+            return False
+        return True
 
     def run_on(self, words, **more):
         """Starts a program that ends with the test."""
@@ -50,7 +52,7 @@ class Front(unittest.TestCase):
     def link(self, context=None, source="127.0.0.1"):
         """A connection from an address of this host."""
         context = context or ssl._create_unverified_context()
-        link = http.client.HTTPSConnection("127.0.0.1", self.port, timeout=60, context=context, source_address=(source, 0))
+        link = http.client.HTTPSConnection("127.0.0.1", self.port, timeout=program.LIMIT, context=context, source_address=(source, 0))
         link.connect()
         return link
 

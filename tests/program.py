@@ -3,13 +3,14 @@
 import resource
 import signal
 import subprocess
+import time
 from typing import NamedTuple
 
 # The program's path; `tests/run` sets it.
 path = ""
 
-# Seconds that a run may take.
-LIMIT = 60
+# Seconds that a run may take, and in which what is waited for has to come, on however slow a machine.
+LIMIT = 120
 
 
 class Left(NamedTuple):
@@ -35,6 +36,16 @@ def run(words, text=b"", stdin=None, stdout=subprocess.PIPE, stderr=subprocess.P
         **given,
     )
     return Left(done.returncode, done.stdout or b"", done.stderr or b"")
+
+
+def in_time(is_so, seconds=LIMIT):
+    """Whether this comes to be so in time."""
+    end = time.monotonic() + seconds
+    while not is_so():
+        if time.monotonic() > end:
+            return False
+        time.sleep(0.01)
+    return True
 
 
 def without_room():

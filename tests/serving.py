@@ -1,11 +1,13 @@
 """A running `wgr serve`, requests to it, and the replies that are due."""
 
+import collections
+import fcntl
 import json
 import select
 import socket
 import subprocess
 import tempfile
-import time
+import termios
 import unittest
 from pathlib import Path
 
@@ -69,11 +71,17 @@ def make_register(folder):
     return database
 
 
+# The last ports that were chosen, so that the system gives none of them to another socket before they are used.
+HELD = collections.deque(maxlen=100)
+
+
 def free_port(host="127.0.0.1"):
-    family = socket.AF_INET6 if ":" in host else socket.AF_INET
-    with socket.socket(family) as probe:
-        probe.bind((host, 0))
-        return probe.getsockname()[1]
+    """A port at which nobody listens, and at which a program may that sets SO_REUSEADDR; no other socket is given it."""
+    held = socket.socket(socket.AF_INET6 if ":" in host else socket.AF_INET)
+    HELD.append(held)
+    held.setsockopt(socket.SOL_SOCKET, socket.SO_REUSEADDR, 1)
+    held.bind((host, 0))
+    return held.getsockname()[1]
 
 
 def has_ipv6():
@@ -84,14 +92,21 @@ def has_ipv6():
     return True
 
 
-def sockets_of(process):
-    """The lines of the kernel's table of TCP over IPv4, as this process sees it."""
-    return Path(f"/proc/{process}/net/tcp").read_text().splitlines()[1:]
+def unsent(link):
+    """How many bytes of a connection are still on their way: over TCP until they wait to be read, over a Unix socket until they are read."""
+    return int.from_bytes(fcntl.ioctl(link.fileno(), termios.TIOCOUTQ, bytes(4)), "little")
 
 
-def ports_of(line):
-    """The ports of both ends, as the kernel writes them."""
-    return [end.partition(":")[2] for end in line.split()[1:3]]
+def unread(port, link):
+    """How many bytes that were sent over a connection wait to be read by who listens at this port of IPv4."""
+    ends = [f"{number:04X}" for number in (port, link.getsockname()[1])]
+    lines = [line.split() for line in Path("/proc/net/tcp").read_text().splitlines()[1:]]
+    return sum(int(line[4].partition(":")[2], 16) for line in lines if [end.partition(":")[2] for end in line[1:3]] == ends)
+
+
+def wait_until_read(port, link):
+    """Waits until who listens at this port has read all that was sent over a connection."""
+    assert program.in_time(lambda: unsent(link) == 0) and program.in_time(lambda: unread(port, link) == 0), "it isn't read"
 
 
 class Server:
@@ -137,9 +152,7 @@ class Server:
 
     def has_read(self, link):
         """Waits until the service has read all that was sent over a connection: from then on it serves this client."""
-        ends = [f"{number:04X}" for number in (self.port, link.getsockname()[1])]
-        while any(int(line.split()[4].partition(":")[2], 16) for line in sockets_of(self.process.pid) if ports_of(line) == ends):
-            time.sleep(0.01)
+        wait_until_read(self.port, link)
 
     def send(self, *parts, close=False):
         """All that is answered to these bytes, which are sent one part after the other; by default the client could send more."""

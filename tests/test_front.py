@@ -72,7 +72,8 @@ class AnyFront:
             link.sock.sendall(part)
         began = time.monotonic()
         self.assertEqual(self.ask("GET", PEERS)[:2], (200, b'{"peers":[]}'))
-        self.assertLess(time.monotonic() - began, 5)
+        # The service itself would wait for the slow one for ten seconds.
+        self.assertLess(time.monotonic() - began, 9)
         link.sock.sendall(message[-1:])
         self.assertTrue(link.sock.recv(65_536).startswith(b"HTTP/1.1 400 "))
         link.close()

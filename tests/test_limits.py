@@ -14,44 +14,34 @@ from contextlib import suppress
 from pathlib import Path
 
 import program
-from program import Left
+from program import Left, in_time
 from register_file import network_row, pool_of, put
 from sending import connect, shown
-from serving import LIST, NOBODY, PEERS, TOKEN, Server, make_register, read_all, request
+from serving import LIST, NOBODY, PEERS, TOKEN, Server, make_register, read_all, request, unsent
 
-# Seconds that a message or a reply may take, and an order or its answer; and after which each is too late.
-MOST, ORDER_MOST, LATE = 10, 5, 2
+# Seconds that a message or a reply may take, and an order or its answer. A busy machine may add as many to them.
+MOST, ORDER_MOST = 10, 5
 HEAD = f"GET {PEERS} HTTP/1.1\r\nAuthorization: Bearer {TOKEN}\r\n".encode()
 BODY = f"POST {PEERS} HTTP/1.1\r\nAuthorization: Bearer {TOKEN}\r\nContent-Length: 100\r\n\r\n".encode()
 # How many networks there are, of which a list is longer than a megabyte.
 NETWORKS = 8_000
 
 
-def sends_nothing(link):
-    time.sleep(MOST + LATE)
+def send_slowly(link, text):
+    """A byte a second, until the service has ended the connection."""
+    with suppress(OSError):
+        for byte in text:
+            time.sleep(1)
+            link.sendall(bytes([byte]))
 
 
-def sends(part):
-    def behave(link):
-        link.sendall(part)
-        time.sleep(MOST + LATE)
-
-    return behave
-
-
-def sends_a_byte_a_second(link):
-    for byte in HEAD:
-        link.sendall(bytes([byte]))
-        time.sleep(1)
-
-
-# What a client does until the service has ended its connection: before a request's message is whole, and an order's.
+# What a client sends at once before a request's message is whole, or an order's, and what it sends a byte a second from then on.
 STALLS = [
-    ("sends half a head", sends(HEAD[:-9])),
-    ("sends half a body", sends(BODY + 30 * b" ")),
-    ("sends a byte a second", sends_a_byte_a_second),
+    ("sends half a head", HEAD[:-9], b""),
+    ("sends half a body", BODY + 30 * b" ", b""),
+    ("sends a byte a second", HEAD[:1], HEAD[1:]),
 ]
-ORDER_STALLS = [("sends no order", sends_nothing), ("sends half an order", sends(b"tenant-add")), ("sends an order's byte a second", sends_a_byte_a_second)]
+ORDER_STALLS = [("sends no order", b"", b""), ("sends half an order", b"tenant-add", b""), ("sends an order's byte a second", HEAD[:1], HEAD[1:])]
 
 
 def rest_of(link):
@@ -88,10 +78,7 @@ class Slow(unittest.TestCase):
 
     def has_files(self, server, count):
         """Whether the service comes to have so many open files."""
-        until = time.monotonic() + LATE
-        while self.files(server) != count and time.monotonic() < until:
-            time.sleep(0.05)
-        return self.files(server) == count
+        return in_time(lambda: self.files(server) == count)
 
     def side_by_side(self, cases, run):
         with ThreadPoolExecutor(len(cases)) as pool:
@@ -103,29 +90,35 @@ class Stalls(Slow):
 
     def stall(self, case, join, count):
         """What the next client is answered, after how many seconds; what is left and open then."""
-        name, behave = case
+        name, first, later = case
         with self.serve(name, count) as server, ThreadPoolExecutor(1) as pool:
             open_files = self.files(server)
             begin = time.monotonic()
             with join(server) as link:
-                behaved = pool.submit(behave, link)
-                # The service has taken the client by then.
-                time.sleep(0.5)
+                link.sendall(first)
+                self.is_taken(server, link, open_files)
+                pool.submit(send_slowly, link, later)
                 reply = server.send(LIST)
                 seconds = time.monotonic() - begin
                 answer = rest_of(link)
-                with suppress(OSError):
-                    behaved.result()
             figures = self.figures(server)
             closed = self.has_files(server, open_files)
             self.assertEqual(server.send(LIST), NOBODY)
             return reply, seconds, answer, figures, closed, server.ended()
 
+    def is_taken(self, server, link, open_files):
+        """Waits until the service has accepted the client and read what it has sent."""
+        self.assertTrue(in_time(lambda: self.files(server) > open_files))
+        if link.family == socket.AF_UNIX:
+            self.assertTrue(in_time(lambda: unsent(link) == 0))
+        else:
+            server.has_read(link)
+
     def check(self, seen, most, line):
-        for (name, _), (reply, seconds, answer, figures, closed, left) in seen:
+        for (name, *_), (reply, seconds, answer, figures, closed, left) in seen:
             with self.subTest(name):
                 self.assertEqual((reply, answer, figures, closed), (NOBODY, b"", (1, 1), True))
-                self.assertTrue(most - 0.1 < seconds < most + LATE, seconds)
+                self.assertTrue(most - 0.1 < seconds < 2 * most, seconds)
                 self.assertEqual(left, Left(0, b"", line))
 
     def test_requests(self):
@@ -135,19 +128,18 @@ class Stalls(Slow):
         join = lambda server: connect(server.socket)
         self.check(self.side_by_side(ORDER_STALLS, lambda case: self.stall(case, join, 2)), ORDER_MOST, b"wgr: order\n")
 
-
     def test_one_that_sends_nothing(self):
         """It waits aside and holds up nobody, and is ended once its time is over."""
         with self.serve("sends nothing", 3) as server:
             open_files = self.files(server)
             begin = time.monotonic()
             with server.connect() as link:
-                time.sleep(0.5)
+                self.is_taken(server, link, open_files)
                 self.assertEqual(server.send(LIST), NOBODY)
-                self.assertLess(time.monotonic() - begin, LATE)
+                self.assertLess(time.monotonic() - begin, MOST - 1)
                 self.assertEqual(rest_of(link), b"")
                 seconds = time.monotonic() - begin
-            self.assertTrue(MOST - 0.1 < seconds < MOST + LATE, seconds)
+            self.assertTrue(MOST - 0.1 < seconds < 2 * MOST, seconds)
             self.assertEqual(self.figures(server), (1, 1))
             self.assertTrue(self.has_files(server, open_files))
             self.assertEqual(server.send(LIST), NOBODY)
@@ -180,7 +172,7 @@ class Replies(Slow):
             with narrow(server) as link:
                 begin = time.monotonic()
                 link.sendall(request("GET", "/networks"))
-                time.sleep(0.5)
+                server.has_read(link)
                 self.assertEqual(server.send(LIST), NOBODY)
                 seconds = time.monotonic() - begin
                 part = rest_of(link)
@@ -188,7 +180,7 @@ class Replies(Slow):
             self.assertTrue(self.has_files(server, open_files))
             server.send(LIST)
             self.assertEqual(server.ended(), Left(0, b"", b"wgr: connection\n"))
-        self.assertTrue(MOST - 0.1 < seconds < MOST + LATE + 3 * making, (seconds, making))
+        self.assertTrue(MOST - 0.1 < seconds < 2 * MOST + 3 * making, (seconds, making))
         self.assertTrue(len(part) < len(whole) and whole.startswith(part))
 
     def test_one_that_takes_it_a_little_at_a_time(self):
@@ -198,26 +190,29 @@ class Replies(Slow):
             with narrow(server) as link:
                 begin = time.monotonic()
                 link.sendall(request("GET", "/networks"))
-                time.sleep(0.5)
+                server.has_read(link)
                 waits = pool.submit(server.send, LIST)
                 taken = 0
-                while not waits.done():
-                    taken += len(link.recv(1_024))
-                    time.sleep(0.1)
+                # The service may have ended it before the next one is answered.
+                with suppress(OSError):
+                    while not waits.done():
+                        taken += len(link.recv(1_024))
+                        time.sleep(0.1)
                 self.assertEqual(waits.result(), NOBODY)
                 seconds = time.monotonic() - begin
             self.assertEqual(self.figures(server), (1, 1))
             server.send(LIST)
             self.assertEqual(server.ended(), Left(0, b"", b"wgr: connection\n"))
         self.assertGreater(taken, 10_000)
-        self.assertTrue(MOST - 0.1 < seconds < MOST + LATE + 3 * making, (seconds, making))
+        self.assertTrue(MOST - 0.1 < seconds < 2 * MOST + 3 * making, (seconds, making))
 
 
 def pauses(link):
     """A client whose message comes in pieces within its time, with three seconds between two."""
-    for piece in [HEAD[:4], HEAD[4:30], HEAD[30:] + b"\r\n"]:
+    for piece in [HEAD[:4], HEAD[4:30]]:
         link.sendall(piece)
         time.sleep(3)
+    link.sendall(HEAD[30:] + b"\r\n")
     return read_all(link)
 
 
@@ -244,7 +239,7 @@ class Good(Slow):
             self.assertEqual(server.ended(), Left(0))
 
     def test_one_that_sends_on_behind_its_message(self):
-        """After its reply it holds up the next one for no more than a second."""
+        """After its reply it holds up the next one for no more than a second, and not until its time is over."""
         with self.serve("sends on", 2) as server, server.connect() as link:
             link.sendall(LIST)
             self.assertEqual(link.recv(65_536), NOBODY)
@@ -256,5 +251,5 @@ class Good(Slow):
                         link.sendall(b"x")
                         time.sleep(0.05)
                 self.assertEqual(waits.result(), NOBODY)
-            self.assertLess(time.monotonic() - begin, 1 + LATE / 2)
+            self.assertLess(time.monotonic() - begin, MOST / 2)
             self.assertEqual(server.ended(), Left(0))

@@ -11,7 +11,7 @@ from serving import NOBODY, PEERS, done
 from tools import needs
 
 # Seconds in which each is answered, however busy the machine; what is unfinished takes ten, or twenty.
-SOON = 5
+SOON = 9
 TWO = b"POST /networks HTTP/1.1\r\nHost: x\r\n"
 
 
@@ -122,8 +122,9 @@ class AnyFront:
 
     def answer_to(self, message):
         """What is answered until the connection is closed, or the whole reply is there, and the time that this takes."""
-        began, reply = time.monotonic(), b""
+        reply = b""
         with self.link().sock as link, suppress(ConnectionError):
+            began = time.monotonic()
             link.settimeout(SOON)
             link.sendall(message)
             while b"\r\n\r\n" not in reply and (part := link.recv(65_536)):

@@ -18,8 +18,9 @@ from program import Left
 from serving import LIST, NOBODY, PEERS, Server, make_register, read_all, refused, request
 from tools import needs
 
-# Seconds in which an answer is due, those in which a message has to be whole, and what a busy machine may add to them.
-SOON, LIMIT, MORE = 1, 10, 2
+# Seconds in which a message has to be whole, those in which an answer is due that doesn't wait for them, and what a busy
+# machine may add to them.
+LIMIT, SOON, MORE = 10, 8, 9
 # Messages that are whole, and the reply to each.
 GOOD = {
     "a GET": (LIST, NOBODY),
@@ -131,7 +132,7 @@ class Direct(unittest.TestCase):
         for message, server, (reply, spent, other) in zip(messages, servers, given, strict=True):
             with self.subTest(message[:99], length=len(message)):
                 self.assertEqual((reply, other), (b"", NOBODY))
-                self.assertAlmostEqual(spent, LIMIT, delta=MORE)
+                self.assertTrue(LIMIT - 0.5 < spent < LIMIT + MORE, spent)
                 self.assertEqual(server.ended(), Left(0, b"", b"wgr: connection\n"))
 
 
@@ -140,8 +141,9 @@ class AnyFront:
 
     def answer_to(self, message):
         """What is answered until there is a head, or the connection is closed, and the seconds that it takes."""
-        began, reply = time.monotonic(), b""
+        reply = b""
         with self.link().sock as link, suppress(ConnectionError, ssl.SSLEOFError):
+            began = time.monotonic()
             link.settimeout(self.limit + MORE)
             try:
                 link.sendall(message)
@@ -162,12 +164,12 @@ class AnyFront:
                 time.sleep(self.limit / 12)
                 began = time.monotonic()
                 self.assertEqual(self.ask("GET", PEERS, link=self.link(source="127.0.0.2"))[:2], (200, NOBODY.partition(b"\r\n\r\n")[2]))
-                self.assertLess(time.monotonic() - began, SOON + MORE)
+                self.assertLess(time.monotonic() - began, SOON)
             for message, (reply, spent) in zip(messages, asked, strict=True):
                 with self.subTest(message[:99], length=len(message)):
                     # A proxy may pass on less than was sent, which then is no longer malformed.
                     self.assertRegex(reply, rb"""(?s)\A(HTTP/1\.[01] (200|4\d\d|501|505) .*|{"error":"\w+"})?\Z""")
-                    self.assertLess(spent, SOON + MORE if message in soon else self.limit + MORE)
+                    self.assertLess(spent, SOON if message in soon else self.limit + MORE)
 
 
 @needs("nginx", "openssl")
