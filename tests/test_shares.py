@@ -15,8 +15,8 @@ from http.server import BaseHTTPRequestHandler, ThreadingHTTPServer
 from pathlib import Path
 
 from fronts import HAProxy, Nginx
-from program import LIMIT
-from serving import PEERS, SERVER_KEY, key, network_add, order
+from program import LIMIT, in_time
+from serving import PEERS, SERVER_KEY, key, network_add, order, wait_until_read
 from tools import needs
 
 LARGE_BODY = 100_000 * " "
@@ -89,9 +89,7 @@ class AnyFront:
         turns = zip(range(count), itertools.cycle(requests), itertools.cycle(tokens))
         with holding(self.serving.port) as service, ThreadPoolExecutor(count) as asking:
             asked = [asking.submit(self.ask_one, request, token) for _, request, token in turns]
-            end = time.monotonic() + LIMIT / 4
-            while sum(one.done() for one in asked) < count - through and time.monotonic() < end:
-                time.sleep(0.01)
+            in_time(lambda: sum(one.done() for one in asked) >= count - through)
             # Nothing else is refused then.
             done = wait(asked, timeout=0.3).done
             service.goes_on.set()
@@ -120,14 +118,17 @@ class AnyFront:
 
     def adopted(self, dump):
         """The seconds that a dump takes. A proxy may count the one before for a moment after its reply was taken."""
-        for _ in range(20):
+        spent = []
+
+        def is_taken():
             began = time.monotonic()
             status = self.ask("POST", DUMP, dump, token="noisy")[0]
-            if status != 429:
-                break
-            time.sleep(0.05)
-        self.assertEqual(status, 200)
-        return time.monotonic() - began
+            spent.append(time.monotonic() - began)
+            self.assertIn(status, [200, 429])
+            return status == 200
+
+        self.assertTrue(in_time(is_taken))
+        return spent[-1]
 
     def test_a_noisy_tenant(self):
         """While it posts dumps of 4,096 lines by 16 connections, another tenant's file has at most few of them before it."""
@@ -179,14 +180,14 @@ class ByHAProxy(AnyFront, HAProxy):
         self.serving.__exit__()
         with holding(self.serving.port) as service, ThreadPoolExecutor(1) as asking:
             first = asking.submit(self.ask_one, ("GET", "/networks", None), "first")
-            while not service.taken:
-                time.sleep(0.01)
+            self.assertTrue(in_time(lambda: service.taken))
             for token in OTHERS[:9]:
                 link = self.link()
                 link.request("GET", f"/networks/{token}", headers={"Authorization": f"Bearer {token}"})
-                time.sleep(0.05)
+                wait_until_read(self.port, link.sock)
                 link.close()
-            time.sleep(0.3)
+            # HAProxy logs each that it has given up.
+            self.assertTrue(in_time(lambda: self.log().count("/token") == 9))
             service.goes_on.set()
             self.assertEqual(first.result()[0], 200)
             self.assertEqual(self.ask_one(("GET", "/networks/last", None), "last")[0], 200)
@@ -200,8 +201,12 @@ class ByHAProxy(AnyFront, HAProxy):
                 turns = itertools.islice(itertools.cycle(tokens), 20)
                 asked = [asking.submit(self.ask_one, ("GET", "/networks", None), token) for token in turns]
                 time.sleep(1)
-                asked.append(asking.submit(self.ask, "GET", "/networks/quiet", token="quiet", link=self.link(source="127.0.0.2")))
+                quiet = self.link(source="127.0.0.2")
+                quiet.request("GET", "/networks/quiet", headers={"Authorization": "Bearer quiet"})
+                wait_until_read(self.port, quiet.sock)
+                # By then HAProxy has it among those that wait.
                 time.sleep(1)
                 service.goes_on.set()
-                self.assertEqual({one.result()[0] for one in asked}, {200})
+                self.assertEqual({quiet.getresponse().status, *(one.result()[0] for one in asked)}, {200})
+                quiet.close()
                 self.assertLess(service.taken.index("/networks/quiet"), 4)
