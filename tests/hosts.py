@@ -126,7 +126,8 @@ class Shell:
         """What a command leaves, which finds nothing on standard input."""
         self.process.stdin.write(f"{{ {command}\n}} </dev/null >/run/shell.out 2>/run/shell.err; echo $?\n")
         self.process.stdin.flush()
-        ready, _, _ = select.select([self.process.stdout], [], [], program.LIMIT)
+        # The package alone takes a slow machine a minute.
+        ready, _, _ = select.select([self.process.stdout], [], [], 5 * program.LIMIT)
         assert ready, f"{command} doesn't end"
         status = self.process.stdout.readline()
         assert status, f"{command} ends the shell"

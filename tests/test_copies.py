@@ -1,5 +1,6 @@
 """dist/wgr-backup: copies of a register while it serves, and what a copy is good for."""
 
+import itertools
 import os
 import re
 import signal
@@ -7,14 +8,13 @@ import socket
 import sqlite3
 import subprocess
 import threading
-import time
 import unittest
 from contextlib import closing
 from datetime import datetime, timedelta, timezone
 
 from faulty import WHOLE, tell
-from keys import numbered_keys
-from program import Left
+from keys import key_text, numbered_keys
+from program import LIMIT, Left, in_time
 from serving import PEERS, done, request
 from shipped import DIST, SYSTEMCTL, Shipped, is_stopped, rows_of
 from tools import needs
@@ -33,13 +33,15 @@ class Load(threading.Thread):
         self.left, self.asked, self.acknowledged = [], 0, 0
 
     def changes(self):
-        """Each change's request, the peer's number and what it leaves of it: three come for each one that goes, and some are renewed."""
-        for number, text in enumerate(numbered_keys(10_000), 1):
-            yield "POST", PEERS, {"key": text, "address": address_of(number)}, number, 0
+        """Each change's request, the peer's number and what it leaves of it: some are renewed, and one of three goes soon, and
+        the others once the network may be full, for however long a copy may take."""
+        for number in itertools.count(1):
+            yield "POST", PEERS, {"key": key_text(number.to_bytes(4, "big") + bytes(28)), "address": address_of(number)}, number, 0
             if number % 3 == 0:
                 end = 4_000_000_000 + number
                 yield "POST", f"{PEERS}/{number - 1}/lease", {"end": end}, number - 1, end
-                yield "DELETE", f"{PEERS}/{number - 2}", None, number - 2, None
+                for gone in [number - 2, *(old for old in [number - 5002, number - 5001] if old > 0)]:
+                    yield "DELETE", f"{PEERS}/{gone}", None, gone, None
 
     def has_left(self, rows, least, most):
         """Whether these are the peers after some number of changes, from the least to the most."""
@@ -69,7 +71,8 @@ class Load(threading.Thread):
 
 
 def address_of(number):
-    return f"10.8.{number // 250}.{number % 250 + 2}"
+    """That of another one again, which has gone long since."""
+    return f"10.8.{number // 250 % 250}.{number % 250 + 2}"
 
 
 def hex_of(address):
@@ -79,12 +82,6 @@ def hex_of(address):
 class Copies(Shipped):
     def back_up(self, *words, **known):
         return self.run_script("wgr-backup", "--register", self.database, *words, "copies", **known)
-
-    def wait_until(self, condition):
-        end = time.monotonic() + 20
-        while not condition():
-            self.assertLess(time.monotonic(), end)
-            time.sleep(0.01)
 
     def copy_under_load(self, server, *words):
         """Each copy has what was acknowledged before it, and is the register after some number of changes."""
@@ -96,11 +93,11 @@ class Copies(Shipped):
                 if turn == 0:
                     # The log is about to be put into the file, and the copy takes long: if the service went on
                     # meanwhile, the file would be copied before that and the log after it.
-                    self.wait_until(lambda: os.path.getsize(f"{self.database}-wal") > 4_000_000 or load.failed)
+                    self.assertTrue(in_time(lambda: os.path.getsize(f"{self.database}-wal") > 4_000_000 or load.failed))
                     self.stand_in("cp", '/bin/cp "$@"; sleep 0.2')
                 else:
                     (self.bin / "cp").unlink(missing_ok=True)
-                    self.wait_until(lambda: load.acknowledged > before + 20 or load.failed)
+                    self.assertTrue(in_time(lambda: load.acknowledged > before + 20 or load.failed))
                 before = load.acknowledged
                 left = self.back_up(*words)
                 asked = load.asked
@@ -162,10 +159,10 @@ class Copies(Shipped):
             self.stand_in("cp", 'until [[ -e $ROOM/go ]]; do sleep 0.02; done; exec /bin/cp "$@"')
             words = ["wgr-backup", "--register", self.database, "--process", str(server.process.pid), "copies"]
             running = subprocess.Popen(words, env=self.known, cwd=self.folder, stderr=subprocess.PIPE)
-            self.wait_until(lambda: is_stopped(server.process))
+            self.assertTrue(in_time(lambda: is_stopped(server.process)))
             running.send_signal(signal.SIGTERM)
             (self.folder / "go").touch()
-            self.assertEqual((running.wait(20), running.stderr.read()), (1, b""))
+            self.assertEqual((running.wait(LIMIT), running.stderr.read()), (1, b""))
             running.stderr.close()
             self.assertFalse(is_stopped(server.process))
             self.assertEqual(self.names(), [])
@@ -177,7 +174,7 @@ class Copies(Shipped):
         self.stand_in("cp", '/bin/cp "$@"; sleep 0.1')
         words = ["wgr-backup", "--register", self.database, "--process", str(server.process.pid), "copies"]
         both = [subprocess.Popen(words, env=self.known, cwd=self.folder, stdout=subprocess.DEVNULL) for _ in range(2)]
-        self.assertEqual([each.wait(20) for each in both], [0, 0])
+        self.assertEqual([each.wait(LIMIT) for each in both], [0, 0])
         self.assertEqual(len(self.copies()), 2)
 
     def test_the_name_is_the_moment_of_the_freeze(self):
