@@ -12,6 +12,7 @@ from functools import partial
 from pathlib import Path
 
 from first_process import DIST, System, needs_systemd
+from program import in_time
 from serving import TOKEN, free_port
 from shipped import Shipped
 from tools import needs
@@ -233,16 +234,16 @@ class Units(unittest.TestCase):
 
     def alerts(self, *names):
         """Waits for these alerts, and finds no others."""
-        end = time.monotonic() + 20
-        while (told := self.inside("/run/alerts").read_text().split() if self.inside("/run/alerts").exists() else []) != list(names):
-            self.assertLess(time.monotonic(), end, told)
-            time.sleep(0.05)
+        told = []
+
+        def are_told():
+            told[:] = self.inside("/run/alerts").read_text().split() if self.inside("/run/alerts").exists() else []
+            return told == list(names)
+
+        self.assertTrue(in_time(are_told), told)
 
     def wait_for(self, state, unit="wgr"):
-        end = time.monotonic() + 30
-        while (shown := self.system.show(unit, "ActiveState"))[0] != state:
-            self.assertLess(time.monotonic(), end, shown)
-            time.sleep(0.02)
+        self.assertTrue(in_time(lambda: self.system.show(unit, "ActiveState") == (state,)), self.system.show(unit, "ActiveState"))
 
     def test_a_start(self):
         system = self.system

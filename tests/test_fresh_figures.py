@@ -9,7 +9,7 @@ import time
 import unittest
 
 from figured import DUMP, FIGURES, MOMENT, SERVICE, Figured, figures_of
-from program import Left
+from program import LIMIT, Left, in_time
 from serving import PEERS, SERVER_KEY, TOKEN, key, request
 
 WORDS = ["wgr-figures", "--status", "orders", "--state", "state.json", "copies", "wgr.prom"]
@@ -101,11 +101,10 @@ class Fresh(Running):
             (self.folder / file).unlink()
         with self.subTest("a run that is killed"):
             before, program = self.names("."), os.readlink(self.bin / "wgr")
-            self.stand_in("wgr", INSTEAD.format(f'{program} "$@"; sleep 60', program))
+            self.stand_in("wgr", INSTEAD.format(f'{program} "$@"; touch bin/copied; sleep 60', program))
             with subprocess.Popen(WORDS, cwd=self.folder, env=self.known, start_new_session=True) as running:
-                while not (self.folder / "wgr-figures.db").exists():
-                    self.assertIsNone(running.poll())
-                    time.sleep(0.01)
+                self.assertTrue(in_time(lambda: (self.bin / "copied").exists() or running.poll() is not None))
+                self.assertIsNone(running.poll())
                 os.killpg(running.pid, 9)
             self.assertEqual(self.beside(), ["wgr-figures.db", "wgr-figures.db-wal"])
             self.stand_in("wgr", f'exec {program} "$@"')
@@ -148,7 +147,7 @@ class Fresh(Running):
             time.sleep(1)
             self.assertEqual((running.poll(), self.beside()), (None, ["wgr-figures.db"]))
             fcntl.flock(folder, fcntl.LOCK_UN)
-            self.assertEqual(running.wait(20), 0)
+            self.assertEqual(running.wait(LIMIT), 0)
         self.assertEqual(self.beside(), [])
 
 

@@ -64,7 +64,7 @@ class Frozen(unittest.TestCase):
 
     def ask(self, *words):
         told = self.system.run(
-            *["curl", "-s", "--max-time", "20", "--unix-socket", "/run/wgr-http.sock", "-H", "Authorization: Bearer abc"],
+            *["curl", "-s", "--max-time", "60", "--unix-socket", "/run/wgr-http.sock", "-H", "Authorization: Bearer abc"],
             *[*words, "http://wgr/networks/office/peers"],
         )
         return json.loads(told.stdout)
@@ -74,10 +74,7 @@ class Frozen(unittest.TestCase):
         return Path(f"/proc/{self.system.first}/root{path}")
 
     def wait_for(self, unit, name, value):
-        end = time.monotonic() + 20
-        while self.system.show(unit, name) != (value,):
-            self.assertLess(time.monotonic(), end, (unit, name, self.system.show(unit, name)))
-            time.sleep(0.05)
+        self.assertTrue(program.in_time(lambda: self.system.show(unit, name) == (value,)), (unit, name, self.system.show(unit, name)))
 
     def make_a_copy(self):
         self.ask("-d", json.dumps({"key": key(1)}))
@@ -111,11 +108,11 @@ class Frozen(unittest.TestCase):
         self.inside("/usr/local/bin/systemctl").write_text('#!/bin/bash\n[[ $1 != freeze ]] || echo frozen >>/var/lib/wgr/told\nexec /usr/bin/systemctl "$@"\n')
         self.run_all(["chmod", "+x", "/usr/local/bin/systemctl"])
         self.make_a_copy()
-        self.wait_for("wgr-figures.service", "Result", "success")
         figures = self.inside("/var/lib/prometheus/node-exporter/wgr.prom")
-        end = time.monotonic() + 20
-        while not figures.exists() and time.monotonic() < end:
-            time.sleep(0.05)
+        self.assertTrue(program.in_time(figures.exists))
+        # Else the next start would be that of this run.
+        self.wait_for("wgr-figures.service", "ActiveState", "inactive")
+        self.assertEqual(self.system.show("wgr-figures.service", "Result"), ("success",))
         self.assertIn('wgr_network_peers{tenant="acme",network="office"} 1\n', figures.read_text())
         self.assertIn('wgr_service_requests_total{status="200"} 1\n', figures.read_text())
         with self.subTest("figures without another copy"):

@@ -11,7 +11,7 @@ import time
 from contextlib import closing
 
 from keys import numbered_keys
-from program import LIMIT, Left, run
+from program import LIMIT, Left, in_time, run
 from serving import PEERS, done
 from shipped import DIST, Shipped, is_stopped, rows_of
 
@@ -138,33 +138,30 @@ class Removed(OpenFiles):
 
 class Killed(OpenFiles):
     def begin(self, copying, script=None):
-        """A service that is frozen by a copy under way."""
+        """A service that is frozen by a copy under way, of which this is done at first."""
         server = self.serve(database=str(self.link))
-        self.stand_in("cp", copying)
+        self.stand_in("cp", f'touch "$ROOM/copying"; {copying}')
         # What watches over the service leaves the script's group late, as on a busy host.
         self.stand_in("setsid", f'sleep 0.3; exec {shutil.which("setsid")} "$@"')
         if script:
             self.stand_in("wgr-backup", script)
+        (self.folder / "process").write_text(str(server.process.pid))
         words = ["wgr-backup", "--register", str(self.link), "--process", str(server.process.pid), "copies"]
         copying = subprocess.Popen(words, env=self.known, cwd=self.folder, stderr=subprocess.PIPE, start_new_session=True)
         self.addCleanup(copying.communicate)
-        self.wait_until(lambda: is_stopped(server.process))
+        self.assertTrue(in_time((self.folder / "copying").exists))
+        (self.folder / "copying").unlink()
         return server, copying
-
-    def wait_until(self, is_so):
-        end = time.monotonic() + LIMIT / 2
-        while not is_so():
-            self.assertLess(time.monotonic(), end)
-            time.sleep(0.01)
 
     def test_a_copy_that_is_killed(self):
         for name, kill in [("the script", os.kill), ("its group", os.killpg)]:
             with self.subTest(name):
-                server, copying = self.begin("sleep 5")
+                server, copying = self.begin("exec sleep 30 2>/dev/null")
+                self.assertTrue(is_stopped(server.process))
                 kill(copying.pid, signal.SIGKILL)
                 began = time.monotonic()
-                self.wait_until(lambda: not is_stopped(server.process))
-                self.assertLess(time.monotonic() - began, 4)
+                self.assertTrue(in_time(lambda: not is_stopped(server.process)))
+                self.assertLess(time.monotonic() - began, 25)
                 self.assertEqual(server.ask("GET", PEERS), done({"peers": []}))
                 self.assertEqual(self.copies(), [])
                 server.__exit__()
@@ -172,8 +169,9 @@ class Killed(OpenFiles):
     def test_a_copy_that_takes_too_long(self):
         text = (DIST / "wgr-backup").read_text()
         self.assertIn("\nlongest=50\n", text)
-        server, copying = self.begin("sleep 3", text.replace("\nlongest=50\n", "\nlongest=1\n"))
-        self.wait_until(lambda: not is_stopped(server.process))
+        thawed = f"while grep -q '^State:.*stopped' /proc/$(cat $ROOM/process)/status; do sleep 0.05; done"
+        server, copying = self.begin(thawed, text.replace("\nlongest=50\n", "\nlongest=1\n"))
+        self.assertTrue(in_time(lambda: not is_stopped(server.process)))
         self.assertEqual(server.ask("GET", PEERS), done({"peers": []}))
         told = copying.communicate(timeout=LIMIT)[1]
         self.assertEqual((copying.returncode, told), (1, f"wgr-backup: process {server.process.pid} was thawed while it was copied\n".encode()))

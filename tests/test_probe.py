@@ -10,22 +10,29 @@ import subprocess
 import sys
 import threading
 from contextlib import contextmanager
+from pathlib import Path
 
+from program import in_time
 from serving import free_port
 from shipped import Shipped
 
 SYSTEMCTL = 'cat "$ROOM/shown"'
+# What a process does, and its state of proc(5) by then.
+STATES = {"hangs": "S", "works on": "R", "waits for its disk": "D"}
 # Listens, and then does what its second word says.
 LISTENS = """
-import ctypes, socket, sys, time
+import ctypes, os, socket, sys, time
+process = os.getpid()
 with socket.create_server(("127.0.0.1", int(sys.argv[1]))) as listener:
     print("listening", flush=True)
     while True:
         # A process whose child has its memory (CLONE_VFORK) is in the state of one that waits for a disk.
         if sys.argv[2] == "waits for its disk" and ctypes.CDLL(None).syscall(56, 0x4000 | 17, 0, 0, 0, 0) == 0:
-            time.sleep(5)
+            while os.getppid() == process:
+                time.sleep(0.05)
             break
-        time.sleep(99 if sys.argv[2] == "hangs" else 0)
+        if sys.argv[2] == "hangs":
+            time.sleep(999)
 """
 
 
@@ -37,6 +44,10 @@ class Answers(http.server.BaseHTTPRequestHandler):
 
     def log_message(self, *_):
         pass
+
+
+def state_of(process):
+    return Path(f"/proc/{process.pid}/stat").read_text().rpartition(") ")[2][0]
 
 
 @contextmanager
@@ -61,7 +72,7 @@ class Probe(Shipped):
         shown = {"ActiveState": "active", "FreezerState": "running", "MainPID": process or self.server.process.pid, **values}
         (self.folder / "shown").write_text("".join(f"{name}={value}\n" for name, value in shown.items()))
 
-    def probe(self, *places, register=None, timeout="1"):
+    def probe(self, *places, register=None, timeout="60"):
         """The status, and what is said behind the time."""
         words = ["wgr-probe", "--unit", "wgr.service", "--timeout", timeout, "--register", register or self.database]
         left = self.run_script(*words, *(places or [self.place]))
@@ -83,13 +94,15 @@ class Probe(Shipped):
     def test_no_answer(self):
         with self.subTest("it is stopped"):
             self.server.process.send_signal(signal.SIGSTOP)
-            self.assertEqual(self.probe(), (1, "no answer: timed out, and it is stopped"))
+            self.assertTrue(in_time(lambda: state_of(self.server.process) == "T"))
+            self.assertEqual(self.probe(timeout="1"), (1, "no answer: timed out, and it is stopped"))
             self.server.process.send_signal(signal.SIGCONT)
         for does, status in [("hangs", 3), ("works on", 1), ("waits for its disk", 1)]:
             with self.subTest(does):
                 port = free_port()
                 with subprocess.Popen([sys.executable, "-c", LISTENS, str(port), does], stdout=subprocess.PIPE) as process:
                     self.assertEqual(process.stdout.readline(), b"listening\n")
+                    self.assertTrue(in_time(lambda: state_of(process) == STATES[does]))
                     self.show(process.pid)
                     left = self.run_script("wgr-probe", "--unit", "wgr.service", "--timeout", "1", f"http://127.0.0.1:{port}")
                     process.kill()

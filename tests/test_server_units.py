@@ -2,10 +2,10 @@
 
 import json
 import tempfile
-import time
 import unittest
 
 from first_process import System, needs_systemd
+from program import in_time
 from serving import TOKEN, key
 from tools import needs
 
@@ -41,10 +41,7 @@ systemctl start --no-block wgr-alert@wgr-sync@vpn1.service && echo alerted
 
 class Server(unittest.TestCase):
     def wait_until(self, is_so):
-        end = time.monotonic() + 20
-        while not is_so():
-            self.assertLess(time.monotonic(), end)
-            time.sleep(0.02)
+        self.assertTrue(in_time(is_so))
 
     def put(self, path, text):
         self.system.run("sh", "-c", f"umask 077; mkdir -p $(dirname {path}); cat >{path}.new; mv {path}.new {path}", text=text)
@@ -110,6 +107,7 @@ class Sandboxes(Server):
         self.check("/var/lib/wgr-sync")
         with self.subTest("one that is gone is gone for them"):
             self.system.run("systemctl", "stop", "wgr-net@vpn1")
+            self.wait_until(lambda: len(self.system.processes("wgr-sync.service")) == 1)
             [process] = self.system.processes("wgr-sync.service")
             self.assertNotIn("/run/netns/vpn1", open(f"/proc/{process}/mountinfo").read())
         with self.subTest("stops by hand are never too many"):

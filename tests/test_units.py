@@ -6,11 +6,11 @@ import shutil
 import subprocess
 import sys
 import tempfile
-import time
 import unittest
 from pathlib import Path
 
 from first_process import DIST, System, needs_systemd
+from program import in_time
 from serving import TOKEN
 from tools import needs
 
@@ -97,7 +97,7 @@ class Running(unittest.TestCase):
         return told.stdout
 
     def through(self, socket, **more):
-        return self.curl("--max-time", "5", "--unix-socket", socket, "http://wgr/networks", **more)
+        return self.curl("--max-time", "60", "--unix-socket", socket, "http://wgr/networks", **more)
 
     def test_the_service(self):
         system = self.system
@@ -150,25 +150,24 @@ class Running(unittest.TestCase):
         change = "import sqlite3; file = sqlite3.connect('/var/lib/wgr/register.db'); file.execute('UPDATE token SET tenant = 7'); file.commit()"
         self.system.run(sys.executable, "-c", change)
         self.system.run("systemctl", "start", "--no-block", "wgr")
-        end = time.monotonic() + 30
-        while self.system.show("wgr", "ActiveState")[0] != "failed" and time.monotonic() < end:
-            time.sleep(0.1)
+        in_time(lambda: self.system.show("wgr", "ActiveState")[0] == "failed")
         self.assertEqual(self.system.show("wgr", "ActiveState", "Result"), ("failed", "exit-code"))
         with self.subTest("and somebody is told"):
-            while self.system.show("wgr-alert@wgr.service", "ExecMainExitTimestampMonotonic") == ("0",) and time.monotonic() < end:
-                time.sleep(0.05)
+            in_time(lambda: self.system.show("wgr-alert@wgr.service", "ExecMainExitTimestampMonotonic") != ("0",))
             self.assertEqual(self.system.show("wgr-alert@wgr.service", "Result", "ExecMainStatus"), ("success", "0"))
             self.assertNotEqual(self.system.show("wgr-alert@wgr.service", "ExecMainExitTimestampMonotonic"), ("0",))
 
     def kill(self):
         """Kills the service, and waits until it has started anew or has failed; gives the state."""
-        before, end = self.system.show("wgr", "MainPID"), time.monotonic() + 30
+        before, state = self.system.show("wgr", "MainPID"), None
         self.system.run("kill", "-9", *before)
-        while time.monotonic() < end:
+
+        def has_gone_on():
+            nonlocal state
             state, process = self.system.show("wgr", "ActiveState", "MainPID")
-            if state == "failed" or state == "active" and process not in before:
-                return state
-            time.sleep(0.02)
+            return state == "failed" or state == "active" and process not in before
+
+        return state if in_time(has_gone_on) else None
 
     def test_stops_by_hand_are_never_too_many(self):
         """More of them than starts may be in a row; then a service that is killed again and again fails all the same."""
