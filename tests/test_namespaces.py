@@ -6,7 +6,7 @@ import re
 import tempfile
 from pathlib import Path
 
-from following import TOOLS, Network, OfHosts, OneNetwork, inside, mark, private_key, public_key, run
+from following import PING, TOOLS, Network, OfHosts, OneNetwork, inside, mark, private_key, public_key, run
 from serving import network_add, order, request
 from tools import needs
 
@@ -167,7 +167,7 @@ class Client:
 class Redirects(OneNetwork):
     """Two peers of one network, which reach one another through the server alone."""
 
-    addresses = ["10.8.0.2", "10.8.0.3"]
+    server, addresses = "10.8.0.1", ["10.8.0.2", "10.8.0.3"]
 
     def test_none_is_sent(self):
         clients = [Client(self, self.net.host, number) for number in range(2)]
@@ -176,13 +176,16 @@ class Redirects(OneNetwork):
         for client, peer, address in zip(clients, made, self.addresses):
             reply = self.register.send(request("GET", f"/networks/office/peers/{peer['number']}/file/wg"))
             client.start(reply.partition(b"\r\n\r\n")[2].decode(), [address])
-        inside(clients[0].space, "ping", "-c", "3", "-i", "0.2", "-W", "5", self.addresses[1])
+        # The server knows where both are once it has answered them.
+        for client in clients:
+            inside(client.space, "ping", "-c", "1", "-W", PING, self.server)
+        inside(clients[0].space, "ping", "-c", "3", "-i", "0.2", "-W", PING, self.addresses[1])
         self.assertEqual(clients[1].answered(), 3)
         self.assertEqual(count(self.net.name, "OutRedirects"), 0)
 
 
 class RedirectsOfIPv6(Redirects):
-    pool, addresses = "fd00:8::/64", ["fd00:8::2", "fd00:8::3"]
+    pool, server, addresses = "fd00:8::/64", "fd00:8::1", ["fd00:8::2", "fd00:8::3"]
 
 
 # The tenants' pools, the routes to the one peer of each, and the addresses that its server pings there: two have the
@@ -236,7 +239,7 @@ class Tenants(OfHosts):
         for net, client, (_, routes, addresses) in zip(self.nets, self.clients, TENANTS):
             self.start(net, client, routes, addresses)
         for net, client, (pool, _, addresses) in zip(self.nets, self.clients, TENANTS):
-            inside(client.space, "ping", "-c", "1", "-W", "5", pool.replace("0/24", "1"))
+            inside(client.space, "ping", "-c", "1", "-W", PING, pool.replace("0/24", "1"))
             for address in addresses:
                 with self.subTest(pool, address=address):
                     answered = client.answered()
@@ -245,4 +248,4 @@ class Tenants(OfHosts):
         with self.subTest("the host's routes stay"):
             self.assertEqual(self.routes_of_host(), before)
         with self.subTest("the host reaches what is its own"):
-            inside(self.host, "ping", "-c", "1", "-W", "2", "192.0.2.2")
+            inside(self.host, "ping", "-c", "1", "-W", PING, "192.0.2.2")

@@ -5,7 +5,8 @@ import time
 import unittest
 from pathlib import Path
 
-from following import TOOLS, OneNetwork, inside, private_key, public_key, run
+from following import PING, TOOLS, OneNetwork, inside, private_key, public_key, run
+from program import in_time
 from serving import reply
 from test_follow import wait_until
 from test_namespaces import Client
@@ -121,10 +122,7 @@ class Endpoints(OneNetwork):
         return {key: int(at) for key, at in (line.split("\t") for line in lines)}
 
     def hears(self, key):
-        end = time.monotonic() + 10
-        while time.monotonic() < end and not self.handshakes()[key]:
-            time.sleep(0.05)
-        return self.handshakes()[key] > 0
+        return in_time(lambda: self.handshakes()[key] > 0, PING)
 
     def test_a_passive_peer(self):
         client = Client(self, self.net.host, 0)
@@ -132,7 +130,7 @@ class Endpoints(OneNetwork):
         self.net.sync()
         told = self.register.ask("GET", "/networks/office/peers/1/file/wg")
         client.start(told.partition(b"\r\n\r\n")[2].decode(), [made["address"].partition("/")[0]])
-        inside(client.space, "ping", "-c", "1", "-W", "5", "10.8.0.1")
+        inside(client.space, "ping", "-c", "1", "-W", PING, "10.8.0.1")
         self.net.sync()
         for register in ["up", "away"]:
             with self.subTest(register=register):

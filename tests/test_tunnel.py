@@ -36,9 +36,10 @@ class Host:
         quick = "WG_QUICK_USERSPACE_IMPLEMENTATION=wireguard-go"
         return shell(f"ip netns exec {self.space} env {quick} {command}", allowed=allowed)
 
-    def reaches(self, address):
+    def reaches(self, address, seconds=30):
+        """Whether a ping is answered in time; a handshake that fails is begun again after five seconds."""
         told = subprocess.run(
-            ["ip", "netns", "exec", self.space, "ping", "-c", "1", "-W", "2", address],
+            ["ip", "netns", "exec", self.space, "ping", "-c", "1", "-W", str(seconds), address],
             capture_output=True,
         )
         return told.returncode == 0
@@ -136,7 +137,7 @@ class Tunnel(unittest.TestCase):
 
             self.curl(serving, "peers/1", "-X", "DELETE")
             self.sync_server(serving)
-            self.assertFalse(self.client.reaches(server))
+            self.assertFalse(self.client.reaches(server, seconds=2))
 
     def adopt(self, pool, host, listed):
         """The running interface's dump makes the same peers in a register of its own."""
