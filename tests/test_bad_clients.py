@@ -159,17 +159,29 @@ class AnyFront:
                 link.connect(("127.0.0.1", self.port))
                 link.send(b"\x16\x03\x01" if number % 2 else b"")
 
+    def bad_link(self):
+        """A connection of the bad clients' address. HAProxy takes none until it has seen that enough of those before are gone."""
+        made = []
+
+        def is_made():
+            with suppress(OSError):
+                made.append(self.link(source="127.0.0.2"))
+            return made
+
+        self.assertTrue(in_time(is_made))
+        return made[0]
+
     def begin_slow(self, held):
         """20 that send a byte a second."""
         for _ in range(20):
-            link = self.link(source="127.0.0.2")
+            link = self.bad_link()
             held.callback(link.close)
             threading.Thread(target=send_slowly, args=(link.sock, LIST, LIMIT), daemon=True).start()
 
     def begin_taking_nothing(self, held):
         """20 that ask for the list of all, and read nothing."""
         for _ in range(20):
-            link = self.link(source="127.0.0.2")
+            link = self.bad_link()
             held.callback(link.close)
             link.sock.sendall(LIST)
 

@@ -98,9 +98,10 @@ class AnyFront:
 
     def test_requests_under_way(self):
         self.serving.__exit__()
-        for name, count, requests, tokens, through in SHARES:
+        for place, (name, count, requests, tokens, through) in enumerate(SHARES):
             with self.subTest(name):
-                refused = self.refused(count, requests, tokens, through)
+                # HAProxy may count what was answered just before for a moment, so each has other tokens.
+                refused = self.refused(count, requests, [f"{token}{place}" for token in tokens], through)
                 self.assertEqual([given[:2] for given in refused], (count - through) * [(429, b'{"error":"too_many_requests"}')])
                 self.assertEqual({given[2]["Retry-After"] for given in refused}, {"1"})
         with self.subTest("each token has its own"):
