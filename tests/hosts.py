@@ -4,6 +4,7 @@ It is a systemd in namespaces of its own. What is written to `/etc`, `/usr` and 
 and `/usr/local` begin empty, and no unit is there but those that are named.
 """
 
+import fcntl
 import os
 import select
 import shutil
@@ -42,6 +43,7 @@ done
 chmod 1777 /tmp
 here=/run/hosts/$(basename "$1")
 mount --bind "$here/backups" /var/backups
+mount --bind "$here/dpkg" /var/lib/dpkg
 cp -r "$here"/units/. /usr/lib/systemd/system
 cp -r "$here/checkout" /root/wgr
 mkdir -p /usr/local/bin /usr/local/lib /var/log/nginx
@@ -61,6 +63,13 @@ OVERLAY = "mount -t tmpfs tmpfs /run && mkdir /run/upper /run/work && mount -t o
 def can_overlay():
     """Whether what is written to a folder of the system can be kept in memory."""
     return os.geteuid() == 0 and subprocess.run(["unshare", "--mount", "sh", "-c", OVERLAY], capture_output=True).returncode == 0
+
+
+def copy_packages(folder):
+    """What dpkg knows, once no other program changes it: below the overlay it could change at any time."""
+    with open("/var/lib/dpkg/lock-frontend", "a") as lock:
+        fcntl.lockf(lock, fcntl.LOCK_EX)
+        shutil.copytree("/var/lib/dpkg", folder, symlinks=True)
 
 
 def needs_host(*programs):
@@ -92,6 +101,7 @@ class Host(System):
                 shutil.copy(place, self.folder / "checkout" / name)
 
     def start(self):
+        copy_packages(self.folder / "dpkg")
         super().start()
         self.run("systemctl", "start", "dbus.socket", "dbus.service")
 
