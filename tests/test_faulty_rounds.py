@@ -1,6 +1,7 @@
 """Whatever goes wrong in a round of wgr-sync, each peer stays as the register has it, or goes as its lease says."""
 
 import socket
+import time
 import unittest
 
 from following import TOOLS, private_key
@@ -10,7 +11,9 @@ from spoilt import HANG, MOVED, PAGE, before_last_peer, body_of, in_chunks, sent
 from tools import needs
 
 LIST, NETWORKS = {"peers": []}, {"networks": []}
-ASKING, KEY = "cannot ask the register", "the key is not that of the network"
+ASKING, KEY, LATE_REPLY = "cannot ask the register", "the key is not that of the network", "no answer in time"
+# Seconds within which a round has ended that gets no answer: it asks for 20, and a busy machine adds some to them.
+MOST = 35
 
 
 def url(form):
@@ -72,11 +75,11 @@ CUT = [
 ]
 # By a name: what the message says, and what goes wrong in a round that then changes nothing.
 FAULTS = [
-    ("the file never comes", "no answer in time", sent("quick", HANG)),
-    ("the list never comes", "no answer in time", sent("peers", HANG)),
-    ("the list of networks never comes", "no answer in time", sent("networks", HANG)),
-    ("the list comes too slowly", "no answer in time", sent("peers", slowly)),
-    ("nobody takes the connection", "no answer in time", nobody_accepts),
+    ("the file never comes", LATE_REPLY, sent("quick", HANG)),
+    ("the list never comes", LATE_REPLY, sent("peers", HANG)),
+    ("the list of networks never comes", LATE_REPLY, sent("networks", HANG)),
+    ("the list comes too slowly", LATE_REPLY, sent("peers", slowly)),
+    ("nobody takes the connection", LATE_REPLY, nobody_accepts),
     ("the token is wrong", "401", wrote("token", "wrong")),
     ("the token is empty", "/token", wrote("token", "")),
     ("the token is missing", "/token", wrote("token", None)),
@@ -145,7 +148,10 @@ class Rounds(Networks):
         before, over = it.look(), it.end_a_lease()
         kept = it.kept()
         spoil(it)
+        began = time.monotonic()
         self.fails(it, words)
+        if words == LATE_REPLY:
+            self.assertLess(time.monotonic() - began, MOST)
         self.assertEqual((it.look(), it.kept()), (before.without(over), kept))
         it.mend()
         self.heals(it)
