@@ -13,6 +13,7 @@ from pathlib import Path
 
 import program
 from following import DIST, Between, Network, OfHosts, inside, run
+from program import in_time
 from serving import Server, network_add, order, request
 from test_namespaces import Client
 
@@ -40,8 +41,8 @@ PINGS = [
     ("guest", "passive", "through the server"), ("bench", "shelf", "through the server"),
     ("preshared", "steady", "behind the peer"), ("office", "steady", "behind the peer"),
 ]
-# Seconds between two rounds of the second server, and within which all tunnels are as they should be.
-PAUSE, LATE = 2, 40
+# Seconds between two rounds of the second server.
+PAUSE = 2
 HOUR = 3600
 
 # How a round's process gets another clock.
@@ -50,15 +51,6 @@ import os, time
 right = time.time
 time.time = lambda: right() + {HOUR} * int(os.environ["HOURS"])
 """
-
-
-def is_so_in_time(is_so):
-    end = time.monotonic() + LATE
-    while not is_so():
-        if time.monotonic() > end:
-            return False
-        time.sleep(0.05)
-    return True
 
 
 class OfADay(OfHosts):
@@ -202,11 +194,11 @@ class OfADay(OfHosts):
 
         for _ in range(2):
             before = noted()
-            self.assertTrue(is_so_in_time(lambda: noted() != before), self.said.read_text())
+            self.assertTrue(in_time(lambda: noted() != before), self.said.read_text())
 
     def says(self, text):
         """Whether the second server says so in time, or has said so."""
-        return is_so_in_time(lambda: text in self.said.read_text())
+        return in_time(lambda: text in self.said.read_text())
 
     # The tunnels.
 
@@ -229,7 +221,7 @@ class OfADay(OfHosts):
     def let_send(self, name):
         """A customer's peer sends something, as a passive one has to before the server knows where it is."""
         server = NETWORKS[CUSTOMERS[name][0]][2].replace("0/24", "1")
-        self.assertTrue(is_so_in_time(lambda: self.reaches(self.customers[name].space, server)), name)
+        self.assertTrue(in_time(lambda: self.reaches(self.customers[name].space, server)), name)
 
     def let_rest(self, *names):
         """Passive peers have their last answer confirmed by a keepalive. From then on they begin no handshake by themselves."""
@@ -238,9 +230,9 @@ class OfADay(OfHosts):
             return inside(self.customers[name].space, "wg", "show", self.customers[name].name, "transfer").stdout.split()[1]
 
         for name in names:
-            self.assertTrue(self.reaches(self.nets[CUSTOMERS[name][0]].name, CUSTOMERS[name][1]), name)
+            self.assertTrue(in_time(lambda: self.reaches(self.nets[CUSTOMERS[name][0]].name, CUSTOMERS[name][1])), name)
         before = [received(name) for name in names]
-        self.assertTrue(is_so_in_time(lambda: all(map(str.__ne__, before, map(received, names)))), names)
+        self.assertTrue(in_time(lambda: all(map(str.__ne__, before, map(received, names)))), names)
 
     def reaches(self, space, address):
         return inside(space, "ping", "-c", "1", "-W", "1", address, allowed=None).returncode == 0
@@ -273,5 +265,5 @@ class OfADay(OfHosts):
             seen[:] = self.peers(), self.pings()
             return seen == [up, wanted]
 
-        if not is_so_in_time(are_so):
+        if not in_time(are_so):
             self.assertEqual([*map(sorted, seen)], [sorted(up), sorted(wanted)], step)

@@ -83,7 +83,7 @@ class Day(OfADay):
         began = time.monotonic()
         self.round("office")
         self.round("shop")
-        self.lease_end = int(time.time() + 3 + 2 * (time.monotonic() - began))
+        self.lease_end = int(time.time() + 5 + 4 * (time.monotonic() - began))
         self.ask("office", "POST", f"peers/{self.registered('office')['leased']}/lease", {"end": self.lease_end})
         self.round("office")
         self.wait_for_rounds()

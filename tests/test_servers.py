@@ -44,7 +44,7 @@ class Starts(OneNetwork):
         self.net.sync()
         self.start_again()
         # All before the lease ends fits in, however slow the machine is.
-        end = int(time.time() + 5 + 3 * (time.monotonic() - began))
+        end = int(time.time() + 8 + 4 * (time.monotonic() - began))
         self.ask("POST", f"peers/{number}/lease", {"end": end})
         self.net.sync()
         before = self.links()
