@@ -11,7 +11,7 @@ import time
 import unittest
 from pathlib import Path
 
-from program import Left
+from program import LIMIT, Left, in_time
 from serving import PEERS, SERVER_KEY, TOKEN, refused
 from shipped import Shipped
 from tools import needs
@@ -73,6 +73,8 @@ class Proxy:
         return int(found[1]) if found else 0
 
     def close(self):
+        # A thread that waits for a connection would have the port for good.
+        self.listener.shutdown(socket.SHUT_RDWR)
         self.listener.close()
 
 
@@ -188,15 +190,16 @@ class Peers(Client):
             self.addCleanup(proxy.close)
             self.assertEqual(self.client("revoke", "office", "4", url=f"http://127.0.0.1:{proxy.port}"), Left(0, b"revoked peer 4\n"))
         with self.subTest("a client that was stopped behind its request"):
-            proxy = Proxy(self.server, [lambda reply: time.sleep(9) or b""])
+            is_stopped = threading.Event()
+            proxy = Proxy(self.server, [lambda reply: b"" if is_stopped.wait(LIMIT) else reply])
             self.addCleanup(proxy.close)
             words = ["wgr-client", "--url", f"http://127.0.0.1:{proxy.port}", "add", "office", "laptop.conf"]
             known = self.known | {"WGR_TOKEN_FILE": str(self.folder / "token")}
-            before, end = len(self.peers()), time.monotonic() + 20
+            before = len(self.peers())
             with subprocess.Popen(words, cwd=self.folder, env=known) as running:
-                while len(self.peers()) == before and time.monotonic() < end:
-                    time.sleep(0.02)
+                self.assertTrue(in_time(lambda: len(self.peers()) > before))
                 running.kill()
+            is_stopped.set()
             self.assertEqual(self.client("add", "office", "laptop.conf"), Left(0, b"peer 5: laptop.conf\n"))
             self.assertEqual(len(self.peers()), before + 1)
             self.assertEqual(self.public(re.search("PrivateKey = (.*)\n", (self.folder / "laptop.conf").read_text())[1]), self.peers()[-1]["key"])

@@ -3,17 +3,16 @@
 import os
 import resource
 from contextlib import suppress
+from pathlib import Path
 
 from faulty import EARLY, FAILS, Faulty, needs_faults
-from program import Left
+from program import Left, in_time
 from register_file import ACME, BOLT, DONE
 from sending import Sending, connect, line, send
 from serving import done, read_all, request
 
 LISTED = request("GET", "/networks")
 NOTHING = done({"networks": []})
-# Seconds for which accepting is tried before a connection counts as missed.
-TRIES = 5
 
 
 class Missed(Sending):
@@ -69,7 +68,9 @@ class Descriptors(Missed):
             self.leave(server, None)
             self.assertEqual(read_all(link), b"0 done\n")
         self.assertEqual(server.send(LISTED), NOTHING)
-        self.assertEqual(server.ended(), Left(0, b"", b""))
+        # Where the machine is slow, it may have been told once more before there were files.
+        left = server.ended()
+        self.assertEqual(left, Left(0, b"", left.err.count(b"\n") * b"wgr: order\n"))
 
     def test_a_request_without_a_second_handle(self):
         """It is told as a connection, and counts."""
@@ -85,7 +86,6 @@ class Descriptors(Missed):
         server = self.start()
         self.leave(server, 0)
         with server.connect() as link:
-            link.settimeout(TRIES + 5)
             link.sendall(LISTED)
             self.assertEqual(self.answer(link), b"")
         self.assertEqual(server.ended(), Left(0, b"", b"wgr: connection\n"))
@@ -117,7 +117,11 @@ class Faults(Missed):
     def test_a_line_without_memory(self):
         """Where memory is refused as a line is read, it is answered `no_memory` and told as unavailable."""
         server = self.start_faulty()
+        files = len(os.listdir(f"/proc/{server.process.pid}/fd"))
         with connect(self.socket) as link:
+            # The service has accepted it, and waits for the line.
+            self.assertTrue(in_time(lambda: len(os.listdir(f"/proc/{server.process.pid}/fd")) == files + 2))
+            self.assertTrue(in_time(lambda: Path(f"/proc/{server.process.pid}/stat").read_text().rpartition(") ")[2][0] == "S"))
             self.faulty.arm(growth=0)
             link.sendall(line(BOLT))
             self.assertEqual(self.answer(link), b"1 no_memory\n")

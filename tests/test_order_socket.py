@@ -8,6 +8,7 @@ import stat
 import time
 import unittest
 from concurrent.futures import ThreadPoolExecutor
+from contextlib import suppress
 from pathlib import Path
 
 import program
@@ -18,8 +19,8 @@ from serving import PEERS, Server, done, free_port, key, peer, read_all, request
 
 BOLT = ("tenant-add", "bolt")
 LISTED, NOTHING = request("GET", "/networks"), done({"networks": []})
-# The seconds that a client of the socket has, and those after which the next one should long be served.
-PATIENCE, LATE = 5, 9
+# The seconds that a client of the socket has, and those after which the next one should long be served: no limit is as long.
+PATIENCE, LATE = 5, 9.5
 
 
 class At(Sending):
@@ -170,23 +171,16 @@ class At(Sending):
         self.assertFalse(os.path.lexists(self.socket))
 
 
-def sends_nothing(link):
-    time.sleep(LATE)
+def send_slowly(link, text):
+    """A byte a second, until the service has ended the connection."""
+    with suppress(OSError):
+        for byte in text:
+            time.sleep(1)
+            link.sendall(bytes([byte]))
 
 
-def sends_a_byte_a_second(link):
-    for byte in b"tenant-add stalled\n":
-        link.sendall(bytes([byte]))
-        time.sleep(1)
-
-
-def sends_no_newline(link):
-    link.sendall(b"tenant-add stalled")
-    time.sleep(LATE)
-
-
-# What a client does until the service has ended its connection. Each stands before a request that waits.
-STALLS = [("sends nothing", sends_nothing), ("sends a byte a second", sends_a_byte_a_second), ("sends no newline", sends_no_newline)]
+# What a client sends at once, and what a byte a second from then on. Each stands before a request that waits.
+STALLS = [("sends nothing", b"", b""), ("sends a byte a second", b"t", b"enant-add stalled\n"), ("sends no newline", b"tenant-add stalled", b"")]
 
 
 class Stalls(Sending):
@@ -202,23 +196,20 @@ class Stalls(Sending):
         shutil.copy(self.db, database)
         return database
 
-    def stall(self, name, behave):
+    def stall(self, name, first, later):
         """What the next request is answered, after how many seconds; what is left, and the tenants then."""
         database, path = self.register(name), self.path(name)
         server = Server(database, count=1, orders=path)
-        with server, connect(path) as link, ThreadPoolExecutor(1) as pool:
+        with server, ThreadPoolExecutor(1) as pool:
             begin = time.monotonic()
-            behaved = pool.submit(behave, link)
-            # The service has taken the client by then.
-            time.sleep(0.5)
-            reply = server.send(LISTED)
-            seconds = time.monotonic() - begin
-            left = server.ended()
-            try:
-                behaved.result()
-            except OSError:
-                pass
-            answer = self.rest_of(link)
+            # Orders that wait come before requests, so the service takes this client first.
+            with connect(path) as link:
+                link.sendall(first)
+                pool.submit(send_slowly, link, later)
+                reply = server.send(LISTED)
+                seconds = time.monotonic() - begin
+                left = server.ended()
+                answer = self.rest_of(link)
         return reply, seconds, left, answer, self.query("SELECT name FROM tenant", database)
 
     def rest_of(self, link):
@@ -230,7 +221,7 @@ class Stalls(Sending):
     def test_clients_that_stall(self):
         with ThreadPoolExecutor(len(STALLS)) as pool:
             seen = list(pool.map(lambda row: self.stall(*row), STALLS))
-        for (name, _), (reply, seconds, left, answer, tenants) in zip(STALLS, seen, strict=True):
+        for (name, *_), (reply, seconds, left, answer, tenants) in zip(STALLS, seen, strict=True):
             with self.subTest(name):
                 self.assertEqual((reply, left), (NOTHING, Left(0, b"", b"wgr: order\n")))
                 self.assertTrue(PATIENCE - 0.5 < seconds < LATE, seconds)
@@ -238,14 +229,23 @@ class Stalls(Sending):
 
     def test_one_that_takes_its_time(self):
         """Within its five seconds it is answered, and holds up nobody longer."""
-        server = self.serve(count=1)
+        server, late = self.serve(count=1), 0
+        # On a busy machine it may have taken more time than that: then it tries again.
+        while (tried := self.take_three_seconds()) == (b"", True) and late < 9:
+            late += 1
+        self.assertEqual(tried[0], b"0 done\n")
+        self.assertEqual(server.send(LISTED), NOTHING)
+        self.assertEqual(server.ended(), Left(0, b"", late * b"wgr: order\n"))
+
+    def take_three_seconds(self):
+        """What is answered to an order whose client rests for three seconds, and whether these were nearly five."""
         with connect(self.socket) as link:
+            begin = time.monotonic()
             link.sendall(b"tenant-add ")
             time.sleep(3)
-            link.sendall(b"bolt\n")
-            self.assertEqual(read_all(link), b"0 done\n")
-        self.assertEqual(server.send(LISTED), NOTHING)
-        self.assertEqual(server.ended(), Left(0))
+            with suppress(OSError):
+                link.sendall(b"bolt\n")
+            return self.rest_of(link), time.monotonic() - begin > PATIENCE - 0.5
 
     def test_one_that_takes_no_byte_of_its_answer(self):
         """It stays connected, with its side open."""
@@ -276,7 +276,7 @@ class Stalls(Sending):
         server = self.serve(count=1)
         with server.connect() as link, ThreadPoolExecutor(1) as pool:
             link.sendall(LISTED[:9])
-            time.sleep(0.2)
+            server.has_read(link)
             sent = pool.submit(send, self.socket, BOLT)
             time.sleep(1)
             self.assertFalse(sent.done())
