@@ -4,6 +4,7 @@ import collections
 import fcntl
 import json
 import select
+import signal
 import socket
 import subprocess
 import tempfile
@@ -71,6 +72,8 @@ def make_register(folder):
     return database
 
 
+# The number of a call of Linux on x86-64, as the kernel shows it.
+EPOLL_WAIT = "232"
 # The last ports that were chosen, so that the system gives none of them to another socket before they are used.
 HELD = collections.deque(maxlen=100)
 
@@ -146,6 +149,19 @@ class Server:
         """What the program leaves once all its connections are served, but for the lines that `logged` took."""
         out, err = self.process.communicate(timeout=program.LIMIT)
         return program.Left(self.process.returncode, out, err)
+
+    def stop(self):
+        """Stops the process while it waits for whoever comes, and not before it has looked for all that are there."""
+        assert program.in_time(self.waits), "it doesn't wait"
+        self.process.send_signal(signal.SIGSTOP)
+
+    def waits(self):
+        """Whether it is in the call epoll_wait, or sleeps where the kernel doesn't say in which call."""
+        place = Path(f"/proc/{self.process.pid}")
+        try:
+            return (place / "syscall").read_text().split()[0] == EPOLL_WAIT
+        except OSError:
+            return (place / "stat").read_text().rpartition(") ")[2].startswith("S")
 
     def connect(self):
         return socket.create_connection((self.host, self.port), timeout=program.LIMIT)

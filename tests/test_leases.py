@@ -23,7 +23,7 @@ from test_worlds import rows
 # When the leases of three peers end. Of two networks that follow one another, one has a lease that ends soon.
 SOON, LATE = 100, 200
 ENDS = [(SOON, LATE, 0), (LATE, 0, 0), (LATE, SOON, 0), (0, 0, 0), (0, SOON, LATE), (0, LATE, 0), (LATE, 0, SOON), (0, 0, LATE)]
-# Seconds until the leases end that a service sees end. It has to be asked all else by then, which takes half a second.
+# Seconds until the leases end that a service sees end, at least. It has to be asked all else by then, which takes half a second.
 WAIT = 10
 # How many networks stay in memory.
 KEPT = 64
@@ -119,8 +119,10 @@ class Leases(unittest.TestCase):
         with scratch() as folder:
             self.socket, self.others = f"{folder}/orders", [f"n{place}" for place in range(MANY)]
             names = ["ended", *(name for name in courses(0, 0) if name not in ADDED), *self.others]
+            began = time.monotonic()
             self.make(folder, dict.fromkeys(names, 6))
-            soon = int(time.time()) + WAIT
+            # A machine that is slow to make the register has more time for the rest.
+            soon = int(time.time() + WAIT + 4 * (time.monotonic() - began))
             late = soon + 1_000
             self.add_first({"ended": [late], **{name: ends for name, (ends, _, _) in courses(soon, late).items()}})
             with Server(self.pair.database, orders=self.socket) as self.server:

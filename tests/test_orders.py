@@ -325,7 +325,7 @@ class Between(Sending):
     def test_orders_that_wait_are_served_first(self):
         self.do(GRANT, NETWORK)
         server = self.serve(count=2)
-        server.process.send_signal(signal.SIGSTOP)
+        server.stop()
         links, orders = [], [("tenant-add", "bolt"), ("token-end", "abc"), ("tenant-add", "bolt")]
         for _ in range(2):
             links.append(server.connect())

@@ -362,7 +362,7 @@ class Between(Reading):
         self.init(ACME)
         self.do(("token-grant", "acme", "abc"), OFFICE)
         server = self.serve(count=1)
-        server.process.send_signal(signal.SIGSTOP)
+        server.stop()
         first = server.connect()
         first.sendall(request("POST", PEERS, {"key": key(1)}))
         lines = [b"show bolt\n", b"tenant-add bolt\n", b"show bolt\n", b"show acme --json\n", b"tenant-add cato\n"]

@@ -253,7 +253,7 @@ class Streams(Served):
     def test_two_clients(self):
         """Both have sent all before the first is served."""
         with Server(self.database, count=2, now=100) as server:
-            server.process.send_signal(signal.SIGSTOP)
+            server.stop()
             with server.connect() as first, server.connect() as second:
                 second.sendall(LOOK)
                 first.sendall(ADD)
