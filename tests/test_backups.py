@@ -8,7 +8,7 @@ import threading
 from pathlib import Path
 
 from faulty import KILL, KILLED, ONCE, Faulty, needs_faults, tell
-from program import Left, run
+from program import Left, in_time, run
 from register_file import DONE, OFFICE, failed, refused
 from sending import Sending, answered, line, send, tell_line
 from serving import LIST, PEERS, Server, done, key, peer, request
@@ -328,8 +328,11 @@ class UnderLoad(Backing):
         threads = [load, orders]
         for thread in threads:
             thread.start()
+        before = [0, 0]
         for turn in range(COPIES):
             with self.subTest(turn):
+                # Something is done between any two.
+                self.assertTrue(in_time(lambda: all(thread.failed or thread.acknowledged > count for thread, count in zip(threads, before))))
                 before = [thread.acknowledged for thread in threads]
                 self.assertEqual(self.back_up(), COPIED)
                 asked = [thread.asked for thread in threads]
@@ -344,7 +347,4 @@ class UnderLoad(Backing):
             thread.stopped = True
             thread.join()
             self.assertIsNone(thread.failed)
-        # Something was done between any two.
-        self.assertGreater(load.acknowledged, COPIES)
-        self.assertGreater(orders.acknowledged, COPIES)
         tell("copies over the socket", COPIES, f"during {load.acknowledged} requests and {orders.acknowledged} orders")
