@@ -41,8 +41,11 @@ class Large(unittest.TestCase):
         with Server(self.database, now=7) as server, self.subTest("over a socket"):
             self.assertTrue(server.send(request("GET", f"{OFFICE}/peers")) == crowd.listed())
         with self.subTest("a network that was asked of stays in memory"):
-            first, second = (min(times) for times in zip(*(self.seconds_of_two_requests() for _ in range(4))))
-            self.assertLess(second, first / 3)
+            tried = [self.seconds_of_two_requests() for _ in range(4)]
+            # On a busy machine the least of so few may be far from what each takes by itself.
+            while (least := [min(times) for times in zip(*tried)])[1] >= least[0] / 3 and len(tried) < 40:
+                tried.append(self.seconds_of_two_requests())
+            self.assertLess(least[1], least[0] / 3)
         # A peer's number is in the last 20 bits of its row's id.
         self.query("UPDATE peer SET until = 100 WHERE id & 1048575 BETWEEN 1001 AND 3000")
         self.compare(100, crowd.session_of_ends(), "leases are over")
