@@ -7,26 +7,18 @@ place; the register as it was is kept beside it. Where wgr refuses the copy, not
 import fcntl
 import os
 import shutil
-import sqlite3
-import subprocess
 import tempfile
-from contextlib import closing
 from datetime import datetime, timezone
 from pathlib import Path
 
-from wgr_copies import fail, has_log
+from wgr_copies import ask, fail, has_log
 
 # The bytes of a database's file by whose locks SQLite, and wgr, keep others out (its file format has them).
 LOCK_START, LOCK_LENGTH = 0x4000_0000, 512
 
 
-def judge(path):
-    """Lets wgr open the register, test all rows and put the log into the file; gives its message, or nothing."""
-    try:
-        told = subprocess.run(["wgr", "show", path], stdout=subprocess.DEVNULL, stderr=subprocess.PIPE, text=True)
-    except FileNotFoundError:
-        fail("wgr isn't installed")
-    return None if told.returncode == 0 else told.stderr.strip() or f"status {told.returncode}"
+def refuse(why):
+    fail(f"wgr refuses the change: {why}")
 
 
 def lock(file, register, kind):
@@ -61,13 +53,14 @@ def put_in_place(file, copy, register):
 
 
 def change_register(register, edit):
-    """Lets `edit` change the rows of a copy of the register, which takes its place, and says how the old one is called."""
+    """Lets `edit` change a copy of the register, which takes its place, and says how the old one is called."""
     os.umask(0o077)
     # What a link leads to is changed, and not the link.
     register = Path(register).resolve()
-    refused = judge(register)
-    if refused:
-        fail(f"{register} can't be opened: {refused}")
+    # It tests all rows, and puts the log into the file.
+    _, why = ask("show", register)
+    if why:
+        fail(f"{register} can't be opened: {why}")
     # From here until the copy has its place, nobody else opens the register. In this process the file is opened
     # this once, since a lock ends where any file of the process on it is closed.
     with open(register, "r+b") as file, tempfile.TemporaryDirectory(dir=register.parent, prefix=".new.") as folder:
@@ -76,11 +69,8 @@ def change_register(register, edit):
             fail(f"another program has just changed {register}: try again")
         copy = Path(folder) / "register.db"
         copy_to(copy, file)
-        with closing(sqlite3.connect(copy)) as link:
-            edit(link)
-            link.commit()
-            link.execute("PRAGMA wal_checkpoint(TRUNCATE)")
-        refused = judge(copy)
-        if refused:
-            fail(f"wgr refuses the change: {refused}")
+        edit(copy)
+        _, why = ask("show", copy)
+        if why:
+            refuse(why)
         print(f"done; {put_in_place(file, copy, register)} is the register as it was")

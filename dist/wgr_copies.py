@@ -2,16 +2,22 @@
 
 import base64
 import ipaddress
+import json
 import re
+import shutil
 import sqlite3
 import subprocess
+import tempfile
 from datetime import datetime, timezone
 from pathlib import Path
 
 from wgr_figures import fail
 
-# The version of the tables that the tools read.
+# The version of the tables that the tools read by themselves.
 VERSION = 1
+# What `wgr show --json` says of a tenant and of a network.
+TENANT = {"name", "tokens", "networks"}
+NETWORK = {"name", "pool", "host", "port", "server", "capacity", "peers", "routes"}
 # A log with this header alone has nothing that isn't in the database's file.
 EMPTY_LOG = 56
 # As wgr-backup names a copy.
@@ -29,17 +35,50 @@ def uri_of(path):
     return f"{Path(path).resolve().as_uri()}?mode=ro&immutable=1"
 
 
-def open_copy(path):
-    """The copy as a database."""
+def expect_copy(path):
+    """Ends where there is no copy, or one whose log has more than the file."""
     if not Path(path).is_file():
         fail(f"there is no copy {path}")
     if has_log(path):
         fail(f"{path} has a log beside it: wgr show {path} puts it into the file")
+
+
+def open_copy(path):
+    """The copy as a database."""
+    expect_copy(path)
     link = sqlite3.connect(uri_of(path), uri=True)
     why = fault_of(link)
     if why:
         fail(f"{path} is {why}")
     return link
+
+
+def show_copy(path, *words):
+    """What `wgr show --json` prints of a copy; or nothing, and why. The copy is only read: the program gets one of its own."""
+    expect_copy(path)
+    with tempfile.TemporaryDirectory() as folder:
+        own = Path(folder) / "copy.db"
+        try:
+            shutil.copyfile(path, own)
+        except OSError as error:
+            fail(f"{path} can't be copied: {error.strerror}")
+        shown, why = ask("show", own, "--json", *words)
+    # Its own message doesn't say that there may be a register.
+    return shown, f"{why}: it is another file, or has tables of another version" if why == "wgr: not_a_register" else why
+
+
+def is_known(tenant):
+    """Whether no more is said of a tenant than the tools read: another version may have more, such as a second pool."""
+    tokens, networks = tenant["tokens"], tenant["networks"]
+    return set(tenant) == TENANT and all(isinstance(token, str) for token in tokens) and all(set(network) == NETWORK for network in networks)
+
+
+def tenants_in(shown, place):
+    """The tenants that `show --json` printed of a place."""
+    tenants = json.loads(shown)["tenants"]
+    if not all(map(is_known, tenants)):
+        fail(f"wgr shows {place} in a form that this tool doesn't know: one of the two is of another version")
+    return tenants
 
 
 def fault_of(link):
@@ -51,15 +90,21 @@ def fault_of(link):
     return None if versions == [(VERSION,)] else f"no register whose tables have version {VERSION}"
 
 
-def send(orders, *words, seconds=None):
-    """What the service at a socket answers to an order or a reading, and nothing; or nothing, and why."""
+def ask(*words, text=None, seconds=None):
+    """What wgr prints at these words, and nothing; or nothing, and why."""
+    given = {"stdin": subprocess.DEVNULL} if text is None else {"input": text}
     try:
-        told = subprocess.run(["wgr", "send", orders, *words], stdin=subprocess.DEVNULL, capture_output=True, text=True, timeout=seconds)
+        told = subprocess.run(["wgr", *words], capture_output=True, text=True, timeout=seconds, **given)
     except FileNotFoundError:
         return None, "wgr isn't installed"
     except subprocess.TimeoutExpired:
         return None, f"no answer within {seconds} s"
     return (told.stdout, None) if told.returncode == 0 else (None, told.stderr.strip() or f"status {told.returncode}")
+
+
+def send(orders, *words, seconds=None):
+    """What the service at a socket answers to an order or a reading, and nothing; or nothing, and why."""
+    return ask("send", orders, *words, seconds=seconds)
 
 
 def newest(folder):

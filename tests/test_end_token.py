@@ -2,6 +2,7 @@
 
 import fcntl
 import hashlib
+import json
 import os
 import re
 import shutil
@@ -200,6 +201,30 @@ class EndToken(Tokens):
             self.assertEqual(self.run_script("wgr-end-token", "copy.db", "--list").out.count(b"\n"), len(lines))
         with self.subTest("no file"):
             self.assertEqual(self.run_script("wgr-end-token", "none.db", "--list"), Left(1, b"", b"wgr-end-token: there is no file none.db\n"))
+
+    def test_versions_that_are_not_known(self):
+        """Neither tables of another version, nor what another version of wgr may say of a tenant or a token."""
+        with closing(sqlite3.connect(self.database)) as link:
+            link.execute("UPDATE meta SET version = 2")
+            link.commit()
+        # The empty log that wgr leaves beside each file that it has opened.
+        Path(f"{self.database}-wal").touch()
+        before, names = Path(self.database).read_bytes(), self.names(".")
+        told = f"{self.database} can't be opened: wgr: not_a_register"
+        more = f"{told}: it is another file, or has tables of another version"
+        for words, told in [(["--list"], more), (["--tenant", "acme"], told), (["--digest", DIGESTS[TOKEN]], told)]:
+            with self.subTest(words):
+                self.assertEqual(self.end(*words), Left(1, b"", f"wgr-end-token: {told}\n".encode()))
+                self.assert_untouched(before, names)
+        Path(self.database).write_bytes(self.before)
+        tenant = {"name": "acme", "tokens": [NOBODYS], "networks": []}
+        for name, more in [("a tenant", {"until": 1}), ("a token", {"tokens": [{"digest": NOBODYS, "reads": True}]})]:
+            self.stand_in("wgr", f"echo '{json.dumps({'tenants': [tenant | more]})}'")
+            for words, of in [(["--list"], self.database), (["--tenant", "acme"], "acme"), (["--tenant", "acme", "--orders", "orders"], "acme")]:
+                with self.subTest(name, words=words):
+                    told = f"wgr-end-token: wgr shows {of} in a form that this tool doesn't know: one of the two is of another version\n"
+                    self.assertEqual(self.end(*words), Left(1, b"", told.encode()))
+                    self.assert_untouched(self.before, names)
 
 
 class ByTheService(Tokens):

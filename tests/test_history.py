@@ -231,6 +231,37 @@ class Pools(Shipped):
             told = b"wgr-free-pool: error: COPY or --orders is needed, for each register"
             self.assertEqual((left.status, left.out, left.err.splitlines()[-1]), (2, b"", told))
 
+    def test_copies_that_are_not_read(self):
+        """The copy is as it was, and nothing is left beside it, as where it is read."""
+        rows = [
+            ("a good one", "UPDATE meta SET version = 1", None),
+            ("of another version", "UPDATE meta SET version = 2", "not_a_register: it is another file, or has tables of another version"),
+            ("with rows that aren't good", "UPDATE network SET tenant = 9", "not_good"),
+        ]
+        for name, sql, why in rows:
+            with self.subTest(name):
+                copy = self.folder / "copies/copy.db"
+                copy.parent.mkdir(exist_ok=True)
+                shutil.copy(self.database, copy)
+                with closing(sqlite3.connect(copy)) as link:
+                    link.execute(sql)
+                    link.commit()
+                before, told = copy.read_bytes(), f"wgr-free-pool: {copy} can't be opened: wgr: {why}\n".encode()
+                left = self.run_script("wgr-free-pool", "24", copy, "--within", "10.8.0.0/16")
+                self.assertEqual(left, Left(1, b"", told) if why else Left(0, b"10.8.1.0/24\n"))
+                self.assertTrue(copy.read_bytes() == before)
+                self.assertEqual(self.names(), ["copy.db"])
+
+    def test_a_network_of_another_version(self):
+        """More is said of it than the tool reads, which may be another pool."""
+        [tenant] = json.loads(self.run_script("wgr", "show", self.database, "--json").out)["tenants"]
+        tenant["networks"][0]["pool6"] = "fd00::/64"
+        self.stand_in("wgr", f"echo '{json.dumps({'tenants': [tenant]})}'")
+        for words, place in [([self.database], self.database), (["--orders", "orders"], "orders")]:
+            with self.subTest(words):
+                told = f"wgr-free-pool: wgr shows {place} in a form that this tool doesn't know: one of the two is of another version\n"
+                self.assertEqual(self.run_script("wgr-free-pool", "24", *words), Left(1, b"", told.encode()))
+
     def test_lengths(self):
         for words in [["31"], ["24", "--within", "10.8.0.0/25"], ["47", "--within", "fd00::/8"]]:
             with self.subTest(words):
@@ -300,6 +331,22 @@ class Changes(Shipped):
         for words in [["acme", "office"], ["acme", "office", "--port", "x"], ["acme", "office", "--key", "*"]]:
             with self.subTest(words):
                 self.assertEqual(self.change(*words).status, 2)
+                self.assert_untouched(before, names)
+
+    def test_another_version(self):
+        """Also one that wgr knows by then."""
+        with closing(sqlite3.connect(self.database)) as link:
+            link.execute("UPDATE meta SET version = 2")
+            link.commit()
+        # The empty log that wgr leaves beside each file that it has opened.
+        Path(f"{self.database}-wal").touch()
+        before, names = Path(self.database).read_bytes(), self.names(".")
+        for by in ["wgr", "a later wgr"]:
+            with self.subTest(by):
+                if by == "a later wgr":
+                    self.stand_in("wgr", "exit 0")
+                why = "can't be opened: wgr: not_a_register" if by == "wgr" else "is no register whose tables have version 1"
+                self.assertEqual(self.change("acme", "office", "--port", "1"), Left(1, b"", f"wgr-change-network: {self.database} {why}\n".encode()))
                 self.assert_untouched(before, names)
 
     def test_a_register_that_is_served(self):
