@@ -36,7 +36,16 @@ class Architecture(unittest.TestCase):
     maxDiff = None
 
     def test_the_picture(self):
-        self.assertEqual((TOP / "docs/crates.svg").read_text(), printed("picture"))
+        """It has the nodes and edges that Graphviz is given, with their colours, and the legend. Where they are is Graphviz's own."""
+        given, drawn = printed("picture"), (TOP / "docs/crates.svg").read_text()
+        nodes = re.findall(r'(?m)^(\w+) \[fillcolor="(.*)"\]$', given)
+        edges = [(f"{one}&#45;&gt;{other}", "none") for one, other in re.findall(r"(?m)^(\w+) -> (\w+)$", given)]
+        self.assertEqual([name for name, _ in nodes], list(USES))
+        shapes = re.findall(r'<title>(.*)</title>\n<path fill="([^"]*)"', drawn)
+        self.assertEqual(sorted(shapes), sorted(nodes + edges), "run tools/picture | dot -Tsvg > docs/crates.svg")
+        colours, kinds = zip(*re.findall(r'bgcolor="(\S+)"[^>]*></td><td[^>]*>([^<]+)</td>', given))
+        self.assertEqual(re.findall(r'<polygon fill="(#\w+)"', drawn), list(colours))
+        self.assertEqual(re.findall(r"<text[^>]*>([^<]*)</text>", drawn)[: len(kinds)], list(kinds))
 
     def test_each_crate_has_a_row(self):
         self.assertEqual([re.sub(r"\W", "", row[0].partition("]")[0]) for row in rows("The crates")], list(USES))
