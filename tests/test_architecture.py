@@ -23,7 +23,7 @@ def rows(heading):
 def unfound(part):
     """The names of a part of a cell that are in none of the files that the part names."""
     words = re.findall(r"`([^`]+)`", part)
-    texts = [(CRATES / word).read_text() for word in words if "/" in word]
+    texts = [(TOP / word if word.startswith("dist/") else CRATES / word).read_text() for word in words if "/" in word]
     names = [word for word in words if texts and "/" not in word]
     return [name for name in names if not any(re.search(rf"\b{name}\b", text) for text in texts)]
 
@@ -50,6 +50,15 @@ class Architecture(unittest.TestCase):
     def test_each_crate_has_a_row(self):
         self.assertEqual([re.sub(r"\W", "", row[0].partition("]")[0]) for row in rows("The crates")], list(USES))
         self.assertEqual(sorted(USES), sorted(path.parent.name for path in CRATES.glob("*/src")))
+
+    def test_the_program_has_the_crates_that_are_said(self):
+        used, todo = set(), ["wgr_prog"]
+        while todo:
+            name = todo.pop()
+            used.add(name)
+            todo += [it for it in USES[name] if it in USES and it not in used]
+        [said] = re.findall(r"(?m)^All are in the program but (.*?):", PAGE)
+        self.assertEqual(sorted(re.findall(r"`(\w+)`", said)), sorted(set(USES) - used))
 
     def test_crates_name_what_they_cite(self):
         """Each line of crates.txt has the crates that the files of its crate cite, and no others."""
