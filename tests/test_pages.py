@@ -79,6 +79,13 @@ class Pages(unittest.TestCase):
                     lost.append((page.name, file, name))
         self.assertEqual(lost, [])
 
+    def test_each_file_of_the_tests_has_a_row(self):
+        """Beside those that have tests, in the page's first table."""
+        table = (TOP / "tests/README.md").read_text().partition("| File |")[2].partition("\n\n")[0]
+        named = [name for line in table.splitlines() for name in re.findall(r"`([^`]+)`", line.split(" | ")[0])]
+        files = [it.name + "/" * it.is_dir() for it in (TOP / "tests").iterdir() if not it.name.startswith(("test_", "__pycache__"))]
+        self.assertEqual(sorted(named), sorted(set(files) - {"README.md"}))
+
     def test_each_crate_has_a_page(self):
         pages = {it.parent.name: it.read_text() for it in TOP.glob("crates/*/README.md")}
         self.assertEqual(sorted(pages), CRATES)
