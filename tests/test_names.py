@@ -2,7 +2,7 @@
 
 import re
 import unittest
-from collections import defaultdict
+from collections import Counter, defaultdict
 from pathlib import Path
 
 CRATES = Path(__file__).resolve().parent.parent / "crates"
@@ -122,19 +122,23 @@ view_of: core model
 
 
 def shared():
+    """Each such name with each crate that defines it."""
     found = defaultdict(list)
     for file in sorted(CRATES.glob("*/specs/**/*.antt")):
         for name in DEFINITION.findall(file.read_text()):
             found[name].append(file.relative_to(CRATES).parts[0].removeprefix("wgr_"))
-    return sorted(f"{name}: {' '.join(crates)}" for name, crates in found.items() if len(crates) > 1)
+    return Counter((name, crate) for name, crates in found.items() if len(crates) > 1 for crate in crates)
 
 
 class Names(unittest.TestCase):
+    maxDiff = None
+
     def test_shared_names(self):
-        found, table = shared(), SHARED.split("\n")[1:-1]
-        self.assertEqual(sorted(set(found) - set(table)), [], "several files define these: rename, or put them into the table")
-        self.assertEqual(sorted(set(table) - set(found)), [], "these are no longer shared so: take them out of the table")
-        self.assertEqual(table, sorted(table))
+        lines = SHARED.split("\n")[1:-1]
+        table = Counter((name, crate) for name, _, crates in (line.partition(": ") for line in lines) for crate in crates.split())
+        self.assertEqual(sorted(shared() - table), [], "another file defines these already: rename, or put them into the table")
+        self.assertEqual(sorted(table - shared()), [], "these are no longer shared so: take them out of the table")
+        self.assertEqual(lines, sorted(lines))
 
 
 if __name__ == "__main__":
