@@ -13,10 +13,13 @@ PAGES = [*TOP.glob("*.md"), *TOP.glob("docs/*.md"), TOP / "tests/README.md", *CR
 USES = {name: uses.split() for name, uses in re.findall(r"(?m)^(\w+):(.*)$", (TOP / "crates.txt").read_text())}
 
 
+def section(heading):
+    return PAGE.partition(f"\n## {heading}\n")[2].partition("\n## ")[0]
+
+
 def rows(heading):
-    """The rows of the table below a heading, each as its cells."""
-    section = PAGE.partition(f"\n## {heading}\n")[2].partition("\n## ")[0]
-    table = [line for line in section.splitlines() if line.startswith("|")]
+    """The rows of the tables below a heading, each as its cells."""
+    table = [line for line in section(heading).splitlines() if line.startswith("|")]
     return [[cell.strip() for cell in line.strip("|").split(" | ")] for line in table[2:]]
 
 
@@ -84,6 +87,15 @@ class Architecture(unittest.TestCase):
         self.assertGreater(len(table), 20)
         lost = [(row[0], name) for row in table for cell in row[1:] for part in cell.split(";") for name in unfound(part)]
         self.assertEqual(lost, [])
+
+    def test_the_paths_name_what_is_there(self):
+        files = [*CRATES.glob("*/src/**/*.rt"), *CRATES.glob("*/specs/**/*.antt")]
+        known = {it.name for it in files} | {word for it in files for word in re.findall(r"\w+", it.read_text())}
+        for heading in ["The path of one request", "The path of one order"]:
+            words = re.findall(r"`([^`]+)`", section(heading))
+            self.assertGreater(len(words), 40)
+            names = [name for word in words for name in ([Path(word).name] if word.endswith(".rt") else re.findall(r"\w+", word))]
+            self.assertEqual(sorted(set(names) - known), [])
 
     def test_each_file_has_a_subject(self):
         files = [line for line in printed("files").splitlines() if line.startswith(" ")]
