@@ -13,6 +13,7 @@ from contextlib import closing, suppress
 
 from following import run
 from fronts import HAProxy, Nginx
+from program import LIMIT
 from serving import PEERS, SERVER_KEY, TOKEN, done, key, peer, request
 from tools import needs
 
@@ -128,7 +129,7 @@ class AnyFront:
 
     def lines(self, count):
         """The lines of the log, once there are so many."""
-        end = time.monotonic() + 10
+        end = time.monotonic() + LIMIT
         while True:
             found = [json.loads(line) for line in self.log().splitlines() if line.startswith("{")]
             if len(found) >= count or time.monotonic() > end:
