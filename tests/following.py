@@ -19,7 +19,7 @@ from serving import TOKEN, Server, network_add, order, request
 
 TOOLS = ["ip", "wg", "wireguard-go", "nsenter", "bash"]
 DIST = Path(__file__).resolve().parent.parent / "dist"
-# Seconds that an answer to a ping may take. A handshake that fails is begun again after five.
+# Seconds in which one of the pings that are sent has to be answered. A handshake that fails is begun again after five.
 PING = 30
 # No name is used twice, since a wireguard-go that ends removes the socket of its name.
 NUMBERS = itertools.count()
@@ -145,8 +145,8 @@ class Network:
         return told
 
     def reaches(self, address):
-        """Whether a ping is answered, in the time of a second handshake and more."""
-        return inside(self.name, "ping", "-c", "1", "-W", PING, address, allowed=None).returncode == 0
+        """Whether one of some pings is answered, in the time of a second handshake and more."""
+        return inside(self.name, "ping", "-c", "1", "-w", PING, address, allowed=None).returncode == 0
 
 
 class OfHosts(unittest.TestCase):

@@ -178,9 +178,9 @@ class Redirects(OneNetwork):
             client.start(reply.partition(b"\r\n\r\n")[2].decode(), [address])
         # The server knows where both are once it has answered them.
         for client in clients:
-            inside(client.space, "ping", "-c", "1", "-W", PING, self.server)
-        inside(clients[0].space, "ping", "-c", "3", "-i", "0.2", "-W", PING, self.addresses[1])
-        self.assertEqual(clients[1].answered(), 3)
+            inside(client.space, "ping", "-c", "1", "-w", PING, self.server)
+        inside(clients[0].space, "ping", "-c", "3", "-i", "0.2", "-w", PING, self.addresses[1])
+        self.assertGreaterEqual(clients[1].answered(), 3)
         self.assertEqual(count(self.net.name, "OutRedirects"), 0)
 
 
@@ -239,13 +239,13 @@ class Tenants(OfHosts):
         for net, client, (_, routes, addresses) in zip(self.nets, self.clients, TENANTS):
             self.start(net, client, routes, addresses)
         for net, client, (pool, _, addresses) in zip(self.nets, self.clients, TENANTS):
-            inside(client.space, "ping", "-c", "1", "-W", PING, pool.replace("0/24", "1"))
+            inside(client.space, "ping", "-c", "1", "-w", PING, pool.replace("0/24", "1"))
             for address in addresses:
                 with self.subTest(pool, address=address):
                     answered = client.answered()
                     self.assertTrue(net.reaches(address))
-                    self.assertEqual(client.answered(), answered + 1)
+                    self.assertGreater(client.answered(), answered)
         with self.subTest("the host's routes stay"):
             self.assertEqual(self.routes_of_host(), before)
         with self.subTest("the host reaches what is its own"):
-            inside(self.host, "ping", "-c", "1", "-W", PING, "192.0.2.2")
+            inside(self.host, "ping", "-c", "1", "-w", PING, "192.0.2.2")

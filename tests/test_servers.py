@@ -130,7 +130,7 @@ class Endpoints(OneNetwork):
         self.net.sync()
         told = self.register.ask("GET", "/networks/office/peers/1/file/wg")
         client.start(told.partition(b"\r\n\r\n")[2].decode(), [made["address"].partition("/")[0]])
-        inside(client.space, "ping", "-c", "1", "-W", PING, "10.8.0.1")
+        inside(client.space, "ping", "-c", "1", "-w", PING, "10.8.0.1")
         self.net.sync()
         for register in ["up", "away"]:
             with self.subTest(register=register):

@@ -37,9 +37,9 @@ class Host:
         return shell(f"ip netns exec {self.space} env {quick} {command}", allowed=allowed)
 
     def reaches(self, address, seconds=30):
-        """Whether a ping is answered in time; a handshake that fails is begun again after five seconds."""
+        """Whether one of some pings is answered in time; a handshake that fails is begun again after five seconds."""
         told = subprocess.run(
-            ["ip", "netns", "exec", self.space, "ping", "-c", "1", "-W", str(seconds), address],
+            ["ip", "netns", "exec", self.space, "ping", "-c", "1", "-w", str(seconds), address],
             capture_output=True,
         )
         return told.returncode == 0
