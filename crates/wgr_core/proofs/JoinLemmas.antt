@@ -17,7 +17,7 @@ use Rattle.wgr_pool.specs.Allot.{is_assignable, first_from}
 use Rattle.wgr_peers.specs.Peers.{is_own, key_holder, peer_of, same_key, IsNumberedBelow, IsApart}
 use Rattle.wgr_peers.specs.Routes.{Routes, route_of}
 use Rattle.wgr_core.specs.Network.{NetworkValue, IsNetwork, IsMember, is_held, lowest_free, server_address}
-use Rattle.wgr_core.specs.Outcome.{address_refusal, unless_refused, or_full, place}
+use Rattle.wgr_core.specs.Outcome.{address_refusal, address_unless, or_full, place}
 use Rattle.wgr_pool.proofs.Lists.{list_any-none}
 use Rattle.wgr_pool.proofs.Bools.{decide, and_true, or_false, not_true}
 use Rattle.wgr_pool.proofs.PrefixLemmas.{same_prefix_is, full_has, covers_full, same_family_is}
@@ -102,7 +102,7 @@ named_is_open n a h =
 pub place_is_open : (n : NetworkValue) (wanted : Option AddrValue) (a : AddrValue) → IsPool n.pool → place n wanted ≡ Ok a → IsOpen n a
 place_is_open n (Some b) a pool h = named (address_refusal n b) refl h
   where
-    named : (r : Option Refusal) → address_refusal n b ≡ r → unless_refused b r ≡ Ok a → IsOpen n a
+    named : (r : Option Refusal) → address_refusal n b ≡ r → address_unless b r ≡ Ok a → IsOpen n a
     named None is h = let e : b ≡ a = cc in subst (IsOpen n) e (named_is_open n b is)
     named (Some why) is h = cc
 place_is_open n None a pool h = lowest (lowest_free n) refl h

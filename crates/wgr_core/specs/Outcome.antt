@@ -42,9 +42,9 @@ address_refusal n a =
     (cond (is_own n.peers a) (Some AddressHeld)
     (cond (is_some (route_of n.routes (full a))) (Some AddressHeld) None))
 
-abbrev pub unless_refused : AddrValue → Option Refusal → Result AddrValue Refusal
-unless_refused a None = Ok a
-unless_refused a (Some why) = Err why
+abbrev pub address_unless : AddrValue → Option Refusal → Result AddrValue Refusal
+address_unless a None = Ok a
+address_unless a (Some why) = Err why
 
 abbrev pub or_full : Option AddrValue → Result AddrValue Refusal
 or_full None = Err PoolFull
@@ -52,7 +52,7 @@ or_full (Some a) = Ok a
 
 -- the named address, or the lowest that is free
 abbrev pub place : NetworkValue → Option AddrValue → Result AddrValue Refusal
-place n (Some a) = unless_refused a (address_refusal n a)
+place n (Some a) = address_unless a (address_refusal n a)
 place n None = or_full (lowest_free n)
 
 -- ---- a new peer

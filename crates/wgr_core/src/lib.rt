@@ -29,7 +29,7 @@ pub use fault::ActFault;
 pub use form::Form;
 pub use network::Network;
 pub use parts::Parts;
-pub use refusal::{Field, LineRefusal, Refusal};
+pub use refusal::{LineRefusal, Refusal};
 pub use reply::{PeerView, Reply};
 pub use seen_peer::SeenPeer;
 pub use wgr_peers::{Capacity, Count, Host, Items, Label, LeaseEnd, Name, Peer, Port, Status};

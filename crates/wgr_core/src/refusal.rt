@@ -4,21 +4,6 @@ ghost use Rattle.wgr_core.specs.RefusalNames.{line_refusal_name, refusal_name};
 
 use std::fmt;
 
-/// A field of an input line of `wgr plan` that isn't of its form.
-#[derive(Clone, Copy, Debug, Drop, PartialEq, Eq)]
-pub enum Field {
-    /// A public key.
-    Key,
-}
-
-impl fmt::Display for Field {
-    fn fmt<W: fmt::Write>(&self, f: &mut fmt::Formatter<W>) -> fmt::Result {
-        f.write_str(match self {
-            Field::Key => "key",
-        })
-    }
-}
-
 /// Why a command is refused, with the fact that decides it.
 #[derive(Clone, Copy, Debug, Drop, PartialEq, Eq)]
 pub enum Refusal {
@@ -40,8 +25,6 @@ pub enum Refusal {
     IsAddress,
     /// The prefix is no route.
     NoSuchRoute,
-    /// A field of an input line of `wgr plan` isn't of its form.
-    BadField { field: Field },
     /// There are as many routes as a network may have.
     RoutesFull,
     /// No allowed prefix has the address.
@@ -107,7 +90,6 @@ impl Refusal {
             Refusal::NumbersSpent => "numbers_spent",
             Refusal::IsAddress => "is_address",
             Refusal::NoSuchRoute => "no_such_route",
-            Refusal::BadField { .. } => "bad_field",
             Refusal::RoutesFull => "routes_full",
             Refusal::NobodysAddress => "nobodys_address",
             Refusal::LeaseOver => "lease_over",
@@ -130,7 +112,6 @@ impl fmt::Display for Refusal {
         f.write_str(self.name())?;
         match self {
             Refusal::KeyHeld { number } => write!(f, " {number}"),
-            Refusal::BadField { field } => write!(f, " {field}"),
             _ => Ok(()),
         }
     }

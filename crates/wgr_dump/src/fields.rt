@@ -1,9 +1,9 @@
 //! Keys and words.
-ghost use Rattle.std.specs.Prelude.{◌≡◌, ℕ, ◌<◌, ◌↔◌, IsTrue, IfSome, IfNone, slice_index, Option};
+ghost use Rattle.std.specs.Prelude.{◌≡◌, ◌↔◌, IsTrue, IfSome, IfNone, Option};
 ghost use Rattle.wgr_text.specs.declared.key.Key.{Key};
 ghost use Rattle.wgr_dump.specs.Fields.{SpellsKey, SpellsOptionalKey, IsWord};
 
-use wgr_text::Key;
+use wgr_text::{Key, are_bytes};
 
 /// The key that the field spells.
 pub(crate) fn read_key(field: &[u8]) -> Option<Key>
@@ -14,11 +14,6 @@ pub(crate) fn read_key(field: &[u8]) -> Option<Key>
     are_bytes(&key.0);
     Some(key)
 }
-
-// Does nothing. The items of a slice of bytes are bytes.
-fn are_bytes(bytes: &[u8])
-    ensures { (i : ℕ) → slice_index bytes.now i < 256 }
-{}
 
 /// The key that the field spells, or that it is `(none)`.
 pub(crate) fn read_optional_key(field: &[u8]) -> Option<Option<Key>>

@@ -16,7 +16,7 @@ use Rattle.wgr_peers.specs.Routes.{assign_route, route_of, routes_to, without_ro
 use Rattle.wgr_core.specs.Adoption.{Adoption, adoption_of}
 use Rattle.wgr_core.specs.Network.{NetworkValue, IsNetwork, IsMember, live_at}
 use Rattle.wgr_core.specs.Owner.{owner_of}
-use Rattle.wgr_core.specs.Outcome.{address_refusal, adopted, is_reading, join_refusal, lease_refusal, live_outcome, outcome_of, place, route_refusal, server_refusal, unless_refused, vacated, view_of}
+use Rattle.wgr_core.specs.Outcome.{address_refusal, adopted, is_reading, join_refusal, lease_refusal, live_outcome, outcome_of, place, route_refusal, server_refusal, address_unless, vacated, view_of}
 use Rattle.wgr_peers.proofs.PeerLemmas.{peer_is}
 use Rattle.wgr_core.proofs.CommandLemmas.{put_peer_above}
 use Rattle.wgr_core.proofs.LiveLemmas.{live_is_network}
@@ -44,7 +44,7 @@ as_named : (n : NetworkValue) (wanted : Option AddrValue) (a : AddrValue) → pl
 as_named n None a placed = tt
 as_named n (Some b) a placed = named (address_refusal n b) placed
   where
-    named : (why : Option Refusal) → unless_refused b why ≡ Ok a → a ≡ b
+    named : (why : Option Refusal) → address_unless b why ≡ Ok a → a ≡ b
     named None is = cc
     named (Some why) is = cc
 

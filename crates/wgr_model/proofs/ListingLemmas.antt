@@ -1,31 +1,12 @@
 -- A tenant's networks by name.
-use Rattle.std.proofs.Common.{◌≡◌, ℕ, suc, ◌-◌, ◌<◌, ◌≤◌, true, false, cond, List, [], ◌∷◌, ◌++◌, length, slice_index_or, slice_set, take, drop, drop-cons, map, filter, nat_eq, sym, ap, ◌∙◌, arith}
-use Rattle.std.proofs.lemmas.List.{get_or_default, nil_from_length, set_split}
+use Rattle.std.proofs.Common.{◌≡◌, ℕ, suc, ◌-◌, ◌<◌, ◌≤◌, true, false, cond, List, [], ◌∷◌, length, slice_index_or, drop, drop-cons, map, filter, nat_eq, sym, ap, ◌∙◌, arith}
+use Rattle.std.proofs.lemmas.List.{nil_from_length}
 use Rattle.std.specs.Cmp.Lexicographic.{slice_cmp, nat_list_cmp_total}
 use Rattle.std.specs.FinMap as map_
-use Rattle.std.specs.FinMap.Entries.{by_order}
 use Rattle.std.specs.Ordering.{nat_cmp}
-use Rattle.std.specs.declared.cmp.Ordering.{Ordering}
-use Rattle.std.specs.declared.cmp.Ordering.TheVariants.{Equal}
 use Rattle.wgr_core.specs.Network.{NetworkValue}
 use Rattle.wgr_model.specs.Listing.{Entries, EntriesOf, put_entry}
-use Rattle.wgr_model.specs.Register.{Bytes, Holding, networks_of}
-
--- the entry of the name is where the search stops
-pub equal_at : (es : Entries) (i : ℕ) (name : Bytes) (e : Bytes × NetworkValue) → i < length es → e ≡ slice_index_or es i e → slice_cmp nat_cmp name e.0 ≡ Equal
-    → ((n : NetworkValue) → put_entry name n es ≡ take i es ++ put_entry name n (drop i es)) → (i < length es) × ((d : Bytes × NetworkValue) (n : NetworkValue) → put_entry name n es ≡ slice_set es i ((slice_index_or es i d).0, n))
-equal_at es i name e lt at is put_there = (
-  lt,
-  λ d n.
-      let rest = drop (suc i) es in
-      let cut : drop i es ≡ e ∷ rest = drop-cons es i e lt ∙ ap (λ x. x ∷ rest) (sym at) in
-      let here : e ≡ slice_index_or es i d = at ∙ get_or_default es i e d lt in
-      put_there n
-      ∙ ap (λ xs. take i es ++ put_entry name n xs) cut
-      ∙ ap (λ (o : Ordering). take i es ++ by_order o ((name, n) ∷ e ∷ rest) ((e.0, n) ∷ rest) (e ∷ put_entry name n rest)) is
-      ∙ sym (set_split es i (e.0, n) lt)
-      ∙ ap {A = Bytes × NetworkValue} (λ x. slice_set es i (x.0, n)) here,
-)
+use Rattle.wgr_model.specs.Register.{Holding, networks_of}
 
 no_entries : map_.entries {X = NetworkValue} {R = slice_cmp nat_cmp} map_.empty ≡ []
 no_entries = nil_from_length (map_.entries {X = NetworkValue} {R = slice_cmp nat_cmp} map_.empty) (sym (map_.len-entries map_.empty) ∙ map_.len-empty (slice_cmp nat_cmp) NetworkValue)

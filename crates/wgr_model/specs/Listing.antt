@@ -1,6 +1,5 @@
 -- A tenant's networks by name, as a list in the order of the names.
-use Rattle.std.specs.Prelude.{◌≡◌, ℕ, ◌<◌, ◌≤◌, List, length, Result, Ok, Err, slice_index_or, slice_set}
-use Rattle.std.specs.List.{insert}
+use Rattle.std.specs.Prelude.{◌≡◌, ℕ, List}
 use Rattle.std.specs.Ordering.{nat_cmp}
 use Rattle.std.specs.Cmp.Lexicographic.{slice_cmp}
 use Rattle.std.specs.FinMap as map_
@@ -17,8 +16,3 @@ EntriesOf hs id entries = entries ≡ map_.entries (map_.from_entries {R = slice
 
 abbrev pub put_entry : Bytes → NetworkValue → Entries → Entries
 put_entry name n entries = put (slice_cmp nat_cmp) name n entries
-
--- where the entry is put: in the place of one, or between two
-abbrev pub EntryPlace : Entries → Bytes → Result ℕ ℕ → Type 0
-EntryPlace entries name (Ok place) = (place < length entries) × ((d : Bytes × NetworkValue) (n : NetworkValue) → put_entry name n entries ≡ slice_set entries place ((slice_index_or entries place d).0, n))
-EntryPlace entries name (Err place) = (place ≤ length entries) × ((n : NetworkValue) → put_entry name n entries ≡ insert entries place (name, n))

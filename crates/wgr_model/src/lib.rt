@@ -1,5 +1,5 @@
 //! The register of many tenants as a model: what one tenant sees of it, what each event does to
-//! it, and what follows for every list of events. It has definitions and laws, and no code.
+//! it, and what follows for every list of events. Its only code is a limit of entries.
 #![tactic(auto)]
 
 pub mod laws;

@@ -1,6 +1,4 @@
 //! What the types of an order guarantee, stated for a proof.
-ghost use Rattle.std.specs.Prelude.{◌<◌};
-ghost use Rattle.std.specs.List.{AllByRecursion};
 ghost use Rattle.wgr_core.specs.Forms.{IsKey};
 ghost use Rattle.wgr_orders.specs.Orders.{order_event};
 ghost use Rattle.wgr_model.specs.Consistent.{IsDigest, IsName};
@@ -8,7 +6,7 @@ ghost use Rattle.wgr_model.specs.Steps.{IsProper, IsProperSettings};
 
 use crate::order::{Order, Settings};
 use wgr_core::Name;
-use wgr_text::Key;
+use wgr_text::{Key, are_bytes};
 
 impl Order {
     /// Does nothing. Each field has the form that its type guarantees.
@@ -50,11 +48,6 @@ pub fn digest_has_form(digest: &[u8; 32])
 {
     are_bytes(digest);
 }
-
-// A byte is below 256.
-fn are_bytes(bytes: &[u8])
-    ensures { AllByRecursion (λ b. b < 256) bytes.now }
-{}
 
 // A key has 32 bytes.
 fn key_has_form(key: &Key)

@@ -1,4 +1,8 @@
 //! Why an order is refused.
+ghost use Rattle.std.specs.Prelude.{◌≡◌};
+ghost use Rattle.wgr_orders.specs.Orders.{refusal_of};
+ghost use Rattle.wgr_orders.specs.RefusalTexts.{order_refusal_name};
+
 use std::alloc::AllocError;
 use std::fmt;
 
@@ -46,22 +50,33 @@ impl From<AllocError> for OrderFault {
     }
 }
 
+impl OrderRefusal {
+    /// The refusal's name, without the names of a tenant and a network: letters and underscores.
+    pub fn name(&self) -> &'static str
+        ensures { result.now ≡ order_refusal_name (refusal_of self.now) }
+    {
+        match self {
+            OrderRefusal::NameHeld => "name_held",
+            OrderRefusal::NoSuchTenant => "no_such_tenant",
+            OrderRefusal::DigestHeld => "digest_held",
+            OrderRefusal::PoolOverlaps { .. } => "pool_overlaps",
+            OrderRefusal::BadPool => "bad_pool",
+            OrderRefusal::PortHeld => "port_held",
+            OrderRefusal::NoSuchToken => "no_such_token",
+            OrderRefusal::NoNetwork => "no_network",
+            OrderRefusal::RegisterFull => "register_full",
+        }
+    }
+}
+
 impl fmt::Display for OrderRefusal {
     /// The refusal's name; for a pool that overlaps, the names of the tenant and of the network
     /// after it.
     fn fmt<W: fmt::Write>(&self, f: &mut fmt::Formatter<W>) -> fmt::Result {
+        f.write_str(self.name())?;
         match self {
-            OrderRefusal::NameHeld => f.write_str("name_held"),
-            OrderRefusal::NoSuchTenant => f.write_str("no_such_tenant"),
-            OrderRefusal::DigestHeld => f.write_str("digest_held"),
-            OrderRefusal::PoolOverlaps { tenant, network } => {
-                write!(f, "pool_overlaps {tenant} {network}")
-            }
-            OrderRefusal::BadPool => f.write_str("bad_pool"),
-            OrderRefusal::PortHeld => f.write_str("port_held"),
-            OrderRefusal::NoSuchToken => f.write_str("no_such_token"),
-            OrderRefusal::NoNetwork => f.write_str("no_network"),
-            OrderRefusal::RegisterFull => f.write_str("register_full"),
+            OrderRefusal::PoolOverlaps { tenant, network } => write!(f, " {tenant} {network}"),
+            _ => Ok(()),
         }
     }
 }

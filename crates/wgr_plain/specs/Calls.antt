@@ -25,15 +25,15 @@ answer_of answered.NoSuchNetwork = NoSuchNetwork
 answer_of answered.Done = Done
 answer_of (answered.Refused why) = Refused (refusal_of why)
 
-abbrev pub event_of : event.Event → Event
-event_of (events.Ask digest name now command) = Ask digest name now command
-event_of (events.Networks digest) = Networks digest
-event_of (events.Order order) = order_event order
+abbrev pub model_event : event.Event → Event
+model_event (events.Ask digest name now command) = Ask digest name now command
+model_event (events.Networks digest) = Networks digest
+model_event (events.Order order) = order_event order
 
 -- the list of these events, each with its answer, or with none where memory was refused: one answer
 -- for each event
 abbrev pub AreAnswered : List event.Event → List (Option answer.Answer) → List Served → Type 0
-AreAnswered events answers es = AreServed (map event_of events) (map (option_map answer_of) answers) es
+AreAnswered events answers es = AreServed (map model_event events) (map (option_map answer_of) answers) es
 
 -- a command's result on a network is answered, and the network after it is returned
 abbrev pub IsActed : Result (Reply × NetworkValue) Refusal → Answer → Option NetworkValue → Type 0

@@ -1,13 +1,13 @@
 //! What the types of an event guarantee, stated for a proof.
 ghost use Rattle.wgr_model.specs.Steps.{IsProper};
-ghost use Rattle.wgr_plain.specs.Calls.{event_of};
+ghost use Rattle.wgr_plain.specs.Calls.{model_event};
 
 use crate::run::Event;
 
 impl Event {
     // Does nothing. Each field has the form that its type guarantees.
     pub(crate) fn forms_hold(&self)
-        ensures { IsProper (event_of self.now) }
+        ensures { IsProper (model_event self.now) }
     {
         match self {
             Event::Ask { command, .. } => command.forms_hold(),

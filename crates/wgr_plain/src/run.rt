@@ -1,7 +1,7 @@
 //! Lists of events.
 ghost use Rattle.std.specs.Prelude.{◌≡◌, List, length, IfOk, OnErr};
 ghost use Rattle.std.specs.Option.{option_map};
-ghost use Rattle.wgr_plain.specs.Calls.{AreAnswered, answer_of, event_of};
+ghost use Rattle.wgr_plain.specs.Calls.{AreAnswered, answer_of, model_event};
 ghost use Rattle.wgr_model.specs.Laws.{IsIsolated};
 ghost use Rattle.wgr_model.specs.Runs.{IsRun, IsServed, Served};
 ghost use Rattle.wgr_model.specs.Steps.{IsStep};
@@ -58,7 +58,7 @@ impl Register {
 
     // The answer to one event, or none if memory runs out.
     fn serve(&mut self, alloc: Global, event: &Event) -> Option<Answer>
-        ensures { IsServed self.old (event_of event.now) (option_map answer_of result) self.new }
+        ensures { IsServed self.old (model_event event.now) (option_map answer_of result) self.new }
     {
         match self.answer(alloc, event) {
             Ok(answer) => Some(answer),
@@ -68,7 +68,7 @@ impl Register {
 
     /// Takes one event; if memory runs out, the register is as before.
     pub fn answer(&mut self, alloc: Global, event: &Event) -> Result<Answer, AllocError>
-        ensures step { IfOk result (λ answer. IsStep self.old (event_of event.now) (answer_of answer) self.new) }
+        ensures step { IfOk result (λ answer. IsStep self.old (model_event event.now) (answer_of answer) self.new) }
         ensures undone { OnErr result (self.new ≡ self.old) }
     {
         match event {

@@ -7,14 +7,13 @@ use Rattle.wgr_text.specs.KeyText.{key_text}
 use Rattle.wgr_text.specs.Prefix.{PrefixValue}
 use Rattle.wgr_text.proofs.KeyLemmas.{key_text_injective}
 use Rattle.wgr_core.specs.declared.refusal.Refusal.{Refusal}
-use Rattle.wgr_core.specs.declared.refusal.Refusal.TheVariants as refusal
-use Rattle.wgr_core.specs.declared.refusal.Field.TheVariants as field
 use Rattle.wgr_core.specs.declared.reply.Reply.{Reply}
 use Rattle.wgr_core.specs.declared.reply.Reply.TheVariants as reply
 use Rattle.wgr_core.specs.declared.reply.PeerView.{PeerView}
 use Rattle.wgr_core.specs.Network.{NetworkValue}
 use Rattle.wgr_core.specs.Outcome.{outcome_of}
 use Rattle.wgr_text.specs.Lines.{lines_of}
+use Rattle.wgr_plan.specs.declared.row_fault.RowFault.TheVariants as fault
 use Rattle.wgr_plan.specs.Plan.{Plan, Plans, ends, no_key, refused, joined, SpellsKey, no_more, refused_at, after, joining, row_text, plan_network, IsPlanOf}
 
 -- a text spells one key at most
@@ -28,10 +27,10 @@ one_key text one other s t =
 data Begins : NetworkValue → ℕ → List ℕ → List (List ℕ) → Plan → Type 0 where
   without_key : (n : NetworkValue) (line : ℕ) (text : List ℕ) (more : List (List ℕ)) (p : Plan)
       → ((key : List ℕ) → length key ≡ 32 → IsBytes key → text ≢ key_text key)
-      → p ≡ refused_at line (refusal.BadField field.Key) → Begins n line text more p
+      → p ≡ refused_at line fault.NoKey → Begins n line text more p
   with_refusal : (n : NetworkValue) (line : ℕ) (text : List ℕ) (more : List (List ℕ)) (p : Plan) (key : Key) (why : Refusal)
       → SpellsKey text key → outcome_of n 0 (joining key) ≡ Err why
-      → p ≡ refused_at line why → Begins n line text more p
+      → p ≡ refused_at line (fault.Refused why) → Begins n line text more p
   with_peer : (n : NetworkValue) (line : ℕ) (text : List ℕ) (more : List (List ℕ)) (p : Plan) (key : Key) (view : PeerView) (m : NetworkValue) (rest : Plan)
       → SpellsKey text key → outcome_of n 0 (joining key) ≡ Ok (reply.Peer view, m)
       → Plans m (line + 1) more rest → p ≡ after (row_text view.peer) rest → Begins n line text more p
@@ -42,8 +41,8 @@ Is n line (text ∷ more) p = Begins n line text more p
 
 plan_is : (n : NetworkValue) (line : ℕ) (lines : List (List ℕ)) (p : Plan) → Plans n line lines p → Is n line lines p
 plan_is _ _ _ _ (ends n line) = refl
-plan_is _ _ _ _ (no_key n line text more none) = without_key n line text more (refused_at line (refusal.BadField field.Key)) none refl
-plan_is _ _ _ _ (refused n line text more key why spelled outcome) = with_refusal n line text more (refused_at line why) key why spelled outcome refl
+plan_is _ _ _ _ (no_key n line text more none) = without_key n line text more (refused_at line fault.NoKey) none refl
+plan_is _ _ _ _ (refused n line text more key why spelled outcome) = with_refusal n line text more (refused_at line (fault.Refused why)) key why spelled outcome refl
 plan_is _ _ _ _ (joined n line text more key view m p spelled outcome rest) = with_peer n line text more (after (row_text view.peer) p) key view m p spelled outcome rest refl
 
 -- the plans of some lines are equal, whatever network they begin with
@@ -72,18 +71,18 @@ agree_first : (line : ℕ) (more : List (List ℕ)) → Agree (line + 1) more
 agree_first _ _ again _ _ _ _ (without_key n line text more p none p_is) b = by_none n line text more p _ none p_is b
   where
     by_none : (n : NetworkValue) (line : ℕ) (text : List ℕ) (more : List (List ℕ)) (p q : Plan) → ((key : List ℕ) → length key ≡ 32 → IsBytes key → text ≢ key_text key)
-        → p ≡ refused_at line (refusal.BadField field.Key) → Begins n line text more q → p ≡ q
+        → p ≡ refused_at line fault.NoKey → Begins n line text more q → p ≡ q
     by_none _ _ _ _ p _ none p_is (without_key n line text more q none' q_is) = p_is ∙ sym q_is
     by_none _ _ _ _ p _ none p_is (with_refusal n line text more q key why s o q_is) = absurd (none key.0 s.0 s.1 s.2)
     by_none _ _ _ _ p _ none p_is (with_peer n line text more q key view m rest s o plan q_is) = absurd (none key.0 s.0 s.1 s.2)
 agree_first _ _ again _ _ _ _ (with_refusal n line text more p key why s o p_is) b = by_refusal n line text more p _ key why s o p_is b
   where
     by_refusal : (n : NetworkValue) (line : ℕ) (text : List ℕ) (more : List (List ℕ)) (p q : Plan) (key : Key) (why : Refusal) → SpellsKey text key → outcome_of n 0 (joining key) ≡ Err why
-        → p ≡ refused_at line why → Begins n line text more q → p ≡ q
+        → p ≡ refused_at line (fault.Refused why) → Begins n line text more q → p ≡ q
     by_refusal _ _ _ _ p _ key why s o p_is (without_key n line text more q none q_is) = absurd (none key.0 s.0 s.1 s.2)
     by_refusal _ _ _ _ p _ key why s o p_is (with_refusal n line text more q other why' t o' q_is) =
         let same : why ≡ why' = one_refusal _ why why' o (same_outcome n text key other _ s t o') in
-        p_is ∙ ap (refused_at line) same ∙ sym q_is
+        p_is ∙ ap (λ w. refused_at line (fault.Refused w)) same ∙ sym q_is
     by_refusal _ _ _ _ p _ key why s o p_is (with_peer n line text more q other view m rest t o' plan q_is) =
         absurd (no_refusal_joins _ why (reply.Peer view, m) o (same_outcome n text key other _ s t o'))
 agree_first _ _ again _ _ _ _ (with_peer n line text more p key view m rest s o plan p_is) b = by_peer n line text more p _ key view m rest again s o plan p_is b

@@ -12,6 +12,7 @@ use Rattle.wgr_core.specs.declared.fault.ActFault.TheVariants.{Refused}
 use Rattle.wgr_core.specs.Network.{NetworkValue, live_at}
 use Rattle.wgr_core.specs.Outcome.{Outcome, unless, at_place, joined, join_refusal, place, kept_if, view_of, outcome_of}
 use Rattle.wgr_core.specs.Change.{Meets}
+use Rattle.wgr_plan.specs.declared.row_fault.RowFault.{RowFault}
 use Rattle.wgr_plan.specs.Plan.{Plan, Plans, ends, no_key, refused, joined as joined_first, no_more, refused_at, after, joining, RefusesLine, spells_no_key, network_refuses, JoinsLine, row_text}
 
 pub refused_is : (n : NetworkValue) (why : Refusal) (o : Outcome) → Meets n (Err (Refused why)) o → o ≡ Err why
@@ -56,11 +57,11 @@ planned_join first lines n text rest printed m printed' so_far j p plan =
 pub planned_end : (first : NetworkValue) (lines : List (List ℕ)) (n : NetworkValue) (printed : List ℕ) → PlannedTo first lines n [] printed → Plans first 1 lines (record { printed = printed; refused = None })
 planned_end first lines n printed so_far = subst (λ bytes. Plans first 1 lines (record { printed = bytes; refused = None })) (append-nil printed) (so_far no_more (ends n n.next))
 
-pub planned_refused : (first : NetworkValue) (lines : List (List ℕ)) (n : NetworkValue) (text : List ℕ) (rest : List (List ℕ)) (printed : List ℕ) (why : Refusal)
+pub planned_refused : (first : NetworkValue) (lines : List (List ℕ)) (n : NetworkValue) (text : List ℕ) (rest : List (List ℕ)) (printed : List ℕ) (why : RowFault)
     → PlannedTo first lines n (text ∷ rest) printed → RefusesLine n text why → Plans first 1 lines (record { printed = printed; refused = Some (n.next, why) })
 planned_refused first lines n text rest printed why so_far refuses =
     subst (λ bytes. Plans first 1 lines (record { printed = bytes; refused = Some (n.next, why) })) (append-nil printed) (so_far (refused_at n.next why) (here n text why refuses))
   where
-    here : (n : NetworkValue) (text : List ℕ) (why : Refusal) → RefusesLine n text why → Plans n n.next (text ∷ rest) (refused_at n.next why)
+    here : (n : NetworkValue) (text : List ℕ) (why : RowFault) → RefusesLine n text why → Plans n n.next (text ∷ rest) (refused_at n.next why)
     here _ _ _ (spells_no_key n text none) = no_key n n.next text rest none
     here _ _ _ (network_refuses n text key why spelled outcome) = refused n n.next text rest key why spelled outcome

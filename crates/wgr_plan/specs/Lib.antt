@@ -1,3 +1,4 @@
 pub mod Plan
 pub mod PlanFault
 pub mod PlanLaws
+pub mod RowFaultNames

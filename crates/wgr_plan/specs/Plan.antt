@@ -9,8 +9,6 @@ use Rattle.wgr_peers.specs.declared.peer.Peer.{Peer}
 use Rattle.wgr_core.specs.declared.command.Command.{Command}
 use Rattle.wgr_core.specs.declared.command.Command.TheVariants as command
 use Rattle.wgr_core.specs.declared.refusal.Refusal.{Refusal}
-use Rattle.wgr_core.specs.declared.refusal.Refusal.TheVariants as refusal
-use Rattle.wgr_core.specs.declared.refusal.Field.TheVariants as field
 use Rattle.wgr_core.specs.declared.fault.ActFault.{ActFault}
 use Rattle.wgr_core.specs.declared.fault.ActFault.TheVariants.{Refused, NoMemory}
 use Rattle.wgr_core.specs.declared.reply.PeerView.{PeerView}
@@ -19,10 +17,12 @@ use Rattle.wgr_pool.specs.PrefixTests.{full}
 use Rattle.wgr_core.specs.Network.{NetworkValue}
 use Rattle.wgr_core.specs.Outcome.{outcome_of}
 use Rattle.wgr_text.specs.Lines.{lines_of}
+use Rattle.wgr_plan.specs.declared.row_fault.RowFault.{RowFault}
+use Rattle.wgr_plan.specs.declared.row_fault.RowFault.TheVariants as fault
 
 pub record Plan : Type 0 where
   pub printed : List ℕ
-  pub refused : Option (ℕ × Refusal)
+  pub refused : Option (ℕ × RowFault)
 
 -- an empty network; nobody has the private key of its server key, and its endpoint has no effect
 abbrev pub plan_network : PrefixValue → NetworkValue
@@ -39,7 +39,7 @@ row_text p = decimal p.number ++ codes "\t" ++ key_text p.key.0 ++ codes "\t" ++
 abbrev pub no_more : Plan
 no_more = record { printed = []; refused = None }
 
-abbrev pub refused_at : ℕ → Refusal → Plan
+abbrev pub refused_at : ℕ → RowFault → Plan
 refused_at line why = record { printed = []; refused = Some (line, why) }
 
 -- what is printed first, and then the rest of the plan
@@ -55,10 +55,10 @@ pub data Plans : NetworkValue → ℕ → List (List ℕ) → Plan → Type 0 wh
   ends : (n : NetworkValue) (line : ℕ) → Plans n line [] no_more
   no_key : (n : NetworkValue) (line : ℕ) (text : List ℕ) (more : List (List ℕ))
       → ((key : List ℕ) → length key ≡ 32 → IsBytes key → text ≢ key_text key)
-      → Plans n line (text ∷ more) (refused_at line (refusal.BadField field.Key))
+      → Plans n line (text ∷ more) (refused_at line fault.NoKey)
   refused : (n : NetworkValue) (line : ℕ) (text : List ℕ) (more : List (List ℕ)) (key : Key) (why : Refusal)
       → SpellsKey text key → outcome_of n 0 (joining key) ≡ Err why
-      → Plans n line (text ∷ more) (refused_at line why)
+      → Plans n line (text ∷ more) (refused_at line (fault.Refused why))
   joined : (n : NetworkValue) (line : ℕ) (text : List ℕ) (more : List (List ℕ)) (key : Key) (view : PeerView) (m : NetworkValue) (p : Plan)
       → SpellsKey text key → outcome_of n 0 (joining key) ≡ Ok (reply.Peer view, m)
       → Plans m (line + 1) more p
@@ -76,9 +76,9 @@ Refuses n key n' (Refused why) = (n' ≡ n) × (outcome_of n 0 (joining key) ≡
 Refuses n key n' NoMemory = Unit {0}
 
 -- the line is refused: no key, or one that the network refuses
-pub data RefusesLine : NetworkValue → List ℕ → Refusal → Type 0 where
-  spells_no_key : (n : NetworkValue) (text : List ℕ) → ((key : List ℕ) → length key ≡ 32 → IsBytes key → text ≢ key_text key) → RefusesLine n text (refusal.BadField field.Key)
-  network_refuses : (n : NetworkValue) (text : List ℕ) (key : Key) (why : Refusal) → SpellsKey text key → outcome_of n 0 (joining key) ≡ Err why → RefusesLine n text why
+pub data RefusesLine : NetworkValue → List ℕ → RowFault → Type 0 where
+  spells_no_key : (n : NetworkValue) (text : List ℕ) → ((key : List ℕ) → length key ≡ 32 → IsBytes key → text ≢ key_text key) → RefusesLine n text fault.NoKey
+  network_refuses : (n : NetworkValue) (text : List ℕ) (key : Key) (why : Refusal) → SpellsKey text key → outcome_of n 0 (joining key) ≡ Err why → RefusesLine n text (fault.Refused why)
 
 -- the line's peer joins, and its row is printed
 pub record JoinsLine (n : NetworkValue) (text printed : List ℕ) (n' : NetworkValue) (printed' : List ℕ) : Type 0 where
@@ -88,6 +88,6 @@ pub record JoinsLine (n : NetworkValue) (text printed : List ℕ) (n' : NetworkV
   pub outcome : outcome_of n 0 (joining key) ≡ Ok (reply.Peer view, n')
   pub row : printed' ≡ printed ++ row_text view.peer
 
-abbrev pub AddsLine : NetworkValue → List ℕ → List ℕ → NetworkValue → List ℕ → Option Refusal → Type 0
+abbrev pub AddsLine : NetworkValue → List ℕ → List ℕ → NetworkValue → List ℕ → Option RowFault → Type 0
 AddsLine n text printed n' printed' None = JoinsLine n text printed n' printed'
 AddsLine n text printed n' printed' (Some why) = (n' ≡ n) × (printed' ≡ printed) × RefusesLine n text why

@@ -28,9 +28,9 @@ AreSound old new = (new.read_failed ≡ old.read_failed) × (new.write_failed �
 -- the lines before the refused one are written, all lines if none is; an error of memory or of
 -- the reader leaves the writer as it was; an error of the writer reports how many bytes it took, and
 -- each error of a device is marked only at that device
-abbrev pub Answers : PrefixValue → Streams → Streams → Result (Unit {0}) PlanFault → Type 0
-Answers pool old new (Ok done) = (p : Plan) × Reads pool old.input new.input p × Appends old.written new.written p.printed × (p.refused ≡ None) × AreSound old new
-Answers pool old new (Err (Refused line why)) = (p : Plan) × Reads pool old.input new.input p × Appends old.written new.written p.printed × (p.refused ≡ Some (line, why)) × AreSound old new
-Answers pool old new (Err NoMemory) = (new.written ≡ old.written) × AreSound old new
-Answers pool old new (Err Read) = (new.read_failed ≡ true) × (new.written ≡ old.written) × (new.write_failed ≡ old.write_failed)
-Answers pool old new (Err (Write sent)) = (p : Plan) × Reads pool old.input new.input p × Appends old.written new.written (take sent p.printed) × (sent < length p.printed) × (new.write_failed ≡ true) × (new.read_failed ≡ old.read_failed)
+abbrev pub HasPlanned : PrefixValue → Streams → Streams → Result (Unit {0}) PlanFault → Type 0
+HasPlanned pool old new (Ok done) = (p : Plan) × Reads pool old.input new.input p × Appends old.written new.written p.printed × (p.refused ≡ None) × AreSound old new
+HasPlanned pool old new (Err (Refused line why)) = (p : Plan) × Reads pool old.input new.input p × Appends old.written new.written p.printed × (p.refused ≡ Some (line, why)) × AreSound old new
+HasPlanned pool old new (Err NoMemory) = (new.written ≡ old.written) × AreSound old new
+HasPlanned pool old new (Err Read) = (new.read_failed ≡ true) × (new.written ≡ old.written) × (new.write_failed ≡ old.write_failed)
+HasPlanned pool old new (Err (Write sent)) = (p : Plan) × Reads pool old.input new.input p × Appends old.written new.written (take sent p.printed) × (sent < length p.printed) × (new.write_failed ≡ true) × (new.read_failed ≡ old.read_failed)

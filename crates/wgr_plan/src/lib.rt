@@ -3,6 +3,8 @@
 
 mod laws;
 mod planner;
+mod row_fault;
 
 pub use laws::plans_are_unique;
 pub use planner::{PlanFault, plan};
+pub use row_fault::RowFault;

@@ -4,22 +4,22 @@ ghost use Rattle.std.specs.Prelude.{◌≡◌, ◌≢◌, ◌++◌, ℕ, List, O
 ghost use Rattle.wgr_core.specs.Outcome.{outcome_of};
 ghost use Rattle.wgr_core.specs.declared.reply.Reply.TheVariants as reply;
 ghost use Rattle.wgr_plan.specs.Plan.{AddsLine, IsPlanOf, Refuses, SpellsKey, joining, plan_network, row_text};
-ghost use Rattle.wgr_plan.specs.PlanFault.{Answers};
+ghost use Rattle.wgr_plan.specs.PlanFault.{HasPlanned};
 ghost use Rattle.wgr_text.specs.KeyText.{key_text};
 
+use crate::row_fault::RowFault;
 use std::alloc::{AllocError, Global};
 use wgr_core::{
-    ActFault, Capacity, Command, Field, Host, Label, LeaseEnd, Network, Peer, PeerView, Pool, Port,
-    Refusal, Reply,
+    ActFault, Capacity, Command, Host, Label, LeaseEnd, Network, Peer, PeerView, Pool, Port, Reply,
 };
 use wgr_io::{Read, ReadFault, Write, read_to_end, write_all};
-use wgr_text::{Key, Prefix, TextLines, write_key, write_prefix};
+use wgr_text::{Key, Prefix, TextLines, are_bytes, write_key, write_prefix};
 
 /// Why a plan ended early.
 #[derive(Clone, Copy, Debug, PartialEq, Eq)]
 pub enum PlanFault {
-    /// The plan refuses this line; the lines before it are written.
-    Refused { line: u32, refusal: Refusal },
+    /// This line gets no row; the lines before it are written.
+    Refused { line: u32, why: RowFault },
     /// Memory ran out, and nothing is written.
     NoMemory,
     /// A read failed, and nothing is written.
@@ -39,7 +39,7 @@ pub fn plan<R: Read, W: Write>(
     input: &mut R,
     out: &mut W,
 ) -> Result<(), PlanFault>
-    ensures { Answers pool.now (record { input = R.remaining input.old; read_failed = R.failed input.old; written = W.contents out.old; write_failed = W.failed out.old }) (record { input = R.remaining input.new; read_failed = R.failed input.new; written = W.contents out.new; write_failed = W.failed out.new }) result }
+    ensures { HasPlanned pool.now (record { input = R.remaining input.old; read_failed = R.failed input.old; written = W.contents out.old; write_failed = W.failed out.old }) (record { input = R.remaining input.new; read_failed = R.failed input.new; written = W.contents out.new; write_failed = W.failed out.new }) result }
 {
     let text = match read_to_end(alloc, input) {
         Ok(text) => text,
@@ -55,15 +55,15 @@ pub fn plan<R: Read, W: Write>(
     }
     match output.refused {
         None => Ok(()),
-        Some((line, refusal)) => Err(PlanFault::Refused { line, refusal }),
+        Some((line, why)) => Err(PlanFault::Refused { line, why }),
     }
 }
 
-/// The lines that are printed, and the number of the first refused line with its refusal.
+/// The lines that are printed, and the number of the first refused line and why it is refused.
 #[derive(Drop)]
 struct Output {
     printed: Vec<u8>,
-    refused: Option<(u32, Refusal)>,
+    refused: Option<(u32, RowFault)>,
 }
 
 // The plan of a text.
@@ -105,18 +105,18 @@ fn add_line(
     network: &mut Network,
     line: &[u8],
     printed: &mut Vec<u8>,
-) -> Result<Option<Refusal>, AllocError>
+) -> Result<Option<RowFault>, AllocError>
     ensures { IfOk result (AddsLine network.old line.now printed.old.items network.new printed.new.items) }
 {
     let Some(key) = read_key(line) else {
-        return Ok(Some(Refusal::BadField { field: Field::Key }));
+        return Ok(Some(RowFault::NoKey));
     };
     match join(alloc, network, key) {
         Ok(view) => {
             write_row(&view.peer, printed)?;
             Ok(None)
         }
-        Err(ActFault::Refused(why)) => Ok(Some(why)),
+        Err(ActFault::Refused(why)) => Ok(Some(RowFault::Refused(why))),
         Err(ActFault::NoMemory) => Err(AllocError),
     }
 }
@@ -130,11 +130,6 @@ fn read_key(line: &[u8]) -> Option<Key>
     are_bytes(&key.0);
     Some(key)
 }
-
-// Does nothing. The items of a slice of bytes are bytes.
-fn are_bytes(bytes: &[u8])
-    ensures { IsBytes bytes.now }
-{}
 
 // A peer with this key joins at the lowest free address.
 fn join(alloc: Global, network: &mut Network, key: Key) -> Result<PeerView, ActFault>

@@ -10,8 +10,10 @@ use wgr_text::{Addr, Span};
 /// Why a source of spans returned none.
 #[derive(Clone, Copy, Debug, PartialEq, Eq)]
 pub enum Stop {
+    /// Memory ran out.
     NoMemory,
-    Store,
+    /// What the spans are read from failed.
+    Source,
 }
 
 /// A source of spans of held addresses, in the order in which they begin.

@@ -24,7 +24,7 @@ use Rattle.sqlite.specs.Effect.{Database, IsDatabase, Answers, value_rows}
 use Rattle.sqlite.specs.Listing.{understood}
 use Rattle.sqlite.specs.State.{State, mode_of, Writes, Executes, Shows}
 use Rattle.sqlite.proofs.Callers.{IsPlain, command_of, statement_of, runs_as, one_step}
-use Rattle.wgr_sql.specs.Effects.{Edits, Makes}
+use Rattle.wgr_sql.specs.Effects.{Edits, CreatesTable}
 
 -- a part that gave a value did not stop on the way
 pub went : {B E R : Type 0} {b : B} {Stops : E → Type 0} → ((stop : E) × Stops stop × (Ok b ≡ Err stop)) ⊎ R → R
@@ -121,7 +121,7 @@ module _ (old new : State) (schema : Schema) (has : old.now.schema ≡ schema) (
       )
 
 pub makes : (old new : State) (schema : Schema) → old.now.schema ≡ schema → (sql : List ℕ) (table : Table) → IsPlain (understood schema sql) → command_of (understood schema sql) ≡ CreateTable
-    → statement_of sql (understood schema sql) ≡ sql → table_defined_by sql ≡ Ok table → lacks_sequence (created schema table) ≡ false → (count : ℕ) → Executes sql [] old new (Ok count) → Makes schema table old.now new.now
+    → statement_of sql (understood schema sql) ≡ sql → table_defined_by sql ≡ Ok table → lacks_sequence (created schema table) ≡ false → (count : ℕ) → Executes sql [] old new (Ok count) → CreatesTable schema table old.now new.now
 makes old new schema has sql table plain is text defined uncounted count ran =
     let w = subst (λ t. Writes old new None CreateTable t [] count) text (runs_as sql [] old new schema has CreateTable is plain count ran) in
     let all = went w.changed in

@@ -6,6 +6,7 @@
 #![tactic(auto)]
 
 mod addr;
+mod byte;
 mod key;
 pub mod laws;
 mod lines;
@@ -13,7 +14,8 @@ mod prefix;
 mod text;
 
 pub use addr::{Addr, Family};
+pub use byte::are_bytes;
 pub use key::{Key, write_key};
-pub use lines::{TextLines, first_line};
+pub use lines::{TextLines, first_line, newline};
 pub use prefix::{Prefix, Span};
 pub use text::{prefix_text, read_loose, write_addr, write_prefix};

@@ -47,8 +47,8 @@ pub fn first_line(text: &[u8]) -> (&[u8], &[u8])
     }
 }
 
-// The place of the first newline.
-fn newline(text: &[u8]) -> Option<usize>
+/// The place of the first newline.
+pub fn newline(text: &[u8]) -> Option<usize>
     ensures { result ≡ position (λ byte. byte == 10) text.now }
 {
     text.iter().position(|byte| *byte == b'\n')

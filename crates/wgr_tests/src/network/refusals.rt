@@ -1,7 +1,7 @@
 //! The texts of refusals.
 use std::alloc::AllocGlobal;
 use std::process::Abort;
-use wgr_core::{Field, LineRefusal, Refusal};
+use wgr_core::{LineRefusal, Refusal};
 
 fn check(rt: &(impl Abort + AllocGlobal), refusal: Refusal, text: &str) {
     let printed = refusal.to_string(rt.alloc()).expect(rt, "memory");
@@ -21,7 +21,6 @@ fn prints_refusals(rt: HostRuntime) {
         (Refusal::NumbersSpent, "numbers_spent"),
         (Refusal::IsAddress, "is_address"),
         (Refusal::NoSuchRoute, "no_such_route"),
-        (Refusal::BadField { field: Field::Key }, "bad_field key"),
         (Refusal::RoutesFull, "routes_full"),
         (Refusal::NobodysAddress, "nobodys_address"),
         (Refusal::LeaseOver, "lease_over"),

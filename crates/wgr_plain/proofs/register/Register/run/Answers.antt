@@ -1,7 +1,7 @@
 use Rattle.std.proofs.Common.{◌≡◌, rules, ◌+◌, length, take, arith, sym, ap, subst, ◌∙◌, le_trans}
 use Rattle.std.proofs.lemmas.List.{take_all}
 use Rattle.std.specs.Option.{option_map}
-use Rattle.wgr_plain.specs.Calls.{answer_of, event_of}
+use Rattle.wgr_plain.specs.Calls.{answer_of, model_event}
 use Rattle.wgr_model.specs.Runs.{AreProper}
 use Rattle.wgr_model.proofs.RunLemmas.{proper_more, runs_isolated}
 use Rattle.wgr_plain.proofs.ServeLemmas.{IsExactRun, exact_is_run, run_more, served, served_more, served_whole}
@@ -16,9 +16,9 @@ loop-event-preserved c =
     ap (served (take (at + 1) events)) c.in_ok-push.ensures.items ∙ served_more events answers at c.event-item.result c.serve-answer.result c.loop-event-test.true c.event-item.is c.loop-event.invariant.long in
     record {
       run = subst (λ es. IsExactRun c.args.self.now es c.serve-answer.new.self) (sym more)
-          (run_more (served (take at events) answers) c.args.self.now c.loop-event.self c.serve-answer.new.self (event_of c.event-item.result) (option_map answer_of c.serve-answer.result) c.loop-event.invariant.run c.serve-answer.ensures);
+          (run_more (served (take at events) answers) c.args.self.now c.loop-event.self c.serve-answer.new.self (model_event c.event-item.result) (option_map answer_of c.serve-answer.result) c.loop-event.invariant.run c.serve-answer.ensures);
       proper = subst AreProper (sym more)
-          (proper_more (served (take at events) answers) (event_of c.event-item.result) (option_map answer_of c.serve-answer.result) c.loop-event.invariant.proper c.forms_hold.ensures);
+          (proper_more (served (take at events) answers) (model_event c.event-item.result) (option_map answer_of c.serve-answer.result) c.loop-event.invariant.proper c.forms_hold.ensures);
       room = le_trans c.loop-event.invariant.room c.in_ok-push.ensures.capacity;
       long = search rules;
     }
