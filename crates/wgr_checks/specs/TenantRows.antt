@@ -6,38 +6,39 @@ use Rattle.std.specs.Ordering.{nat_cmp}
 use Rattle.sqlite_value.specs.Order.{Row, column, value_cmp}
 use Rattle.sqlite.specs.declared.types.Value.TheVariants.{Null}
 use Rattle.wgr_model.specs.Register.{is_same}
+use Rattle.wgr_columns.specs.declared.columns.tenant.TheConstants as tenant
 use Rattle.wgr_columns.specs.Decode.{number_at, bytes_at}
 use Rattle.wgr_columns.specs.Fields.{IsIdAt, IsNameAt}
 
 abbrev pub IsTenantRow : Row → Type 0
-IsTenantRow row = IsIdAt row 0 × IsNameAt row 2
+IsTenantRow row = IsIdAt row tenant.ID × IsNameAt row tenant.NAME
 
 -- the rows are those of tenants, no two of which share an id
 pub record HaveOwnIds (rows : List Row) : Type 0 where
   pub each : AllByRecursion IsTenantRow rows
-  pub ids : IsDistinct nat_eq (map (λ r. number_at r 0) rows)
+  pub ids : IsDistinct nat_eq (map (λ r. number_at r tenant.ID) rows)
 
 -- they have names, no two of which are equal
 pub record HaveOwnNames (rows : List Row) : Type 0 where
-  pub each : AllByRecursion (λ r. IsNameAt r 2) rows
-  pub names : IsDistinct is_same (map (λ r. bytes_at r 2) rows)
+  pub each : AllByRecursion (λ r. IsNameAt r tenant.NAME) rows
+  pub names : IsDistinct is_same (map (λ r. bytes_at r tenant.NAME) rows)
 
 abbrev pub AreGoodTenants : List Row → Type 0
 AreGoodTenants rows = HaveOwnIds rows × HaveOwnNames rows
 
 -- the ids in the rows, ascending
 pub record AreIdsOf (rows : List Row) (ids : List ℕ) : Type 0 where
-  pub same : IsPermutation (map (λ r. number_at r 0) rows) ids
+  pub same : IsPermutation (map (λ r. number_at r tenant.ID) rows) ids
   pub sorted : IsSorted nat_cmp ids
 
 -- ---- what queries return
 
 -- the values of a tenant, each at its place; its name alone
 abbrev pub tenant_values : Row → Row
-tenant_values row = column row 0 ∷ Null ∷ column row 2 ∷ []
+tenant_values row = column row tenant.ID ∷ Null ∷ column row tenant.NAME ∷ []
 
 abbrev pub name_values : Row → Row
-name_values row = Null ∷ Null ∷ column row 2 ∷ []
+name_values row = Null ∷ Null ∷ column row tenant.NAME ∷ []
 
 -- values of all rows of a table, sorted by those at this place
 pub record Lists (values : Row → Row) (at : ℕ) (table rows : List Row) : Type 0 where

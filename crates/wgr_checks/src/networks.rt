@@ -12,6 +12,7 @@ ghost use Rattle.wgr_columns.specs.Layout.{network_tree};
 ghost use Rattle.wgr_columns.specs.Decode.{number_at, bytes_at, prefix_at};
 ghost use Rattle.wgr_columns.specs.Fields.{IsIdAt, IsPoolAt};
 ghost use Rattle.wgr_columns.specs.LaidOut.{Laid};
+ghost use Rattle.wgr_columns.specs.declared.columns.network.TheConstants as network;
 ghost use Rattle.wgr_checks.specs.TenantRows.{AreIdsOf, Lists};
 ghost use Rattle.wgr_checks.specs.TokenRows.{HaveOwners};
 ghost use Rattle.wgr_checks.specs.NetworkRows.{AreNetworksApart, AreFit, AreGoodNetworks, HaveOwnEndpoints, HaveOwnPools, HaveOwnSlots, HasSettings, IsEndpointRow, IsSlotRow, endpoint_at, network_values, slot_at};
@@ -116,8 +117,8 @@ fn endpoints_of(alloc: Global, rows: &[Row]) -> Result<Option<Vec<(Host, Port)>>
 
 // The pools in these rows.
 fn pools_of(alloc: Global, rows: &[Row]) -> Result<Option<Vec<Pool>>, Fault>
-    ensures some { IfOk result (λ found. IfSome found (λ all. AllByRecursion (λ r. IsPoolAt r 4) rows.now × (all.items ≡ map (λ r. prefix_at r 4) rows.now))) }
-    ensures none { IfOk result (λ found. IfNone found (AllByRecursion (λ r. IsPoolAt r 4) rows.now → ⊥)) }
+    ensures some { IfOk result (λ found. IfSome found (λ all. AllByRecursion (λ r. IsPoolAt r network.FAMILY) rows.now × (all.items ≡ map (λ r. prefix_at r network.FAMILY) rows.now))) }
+    ensures none { IfOk result (λ found. IfNone found (AllByRecursion (λ r. IsPoolAt r network.FAMILY) rows.now → ⊥)) }
     ensures memory { IfErr result (λ why. why ≡ NoMemory) }
 {
     let mut all = Vec::new(alloc);
@@ -233,8 +234,8 @@ fn are_fit(alloc: Global, rows: &[Row], tenants: &[u32]) -> Result<bool, Fault>
 
 // The ids in these rows, which are in the order of their ids, or `None` if they aren't good.
 fn good_ids(alloc: Global, rows: &[Row], tenants: &[u32]) -> Result<Option<Vec<u32>>, Fault>
-    ensures some { IfOk result (λ found. IfSome found (λ ids. AreGoodNetworks tenants.now rows.now × (ids.items ≡ map (λ r. number_at r 0) rows.now))) }
-    ensures none { IfOk result (λ found. IfNone found (IsSorted nat_cmp tenants.now → IsSorted nat_cmp (map (λ r. number_at r 0) rows.now) → AreGoodNetworks tenants.now rows.now → ⊥)) }
+    ensures some { IfOk result (λ found. IfSome found (λ ids. AreGoodNetworks tenants.now rows.now × (ids.items ≡ map (λ r. number_at r network.ID) rows.now))) }
+    ensures none { IfOk result (λ found. IfNone found (IsSorted nat_cmp tenants.now → IsSorted nat_cmp (map (λ r. number_at r network.ID) rows.now) → AreGoodNetworks tenants.now rows.now → ⊥)) }
     ensures memory { IfErr result (λ why. why ≡ NoMemory) }
 {
     let Some(ids) = ids_at(alloc, rows, network::ID)? else {
@@ -253,7 +254,7 @@ fn good_ids(alloc: Global, rows: &[Row], tenants: &[u32]) -> Result<Option<Vec<u
 fn rows_by_id<S: Alter>(conn: &mut Connection<S>) -> Result<Vec<Row>, Fault>
     requires idle { conn.old.in_transaction ≡ false }
     ensures idle { conn.new.in_transaction ≡ false }
-    ensures listed { HasCleanDisk (state S.Store conn.new) → Laid (state S.Store conn.old) → IfOk result (λ rows. IsTrue (state S.Store conn.old).is_open × Lists network_values 0 ((state S.Store conn.old).now.trees network_tree) rows.items) }
+    ensures listed { HasCleanDisk (state S.Store conn.new) → Laid (state S.Store conn.old) → IfOk result (λ rows. IsTrue (state S.Store conn.old).is_open × Lists network_values network.ID ((state S.Store conn.old).now.trees network_tree) rows.items) }
     ensures kept { (HasCleanDisk (state S.Store conn.new) → Laid (state S.Store conn.old)) → IsKept (state S.Store conn.old) (state S.Store conn.new) }
     ensures survives { Survives (state S.Store conn.old) (state S.Store conn.new) (λ _. ⊥) }
     ensures cause { (HasCleanDisk (state S.Store conn.new) → Laid (state S.Store conn.old)) → IfErr result (HasCause (state S.Store conn.old) (state S.Store conn.new)) }

@@ -13,6 +13,7 @@ ghost use Rattle.wgr_columns.specs.Layout.{tenant_tree};
 ghost use Rattle.wgr_columns.specs.Decode.{number_at, bytes_at};
 ghost use Rattle.wgr_columns.specs.Fields.{IsNameAt};
 ghost use Rattle.wgr_columns.specs.LaidOut.{Laid};
+ghost use Rattle.wgr_columns.specs.declared.columns.tenant.TheConstants as tenant;
 ghost use Rattle.wgr_checks.specs.TenantRows.{AreGoodTenants, HaveOwnIds, HaveOwnNames, IsTenantRow, AreIdsOf, Lists, tenant_values, name_values};
 
 use crate::keys::{ids_differ, names_differ};
@@ -24,7 +25,7 @@ use wgr_sql::{Fault, query};
 
 // The id of the tenant whose row this is.
 fn tenant_id(alloc: Global, row: &Row) -> Result<Option<u32>, Fault>
-    ensures some { IfOk result (λ found. IfSome found (λ id. IsTenantRow row.now × (id ≡ number_at row.now 0))) }
+    ensures some { IfOk result (λ found. IfSome found (λ id. IsTenantRow row.now × (id ≡ number_at row.now tenant.ID))) }
     ensures none { IfOk result (λ found. IfNone found (IsTenantRow row.now → ⊥)) }
     ensures memory { IfErr result (λ why. why ≡ NoMemory) }
 {
@@ -39,7 +40,7 @@ fn tenant_id(alloc: Global, row: &Row) -> Result<Option<u32>, Fault>
 
 // The ids of the tenants whose rows these are.
 fn ids_of(alloc: Global, rows: &[Row]) -> Result<Option<Vec<u32>>, Fault>
-    ensures some { IfOk result (λ found. IfSome found (λ ids. AllByRecursion IsTenantRow rows.now × (ids.items ≡ map (λ r. number_at r 0) rows.now))) }
+    ensures some { IfOk result (λ found. IfSome found (λ ids. AllByRecursion IsTenantRow rows.now × (ids.items ≡ map (λ r. number_at r tenant.ID) rows.now))) }
     ensures none { IfOk result (λ found. IfNone found (AllByRecursion IsTenantRow rows.now → ⊥)) }
     ensures memory { IfErr result (λ why. why ≡ NoMemory) }
 {
@@ -57,8 +58,8 @@ fn ids_of(alloc: Global, rows: &[Row]) -> Result<Option<Vec<u32>>, Fault>
 
 // The names in these rows.
 fn names_of(alloc: Global, rows: &[Row]) -> Result<Option<Vec<Name>>, Fault>
-    ensures some { IfOk result (λ found. IfSome found (λ names. AllByRecursion (λ r. IsNameAt r 2) rows.now × (names.items ≡ map (λ r. bytes_at r 2) rows.now))) }
-    ensures none { IfOk result (λ found. IfNone found (AllByRecursion (λ r. IsNameAt r 2) rows.now → ⊥)) }
+    ensures some { IfOk result (λ found. IfSome found (λ names. AllByRecursion (λ r. IsNameAt r tenant.NAME) rows.now × (names.items ≡ map (λ r. bytes_at r tenant.NAME) rows.now))) }
+    ensures none { IfOk result (λ found. IfNone found (AllByRecursion (λ r. IsNameAt r tenant.NAME) rows.now → ⊥)) }
     ensures memory { IfErr result (λ why. why ≡ NoMemory) }
 {
     let mut names = Vec::new(alloc);
@@ -77,7 +78,7 @@ fn names_of(alloc: Global, rows: &[Row]) -> Result<Option<Vec<Name>>, Fault>
 fn rows_by_id<S: Alter>(conn: &mut Connection<S>) -> Result<Vec<Row>, Fault>
     requires idle { conn.old.in_transaction ≡ false }
     ensures idle { conn.new.in_transaction ≡ false }
-    ensures listed { HasCleanDisk (state S.Store conn.new) → Laid (state S.Store conn.old) → IfOk result (λ rows. IsTrue (state S.Store conn.old).is_open × Lists tenant_values 0 ((state S.Store conn.old).now.trees tenant_tree) rows.items) }
+    ensures listed { HasCleanDisk (state S.Store conn.new) → Laid (state S.Store conn.old) → IfOk result (λ rows. IsTrue (state S.Store conn.old).is_open × Lists tenant_values tenant.ID ((state S.Store conn.old).now.trees tenant_tree) rows.items) }
     ensures kept { (HasCleanDisk (state S.Store conn.new) → Laid (state S.Store conn.old)) → IsKept (state S.Store conn.old) (state S.Store conn.new) }
     ensures survives { Survives (state S.Store conn.old) (state S.Store conn.new) (λ _. ⊥) }
     ensures cause { (HasCleanDisk (state S.Store conn.new) → Laid (state S.Store conn.old)) → IfErr result (HasCause (state S.Store conn.old) (state S.Store conn.new)) }
@@ -89,7 +90,7 @@ fn rows_by_id<S: Alter>(conn: &mut Connection<S>) -> Result<Vec<Row>, Fault>
 fn rows_by_name<S: Alter>(conn: &mut Connection<S>) -> Result<Vec<Row>, Fault>
     requires idle { conn.old.in_transaction ≡ false }
     ensures idle { conn.new.in_transaction ≡ false }
-    ensures listed { HasCleanDisk (state S.Store conn.new) → Laid (state S.Store conn.old) → IfOk result (λ rows. IsTrue (state S.Store conn.old).is_open × Lists name_values 2 ((state S.Store conn.old).now.trees tenant_tree) rows.items) }
+    ensures listed { HasCleanDisk (state S.Store conn.new) → Laid (state S.Store conn.old) → IfOk result (λ rows. IsTrue (state S.Store conn.old).is_open × Lists name_values tenant.NAME ((state S.Store conn.old).now.trees tenant_tree) rows.items) }
     ensures kept { (HasCleanDisk (state S.Store conn.new) → Laid (state S.Store conn.old)) → IsKept (state S.Store conn.old) (state S.Store conn.new) }
     ensures survives { Survives (state S.Store conn.old) (state S.Store conn.new) (λ _. ⊥) }
     ensures cause { (HasCleanDisk (state S.Store conn.new) → Laid (state S.Store conn.old)) → IfErr result (HasCause (state S.Store conn.old) (state S.Store conn.new)) }
@@ -124,7 +125,7 @@ fn read_ids<S: Alter>(alloc: Global, conn: &mut Connection<S>) -> Result<Option<
 // Whether all names in these rows are valid, and none occurs twice.
 fn are_own_names(alloc: Global, rows: &[Row]) -> Result<bool, Fault>
     ensures is { IfOk result (λ is. IsTrue is → HaveOwnNames rows.now) }
-    ensures only { IfOk result (λ is. IsSorted (slice_cmp nat_cmp) (map (λ r. bytes_at r 2) rows.now) → HaveOwnNames rows.now → IsTrue is) }
+    ensures only { IfOk result (λ is. IsSorted (slice_cmp nat_cmp) (map (λ r. bytes_at r tenant.NAME) rows.now) → HaveOwnNames rows.now → IsTrue is) }
     ensures memory { IfErr result (λ why. why ≡ NoMemory) }
 {
     match names_of(alloc, rows)? {

@@ -16,6 +16,7 @@ ghost use Rattle.wgr_columns.specs.Layout.{token_tree};
 ghost use Rattle.wgr_columns.specs.Decode.{number_at, bytes_at};
 ghost use Rattle.wgr_columns.specs.Fields.{IsDigestAt, IsIdAt, IsIntegerAt};
 ghost use Rattle.wgr_columns.specs.LaidOut.{Laid};
+ghost use Rattle.wgr_columns.specs.declared.columns.token.TheConstants as token;
 ghost use Rattle.wgr_checks.specs.TenantRows.{Lists};
 ghost use Rattle.wgr_checks.specs.TokenRows.{AreGoodTokens, HaveOwnRowids, HaveOwnDigests, HaveOwnKeys, HaveOwners, rowid_values, digest_values, owner_values};
 
@@ -29,8 +30,8 @@ use wgr_sql::{Fault, query};
 
 // The rowids in these rows.
 fn rowids_of(alloc: Global, rows: &[Row]) -> Result<Option<Vec<i64>>, Fault>
-    ensures some { IfOk result (λ found. IfSome found (λ all. AllByRecursion (λ r. IsIntegerAt r 0) rows.now × (all.items ≡ map (λ r. id_in (column r 0)) rows.now))) }
-    ensures none { IfOk result (λ found. IfNone found (AllByRecursion (λ r. IsIntegerAt r 0) rows.now → ⊥)) }
+    ensures some { IfOk result (λ found. IfSome found (λ all. AllByRecursion (λ r. IsIntegerAt r ROWID) rows.now × (all.items ≡ map (λ r. id_in (column r ROWID)) rows.now))) }
+    ensures none { IfOk result (λ found. IfNone found (AllByRecursion (λ r. IsIntegerAt r ROWID) rows.now → ⊥)) }
     ensures memory { IfErr result (λ why. why ≡ NoMemory) }
 {
     let mut all = Vec::new(alloc);
@@ -47,8 +48,8 @@ fn rowids_of(alloc: Global, rows: &[Row]) -> Result<Option<Vec<i64>>, Fault>
 
 // The digests in these rows.
 fn digests_of(alloc: Global, rows: &[Row]) -> Result<Option<Vec<[u8; 32]>>, Fault>
-    ensures some { IfOk result (λ found. IfSome found (λ all. AllByRecursion (λ r. IsDigestAt r 1) rows.now × (all.items ≡ map (λ r. bytes_at r 1) rows.now))) }
-    ensures none { IfOk result (λ found. IfNone found (AllByRecursion (λ r. IsDigestAt r 1) rows.now → ⊥)) }
+    ensures some { IfOk result (λ found. IfSome found (λ all. AllByRecursion (λ r. IsDigestAt r token.DIGEST) rows.now × (all.items ≡ map (λ r. bytes_at r token.DIGEST) rows.now))) }
+    ensures none { IfOk result (λ found. IfNone found (AllByRecursion (λ r. IsDigestAt r token.DIGEST) rows.now → ⊥)) }
     ensures memory { IfErr result (λ why. why ≡ NoMemory) }
 {
     let mut all = Vec::new(alloc);
@@ -65,8 +66,8 @@ fn digests_of(alloc: Global, rows: &[Row]) -> Result<Option<Vec<[u8; 32]>>, Faul
 
 // The ids of the owners in these rows.
 fn owners_of(alloc: Global, rows: &[Row]) -> Result<Option<Vec<u32>>, Fault>
-    ensures some { IfOk result (λ found. IfSome found (λ all. AllByRecursion (λ r. IsIdAt r 2) rows.now × (all.items ≡ map (λ r. number_at r 2) rows.now))) }
-    ensures none { IfOk result (λ found. IfNone found (AllByRecursion (λ r. IsIdAt r 2) rows.now → ⊥)) }
+    ensures some { IfOk result (λ found. IfSome found (λ all. AllByRecursion (λ r. IsIdAt r token.TENANT) rows.now × (all.items ≡ map (λ r. number_at r token.TENANT) rows.now))) }
+    ensures none { IfOk result (λ found. IfNone found (AllByRecursion (λ r. IsIdAt r token.TENANT) rows.now → ⊥)) }
     ensures memory { IfErr result (λ why. why ≡ NoMemory) }
 {
     let mut all = Vec::new(alloc);
@@ -105,7 +106,7 @@ fn rowids_differ(rowids: &[i64]) -> bool
 fn rows_by_rowid<S: Alter>(conn: &mut Connection<S>) -> Result<Vec<Row>, Fault>
     requires idle { conn.old.in_transaction ≡ false }
     ensures idle { conn.new.in_transaction ≡ false }
-    ensures listed { HasCleanDisk (state S.Store conn.new) → Laid (state S.Store conn.old) → IfOk result (λ rows. IsTrue (state S.Store conn.old).is_open × Lists rowid_values 0 ((state S.Store conn.old).now.trees token_tree) rows.items) }
+    ensures listed { HasCleanDisk (state S.Store conn.new) → Laid (state S.Store conn.old) → IfOk result (λ rows. IsTrue (state S.Store conn.old).is_open × Lists rowid_values ROWID ((state S.Store conn.old).now.trees token_tree) rows.items) }
     ensures kept { (HasCleanDisk (state S.Store conn.new) → Laid (state S.Store conn.old)) → IsKept (state S.Store conn.old) (state S.Store conn.new) }
     ensures survives { Survives (state S.Store conn.old) (state S.Store conn.new) (λ _. ⊥) }
     ensures cause { (HasCleanDisk (state S.Store conn.new) → Laid (state S.Store conn.old)) → IfErr result (HasCause (state S.Store conn.old) (state S.Store conn.new)) }
@@ -121,7 +122,7 @@ fn rows_by_rowid<S: Alter>(conn: &mut Connection<S>) -> Result<Vec<Row>, Fault>
 fn rows_by_digest<S: Alter>(conn: &mut Connection<S>) -> Result<Vec<Row>, Fault>
     requires idle { conn.old.in_transaction ≡ false }
     ensures idle { conn.new.in_transaction ≡ false }
-    ensures listed { HasCleanDisk (state S.Store conn.new) → Laid (state S.Store conn.old) → IfOk result (λ rows. IsTrue (state S.Store conn.old).is_open × Lists digest_values 1 ((state S.Store conn.old).now.trees token_tree) rows.items) }
+    ensures listed { HasCleanDisk (state S.Store conn.new) → Laid (state S.Store conn.old) → IfOk result (λ rows. IsTrue (state S.Store conn.old).is_open × Lists digest_values token.DIGEST ((state S.Store conn.old).now.trees token_tree) rows.items) }
     ensures kept { (HasCleanDisk (state S.Store conn.new) → Laid (state S.Store conn.old)) → IsKept (state S.Store conn.old) (state S.Store conn.new) }
     ensures survives { Survives (state S.Store conn.old) (state S.Store conn.new) (λ _. ⊥) }
     ensures cause { (HasCleanDisk (state S.Store conn.new) → Laid (state S.Store conn.old)) → IfErr result (HasCause (state S.Store conn.old) (state S.Store conn.new)) }
@@ -137,7 +138,7 @@ fn rows_by_digest<S: Alter>(conn: &mut Connection<S>) -> Result<Vec<Row>, Fault>
 fn rows_by_owner<S: Alter>(conn: &mut Connection<S>) -> Result<Vec<Row>, Fault>
     requires idle { conn.old.in_transaction ≡ false }
     ensures idle { conn.new.in_transaction ≡ false }
-    ensures listed { HasCleanDisk (state S.Store conn.new) → Laid (state S.Store conn.old) → IfOk result (λ rows. IsTrue (state S.Store conn.old).is_open × Lists owner_values 2 ((state S.Store conn.old).now.trees token_tree) rows.items) }
+    ensures listed { HasCleanDisk (state S.Store conn.new) → Laid (state S.Store conn.old) → IfOk result (λ rows. IsTrue (state S.Store conn.old).is_open × Lists owner_values token.TENANT ((state S.Store conn.old).now.trees token_tree) rows.items) }
     ensures kept { (HasCleanDisk (state S.Store conn.new) → Laid (state S.Store conn.old)) → IsKept (state S.Store conn.old) (state S.Store conn.new) }
     ensures survives { Survives (state S.Store conn.old) (state S.Store conn.new) (λ _. ⊥) }
     ensures cause { (HasCleanDisk (state S.Store conn.new) → Laid (state S.Store conn.old)) → IfErr result (HasCause (state S.Store conn.old) (state S.Store conn.new)) }
@@ -152,7 +153,7 @@ fn rows_by_owner<S: Alter>(conn: &mut Connection<S>) -> Result<Vec<Row>, Fault>
 /// Whether all rowids in these rows are integers, and none occurs twice.
 pub fn are_own_rowids(alloc: Global, rows: &[Row]) -> Result<bool, Fault>
     ensures is { IfOk result (λ is. IsTrue is → HaveOwnRowids rows.now) }
-    ensures only { IfOk result (λ is. IsSorted int_cmp (map (λ r. id_in (column r 0)) rows.now) → HaveOwnRowids rows.now → IsTrue is) }
+    ensures only { IfOk result (λ is. IsSorted int_cmp (map (λ r. id_in (column r ROWID)) rows.now) → HaveOwnRowids rows.now → IsTrue is) }
     ensures memory { IfErr result (λ why. why ≡ NoMemory) }
 {
     match rowids_of(alloc, rows)? {
@@ -164,7 +165,7 @@ pub fn are_own_rowids(alloc: Global, rows: &[Row]) -> Result<bool, Fault>
 // Whether all digests in these rows are valid, none occurs twice, and there are not too many.
 fn are_own_digests(alloc: Global, rows: &[Row]) -> Result<bool, Fault>
     ensures is { IfOk result (λ is. IsTrue is → HaveOwnDigests rows.now) }
-    ensures only { IfOk result (λ is. IsSorted (slice_cmp nat_cmp) (map (λ r. bytes_at r 1) rows.now) → HaveOwnDigests rows.now → IsTrue is) }
+    ensures only { IfOk result (λ is. IsSorted (slice_cmp nat_cmp) (map (λ r. bytes_at r token.DIGEST) rows.now) → HaveOwnDigests rows.now → IsTrue is) }
     ensures memory { IfErr result (λ why. why ≡ NoMemory) }
 {
     if rows.len() > MAX_ENTRIES {
@@ -179,7 +180,7 @@ fn are_own_digests(alloc: Global, rows: &[Row]) -> Result<bool, Fault>
 // Whether each owner in these rows is one of those with these ids.
 fn are_owned(alloc: Global, rows: &[Row], ids: &[u32]) -> Result<bool, Fault>
     ensures is { IfOk result (λ is. IsTrue is → HaveOwners ids.now rows.now) }
-    ensures only { IfOk result (λ is. IsSorted nat_cmp ids.now → IsSorted nat_cmp (map (λ r. number_at r 2) rows.now) → HaveOwners ids.now rows.now → IsTrue is) }
+    ensures only { IfOk result (λ is. IsSorted nat_cmp ids.now → IsSorted nat_cmp (map (λ r. number_at r token.TENANT) rows.now) → HaveOwners ids.now rows.now → IsTrue is) }
     ensures memory { IfErr result (λ why. why ≡ NoMemory) }
 {
     match owners_of(alloc, rows)? {

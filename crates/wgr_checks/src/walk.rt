@@ -36,9 +36,9 @@ fn comes_after(before: Option<i64>, rowid: i64) -> bool
 // The rowid of a row that passes: one of the table and of these networks, whose rowid comes after
 // the one before it.
 fn passing_rowid(row: &Row, before: Option<i64>, table: Table, networks: &[u32]) -> Option<i64>
-    ensures some { IsSorted nat_cmp networks.now → IfSome result (λ rowid. IsRowOf table networks.now row.now × IsIntegerAt row.now 0 × (rowid ≡ id_in (column row.now 0)) × IfSome before (λ last. int_cmp last rowid ≡ Less)) }
+    ensures some { IsSorted nat_cmp networks.now → IfSome result (λ rowid. IsRowOf table networks.now row.now × IsIntegerAt row.now ROWID × (rowid ≡ id_in (column row.now ROWID)) × IfSome before (λ last. int_cmp last rowid ≡ Less)) }
     ensures rises { IfSome result (λ rowid. IfSome before (λ last. int_cmp last rowid ≡ Less)) }
-    ensures none { IsSorted nat_cmp networks.now → IfNone result (IsRowOf table networks.now row.now → IsIntegerAt row.now 0 → IfSome before (λ last. int_cmp last (id_in (column row.now 0)) ≡ Less) → ⊥) }
+    ensures none { IsSorted nat_cmp networks.now → IfNone result (IsRowOf table networks.now row.now → IsIntegerAt row.now ROWID → IfSome before (λ last. int_cmp last (id_in (column row.now ROWID)) ≡ Less) → ⊥) }
 {
     if !table.is_row_of(row, networks) {
         return None;

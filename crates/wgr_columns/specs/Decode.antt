@@ -17,6 +17,12 @@ use Rattle.wgr_peers.specs.declared.peer.Status.{Status}
 use Rattle.wgr_model.specs.Register.{Tenant, Token}
 use Rattle.wgr_model.specs.Rows.{NetworkRow, PeerRow, AllowedRow, MetaRow, Tables, family_number}
 use Rattle.wgr_sql.specs.Keyed.{IsKeyed}
+use Rattle.wgr_columns.specs.declared.columns.allowed.TheConstants as allowed
+use Rattle.wgr_columns.specs.declared.columns.meta.TheConstants as meta
+use Rattle.wgr_columns.specs.declared.columns.network.TheConstants as network
+use Rattle.wgr_columns.specs.declared.columns.peer.TheConstants as peer
+use Rattle.wgr_columns.specs.declared.columns.tenant.TheConstants as tenant
+use Rattle.wgr_columns.specs.declared.columns.token.TheConstants as token
 use Rattle.wgr_columns.specs.Layout.{Others, schema_with, AreApart, allowed_tree, meta_tree, network_tree, peer_tree, tenant_tree, token_tree}
 
 abbrev pub number_at : Row → ℕ → ℕ
@@ -48,33 +54,42 @@ abbrev pub key_at : Row → ℕ → Key
 key_at row at = record { 0 = bytes_at row at }
 
 abbrev pub meta_in : Row → MetaRow
-meta_in row = record { version = number_at row 0 }
+meta_in row = record { version = number_at row meta.VERSION }
 
 abbrev pub tenant_in : Row → Tenant
-tenant_in row = record { id = number_at row 0; name = bytes_at row 2 }
+tenant_in row = record { id = number_at row tenant.ID; name = bytes_at row tenant.NAME }
 
 abbrev pub token_in : Row → Token
-token_in row = record { digest = bytes_at row 1; tenant = number_at row 2 }
+token_in row = record { digest = bytes_at row token.DIGEST; tenant = number_at row token.TENANT }
 
 abbrev pub network_in : Row → NetworkRow
 network_in row = record {
-  id = number_at row 0;
-  tenant = number_at row 2;
-  name = bytes_at row 3;
-  pool = record { address = address_at row 4 5; length = number_at row 6 };
-  host = bytes_at row 7;
-  port = number_at row 8;
-  server = key_at row 9;
-  capacity = number_at row 10;
-  next = number_at row 11;
+  id = number_at row network.ID;
+  tenant = number_at row network.TENANT;
+  name = bytes_at row network.NAME;
+  pool = record { address = address_at row network.FAMILY network.LO; length = number_at row network.LENGTH };
+  host = bytes_at row network.HOST;
+  port = number_at row network.PORT;
+  server = key_at row network.SERVER;
+  capacity = number_at row network.CAPACITY;
+  next = number_at row network.NEXT;
 }
 
 -- absent together: where the first is absent, there is no status
 abbrev pub status_at : Row → Option Status
-status_at row = cond (is_null (column row 7)) None (Some (record { handshake = number_at row 7; received = number_at row 8; sent = number_at row 9 }))
+status_at row = cond (is_null (column row peer.HANDSHAKE)) None
+    (Some (record { handshake = number_at row peer.HANDSHAKE; received = number_at row peer.RECEIVED; sent = number_at row peer.SENT }))
 
 abbrev pub peer_in : Row → PeerRow
-peer_in row = record { id = number_at row 0; network = number_at row 2; key = key_at row 3; label = bytes_at row 4; until = number_at row 5; keepalive = number_at row 6; status = status_at row }
+peer_in row = record {
+  id = number_at row peer.ID;
+  network = number_at row peer.NETWORK;
+  key = key_at row peer.KEY;
+  label = bytes_at row peer.LABEL;
+  until = number_at row peer.UNTIL;
+  keepalive = number_at row peer.KEEPALIVE;
+  status = status_at row;
+}
 
 abbrev pub route_kind : List ℕ
 route_kind = codes "route"
@@ -84,11 +99,11 @@ address_kind = codes "address"
 
 abbrev pub allowed_in : Row → AllowedRow
 allowed_in row = record {
-  network = number_at row 1;
-  prefix = record { address = address_at row 2 3; length = number_at row 4 };
-  last = address_at row 2 5;
-  peer = number_at row 6;
-  is_route = bytes_eq (bytes_at row 7) route_kind;
+  network = number_at row allowed.NETWORK;
+  prefix = record { address = address_at row allowed.FAMILY allowed.LO; length = number_at row allowed.LENGTH };
+  last = address_at row allowed.FAMILY allowed.HI;
+  peer = number_at row allowed.PEER;
+  is_route = bytes_eq (bytes_at row allowed.KIND) route_kind;
 }
 
 abbrev pub tables_in : Trees → Tables
@@ -131,38 +146,38 @@ pub record AreWritten (numbers addresses families : List ℕ) (rows : List Row) 
   pub families_are : HaveFamilies families rows
 
 abbrev pub network_numbers : List ℕ
-network_numbers = 0 ∷ 2 ∷ 4 ∷ 6 ∷ 8 ∷ 10 ∷ 11 ∷ []
+network_numbers = network.ID ∷ network.TENANT ∷ network.FAMILY ∷ network.LENGTH ∷ network.PORT ∷ network.CAPACITY ∷ network.NEXT ∷ []
 
 abbrev pub peer_numbers : List ℕ
-peer_numbers = 0 ∷ 2 ∷ 5 ∷ 6 ∷ []
+peer_numbers = peer.ID ∷ peer.NETWORK ∷ peer.UNTIL ∷ peer.KEEPALIVE ∷ []
 
 abbrev pub allowed_numbers : List ℕ
-allowed_numbers = 1 ∷ 2 ∷ 4 ∷ 6 ∷ []
+allowed_numbers = allowed.NETWORK ∷ allowed.FAMILY ∷ allowed.LENGTH ∷ allowed.PEER ∷ []
 
 abbrev pub allowed_addresses : List ℕ
-allowed_addresses = 3 ∷ 5 ∷ []
+allowed_addresses = allowed.LO ∷ allowed.HI ∷ []
 
 abbrev pub AreTenants : List Row → Type 0
-AreTenants = AreWritten (0 ∷ []) [] []
+AreTenants = AreWritten (tenant.ID ∷ []) [] []
 
 abbrev pub AreTokens : List Row → Type 0
-AreTokens = AreWritten (2 ∷ []) [] []
+AreTokens = AreWritten (token.TENANT ∷ []) [] []
 
 abbrev pub AreNetworks : List Row → Type 0
-AreNetworks = AreWritten network_numbers (5 ∷ []) (4 ∷ [])
+AreNetworks = AreWritten network_numbers (network.LO ∷ []) (network.FAMILY ∷ [])
 
 abbrev pub ArePeers : List Row → Type 0
 ArePeers = AreWritten peer_numbers [] []
 
 abbrev pub AreAllowed : List Row → Type 0
-AreAllowed = AreWritten allowed_numbers allowed_addresses (2 ∷ [])
+AreAllowed = AreWritten allowed_numbers allowed_addresses (allowed.FAMILY ∷ [])
 
 -- the three counts of a status, all present or all NULL
 abbrev pub IsStatusThere : Row → Type 0
-IsStatusThere row = IsNumberAt row 7 × IsNumberAt row 8 × IsNumberAt row 9
+IsStatusThere row = IsNumberAt row peer.HANDSHAKE × IsNumberAt row peer.RECEIVED × IsNumberAt row peer.SENT
 
 abbrev pub IsStatusAbsent : Row → Type 0
-IsStatusAbsent row = (column row 7 ≡ Null) × (column row 8 ≡ Null) × (column row 9 ≡ Null)
+IsStatusAbsent row = (column row peer.HANDSHAKE ≡ Null) × (column row peer.RECEIVED ≡ Null) × (column row peer.SENT ≡ Null)
 
 abbrev pub IsStatusRow : Row → Type 0
 IsStatusRow row = IsStatusThere row ⊎ IsStatusAbsent row
@@ -175,11 +190,11 @@ IsKindAt row at = (column row at ≡ Text address_kind) ⊎ (column row at ≡ T
 
 -- each is an address or a route
 abbrev pub HaveKinds : List Row → Type 0
-HaveKinds rows = (r : Row) → Has rows r → IsKindAt r 7
+HaveKinds rows = (r : Row) → Has rows r → IsKindAt r allowed.KIND
 
 -- the rows of the six tables
 pub record AreTrees (trees : Trees) : Type 0 where
-  pub meta : AreWritten (0 ∷ []) [] [] (trees meta_tree)
+  pub meta : AreWritten (meta.VERSION ∷ []) [] [] (trees meta_tree)
   pub tenants : AreTenants (trees tenant_tree)
   pub tokens : AreTokens (trees token_tree)
   pub networks : AreNetworks (trees network_tree)

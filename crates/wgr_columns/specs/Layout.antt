@@ -13,6 +13,12 @@ use Rattle.sqlite_schema.specs.declared.schema.View.{View}
 use Rattle.sqlite.specs.Table.{Table}
 use Rattle.sqlite.specs.Schema.{Schema}
 use Rattle.sqlite.specs.Kind.TheVariants.{Integer, Text, Blob}
+use Rattle.wgr_columns.specs.declared.columns.allowed.TheConstants as allowed
+use Rattle.wgr_columns.specs.declared.columns.meta.TheConstants as meta
+use Rattle.wgr_columns.specs.declared.columns.network.TheConstants as network
+use Rattle.wgr_columns.specs.declared.columns.peer.TheConstants as peer
+use Rattle.wgr_columns.specs.declared.columns.tenant.TheConstants as tenant
+use Rattle.wgr_columns.specs.declared.columns.token.TheConstants as token
 
 -- a column of a STRICT table
 abbrev pub column_of : List ℕ → Kind → Bool → Column
@@ -36,27 +42,30 @@ table_of name tree key primary uniques columns = record {
 }
 
 abbrev pub meta_at : ℕ → Table
-meta_at tree = table_of (codes "meta") tree (Some 0) (0 ∷ []) [] (column_of (codes "version") Integer false ∷ [])
+meta_at tree = table_of (codes "meta") tree (Some 0) (meta.VERSION ∷ []) [] (column_of (codes "version") Integer false ∷ [])
 
 abbrev pub tenant_at : ℕ → Table
-tenant_at tree = table_of (codes "tenant") tree (Some 0) (0 ∷ []) ((2 ∷ []) ∷ []) (column_of (codes "id") Integer false ∷ column_of (codes "name") Text true ∷ [])
+tenant_at tree = table_of (codes "tenant") tree (Some 0) (tenant.ID ∷ []) ((tenant.NAME ∷ []) ∷ []) (column_of (codes "id") Integer false ∷ column_of (codes "name") Text true ∷ [])
 
 abbrev pub token_at : ℕ → Table
-token_at tree = table_of (codes "token") tree None (1 ∷ []) ((1 ∷ []) ∷ []) (column_of (codes "digest") Blob true ∷ column_of (codes "tenant") Integer true ∷ [])
+token_at tree = table_of (codes "token") tree None (token.DIGEST ∷ []) ((token.DIGEST ∷ []) ∷ []) (column_of (codes "digest") Blob true ∷ column_of (codes "tenant") Integer true ∷ [])
 
 abbrev pub network_at : ℕ → Table
-network_at tree = table_of (codes "network") tree (Some 0) (0 ∷ []) ((2 ∷ 3 ∷ []) ∷ (7 ∷ 8 ∷ []) ∷ [])
+network_at tree = table_of (codes "network") tree (Some 0) (network.ID ∷ []) ((network.TENANT ∷ network.NAME ∷ []) ∷ (network.HOST ∷ network.PORT ∷ []) ∷ [])
     (column_of (codes "id") Integer false ∷ column_of (codes "tenant") Integer true ∷ column_of (codes "name") Text true ∷ column_of (codes "family") Integer true ∷ column_of (codes "lo") Blob true
     ∷ column_of (codes "length") Integer true ∷ column_of (codes "host") Text true ∷ column_of (codes "port") Integer true ∷ column_of (codes "server") Blob true
     ∷ column_of (codes "capacity") Integer true ∷ column_of (codes "next") Integer true ∷ [])
 
 abbrev pub peer_at : ℕ → Table
-peer_at tree = table_of (codes "peer") tree (Some 0) (0 ∷ []) ((2 ∷ 3 ∷ []) ∷ [])
+peer_at tree = table_of (codes "peer") tree (Some 0) (peer.ID ∷ []) ((peer.NETWORK ∷ peer.KEY ∷ []) ∷ [])
     (column_of (codes "id") Integer false ∷ column_of (codes "network") Integer true ∷ column_of (codes "key") Blob true ∷ column_of (codes "label") Text true ∷ column_of (codes "until") Integer true
     ∷ column_of (codes "keepalive") Integer true ∷ column_of (codes "handshake") Integer false ∷ column_of (codes "received") Integer false ∷ column_of (codes "sent") Integer false ∷ [])
 
+abbrev pub allowed_key_places : List ℕ
+allowed_key_places = allowed.NETWORK ∷ allowed.FAMILY ∷ allowed.LO ∷ allowed.LENGTH ∷ []
+
 abbrev pub allowed_at : ℕ → Table
-allowed_at tree = table_of (codes "allowed") tree None (1 ∷ 2 ∷ 3 ∷ 4 ∷ []) ((1 ∷ 2 ∷ 3 ∷ 4 ∷ []) ∷ [])
+allowed_at tree = table_of (codes "allowed") tree None allowed_key_places (allowed_key_places ∷ [])
     (column_of (codes "network") Integer true ∷ column_of (codes "family") Integer true ∷ column_of (codes "lo") Blob true ∷ column_of (codes "length") Integer true ∷ column_of (codes "hi") Blob true
     ∷ column_of (codes "peer") Integer true ∷ column_of (codes "kind") Text true ∷ [])
 
@@ -91,9 +100,9 @@ index_of name tree table columns is_unique = record { name = name; tree = tree; 
 
 -- One for each key, and one that finds the allowed prefixes of a peer: by network and peer.
 abbrev pub register_indexes : List Index
-register_indexes = index_of (codes "sqlite_autoindex_tenant_1") 2 1 (2 ∷ []) true ∷ index_of (codes "sqlite_autoindex_token_1") 4 3 (1 ∷ []) true ∷ index_of (codes "sqlite_autoindex_network_1") 6 5 (2 ∷ 3 ∷ []) true
-    ∷ index_of (codes "sqlite_autoindex_network_2") 7 5 (7 ∷ 8 ∷ []) true ∷ index_of (codes "sqlite_autoindex_peer_1") 9 8 (2 ∷ 3 ∷ []) true
-    ∷ index_of (codes "sqlite_autoindex_allowed_1") 11 10 (1 ∷ 2 ∷ 3 ∷ 4 ∷ []) true ∷ index_of (codes "allowed_peer") 12 10 (1 ∷ 6 ∷ []) false ∷ []
+register_indexes = index_of (codes "sqlite_autoindex_tenant_1") 2 1 (tenant.NAME ∷ []) true ∷ index_of (codes "sqlite_autoindex_token_1") 4 3 (token.DIGEST ∷ []) true ∷ index_of (codes "sqlite_autoindex_network_1") 6 5 (network.TENANT ∷ network.NAME ∷ []) true
+    ∷ index_of (codes "sqlite_autoindex_network_2") 7 5 (network.HOST ∷ network.PORT ∷ []) true ∷ index_of (codes "sqlite_autoindex_peer_1") 9 8 (peer.NETWORK ∷ peer.KEY ∷ []) true
+    ∷ index_of (codes "sqlite_autoindex_allowed_1") 11 10 allowed_key_places true ∷ index_of (codes "allowed_peer") 12 10 (allowed.NETWORK ∷ allowed.PEER ∷ []) false ∷ []
 
 -- what is in the database after the register's tables and indexes
 pub record Others : Type 0 where

@@ -14,6 +14,7 @@ use Rattle.wgr_core.specs.Forms.{IsFormed, IsKey}
 use Rattle.wgr_model.specs.Consistent.{IsName}
 use Rattle.wgr_model.specs.Register.{Tenant}
 use Rattle.wgr_model.specs.Rows.{AllowedRow, NetworkRow, PeerRow, family_number}
+use Rattle.wgr_columns.specs.declared.columns.peer.TheConstants as peer
 use Rattle.wgr_columns.specs.Decode.{address_kind, bytes_of, route_kind}
 
 -- the three places of a status
@@ -45,10 +46,10 @@ HasAddress row family at a = (column row family ≡ Int (pos (family_number a.fa
 abbrev pub HasPrefix : Row → ℕ → PrefixValue → Type 0
 HasPrefix row at p = HasAddress row at (at + 1) p.address × (column row (at + 2) ≡ Int (pos p.length))
 
--- a status, or none, is at the places 7 to 9
+-- a status, or none, is at its three places
 abbrev pub HasStatus : Row → Option Status → Type 0
-HasStatus row None = column row 7 ≡ Null
-HasStatus row (Some s) = (column row 7 ≡ Int (pos s.handshake)) × (column row 8 ≡ Int (pos s.received)) × (column row 9 ≡ Int (pos s.sent))
+HasStatus row None = column row peer.HANDSHAKE ≡ Null
+HasStatus row (Some s) = (column row peer.HANDSHAKE ≡ Int (pos s.handshake)) × (column row peer.RECEIVED ≡ Int (pos s.received)) × (column row peer.SENT ≡ Int (pos s.sent))
 
 -- the rows are those that store what is read from them
 abbrev pub AreStored : {T : Type 0} → (T → Row) → (Row → T) → List Row → Type 0

@@ -6,13 +6,12 @@ ghost use Rattle.wgr_pool.specs.Pool.{IsPool};
 ghost use Rattle.wgr_columns.specs.Decode.{address_at, bytes_at, bytes_of, family_of, number_at, number_of, prefix_at};
 ghost use Rattle.wgr_columns.specs.Fields.{IsAddressAt, IsFamilyAt, IsPoolAt, IsPrefixAt, IsSpelledAt};
 
-use crate::blob::are_bytes;
 use crate::columns::{allowed, network};
 use crate::number::number_at;
 use sqlite::Row;
 use sqlite::types::ValueRef;
 use wgr_pool::Pool;
-use wgr_text::{Addr, Family, Prefix};
+use wgr_text::{Addr, Family, Prefix, are_bytes};
 
 /// The family at this place.
 pub fn family_at(row: &Row, at: usize) -> Option<Family>

@@ -1,18 +1,12 @@
 //! Digests and keys, read from the places of a row, if they are there.
-ghost use Rattle.std.specs.Prelude.{◌≡◌, ◌<◌, IfSome, IfNone};
-ghost use Rattle.std.specs.List.{AllByRecursion};
+ghost use Rattle.std.specs.Prelude.{◌≡◌, IfSome, IfNone};
 ghost use Rattle.wgr_model.specs.Consistent.{IsDigest};
 ghost use Rattle.wgr_columns.specs.Decode.{bytes_at, key_at};
 ghost use Rattle.wgr_columns.specs.Fields.{IsDigestAt, IsKeyAt};
 
 use sqlite::Row;
 use sqlite::types::ValueRef;
-use wgr_text::Key;
-
-// A byte is below 256.
-pub(crate) fn are_bytes(bytes: &[u8])
-    ensures { AllByRecursion (λ b. b < 256) bytes.now }
-{}
+use wgr_text::{Key, are_bytes};
 
 // The digest with these bytes.
 fn digest_of(bytes: &[u8]) -> Option<[u8; 32]>

@@ -13,7 +13,7 @@ use Rattle.sqlite_catalog.specs.Change.{created, indexed, next_tree, KeepsRows}
 use Rattle.sqlite.specs.Effect.{Database}
 use Rattle.sqlite.specs.State.{State, mode_of, Writes, Executes, Shows, KeepsCommit}
 use Rattle.sqlite.proofs.Callers.{runs_as}
-use Rattle.wgr_sql.specs.Effects.{Makes}
+use Rattle.wgr_sql.specs.Effects.{CreatesTable}
 use Rattle.wgr_sql.specs.declared.fault.Fault.{Fault}
 use Rattle.wgr_sql.proofs.ResultLemmas.{if_ok}
 use Rattle.wgr_sql.proofs.Statements.{went, same_value, makes}
@@ -51,7 +51,7 @@ one_blank : (tables : List Table) (db : Trees) (t : Table) → AllByRecursion (�
 one_blank [] db t blank last = (last, tt)
 one_blank (x ∷ tables) db t blank last = (blank.0, one_blank tables db t blank.1 last)
 
-blank_made : (schema : Schema) (table : Table) (old new : Database) → HasBlank schema old → Makes schema table old new → HasBlank (created schema table) new
+blank_made : (schema : Schema) (table : Table) (old new : Database) → HasBlank schema old → CreatesTable schema table old new → HasBlank (created schema table) new
 blank_made schema table old new was made = record {
   schema_is = made.schema_is;
   blank = one_blank schema.tables new.trees (record table { tree = next_tree schema }) (kept_blank schema.tables old.trees new.trees made.others was.blank) made.empty;

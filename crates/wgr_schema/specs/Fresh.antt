@@ -12,6 +12,7 @@ use Rattle.wgr_model.specs.RowLaws.{no_rows}
 use Rattle.wgr_sql.specs.Causes.{HasCause}
 use Rattle.wgr_sql.specs.Steps.{StepsOn}
 use Rattle.wgr_sql.specs.declared.fault.Fault.{Fault}
+use Rattle.wgr_columns.specs.declared.columns.allowed.TheConstants as allowed
 use Rattle.wgr_columns.specs.Layout.{Others, schema_with, index_of, meta_at, tenant_at, token_at, network_at, peer_at, allowed_at}
 use Rattle.wgr_columns.specs.Decode.{IsRegister, tables_of}
 
@@ -74,7 +75,7 @@ abbrev pub tables_schema : Schema
 tables_schema = created peer_schema (allowed_at 0)
 
 abbrev pub peer_index : Index
-peer_index = index_of (codes "allowed_peer") 0 10 (1 ∷ 6 ∷ []) false
+peer_index = index_of (codes "allowed_peer") 0 10 (allowed.NETWORK ∷ allowed.PEER ∷ []) false
 
 abbrev pub whole_schema : Schema
 whole_schema = indexed tables_schema (allowed_at 10) peer_index

@@ -10,4 +10,4 @@ returns-then-bytes-ne16-clause-none c same = absurd (omega (arith, spelled_long 
 pub returns-clause-some : goal.returns-clause-some
 returns-clause-some c =
     let value : c.joined.result ≡ number_of c.args.bytes.now = search rules in
-    (ap Blob (sym (bytes_back c.args.bytes.now c.if-bytes-ne16.false c.are_bytes.ensures)), value)
+    (ap Blob (sym (bytes_back c.args.bytes.now c.if-bytes-ne16.false c.are_bytes.ensures.all)), value)
