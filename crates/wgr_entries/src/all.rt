@@ -1,7 +1,7 @@
 //! What an order needs of every entry: all rows of a table, in any order.
 ghost use Rattle.std.specs.Prelude.{◌≡◌, ◌++◌, ◌∷◌, [], List, length, map, false, IfErr, IfOk, OnOk, IsPermutation, IsTrue};
 ghost use Rattle.sqlite.specs.Effect.{Database};
-ghost use Rattle.sqlite.specs.State.{HasCleanDisk, Survives};
+ghost use Rattle.sqlite.specs.State.{HasCleanDisk};
 ghost use Rattle.sqlite.specs.Held.{state};
 ghost use Rattle.wgr_model.specs.Consistent.{IsTenant};
 ghost use Rattle.wgr_model.specs.Laws.{Has};
@@ -12,8 +12,9 @@ ghost use Rattle.wgr_sql.specs.Causes.{HasCause};
 ghost use Rattle.wgr_sql.specs.declared.fault.Fault.TheVariants.{NoMemory, Store};
 ghost use Rattle.wgr_columns.specs.Decode.{network_in, number_at, tables_of, tenant_in, token_in};
 ghost use Rattle.wgr_entries.specs.Lookups.{settled};
-ghost use Rattle.wgr_tables.specs.Standing.{Stands};
+ghost use Rattle.wgr_tables.specs.Standing.{OnlyReads, Stands};
 ghost use Rattle.wgr_columns.specs.Stored.{AreStored, IsKeptNetwork, stored_network, stored_tenant};
+ghost use Rattle.wgr_columns.specs.declared.columns.tenant.TheConstants as tenant;
 ghost use Rattle.wgr_tables.specs.Writes.{Written};
 
 use crate::settled::{read_settled, read_tenant, read_token};
@@ -26,12 +27,9 @@ use wgr_sql::{Fault, query};
 // The rows of all tokens.
 fn token_rows<S: Alter>(conn: &mut Connection<S>) -> Result<Vec<Row>, Fault>
     requires idle { conn.old.in_transaction ≡ false }
-    ensures idle { conn.new.in_transaction ≡ false }
-    ensures stands { (db : Database) (pending : List Written) → Stands S.Store conn.old db pending → Stands S.Store conn.new db pending }
-    ensures clean { HasCleanDisk (state S.Store conn.new) → HasCleanDisk (state S.Store conn.old) }
+    ensures reads { OnlyReads S.Store conn.old conn.new }
     ensures listed { (db : Database) (pending : List Written) → Stands S.Store conn.old db pending → HasCleanDisk (state S.Store conn.new)
         → IfOk result (λ rows. IsPermutation (tables_of db).tokens (map token_in rows.items)) }
-    ensures survives { Survives (state S.Store conn.old) (state S.Store conn.new) (λ _. ⊥) }
     ensures cause { (db : Database) (pending : List Written) → Stands S.Store conn.old db pending → IfErr result (HasCause (state S.Store conn.old) (state S.Store conn.new)) }
     ensures stored { (db : Database) (pending : List Written) → Stands S.Store conn.old db pending → HasCleanDisk (state S.Store conn.new) → IfOk result (λ rows. AreStored stored_token token_in rows.items) }
 {
@@ -41,13 +39,10 @@ fn token_rows<S: Alter>(conn: &mut Connection<S>) -> Result<Vec<Row>, Fault>
 // The rows of all tenants.
 fn tenant_rows<S: Alter>(conn: &mut Connection<S>) -> Result<Vec<Row>, Fault>
     requires idle { conn.old.in_transaction ≡ false }
-    ensures idle { conn.new.in_transaction ≡ false }
-    ensures stands { (db : Database) (pending : List Written) → Stands S.Store conn.old db pending → Stands S.Store conn.new db pending }
-    ensures clean { HasCleanDisk (state S.Store conn.new) → HasCleanDisk (state S.Store conn.old) }
+    ensures reads { OnlyReads S.Store conn.old conn.new }
     ensures listed { (db : Database) (pending : List Written) → Stands S.Store conn.old db pending → HasCleanDisk (state S.Store conn.new)
         → IfOk result (λ rows. IsPermutation (tables_of db).tenants (map tenant_in rows.items)) }
     ensures open { HasCleanDisk (state S.Store conn.new) → OnOk result (IsTrue (state S.Store conn.old).is_open) }
-    ensures survives { Survives (state S.Store conn.old) (state S.Store conn.new) (λ _. ⊥) }
     ensures cause { (db : Database) (pending : List Written) → Stands S.Store conn.old db pending → IfErr result (HasCause (state S.Store conn.old) (state S.Store conn.new)) }
     ensures stored { (db : Database) (pending : List Written) → Stands S.Store conn.old db pending → HasCleanDisk (state S.Store conn.new) → IfOk result (λ rows. AreStored stored_tenant tenant_in rows.items) }
 {
@@ -56,7 +51,7 @@ fn tenant_rows<S: Alter>(conn: &mut Connection<S>) -> Result<Vec<Row>, Fault>
 
 // The ids of these rows.
 fn ids_in(alloc: Global, rows: &[Row]) -> Result<Vec<u32>, Fault>
-    ensures read { IfOk result (λ ids. ids.items ≡ map (λ r. number_at r 0) rows.now) }
+    ensures read { IfOk result (λ ids. ids.items ≡ map (λ r. number_at r tenant.ID) rows.now) }
     ensures only { IfErr result (λ why. why ≡ Store → AreOf IsTenant stored_tenant rows.now → ⊥) }
 {
     let mut ids = Vec::new(alloc);
@@ -75,12 +70,9 @@ fn ids_in(alloc: Global, rows: &[Row]) -> Result<Vec<u32>, Fault>
 /// with `count(*)` nothing would be proved.
 pub fn count_tokens<S: Alter>(conn: &mut Connection<S>) -> Result<usize, Fault>
     requires idle { conn.old.in_transaction ≡ false }
-    ensures idle { conn.new.in_transaction ≡ false }
-    ensures stands { (db : Database) (pending : List Written) → Stands S.Store conn.old db pending → Stands S.Store conn.new db pending }
-    ensures clean { HasCleanDisk (state S.Store conn.new) → HasCleanDisk (state S.Store conn.old) }
+    ensures reads { OnlyReads S.Store conn.old conn.new }
     ensures counted { (db : Database) (pending : List Written) → Stands S.Store conn.old db pending → HasCleanDisk (state S.Store conn.new)
         → IfOk result (λ count. count ≡ length (tables_of db).tokens) }
-    ensures survives { Survives (state S.Store conn.old) (state S.Store conn.new) (λ _. ⊥) }
     ensures cause { (db : Database) (pending : List Written) → Stands S.Store conn.old db pending → IfErr result (HasCause (state S.Store conn.old) (state S.Store conn.new)) }
 {
     let rows = token_rows(conn)?;
@@ -90,12 +82,9 @@ pub fn count_tokens<S: Alter>(conn: &mut Connection<S>) -> Result<usize, Fault>
 /// The ids of all tenants.
 pub fn tenant_ids<S: Alter>(alloc: Global, conn: &mut Connection<S>) -> Result<Vec<u32>, Fault>
     requires idle { conn.old.in_transaction ≡ false }
-    ensures idle { conn.new.in_transaction ≡ false }
-    ensures stands { (db : Database) (pending : List Written) → Stands S.Store conn.old db pending → Stands S.Store conn.new db pending }
-    ensures clean { HasCleanDisk (state S.Store conn.new) → HasCleanDisk (state S.Store conn.old) }
+    ensures reads { OnlyReads S.Store conn.old conn.new }
     ensures listed { (db : Database) (pending : List Written) → Stands S.Store conn.old db pending → HasCleanDisk (state S.Store conn.new)
         → IfOk result (λ ids. IsPermutation (map (λ t. t.id) (tables_of db).tenants) ids.items) }
-    ensures survives { Survives (state S.Store conn.old) (state S.Store conn.new) (λ _. ⊥) }
     ensures cause { (db : Database) (pending : List Written) → Stands S.Store conn.old db pending → ((x : Tenant) → Has (tables_of db).tenants x → IsTenant x) → IfErr result (HasCause (state S.Store conn.old) (state S.Store conn.new)) }
 {
     let rows = tenant_rows(conn)?;
@@ -105,12 +94,9 @@ pub fn tenant_ids<S: Alter>(alloc: Global, conn: &mut Connection<S>) -> Result<V
 // The rows of all networks.
 fn network_rows<S: Alter>(conn: &mut Connection<S>) -> Result<Vec<Row>, Fault>
     requires idle { conn.old.in_transaction ≡ false }
-    ensures idle { conn.new.in_transaction ≡ false }
-    ensures stands { (db : Database) (pending : List Written) → Stands S.Store conn.old db pending → Stands S.Store conn.new db pending }
-    ensures clean { HasCleanDisk (state S.Store conn.new) → HasCleanDisk (state S.Store conn.old) }
+    ensures reads { OnlyReads S.Store conn.old conn.new }
     ensures listed { (db : Database) (pending : List Written) → Stands S.Store conn.old db pending → HasCleanDisk (state S.Store conn.new)
         → IfOk result (λ rows. IsPermutation (tables_of db).networks (map network_in rows.items)) }
-    ensures survives { Survives (state S.Store conn.old) (state S.Store conn.new) (λ _. ⊥) }
     ensures cause { (db : Database) (pending : List Written) → Stands S.Store conn.old db pending → IfErr result (HasCause (state S.Store conn.old) (state S.Store conn.new)) }
     ensures stored { (db : Database) (pending : List Written) → Stands S.Store conn.old db pending → HasCleanDisk (state S.Store conn.new) → IfOk result (λ rows. AreStored stored_network network_in rows.items) }
 {
@@ -178,13 +164,10 @@ fn settled_in(alloc: Global, rows: &[Row]) -> Result<Vec<Holding>, Fault>
 /// All tenants. A result also says that the store was open.
 pub fn tenants<S: Alter>(alloc: Global, conn: &mut Connection<S>) -> Result<Vec<Tenant>, Fault>
     requires idle { conn.old.in_transaction ≡ false }
-    ensures idle { conn.new.in_transaction ≡ false }
-    ensures stands { (db : Database) (pending : List Written) → Stands S.Store conn.old db pending → Stands S.Store conn.new db pending }
-    ensures clean { HasCleanDisk (state S.Store conn.new) → HasCleanDisk (state S.Store conn.old) }
+    ensures reads { OnlyReads S.Store conn.old conn.new }
     ensures listed { (db : Database) (pending : List Written) → Stands S.Store conn.old db pending → HasCleanDisk (state S.Store conn.new)
         → IfOk result (λ tenants. IsPermutation (tables_of db).tenants tenants.items) }
     ensures open { HasCleanDisk (state S.Store conn.new) → OnOk result (IsTrue (state S.Store conn.old).is_open) }
-    ensures survives { Survives (state S.Store conn.old) (state S.Store conn.new) (λ _. ⊥) }
     ensures cause { (db : Database) (pending : List Written) → Stands S.Store conn.old db pending → ((x : Tenant) → Has (tables_of db).tenants x → IsTenant x) → IfErr result (HasCause (state S.Store conn.old) (state S.Store conn.new)) }
 {
     let rows = tenant_rows(conn)?;
@@ -194,12 +177,9 @@ pub fn tenants<S: Alter>(alloc: Global, conn: &mut Connection<S>) -> Result<Vec<
 /// All tokens.
 pub fn tokens<S: Alter>(alloc: Global, conn: &mut Connection<S>) -> Result<Vec<Token>, Fault>
     requires idle { conn.old.in_transaction ≡ false }
-    ensures idle { conn.new.in_transaction ≡ false }
-    ensures stands { (db : Database) (pending : List Written) → Stands S.Store conn.old db pending → Stands S.Store conn.new db pending }
-    ensures clean { HasCleanDisk (state S.Store conn.new) → HasCleanDisk (state S.Store conn.old) }
+    ensures reads { OnlyReads S.Store conn.old conn.new }
     ensures listed { (db : Database) (pending : List Written) → Stands S.Store conn.old db pending → HasCleanDisk (state S.Store conn.new)
         → IfOk result (λ tokens. IsPermutation (tables_of db).tokens tokens.items) }
-    ensures survives { Survives (state S.Store conn.old) (state S.Store conn.new) (λ _. ⊥) }
     ensures cause { (db : Database) (pending : List Written) → Stands S.Store conn.old db pending → ((x : Token) → Has (tables_of db).tokens x → IsKeptToken x) → IfErr result (HasCause (state S.Store conn.old) (state S.Store conn.new)) }
 {
     let rows = token_rows(conn)?;
@@ -212,12 +192,9 @@ pub fn settled_networks<S: Alter>(
     conn: &mut Connection<S>,
 ) -> Result<Vec<Holding>, Fault>
     requires idle { conn.old.in_transaction ≡ false }
-    ensures idle { conn.new.in_transaction ≡ false }
-    ensures stands { (db : Database) (pending : List Written) → Stands S.Store conn.old db pending → Stands S.Store conn.new db pending }
-    ensures clean { HasCleanDisk (state S.Store conn.new) → HasCleanDisk (state S.Store conn.old) }
+    ensures reads { OnlyReads S.Store conn.old conn.new }
     ensures listed { (db : Database) (pending : List Written) → Stands S.Store conn.old db pending → HasCleanDisk (state S.Store conn.new)
         → IfOk result (λ networks. (rows : List NetworkRow) × IsPermutation (tables_of db).networks rows × (networks.items ≡ map settled rows)) }
-    ensures survives { Survives (state S.Store conn.old) (state S.Store conn.new) (λ _. ⊥) }
     ensures cause { (db : Database) (pending : List Written) → Stands S.Store conn.old db pending → ((w : NetworkRow) → Has (tables_of db).networks w → IsKeptNetwork w) → IfErr result (HasCause (state S.Store conn.old) (state S.Store conn.new)) }
 {
     let rows = network_rows(conn)?;

@@ -23,7 +23,7 @@ use Rattle.wgr_core.specs.declared.reply.Reply.{Reply}
 use Rattle.wgr_core.specs.declared.reply.Reply.TheVariants as reply
 use Rattle.wgr_core.specs.Change.{Meets, MeetsLive}
 use Rattle.wgr_core.specs.Network.{IsNetwork, NetworkValue, live_at}
-use Rattle.wgr_core.specs.Outcome.{Outcome, add, at_place, held_or, join_refusal, joined, kept_if, or_nobodys, outcome_of, place, unless, unless_refused}
+use Rattle.wgr_core.specs.Outcome.{Outcome, add, at_place, held_or, join_refusal, joined, kept_if, or_nobodys, outcome_of, place, unless, address_unless}
 use Rattle.wgr_core.specs.Owner.{owner_of}
 use Rattle.wgr_core.proofs.CommandLemmas.{meets_from_live, none_to_next, put_peer_above}
 use Rattle.wgr_core.proofs.LiveLemmas.{live_is_network}
@@ -124,8 +124,8 @@ module _ (m : NetworkValue) (a : AddrValue) (given : is_assignable m.pool a ≡ 
   abbrev routed : Bool
   routed = is_some (route_of m.routes (full a))
 
-  place_by : (why : Option Refusal) → cond own (Some AddressHeld) (cond routed (Some AddressHeld) None) ≡ why → place m (Some a) ≡ unless_refused a why
-  place_by why is = ap (λ b. unless_refused a (cond (not b) (Some OutsidePool) (cond own (Some AddressHeld) (cond routed (Some AddressHeld) None)))) given ∙ ap (unless_refused a) is
+  place_by : (why : Option Refusal) → cond own (Some AddressHeld) (cond routed (Some AddressHeld) None) ≡ why → place m (Some a) ≡ address_unless a why
+  place_by why is = ap (λ b. address_unless a (cond (not b) (Some OutsidePool) (cond own (Some AddressHeld) (cond routed (Some AddressHeld) None)))) given ∙ ap (address_unless a) is
 
   pub place_held : (number : ℕ) → Some number ≡ prefix_holder m (full a) → place m (Some a) ≡ Err AddressHeld
   place_held number found = place_by (Some AddressHeld) (either own routed (sym (full_held m a) ∙ ap is_some (sym found)))
@@ -144,7 +144,7 @@ module _ (m : NetworkValue) (a : AddrValue) (given : is_assignable m.pool a ≡ 
       neither false false is = refl
 
 pub place_outside : (m : NetworkValue) (a : AddrValue) → is_assignable m.pool a ≡ false → place m (Some a) ≡ Err OutsidePool
-place_outside m a out = ap (λ b. unless_refused a (cond (not b) (Some OutsidePool) (cond (is_own m.peers a) (Some AddressHeld) (cond (is_some (route_of m.routes (full a))) (Some AddressHeld) None)))) out
+place_outside m a out = ap (λ b. address_unless a (cond (not b) (Some OutsidePool) (cond (is_own m.peers a) (Some AddressHeld) (cond (is_some (route_of m.routes (full a))) (Some AddressHeld) None)))) out
 
 -- ---- the outcome
 

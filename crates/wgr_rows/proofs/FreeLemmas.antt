@@ -23,7 +23,7 @@ use Rattle.wgr_model.specs.Rows.{AreKeyed, NetworkRow, family_number}
 use Rattle.wgr_columns.specs.Layout.{schema_with}
 use Rattle.wgr_columns.specs.Decode.{IsRegister, bytes_of, tables_of}
 use Rattle.wgr_tables.specs.Writes.{Written, Writes}
-use Rattle.wgr_tables.specs.Standing.{Stands}
+use Rattle.wgr_tables.specs.Standing.{OnlyReads, Stands}
 use Rattle.wgr_rows.specs.Holding.{below, coming, hold_params, holds_text, last_number}
 use Rattle.wgr_rows.specs.Staying.{IsQuiet, Stays}
 use Rattle.wgr_rows.specs.Stopping.{HavePool, IsSound}
@@ -39,7 +39,7 @@ params_are network p start lo hi ends =
 
 module _ {S : Type 0} (g : Ghosts S) (old : Held S) (db : Database) (pending : List Written) (stood : Stands g old db pending) where
   -- a query that doesn't begin
-  pub failed_stands : (shows_peers : Bool) (new : Held S) (params : Row) (quiet : IsQuiet (state g old)) → Survives (state g old) (state g new) (CommitsShowing (holds_text shows_peers) params (state g old)) → new.in_transaction ≡ false
+  failed_stands : (shows_peers : Bool) (new : Held S) (params : Row) (quiet : IsQuiet (state g old)) → Survives (state g old) (state g new) (CommitsShowing (holds_text shows_peers) params (state g old)) → new.in_transaction ≡ false
       → (HasCleanDisk (state g new) → (e : Error) × FailsToQuery (holds_text shows_peers) params (state g old) (state g new) e) → Stands g new db pending
   failed_stands shows_peers new params quiet survives idle failed =
       stands_kept IsRegister Writes g old new db pending stood (λ clean live.
@@ -57,6 +57,26 @@ module _ {S : Type 0} (g : Ghosts S) (old : Held S) (db : Database) (pending : L
   -- and shows good rows
   pub stands_good : AreKeyed (tables_of db) → HasCleanDisk (state g old) → IsGood (state g old)
   stands_good keyed clean = (clean, λ live. subst (λ (d : Database). IsRegister d × AreKeyed (tables_of d)) (sym (stood.shows clean live)) (stood.sound, keyed))
+
+module _ {S : Type 0} (g : Ghosts S) (old : Held S) where
+  -- a query that doesn't begin only reads
+  pub failed_reads : (shows_peers : Bool) (new : Held S) (params : Row) (quiet : IsQuiet (state g old)) → Survives (state g old) (state g new) (CommitsShowing (holds_text shows_peers) params (state g old)) → new.in_transaction ≡ false
+      → (HasCleanDisk (state g new) → (e : Error) × FailsToQuery (holds_text shows_peers) params (state g old) (state g new) e) → OnlyReads g old new
+  failed_reads shows_peers new params quiet survives idle failed = record {
+    idle = idle;
+    clean = λ clean. omega (arith, survives.clean, clean);
+    stands = λ db pending stood. failed_stands g old db pending stood shows_peers new params quiet survives idle failed;
+    survives = commits_nothing shows_peers params (state g old) (state g new) survives;
+  }
+
+  -- what stays only reads
+  pub stays_reads : (new : Held S) → old.in_transaction ≡ false → IsQuiet (state g old) → Stays g old new → OnlyReads g old new
+  stays_reads new idle quiet stays = record {
+    idle = stays.0 idle;
+    clean = λ clean. let survives = stays.1 in omega (arith, survives.clean, clean);
+    stands = λ db pending stood. stays_stands g old db pending stood new quiet stays;
+    survives = stays.1;
+  }
 
 -- a query that begins
 pub begun_stays : {S : Type 0} (g : Ghosts S) (shows_peers : Bool) (text : List ℕ) → text ≡ holds_text shows_peers → (old new : Held S) (params : Row) → (old.in_transaction ≡ false → new.in_transaction ≡ false) → Survives (state g old) (state g new) (CommitsShowing text params (state g old))

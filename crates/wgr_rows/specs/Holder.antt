@@ -9,6 +9,8 @@ use Rattle.wgr_peers.specs.Routes.{route_of}
 use Rattle.wgr_core.specs.Network.{NetworkValue}
 use Rattle.wgr_core.specs.Owner.{allowed}
 use Rattle.wgr_model.specs.Rows.{AllowedRow, Tables, peer_id}
+use Rattle.wgr_columns.specs.declared.columns.allowed.TheConstants as allowed_row
+use Rattle.wgr_columns.specs.declared.columns.peer.TheConstants as peer
 use Rattle.wgr_columns.specs.Decode.{allowed_in, number_at, peer_in}
 use Rattle.wgr_columns.specs.Fields.{IsLeaseEndAt, IsPeerIdAt}
 
@@ -30,20 +32,20 @@ ShowPeer id t rows = IsPermutation (filter (λ p. nat_eq p.id id) t.peers) (map 
 -- the number of the network's peer to which the one row leads, or none where there is no row
 abbrev pub IsLed : List Row → ℕ → Option ℕ → Type 0
 IsLed rows network None = rows ≡ []
-IsLed rows network (Some number) = (r : Row) × (rows ≡ r ∷ []) × (peer_id network number ≡ number_at r 6)
+IsLed rows network (Some number) = (r : Row) × (rows ≡ r ∷ []) × (peer_id network number ≡ number_at r allowed_row.PEER)
 
 -- no row, or one that leads to a peer of the network
 abbrev pub HasLead : List Row → ℕ → Type 0
 HasLead [] network = ⊤
-HasLead (r ∷ []) network = IsPeerIdAt r 6 network
+HasLead (r ∷ []) network = IsPeerIdAt r allowed_row.PEER network
 HasLead (r ∷ s ∷ more) network = ⊥
 
 -- whether the lease of the peer of the one row goes on
 abbrev pub IsLasting : List Row → ℕ → Bool → Type 0
-IsLasting rows now lasts = (r : Row) × (rows ≡ r ∷ []) × (lasts ≡ not (is_expired now (number_at r 5)))
+IsLasting rows now lasts = (r : Row) × (rows ≡ r ∷ []) × (lasts ≡ not (is_expired now (number_at r peer.UNTIL)))
 
 -- one row, with the end of a lease
 abbrev pub HasEnd : List Row → Type 0
 HasEnd [] = ⊥
-HasEnd (r ∷ []) = IsLeaseEndAt r 5
+HasEnd (r ∷ []) = IsLeaseEndAt r peer.UNTIL
 HasEnd (r ∷ s ∷ more) = ⊥

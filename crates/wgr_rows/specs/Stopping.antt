@@ -20,7 +20,7 @@ use Rattle.wgr_rows.specs.declared.progress.Progress.TheVariants.{Stopped}
 -- the fault for which a reading stops
 abbrev pub fault_at : Stop → Fault
 fault_at stop.NoMemory = fault.NoMemory
-fault_at stop.Store = fault.Store
+fault_at stop.Source = fault.Store
 
 -- the rows are consistent, and the network of this id has this pool
 pub record HavePool (t : Tables) (network : ℕ) (pool : PrefixValue) : Type 0 where

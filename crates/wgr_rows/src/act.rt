@@ -1,8 +1,7 @@
 //! Add and Owner on the rows of one network, which isn't loaded.
-ghost use Rattle.std.specs.Prelude.{◌≡◌, ◌≤◌, ◌+◌, ℕ, List, IfErr, IfOk, Some, None, [], ◌∷◌, false, is_some, nat_lt, not, true, length};
+ghost use Rattle.std.specs.Prelude.{◌≡◌, ◌≤◌, ◌+◌, ℕ, IfErr, IfOk, Some, None, [], ◌∷◌, false, is_some, nat_lt, not, true, length};
 ghost use Rattle.std.specs.List.{All};
-ghost use Rattle.sqlite.specs.Effect.{Database};
-ghost use Rattle.sqlite.specs.State.{HasCleanDisk, Survives};
+ghost use Rattle.sqlite.specs.State.{HasCleanDisk};
 ghost use Rattle.sqlite.specs.Held.{state};
 ghost use Rattle.wgr_peers.specs.Limits.{max_number};
 ghost use Rattle.wgr_peers.specs.PeerIndex.{EndsFrom};
@@ -12,8 +11,7 @@ ghost use Rattle.wgr_core.specs.Network.{live_at};
 ghost use Rattle.wgr_core.specs.Outcome.{is_reading, outcome_of, place};
 ghost use Rattle.wgr_outline.specs.Outline.{IsFloor, IsOutline};
 ghost use Rattle.wgr_sql.specs.Causes.{HasCause};
-ghost use Rattle.wgr_tables.specs.Writes.{Written};
-ghost use Rattle.wgr_tables.specs.Standing.{Stands};
+ghost use Rattle.wgr_tables.specs.Standing.{OnlyReads};
 ghost use Rattle.wgr_rows.specs.Act.{Admits, IfFails, IsPlaced, as_acted, is_directed, is_plain};
 ghost use Rattle.wgr_rows.specs.Directed.{OnNetwork};
 ghost use Rattle.wgr_rows.specs.Heads.{IsHead};
@@ -57,11 +55,8 @@ fn has_room<S: Alter>(
     over: &[u32],
 ) -> Result<bool, Fault>
     requires idle { conn.old.in_transaction ≡ false }
-    ensures idle { conn.new.in_transaction ≡ false }
-    ensures stands { (db : Database) (pending : List Written) → Stands S.Store conn.old db pending → Stands S.Store conn.new db pending }
-    ensures clean { HasCleanDisk (state S.Store conn.new) → HasCleanDisk (state S.Store conn.old) }
+    ensures reads { OnlyReads S.Store conn.old conn.new }
     ensures found { OnNetwork S.Store conn.old network (λ n. HasCleanDisk (state S.Store conn.new) → (now : ℕ) → IsHead head.now n → over.now ≡ expired now n.peers → IfOk result (λ has. has ≡ nat_lt (length (live_at n now).peers) n.capacity)) }
-    ensures survives { Survives (state S.Store conn.old) (state S.Store conn.new) (λ _. ⊥) }
     ensures cause { OnNetwork S.Store conn.old network (λ n. IfErr result (HasCause (state S.Store conn.old) (state S.Store conn.new))) }
 {
     let most = u32::from(head.capacity.peers());
@@ -84,13 +79,10 @@ fn admit_row<S: Alter>(
     until: LeaseEnd,
 ) -> Result<Admission, RowFault>
     requires idle { conn.old.in_transaction ≡ false }
-    ensures idle { conn.new.in_transaction ≡ false }
-    ensures stands { (db : Database) (pending : List Written) → Stands S.Store conn.old db pending → Stands S.Store conn.new db pending }
-    ensures clean { HasCleanDisk (state S.Store conn.new) → HasCleanDisk (state S.Store conn.old) }
+    ensures reads { OnlyReads S.Store conn.old conn.new }
     ensures found { OnNetwork S.Store conn.old network (λ n. HasCleanDisk (state S.Store conn.new) → All (EndsFrom soonest) n.peers → Admits n now key.now until result) }
     ensures head { OnNetwork S.Store conn.old network (λ n. HasCleanDisk (state S.Store conn.new) → IfOk result (λ admission. IsHead admission.head n)) }
     ensures left { IfOk result (λ admission. admission.head.next ≤ max_number) }
-    ensures survives { Survives (state S.Store conn.old) (state S.Store conn.new) (λ _. ⊥) }
     ensures cause { OnNetwork S.Store conn.old network (λ n. IfErr result (IfFails (HasCause (state S.Store conn.old) (state S.Store conn.new)))) }
 {
     let head = head_row(conn, network)?;
@@ -125,11 +117,8 @@ fn place_row<S: Alter>(
     wanted: Option<Addr>,
 ) -> Result<Addr, RowFault>
     requires idle { conn.old.in_transaction ≡ false }
-    ensures idle { conn.new.in_transaction ≡ false }
-    ensures stands { (db : Database) (pending : List Written) → Stands S.Store conn.old db pending → Stands S.Store conn.new db pending }
-    ensures clean { HasCleanDisk (state S.Store conn.new) → HasCleanDisk (state S.Store conn.old) }
+    ensures reads { OnlyReads S.Store conn.old conn.new }
     ensures found { OnNetwork S.Store conn.old network (λ n. HasCleanDisk (state S.Store conn.new) → IsHead admission.now.head n → admission.now.expired.items ≡ expired now n.peers → IsFloor (live_at n now) floor → IsPlaced (place (live_at n now) wanted) result) }
-    ensures survives { Survives (state S.Store conn.old) (state S.Store conn.new) (λ _. ⊥) }
     ensures cause { OnNetwork S.Store conn.old network (λ n. (HasCleanDisk (state S.Store conn.new) → IsHead admission.now.head n) → IfErr result (IfFails (HasCause (state S.Store conn.old) (state S.Store conn.new)))) }
 {
     let pool = &admission.head.pool;
@@ -188,13 +177,10 @@ pub fn row_act<S: Alter>(
 ) -> Result<(Reply, Option<Change>), RowFault>
     requires idle { conn.old.in_transaction ≡ false }
     requires directed { is_directed command.now ≡ true }
-    ensures idle { conn.new.in_transaction ≡ false }
-    ensures stands { (db : Database) (pending : List Written) → Stands S.Store conn.old db pending → Stands S.Store conn.new db pending }
-    ensures clean { HasCleanDisk (state S.Store conn.new) → HasCleanDisk (state S.Store conn.old) }
+    ensures reads { OnlyReads S.Store conn.old conn.new }
     ensures outcome { OnNetwork S.Store conn.old network (λ n. HasCleanDisk (state S.Store conn.new) → IsOutline outline.now n → Meets n (as_acted result) (outcome_of n now command.now)) }
     ensures change { IfOk result (λ given. is_some given.1 ≡ not (is_reading command.now)) }
     ensures plain { IfOk result (λ given. is_plain given.0 ≡ true) }
-    ensures survives { Survives (state S.Store conn.old) (state S.Store conn.new) (λ _. ⊥) }
     ensures cause { OnNetwork S.Store conn.old network (λ n. IfErr result (IfFails (HasCause (state S.Store conn.old) (state S.Store conn.new)))) }
 {
     match command {

@@ -1,14 +1,14 @@
 //! The live peer to which a prefix leads, by the prefix's row and then the peer's.
 ghost use Rattle.std.specs.Prelude.{◌≡◌, [], ◌∷◌, false, IfErr, IfOk, List, OnErr};
 ghost use Rattle.sqlite.specs.Effect.{Database};
-ghost use Rattle.sqlite.specs.State.{HasCleanDisk, Survives};
+ghost use Rattle.sqlite.specs.State.{HasCleanDisk};
 ghost use Rattle.sqlite.specs.Held.{state};
 ghost use Rattle.wgr_core.specs.Network.{live_at};
 ghost use Rattle.wgr_model.specs.Rows.{peer_id};
 ghost use Rattle.wgr_sql.specs.Causes.{HasCause};
 ghost use Rattle.wgr_columns.specs.Decode.{AreNatural, tables_of};
 ghost use Rattle.wgr_tables.specs.Writes.{Written};
-ghost use Rattle.wgr_tables.specs.Standing.{Stands};
+ghost use Rattle.wgr_tables.specs.Standing.{OnlyReads, Stands};
 ghost use Rattle.wgr_rows.specs.Directed.{OnNetwork};
 ghost use Rattle.wgr_rows.specs.Holder.{HasEnd, HasLead, IsLasting, IsLed, ShowPeer, ShowPrefix, prefix_holder};
 
@@ -27,14 +27,11 @@ fn prefix_rows<S: Alter>(
     prefix: &Prefix,
 ) -> Result<Vec<Row>, Fault>
     requires idle { conn.old.in_transaction ≡ false }
-    ensures idle { conn.new.in_transaction ≡ false }
-    ensures stands { (db : Database) (pending : List Written) → Stands S.Store conn.old db pending → Stands S.Store conn.new db pending }
-    ensures clean { HasCleanDisk (state S.Store conn.new) → HasCleanDisk (state S.Store conn.old) }
+    ensures reads { OnlyReads S.Store conn.old conn.new }
     ensures listed { (db : Database) (pending : List Written) → Stands S.Store conn.old db pending → HasCleanDisk (state S.Store conn.new)
         → IfOk result (λ rows. ShowPrefix network prefix.now (tables_of db) rows.items) }
     ensures numbers { (db : Database) (pending : List Written) → Stands S.Store conn.old db pending → HasCleanDisk (state S.Store conn.new)
         → IfOk result (λ rows. AreNatural (6 ∷ []) rows.items) }
-    ensures survives { Survives (state S.Store conn.old) (state S.Store conn.new) (λ _. ⊥) }
     ensures cause { (db : Database) (pending : List Written) → Stands S.Store conn.old db pending → IfErr result (HasCause (state S.Store conn.old) (state S.Store conn.new)) }
 {
     let address = prefix.address();
@@ -58,14 +55,11 @@ fn peer_rows<S: Alter>(
     number: u32,
 ) -> Result<Vec<Row>, Fault>
     requires idle { conn.old.in_transaction ≡ false }
-    ensures idle { conn.new.in_transaction ≡ false }
-    ensures stands { (db : Database) (pending : List Written) → Stands S.Store conn.old db pending → Stands S.Store conn.new db pending }
-    ensures clean { HasCleanDisk (state S.Store conn.new) → HasCleanDisk (state S.Store conn.old) }
+    ensures reads { OnlyReads S.Store conn.old conn.new }
     ensures listed { (db : Database) (pending : List Written) → Stands S.Store conn.old db pending → HasCleanDisk (state S.Store conn.new)
         → IfOk result (λ rows. ShowPeer (peer_id network number) (tables_of db) rows.items) }
     ensures numbers { (db : Database) (pending : List Written) → Stands S.Store conn.old db pending → HasCleanDisk (state S.Store conn.new)
         → IfOk result (λ rows. AreNatural (5 ∷ []) rows.items) }
-    ensures survives { Survives (state S.Store conn.old) (state S.Store conn.new) (λ _. ⊥) }
     ensures cause { (db : Database) (pending : List Written) → Stands S.Store conn.old db pending → IfErr result (HasCause (state S.Store conn.old) (state S.Store conn.new)) }
 {
     query(
@@ -108,11 +102,8 @@ pub fn allowed_row<S: Alter>(
     prefix: &Prefix,
 ) -> Result<Option<u32>, Fault>
     requires idle { conn.old.in_transaction ≡ false }
-    ensures idle { conn.new.in_transaction ≡ false }
-    ensures stands { (db : Database) (pending : List Written) → Stands S.Store conn.old db pending → Stands S.Store conn.new db pending }
-    ensures clean { HasCleanDisk (state S.Store conn.new) → HasCleanDisk (state S.Store conn.old) }
+    ensures reads { OnlyReads S.Store conn.old conn.new }
     ensures found { OnNetwork S.Store conn.old network (λ n. HasCleanDisk (state S.Store conn.new) → IfOk result (λ found. found ≡ prefix_holder (live_at n now) prefix.now)) }
-    ensures survives { Survives (state S.Store conn.old) (state S.Store conn.new) (λ _. ⊥) }
     ensures cause { OnNetwork S.Store conn.old network (λ n. IfErr result (HasCause (state S.Store conn.old) (state S.Store conn.new))) }
 {
     let rows = prefix_rows(conn, network, prefix)?;

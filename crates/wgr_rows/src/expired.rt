@@ -2,7 +2,7 @@
 ghost use Rattle.std.specs.Prelude.{◌≡◌, List, map, IfErr, IfOk, false};
 ghost use Rattle.std.specs.List.{All};
 ghost use Rattle.sqlite.specs.Effect.{Database};
-ghost use Rattle.sqlite.specs.State.{HasCleanDisk, Survives};
+ghost use Rattle.sqlite.specs.State.{HasCleanDisk};
 ghost use Rattle.sqlite.specs.Held.{state};
 ghost use Rattle.wgr_peers.specs.PeerIndex.{EndsFrom};
 ghost use Rattle.wgr_peers.specs.Peers.{expired};
@@ -12,8 +12,9 @@ ghost use Rattle.wgr_sql.specs.declared.fault.Fault.TheVariants.{Store};
 ghost use Rattle.wgr_columns.specs.Decode.{number_at, peer_in, tables_of};
 ghost use Rattle.wgr_columns.specs.Fields.{IsPeerIdAt};
 ghost use Rattle.wgr_columns.specs.Stored.{AreRising};
+ghost use Rattle.wgr_columns.specs.declared.columns.peer.TheConstants as peer;
 ghost use Rattle.wgr_tables.specs.Writes.{Written};
-ghost use Rattle.wgr_tables.specs.Standing.{Stands};
+ghost use Rattle.wgr_tables.specs.Standing.{OnlyReads, Stands};
 ghost use Rattle.wgr_rows.specs.Directed.{OnNetwork};
 ghost use Rattle.wgr_rows.specs.Keyed.{HaveNumbers};
 ghost use Rattle.wgr_rows.specs.Owned.{ShowOwned, is_over};
@@ -27,16 +28,13 @@ use wgr_sql::{Fault, query};
 // The rows of the network's peers whose leases are over, in the order of their ids.
 fn over_rows<S: Alter>(conn: &mut Connection<S>, network: u32, now: u64) -> Result<Vec<Row>, Fault>
     requires idle { conn.old.in_transaction ≡ false }
-    ensures idle { conn.new.in_transaction ≡ false }
-    ensures stands { (db : Database) (pending : List Written) → Stands S.Store conn.old db pending → Stands S.Store conn.new db pending }
-    ensures clean { HasCleanDisk (state S.Store conn.new) → HasCleanDisk (state S.Store conn.old) }
+    ensures reads { OnlyReads S.Store conn.old conn.new }
     ensures listed { (db : Database) (pending : List Written) → Stands S.Store conn.old db pending → HasCleanDisk (state S.Store conn.new)
         → IfOk result (λ rows. ShowOwned network (is_over now) (tables_of db) rows.items) }
     ensures rising { (db : Database) (pending : List Written) → Stands S.Store conn.old db pending → HasCleanDisk (state S.Store conn.new)
         → IfOk result (λ rows. AreRising (λ p. p.id) peer_in rows.items) }
     ensures numbers { (db : Database) (pending : List Written) → Stands S.Store conn.old db pending → HasCleanDisk (state S.Store conn.new)
         → IfOk result (λ rows. HaveNumbers rows.items) }
-    ensures survives { Survives (state S.Store conn.old) (state S.Store conn.new) (λ _. ⊥) }
     ensures cause { (db : Database) (pending : List Written) → Stands S.Store conn.old db pending → IfErr result (HasCause (state S.Store conn.old) (state S.Store conn.new)) }
 {
     query(
@@ -53,8 +51,8 @@ fn over_rows<S: Alter>(conn: &mut Connection<S>, network: u32, now: u64) -> Resu
 
 // The numbers of the network's peers whose rows these are.
 fn numbers_of(alloc: Global, rows: &[Row], network: u32) -> Result<Vec<u32>, Fault>
-    ensures value { IfOk result (λ numbers. map (peer_id network) numbers.items ≡ map (λ r. number_at r 0) rows.now) }
-    ensures only { IfErr result (λ e. e ≡ Store → All (λ r. IsPeerIdAt r 0 network) rows.now → ⊥) }
+    ensures value { IfOk result (λ numbers. map (peer_id network) numbers.items ≡ map (λ r. number_at r peer.ID) rows.now) }
+    ensures only { IfErr result (λ e. e ≡ Store → All (λ r. IsPeerIdAt r peer.ID network) rows.now → ⊥) }
 {
     let mut numbers = Vec::new(alloc);
     for row in rows {
@@ -78,11 +76,8 @@ pub fn expired_rows<S: Alter>(
     soonest: u64,
 ) -> Result<Vec<u32>, Fault>
     requires idle { conn.old.in_transaction ≡ false }
-    ensures idle { conn.new.in_transaction ≡ false }
-    ensures stands { (db : Database) (pending : List Written) → Stands S.Store conn.old db pending → Stands S.Store conn.new db pending }
-    ensures clean { HasCleanDisk (state S.Store conn.new) → HasCleanDisk (state S.Store conn.old) }
+    ensures reads { OnlyReads S.Store conn.old conn.new }
     ensures found { OnNetwork S.Store conn.old network (λ n. HasCleanDisk (state S.Store conn.new) → All (EndsFrom soonest) n.peers → IfOk result (λ numbers. numbers.items ≡ expired now n.peers)) }
-    ensures survives { Survives (state S.Store conn.old) (state S.Store conn.new) (λ _. ⊥) }
     ensures cause { OnNetwork S.Store conn.old network (λ n. IfErr result (HasCause (state S.Store conn.old) (state S.Store conn.new))) }
 {
     if now < soonest {

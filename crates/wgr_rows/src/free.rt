@@ -1,15 +1,13 @@
 //! The lowest address of a network that is free, by its rows.
-ghost use Rattle.std.specs.Prelude.{◌≡◌, ◌≤◌, ◌⊎◌, ℕ, List, IfErr, IfOk, false, nat_eq};
+ghost use Rattle.std.specs.Prelude.{◌≡◌, ◌≤◌, ◌⊎◌, ℕ, IfErr, IfOk, false, nat_eq};
 ghost use Rattle.std.specs.HashSet.{contains};
-ghost use Rattle.sqlite.specs.Effect.{Database};
-ghost use Rattle.sqlite.specs.State.{HasCleanDisk, Survives};
+ghost use Rattle.sqlite.specs.State.{HasCleanDisk};
 ghost use Rattle.sqlite.specs.Held.{state};
 ghost use Rattle.wgr_peers.specs.Peers.{expired as ended};
 ghost use Rattle.wgr_core.specs.Network.{is_among, live_at, lowest_free};
 ghost use Rattle.wgr_outline.specs.Outline.{IsFloor};
 ghost use Rattle.wgr_sql.specs.Causes.{HasCause};
-ghost use Rattle.wgr_tables.specs.Writes.{Written};
-ghost use Rattle.wgr_tables.specs.Standing.{Stands};
+ghost use Rattle.wgr_tables.specs.Standing.{OnlyReads};
 ghost use Rattle.wgr_rows.specs.Directed.{OnNetwork};
 ghost use Rattle.wgr_rows.specs.Holding.{holds_text};
 
@@ -57,12 +55,9 @@ pub fn free_row<S: Alter>(
     expired: &HashSet<u32>,
 ) -> Result<Option<Addr>, Fault>
     requires idle { conn.old.in_transaction ≡ false }
-    ensures idle { conn.new.in_transaction ≡ false }
-    ensures stands { (db : Database) (pending : List Written) → Stands S.Store conn.old db pending → Stands S.Store conn.new db pending }
-    ensures clean { HasCleanDisk (state S.Store conn.new) → HasCleanDisk (state S.Store conn.old) }
+    ensures reads { OnlyReads S.Store conn.old conn.new }
     ensures found { OnNetwork S.Store conn.old network (λ n. HasCleanDisk (state S.Store conn.new) → IfOk result (λ found. (now : ℕ) → pool.now ≡ n.pool
         → ((i : ℕ) → contains nat_eq expired.now i ≡ is_among (ended now n.peers) i) → IsFloor (live_at n now) floor → found ≡ lowest_free (live_at n now))) }
-    ensures survives { Survives (state S.Store conn.old) (state S.Store conn.new) (λ _. ⊥) }
     ensures cause { OnNetwork S.Store conn.old network (λ n. pool.now ≡ n.pool → IfErr result (HasCause (state S.Store conn.old) (state S.Store conn.new))) }
 {
     let prefix = pool.prefix();

@@ -34,7 +34,7 @@ fn stop_of(fault: Fault) -> Stop
 {
     match fault {
         Fault::NoMemory => Stop::NoMemory,
-        Fault::Store => Stop::Store,
+        Fault::Store => Stop::Source,
     }
 }
 
@@ -84,9 +84,9 @@ impl<'r, 'conn, 'a, S: Alter> HoldRows<'r, 'conn, 'a, S> {
         self.pool.rules_hold();
         self.start.rules_hold();
         // Until the row is at hand, nothing is known of what comes after it.
-        self.at = Progress::Stopped(Stop::Store);
+        self.at = Progress::Stopped(Stop::Source);
         if self.taken > MAX_HOLDS {
-            return Err(Stop::Store);
+            return Err(Stop::Source);
         }
         if let Err(error) = self.rows.advance() {
             let why = stop_of(fault_of(error));
@@ -98,10 +98,10 @@ impl<'r, 'conn, 'a, S: Alter> HoldRows<'r, 'conn, 'a, S> {
             return Ok(None);
         };
         let Some((span, number)) = hold_in(row, self.network, self.shows_peers) else {
-            return Err(Stop::Store);
+            return Err(Stop::Source);
         };
         if !is_from(self.last, &span.lo) {
-            return Err(Stop::Store);
+            return Err(Stop::Source);
         }
         self.taken += 1;
         self.last = Some(span.lo);
@@ -160,7 +160,7 @@ fn fault_at(stop: Stop) -> Fault
 {
     match stop {
         Stop::NoMemory => Fault::NoMemory,
-        Stop::Store => Fault::Store,
+        Stop::Source => Fault::Store,
     }
 }
 

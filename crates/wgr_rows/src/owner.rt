@@ -1,14 +1,12 @@
 //! The live peer that owns an address, by the prefix of each length that has it, the longest first.
-ghost use Rattle.std.specs.Prelude.{◌≡◌, ◌≤◌, false, IfErr, IfOk, List};
-ghost use Rattle.sqlite.specs.Effect.{Database};
-ghost use Rattle.sqlite.specs.State.{HasCleanDisk, Survives};
+ghost use Rattle.std.specs.Prelude.{◌≡◌, ◌≤◌, false, IfErr, IfOk};
+ghost use Rattle.sqlite.specs.State.{HasCleanDisk};
 ghost use Rattle.sqlite.specs.Held.{state};
 ghost use Rattle.wgr_text.specs.Prefix.{mask, width};
 ghost use Rattle.wgr_core.specs.Network.{live_at};
 ghost use Rattle.wgr_core.specs.Owner.{owner_of};
 ghost use Rattle.wgr_sql.specs.Causes.{HasCause};
-ghost use Rattle.wgr_tables.specs.Writes.{Written};
-ghost use Rattle.wgr_tables.specs.Standing.{Stands};
+ghost use Rattle.wgr_tables.specs.Standing.{OnlyReads};
 ghost use Rattle.wgr_rows.specs.Directed.{OnNetwork};
 ghost use Rattle.wgr_rows.specs.Holder.{prefix_holder};
 
@@ -26,11 +24,8 @@ fn masked_row<S: Alter>(
     length: u8,
 ) -> Result<Option<u32>, Fault>
     requires idle { conn.old.in_transaction ≡ false }
-    ensures idle { conn.new.in_transaction ≡ false }
-    ensures stands { (db : Database) (pending : List Written) → Stands S.Store conn.old db pending → Stands S.Store conn.new db pending }
-    ensures clean { HasCleanDisk (state S.Store conn.new) → HasCleanDisk (state S.Store conn.old) }
+    ensures reads { OnlyReads S.Store conn.old conn.new }
     ensures found { length ≤ width address.now.family → OnNetwork S.Store conn.old network (λ n. HasCleanDisk (state S.Store conn.new) → IfOk result (λ found. found ≡ prefix_holder (live_at n now) (mask address.now length))) }
-    ensures survives { Survives (state S.Store conn.old) (state S.Store conn.new) (λ _. ⊥) }
     ensures cause { OnNetwork S.Store conn.old network (λ n. IfErr result (HasCause (state S.Store conn.old) (state S.Store conn.new))) }
 {
     let Some(prefix) = Prefix::masked(*address, length) else {
@@ -47,11 +42,8 @@ pub fn owner_row<S: Alter>(
     address: &Addr,
 ) -> Result<Option<u32>, Fault>
     requires idle { conn.old.in_transaction ≡ false }
-    ensures idle { conn.new.in_transaction ≡ false }
-    ensures stands { (db : Database) (pending : List Written) → Stands S.Store conn.old db pending → Stands S.Store conn.new db pending }
-    ensures clean { HasCleanDisk (state S.Store conn.new) → HasCleanDisk (state S.Store conn.old) }
+    ensures reads { OnlyReads S.Store conn.old conn.new }
     ensures found { OnNetwork S.Store conn.old network (λ n. HasCleanDisk (state S.Store conn.new) → IfOk result (λ found. found ≡ owner_of (live_at n now) address.now)) }
-    ensures survives { Survives (state S.Store conn.old) (state S.Store conn.new) (λ _. ⊥) }
     ensures cause { OnNetwork S.Store conn.old network (λ n. IfErr result (HasCause (state S.Store conn.old) (state S.Store conn.new))) }
 {
     let width = address.family().width();

@@ -4,6 +4,7 @@ ghost use Rattle.wgr_text.specs.Prefix.{rank};
 ghost use Rattle.wgr_pool.specs.Spans.{reached};
 ghost use Rattle.wgr_columns.specs.Decode.{allowed_in};
 ghost use Rattle.wgr_columns.specs.Fields.{IsPeerIdAt, IsPrefixAt};
+ghost use Rattle.wgr_columns.specs.declared.columns.allowed.TheConstants as allowed;
 ghost use Rattle.wgr_rows.specs.Holding.{brief};
 
 use sqlite::Row;
@@ -14,7 +15,7 @@ use wgr_text::{Addr, Span};
 /// shows it.
 pub(crate) fn hold_in(row: &Row, network: u32, shows_peer: bool) -> Option<(Span, Option<u32>)>
     ensures some { IfSome result (λ hold. hold ≡ brief shows_peer network (allowed_in row.now)) }
-    ensures none { IfNone result (IsPrefixAt row.now 2 → (shows_peer ≡ true → IsPeerIdAt row.now 6 network) → ⊥) }
+    ensures none { IfNone result (IsPrefixAt row.now allowed.FAMILY → (shows_peer ≡ true → IsPeerIdAt row.now allowed.PEER network) → ⊥) }
 {
     let prefix = prefix_in(row)?;
     if !shows_peer {

@@ -1,9 +1,9 @@
 -- Steps on the rows of the register, and the rows that it is at.
-use Rattle.std.specs.Prelude.{Result, List, []}
+use Rattle.std.specs.Prelude.{◌≡◌, Result, List, [], false}
 use Rattle.sqlite.specs.Effect.{Database}
-use Rattle.sqlite.specs.State.{State}
+use Rattle.sqlite.specs.State.{HasCleanDisk, State, Survives}
 use Rattle.sqlite.specs.Store.{Ghosts}
-use Rattle.sqlite.specs.Held.{Held}
+use Rattle.sqlite.specs.Held.{Held, state}
 use Rattle.wgr_model.specs.Rows.{Tables}
 use Rattle.wgr_sql.specs.Steps as steps
 use Rattle.wgr_sql.specs.Standing as standing
@@ -15,6 +15,14 @@ use Rattle.wgr_tables.specs.Writes.{Written, Writes}
 -- acknowledged write.
 abbrev pub Stands : {S : Type 0} → Ghosts S → Held S → Database → List Written → Type 0
 Stands g conn db pending = standing.Stands IsRegister Writes g conn db pending
+
+-- What a call that only reads keeps: no transaction is open after it, the register is at the rows that it
+-- was at, a disk that is clean now was clean before, and a stop leaves nothing new.
+pub record OnlyReads {S : Type 0} (g : Ghosts S) (old new : Held S) : Type 0 where
+  pub idle : new.in_transaction ≡ false
+  pub clean : HasCleanDisk (state g new) → HasCleanDisk (state g old)
+  pub stands : (db : Database) (pending : List Written) → Stands g old db pending → Stands g new db pending
+  pub survives : Survives (state g old) (state g new) (λ _. ⊥)
 
 -- a write was done and acknowledged: the register is in the database after it, and nothing is pending
 abbrev pub IsDone : {S : Type 0} → Ghosts S → Held S → Database → Written → Type 0

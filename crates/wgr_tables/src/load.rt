@@ -2,7 +2,7 @@
 ghost use Rattle.std.specs.Prelude.{◌≡◌, ℕ, List, [], ◌∷◌, IfErr, OnErr, IfOk, IfSome, IfNone, IsPermutation, map, not, ◌&&◌, nat_eq, false};
 ghost use Rattle.std.specs.List.{IsDistinct, filter};
 ghost use Rattle.sqlite.specs.Effect.{Database};
-ghost use Rattle.sqlite.specs.State.{HasCleanDisk, Survives};
+ghost use Rattle.sqlite.specs.State.{HasCleanDisk};
 ghost use Rattle.sqlite.specs.Held.{state};
 ghost use Rattle.wgr_core.specs.Network.{IsNetwork, NetworkValue};
 ghost use Rattle.wgr_core.specs.Parts.{network_of};
@@ -10,12 +10,12 @@ ghost use Rattle.wgr_model.specs.Laws.{Has};
 ghost use Rattle.wgr_model.specs.Rows.{AreKeyed, NetworkRow, address_row, holding_of, peer_row, route_row};
 ghost use Rattle.wgr_sql.specs.Causes.{HasCause};
 ghost use Rattle.wgr_sql.specs.declared.fault.Fault.TheVariants.{Store};
-ghost use Rattle.wgr_columns.specs.Decode.{tables_of, allowed_in, network_in, number_at, peer_in};
+ghost use Rattle.wgr_columns.specs.Decode.{tables_of, allowed_in, network_in, peer_in};
 ghost use Rattle.wgr_columns.specs.Stored.{AreRising, AreSettings, AreStored, stored_allowed, stored_network, stored_peer};
 ghost use Rattle.wgr_tables.specs.Stored.{IsStored};
 ghost use Rattle.wgr_tables.specs.Loads.{IsMade, ShowAddresses, ShowNetwork, ShowPeers, ShowRoutes, network_with};
 ghost use Rattle.wgr_tables.specs.Writes.{Written};
-ghost use Rattle.wgr_tables.specs.Standing.{Stands};
+ghost use Rattle.wgr_tables.specs.Standing.{OnlyReads, Stands};
 
 use crate::read::{peers_of, routes_of};
 use sqlite::{Alter, Connection, Row};
@@ -32,16 +32,13 @@ use wgr_text::Prefix;
 /// The rows of the network's peers, in the order of their ids.
 pub(crate) fn peer_rows<S: Alter>(conn: &mut Connection<S>, network: u32) -> Result<Vec<Row>, Fault>
     requires idle { conn.old.in_transaction ≡ false }
-    ensures idle { conn.new.in_transaction ≡ false }
-    ensures stands { (db : Database) (pending : List Written) → Stands S.Store conn.old db pending → Stands S.Store conn.new db pending }
-    ensures clean { HasCleanDisk (state S.Store conn.new) → HasCleanDisk (state S.Store conn.old) }
+    ensures reads { OnlyReads S.Store conn.old conn.new }
     ensures listed { (db : Database) (pending : List Written) → Stands S.Store conn.old db pending → HasCleanDisk (state S.Store conn.new)
         → IfOk result (λ rows. ShowPeers network (tables_of db) rows.items) }
     ensures stored { (db : Database) (pending : List Written) → Stands S.Store conn.old db pending → HasCleanDisk (state S.Store conn.new)
         → IfOk result (λ rows. AreStored stored_peer peer_in rows.items) }
     ensures rising { (db : Database) (pending : List Written) → Stands S.Store conn.old db pending → HasCleanDisk (state S.Store conn.new)
         → IfOk result (λ rows. AreRising (λ p. p.id) peer_in rows.items) }
-    ensures survives { Survives (state S.Store conn.old) (state S.Store conn.new) (λ _. ⊥) }
     ensures cause { (db : Database) (pending : List Written) → Stands S.Store conn.old db pending → IfErr result (HasCause (state S.Store conn.old) (state S.Store conn.new)) }
 {
     query(
@@ -54,14 +51,11 @@ pub(crate) fn peer_rows<S: Alter>(conn: &mut Connection<S>, network: u32) -> Res
 // The rows of their addresses, in the order of an index, so that the database needs no sort.
 fn unsorted_addresses<S: Alter>(conn: &mut Connection<S>, network: u32) -> Result<Vec<Row>, Fault>
     requires idle { conn.old.in_transaction ≡ false }
-    ensures idle { conn.new.in_transaction ≡ false }
-    ensures stands { (db : Database) (pending : List Written) → Stands S.Store conn.old db pending → Stands S.Store conn.new db pending }
-    ensures clean { HasCleanDisk (state S.Store conn.new) → HasCleanDisk (state S.Store conn.old) }
+    ensures reads { OnlyReads S.Store conn.old conn.new }
     ensures listed { (db : Database) (pending : List Written) → Stands S.Store conn.old db pending → HasCleanDisk (state S.Store conn.new)
         → IfOk result (λ rows. ShowAddresses network (tables_of db) rows.items) }
     ensures stored { (db : Database) (pending : List Written) → Stands S.Store conn.old db pending → HasCleanDisk (state S.Store conn.new)
         → IfOk result (λ rows. AreStored stored_allowed allowed_in rows.items) }
-    ensures survives { Survives (state S.Store conn.old) (state S.Store conn.new) (λ _. ⊥) }
     ensures cause { (db : Database) (pending : List Written) → Stands S.Store conn.old db pending → IfErr result (HasCause (state S.Store conn.old) (state S.Store conn.new)) }
 {
     query(
@@ -86,16 +80,13 @@ pub(crate) fn address_rows<S: Alter>(
     network: u32,
 ) -> Result<Vec<Row>, Fault>
     requires idle { conn.old.in_transaction ≡ false }
-    ensures idle { conn.new.in_transaction ≡ false }
-    ensures stands { (db : Database) (pending : List Written) → Stands S.Store conn.old db pending → Stands S.Store conn.new db pending }
-    ensures clean { HasCleanDisk (state S.Store conn.new) → HasCleanDisk (state S.Store conn.old) }
+    ensures reads { OnlyReads S.Store conn.old conn.new }
     ensures listed { (db : Database) (pending : List Written) → Stands S.Store conn.old db pending → HasCleanDisk (state S.Store conn.new)
         → IfOk result (λ rows. ShowAddresses network (tables_of db) rows.items) }
     ensures stored { (db : Database) (pending : List Written) → Stands S.Store conn.old db pending → HasCleanDisk (state S.Store conn.new)
         → IfOk result (λ rows. AreStored stored_allowed allowed_in rows.items) }
     ensures rising { (db : Database) (pending : List Written) → Stands S.Store conn.old db pending → HasCleanDisk (state S.Store conn.new)
         → IfOk result (λ rows. AreRising (λ a. a.peer) allowed_in rows.items) }
-    ensures survives { Survives (state S.Store conn.old) (state S.Store conn.new) (λ _. ⊥) }
     ensures cause { (db : Database) (pending : List Written) → Stands S.Store conn.old db pending → IfErr result (HasCause (state S.Store conn.old) (state S.Store conn.new)) }
 {
     let mut rows = unsorted_addresses(conn, network)?;
@@ -109,14 +100,11 @@ pub(crate) fn route_rows<S: Alter>(
     network: u32,
 ) -> Result<Vec<Row>, Fault>
     requires idle { conn.old.in_transaction ≡ false }
-    ensures idle { conn.new.in_transaction ≡ false }
-    ensures stands { (db : Database) (pending : List Written) → Stands S.Store conn.old db pending → Stands S.Store conn.new db pending }
-    ensures clean { HasCleanDisk (state S.Store conn.new) → HasCleanDisk (state S.Store conn.old) }
+    ensures reads { OnlyReads S.Store conn.old conn.new }
     ensures listed { (db : Database) (pending : List Written) → Stands S.Store conn.old db pending → HasCleanDisk (state S.Store conn.new)
         → IfOk result (λ rows. ShowRoutes network (tables_of db) rows.items) }
     ensures stored { (db : Database) (pending : List Written) → Stands S.Store conn.old db pending → HasCleanDisk (state S.Store conn.new)
         → IfOk result (λ rows. AreStored stored_allowed allowed_in rows.items) }
-    ensures survives { Survives (state S.Store conn.old) (state S.Store conn.new) (λ _. ⊥) }
     ensures cause { (db : Database) (pending : List Written) → Stands S.Store conn.old db pending → IfErr result (HasCause (state S.Store conn.old) (state S.Store conn.new)) }
 {
     query(
@@ -129,14 +117,11 @@ pub(crate) fn route_rows<S: Alter>(
 // The row of the network of this id, if there is one.
 fn network_rows<S: Alter>(conn: &mut Connection<S>, network: u32) -> Result<Vec<Row>, Fault>
     requires idle { conn.old.in_transaction ≡ false }
-    ensures idle { conn.new.in_transaction ≡ false }
-    ensures stands { (db : Database) (pending : List Written) → Stands S.Store conn.old db pending → Stands S.Store conn.new db pending }
-    ensures clean { HasCleanDisk (state S.Store conn.new) → HasCleanDisk (state S.Store conn.old) }
+    ensures reads { OnlyReads S.Store conn.old conn.new }
     ensures listed { (db : Database) (pending : List Written) → Stands S.Store conn.old db pending → HasCleanDisk (state S.Store conn.new)
         → IfOk result (λ rows. ShowNetwork network (tables_of db) rows.items) }
     ensures stored { (db : Database) (pending : List Written) → Stands S.Store conn.old db pending → HasCleanDisk (state S.Store conn.new)
         → IfOk result (λ rows. AreStored stored_network network_in rows.items) }
-    ensures survives { Survives (state S.Store conn.old) (state S.Store conn.new) (λ _. ⊥) }
     ensures cause { (db : Database) (pending : List Written) → Stands S.Store conn.old db pending → IfErr result (HasCause (state S.Store conn.old) (state S.Store conn.new)) }
 {
     query(
@@ -153,15 +138,12 @@ fn load_peers<S: Alter>(
     network: u32,
 ) -> Result<Vec<Peer>, Fault>
     requires idle { conn.old.in_transaction ≡ false }
-    ensures idle { conn.new.in_transaction ≡ false }
-    ensures stands { (db : Database) (pending : List Written) → Stands S.Store conn.old db pending → Stands S.Store conn.new db pending }
-    ensures clean { HasCleanDisk (state S.Store conn.new) → HasCleanDisk (state S.Store conn.old) }
+    ensures reads { OnlyReads S.Store conn.old conn.new }
     ensures rows { (db : Database) (pending : List Written) → Stands S.Store conn.old db pending → HasCleanDisk (state S.Store conn.new)
         → IfOk result (λ peers. IsPermutation (filter (λ p. nat_eq p.network network) (tables_of db).peers) (map (peer_row network) peers.items)) }
     ensures addresses { (db : Database) (pending : List Written) → Stands S.Store conn.old db pending → HasCleanDisk (state S.Store conn.new)
         → IfOk result (λ peers. IsPermutation (filter (λ a. nat_eq a.network network && not a.is_route) (tables_of db).allowed) (map (address_row network) peers.items)) }
     ensures own { (db : Database) (pending : List Written) (n : NetworkValue) → Stands S.Store conn.old db pending → IsStored (tables_of db) network n → HasCleanDisk (state S.Store conn.new) → IfOk result (λ peers. peers.items ≡ n.peers) }
-    ensures survives { Survives (state S.Store conn.old) (state S.Store conn.new) (λ _. ⊥) }
     ensures cause { (db : Database) (pending : List Written) (n : NetworkValue) → Stands S.Store conn.old db pending → IsStored (tables_of db) network n → IfErr result (HasCause (state S.Store conn.old) (state S.Store conn.new)) }
 {
     let rows = peer_rows(conn, network)?;
@@ -176,12 +158,9 @@ fn load_routes<S: Alter>(
     network: u32,
 ) -> Result<Vec<(Prefix, u32)>, Fault>
     requires idle { conn.old.in_transaction ≡ false }
-    ensures idle { conn.new.in_transaction ≡ false }
-    ensures stands { (db : Database) (pending : List Written) → Stands S.Store conn.old db pending → Stands S.Store conn.new db pending }
-    ensures clean { HasCleanDisk (state S.Store conn.new) → HasCleanDisk (state S.Store conn.old) }
+    ensures reads { OnlyReads S.Store conn.old conn.new }
     ensures rows { (db : Database) (pending : List Written) → Stands S.Store conn.old db pending → HasCleanDisk (state S.Store conn.new)
         → IfOk result (λ routes. IsPermutation (filter (λ a. a.is_route && nat_eq a.network network) (tables_of db).allowed) (map (route_row network) routes.items)) }
-    ensures survives { Survives (state S.Store conn.old) (state S.Store conn.new) (λ _. ⊥) }
     ensures cause { (db : Database) (pending : List Written) (n : NetworkValue) → Stands S.Store conn.old db pending → IsStored (tables_of db) network n → IfErr result (HasCause (state S.Store conn.old) (state S.Store conn.new)) }
 {
     let rows = route_rows(conn, network)?;
@@ -245,12 +224,9 @@ fn load_row<S: Alter>(
     network: u32,
 ) -> Result<Network, Fault>
     requires idle { conn.old.in_transaction ≡ false }
-    ensures idle { conn.new.in_transaction ≡ false }
-    ensures stands { (db : Database) (pending : List Written) → Stands S.Store conn.old db pending → Stands S.Store conn.new db pending }
-    ensures clean { HasCleanDisk (state S.Store conn.new) → HasCleanDisk (state S.Store conn.old) }
-    ensures read { (db : Database) (pending : List Written) → Stands S.Store conn.old db pending → AreKeyed (tables_of db) → HasCleanDisk (state S.Store conn.new) → number_at row.now 0 ≡ network
+    ensures reads { OnlyReads S.Store conn.old conn.new }
+    ensures read { (db : Database) (pending : List Written) → Stands S.Store conn.old db pending → AreKeyed (tables_of db) → HasCleanDisk (state S.Store conn.new) → (network_in row.now).id ≡ network
         → IfOk result (λ n. n ≡ (holding_of (tables_of db) (network_in row.now)).network) }
-    ensures survives { Survives (state S.Store conn.old) (state S.Store conn.new) (λ _. ⊥) }
     ensures cause { (db : Database) (pending : List Written) (n : NetworkValue) → Stands S.Store conn.old db pending → (stored : IsStored (tables_of db) network n) → (HasCleanDisk (state S.Store conn.new) → (network_in row.now ≡ stored.row) × (row.now ≡ stored_network (network_in row.now))) → IfErr result (HasCause (state S.Store conn.old) (state S.Store conn.new)) }
 {
     let peers = load_peers(alloc, conn, network)?;
@@ -261,18 +237,15 @@ fn load_row<S: Alter>(
 /// The row of the network of this id.
 pub fn network_row<S: Alter>(conn: &mut Connection<S>, network: u32) -> Result<Option<Row>, Fault>
     requires idle { conn.old.in_transaction ≡ false }
-    ensures idle { conn.new.in_transaction ≡ false }
-    ensures stands { (db : Database) (pending : List Written) → Stands S.Store conn.old db pending → Stands S.Store conn.new db pending }
-    ensures clean { HasCleanDisk (state S.Store conn.new) → HasCleanDisk (state S.Store conn.old) }
+    ensures reads { OnlyReads S.Store conn.old conn.new }
     ensures some { (db : Database) (pending : List Written) → Stands S.Store conn.old db pending → HasCleanDisk (state S.Store conn.new)
-        → IfOk result (λ found. IfSome found (λ row. Has (tables_of db).networks (network_in row) × (number_at row 0 ≡ network))) }
+        → IfOk result (λ found. IfSome found (λ row. Has (tables_of db).networks (network_in row) × ((network_in row).id ≡ network))) }
     ensures stored { (db : Database) (pending : List Written) → Stands S.Store conn.old db pending → HasCleanDisk (state S.Store conn.new)
         → IfOk result (λ found. IfSome found (λ row. row ≡ stored_network (network_in row))) }
     ensures once { (db : Database) (pending : List Written) → Stands S.Store conn.old db pending → HasCleanDisk (state S.Store conn.new)
         → IfOk result (λ found. IfSome found (λ row. (w : NetworkRow) → Has (tables_of db).networks w → w.id ≡ network → network_in row ≡ w)) }
     ensures none { (db : Database) (pending : List Written) → Stands S.Store conn.old db pending → HasCleanDisk (state S.Store conn.new)
         → IfOk result (λ found. IfNone found ((w : NetworkRow) → Has (tables_of db).networks w → nat_eq w.id network ≡ false)) }
-    ensures survives { Survives (state S.Store conn.old) (state S.Store conn.new) (λ _. ⊥) }
     ensures cause { (db : Database) (pending : List Written) → Stands S.Store conn.old db pending → IsDistinct nat_eq (map (λ w. w.id) (tables_of db).networks) → IfErr result (HasCause (state S.Store conn.old) (state S.Store conn.new)) }
 {
     let rows = network_rows(conn, network)?;
@@ -287,14 +260,11 @@ pub fn load_network<S: Alter>(
     network: u32,
 ) -> Result<Option<Network>, Fault>
     requires idle { conn.old.in_transaction ≡ false }
-    ensures idle { conn.new.in_transaction ≡ false }
-    ensures stands { (db : Database) (pending : List Written) → Stands S.Store conn.old db pending → Stands S.Store conn.new db pending }
-    ensures clean { HasCleanDisk (state S.Store conn.new) → HasCleanDisk (state S.Store conn.old) }
+    ensures reads { OnlyReads S.Store conn.old conn.new }
     ensures some { (db : Database) (pending : List Written) → Stands S.Store conn.old db pending → AreKeyed (tables_of db) → HasCleanDisk (state S.Store conn.new)
         → IfOk result (λ found. IfSome found (λ n. (w : NetworkRow) × Has (tables_of db).networks w × (w.id ≡ network) × (n ≡ (holding_of (tables_of db) w).network))) }
     ensures none { (db : Database) (pending : List Written) → Stands S.Store conn.old db pending → HasCleanDisk (state S.Store conn.new)
         → IfOk result (λ found. IfNone found ((w : NetworkRow) → Has (tables_of db).networks w → nat_eq w.id network ≡ false)) }
-    ensures survives { Survives (state S.Store conn.old) (state S.Store conn.new) (λ _. ⊥) }
     ensures cause { (db : Database) (pending : List Written) (n : NetworkValue) → Stands S.Store conn.old db pending → IsDistinct nat_eq (map (λ w. w.id) (tables_of db).networks) → IsStored (tables_of db) network n → IfErr result (HasCause (state S.Store conn.old) (state S.Store conn.new)) }
 {
     let Some(row) = network_row(conn, network)? else {

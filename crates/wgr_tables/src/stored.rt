@@ -2,7 +2,7 @@
 ghost use Rattle.std.specs.Prelude.{◌≡◌, Ok, Err, IfErr, IfOk, IfSome, IfNone, IsPermutation, filter, map, not, ◌&&◌, nat_eq, false, List};
 ghost use Rattle.std.specs.List.{IsDistinct};
 ghost use Rattle.sqlite.specs.Effect.{Database};
-ghost use Rattle.sqlite.specs.State.{HasCleanDisk, Survives};
+ghost use Rattle.sqlite.specs.State.{HasCleanDisk};
 ghost use Rattle.sqlite.specs.Held.{state};
 ghost use Rattle.wgr_core.specs.Network.{NetworkValue};
 ghost use Rattle.wgr_model.specs.Rows.{address_row, peer_row, route_row};
@@ -11,7 +11,7 @@ ghost use Rattle.wgr_sql.specs.declared.fault.Fault.TheVariants.{NoMemory, Store
 ghost use Rattle.wgr_columns.specs.Decode.{tables_of};
 ghost use Rattle.wgr_tables.specs.Stored.{IsStored};
 ghost use Rattle.wgr_tables.specs.Writes.{Written};
-ghost use Rattle.wgr_tables.specs.Standing.{Stands};
+ghost use Rattle.wgr_tables.specs.Standing.{OnlyReads, Stands};
 
 use crate::load::{address_rows, make_network, network_row, peer_rows, route_rows};
 use crate::read::{peers_of, routes_of};
@@ -42,9 +42,7 @@ fn peers_if_stored<S: Alter>(
     network: u32,
 ) -> Result<Option<Vec<Peer>>, Fault>
     requires idle { conn.old.in_transaction ≡ false }
-    ensures idle { conn.new.in_transaction ≡ false }
-    ensures stands { (db : Database) (pending : List Written) → Stands S.Store conn.old db pending → Stands S.Store conn.new db pending }
-    ensures clean { HasCleanDisk (state S.Store conn.new) → HasCleanDisk (state S.Store conn.old) }
+    ensures reads { OnlyReads S.Store conn.old conn.new }
     ensures rows { (db : Database) (pending : List Written) → Stands S.Store conn.old db pending → HasCleanDisk (state S.Store conn.new)
         → IfOk result (λ found. IfSome found (λ peers. IsPermutation (filter (λ p. nat_eq p.network network) (tables_of db).peers) (map (peer_row network) peers.items))) }
     ensures addresses { (db : Database) (pending : List Written) → Stands S.Store conn.old db pending → HasCleanDisk (state S.Store conn.new)
@@ -53,7 +51,6 @@ fn peers_if_stored<S: Alter>(
         → IfOk result (λ found. IfSome found (λ peers. (n : NetworkValue) → IsStored (tables_of db) network n → peers.items ≡ n.peers)) }
     ensures none { (db : Database) (pending : List Written) → Stands S.Store conn.old db pending → HasCleanDisk (state S.Store conn.new)
         → IfOk result (λ found. IfNone found ((n : NetworkValue) → IsStored (tables_of db) network n → ⊥)) }
-    ensures survives { Survives (state S.Store conn.old) (state S.Store conn.new) (λ _. ⊥) }
     ensures cause { (db : Database) (pending : List Written) → Stands S.Store conn.old db pending → IfErr result (HasCause (state S.Store conn.old) (state S.Store conn.new)) }
 {
     let rows = peer_rows(conn, network)?;
@@ -68,14 +65,11 @@ fn routes_if_stored<S: Alter>(
     network: u32,
 ) -> Result<Option<Vec<(Prefix, u32)>>, Fault>
     requires idle { conn.old.in_transaction ≡ false }
-    ensures idle { conn.new.in_transaction ≡ false }
-    ensures stands { (db : Database) (pending : List Written) → Stands S.Store conn.old db pending → Stands S.Store conn.new db pending }
-    ensures clean { HasCleanDisk (state S.Store conn.new) → HasCleanDisk (state S.Store conn.old) }
+    ensures reads { OnlyReads S.Store conn.old conn.new }
     ensures rows { (db : Database) (pending : List Written) → Stands S.Store conn.old db pending → HasCleanDisk (state S.Store conn.new)
         → IfOk result (λ found. IfSome found (λ routes. IsPermutation (filter (λ a. a.is_route && nat_eq a.network network) (tables_of db).allowed) (map (route_row network) routes.items))) }
     ensures none { (db : Database) (pending : List Written) → Stands S.Store conn.old db pending → HasCleanDisk (state S.Store conn.new)
         → IfOk result (λ found. IfNone found ((n : NetworkValue) → IsStored (tables_of db) network n → ⊥)) }
-    ensures survives { Survives (state S.Store conn.old) (state S.Store conn.new) (λ _. ⊥) }
     ensures cause { (db : Database) (pending : List Written) → Stands S.Store conn.old db pending → IfErr result (HasCause (state S.Store conn.old) (state S.Store conn.new)) }
 {
     let rows = route_rows(conn, network)?;
@@ -90,14 +84,11 @@ pub fn network_if_stored<S: Alter>(
     network: u32,
 ) -> Result<Option<Network>, Fault>
     requires idle { conn.old.in_transaction ≡ false }
-    ensures idle { conn.new.in_transaction ≡ false }
-    ensures stands { (db : Database) (pending : List Written) → Stands S.Store conn.old db pending → Stands S.Store conn.new db pending }
-    ensures clean { HasCleanDisk (state S.Store conn.new) → HasCleanDisk (state S.Store conn.old) }
+    ensures reads { OnlyReads S.Store conn.old conn.new }
     ensures some { (db : Database) (pending : List Written) → Stands S.Store conn.old db pending → HasCleanDisk (state S.Store conn.new)
         → IfOk result (λ found. IfSome found (λ n. IsStored (tables_of db) network n)) }
     ensures none { (db : Database) (pending : List Written) → Stands S.Store conn.old db pending → HasCleanDisk (state S.Store conn.new)
         → IfOk result (λ found. IfNone found ((n : NetworkValue) → IsStored (tables_of db) network n → ⊥)) }
-    ensures survives { Survives (state S.Store conn.old) (state S.Store conn.new) (λ _. ⊥) }
     ensures cause { (db : Database) (pending : List Written) → Stands S.Store conn.old db pending → IsDistinct nat_eq (map (λ w. w.id) (tables_of db).networks) → IfErr result (HasCause (state S.Store conn.old) (state S.Store conn.new)) }
 {
     let Some(row) = network_row(conn, network)? else {

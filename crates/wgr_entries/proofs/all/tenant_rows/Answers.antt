@@ -1,6 +1,6 @@
 use Rattle.std.proofs.Common.{[]}
 use Rattle.wgr_sql.proofs.ResultLemmas.{if_ok}
-use Rattle.wgr_tables.proofs.ReadLemmas.{stands_read, rows_read}
+use Rattle.wgr_tables.proofs.ReadLemmas.{rows_read, reads_query}
 use Rattle.wgr_entries.proofs.AllLemmas.{ShowTenants, tenants_asks, tenants_listed, tenants_text}
 use Rattle.wgr_tables.proofs.AskedLemmas.{answered_here}
 use Rattle.wgr_entries.proofs.AllLemmas.{tenants_answered, tenants_stored}
@@ -9,8 +9,8 @@ use Rattle.wgr_columns.specs.Stored.{AreStored, stored_tenant}
 use Rattle.wgr_entries.proofs.LookupLemmas.{on_each}
 use Rattle.wgr_entries.proofs.all.tenant_rows.Goals as goal
 
-pub returns-clause-stands : goal.returns-clause-stands
-returns-clause-stands g c db pending stood = stands_read g.S.Store c.args.conn.now c.query.new.conn db pending stood tenants_text c.query.ensures.survives (λ others. (tenants_asks others).means.plain) c.query.ensures.kept c.query.ensures.idle
+pub returns-clause-reads : goal.returns-clause-reads
+returns-clause-reads g c = reads_query g.S.Store c.args.conn.now c.query.new.conn tenants_text c.query.ensures.survives (λ others. (tenants_asks others).means.plain) c.query.ensures.kept c.query.ensures.idle
 
 pub returns-clause-listed : goal.returns-clause-listed
 returns-clause-listed g c db pending stood clean =

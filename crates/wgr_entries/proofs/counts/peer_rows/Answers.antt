@@ -1,14 +1,14 @@
 use Rattle.std.proofs.Common.{◌≡◌, pos, [], ◌∷◌, length}
 use Rattle.sqlite.specs.declared.types.Value.TheVariants.{Int}
 use Rattle.wgr_sql.proofs.ResultLemmas.{if_ok}
-use Rattle.wgr_tables.proofs.ReadLemmas.{rows_read, stands_read}
+use Rattle.wgr_tables.proofs.ReadLemmas.{rows_read, reads_query}
 use Rattle.wgr_tables.proofs.AskedLemmas.{answered_here}
 use Rattle.wgr_entries.specs.Lookups.{peer_count}
 use Rattle.wgr_entries.proofs.CountLemmas.{peers_answered, peers_asks, peers_counted, peers_text}
 use Rattle.wgr_entries.proofs.counts.peer_rows.Goals as goal
 
-pub returns-clause-stands : goal.returns-clause-stands
-returns-clause-stands g c db pending stood = stands_read g.S.Store c.args.conn.now c.query.new.conn db pending stood peers_text c.query.ensures.survives (λ others. (peers_asks others).means.plain) c.query.ensures.kept c.query.ensures.idle
+pub returns-clause-reads : goal.returns-clause-reads
+returns-clause-reads g c = reads_query g.S.Store c.args.conn.now c.query.new.conn peers_text c.query.ensures.survives (λ others. (peers_asks others).means.plain) c.query.ensures.kept c.query.ensures.idle
 
 pub returns-clause-counted : goal.returns-clause-counted
 returns-clause-counted g c db pending stood clean =

@@ -1,7 +1,7 @@
 use Rattle.std.proofs.Common.{pos, [], ◌∷◌}
 use Rattle.sqlite.specs.declared.types.Value.TheVariants.{Int}
 use Rattle.wgr_sql.proofs.ResultLemmas.{if_ok}
-use Rattle.wgr_tables.proofs.ReadLemmas.{stands_read, rows_read}
+use Rattle.wgr_tables.proofs.ReadLemmas.{rows_read, reads_query}
 use Rattle.wgr_entries.specs.Lookups.{ShowNetworksOf}
 use Rattle.wgr_entries.proofs.LookupTexts.{of_tenant_answered, of_tenant_asks, of_tenant_text}
 use Rattle.wgr_entries.proofs.LookupLemmas.{of_tenant_shown, of_tenant_stored}
@@ -10,8 +10,8 @@ use Rattle.wgr_columns.specs.Stored.{AreStored, stored_network}
 use Rattle.wgr_tables.proofs.AskedLemmas.{answered_here}
 use Rattle.wgr_entries.proofs.lookup.networks_of_tenant.Goals as goal
 
-pub returns-clause-stands : goal.returns-clause-stands
-returns-clause-stands g c db pending stood = stands_read g.S.Store c.args.conn.now c.query.new.conn db pending stood of_tenant_text c.query.ensures.survives (λ others. (of_tenant_asks others).means.plain) c.query.ensures.kept c.query.ensures.idle
+pub returns-clause-reads : goal.returns-clause-reads
+returns-clause-reads g c = reads_query g.S.Store c.args.conn.now c.query.new.conn of_tenant_text c.query.ensures.survives (λ others. (of_tenant_asks others).means.plain) c.query.ensures.kept c.query.ensures.idle
 
 pub returns-clause-listed : goal.returns-clause-listed
 returns-clause-listed g c db pending stood clean =

@@ -4,15 +4,15 @@ use Rattle.wgr_sql.proofs.ResultLemmas.{if_ok}
 use Rattle.wgr_entries.specs.Lookups.{ShowSlot, HasWordAt}
 use Rattle.wgr_entries.proofs.LookupLemmas.{slot_listed}
 use Rattle.wgr_entries.proofs.LookupTexts.{slot_text, slot_asks}
-use Rattle.wgr_tables.proofs.ReadLemmas.{stands_read, rows_read}
+use Rattle.wgr_tables.proofs.ReadLemmas.{rows_read, reads_query}
 use Rattle.wgr_tables.proofs.AskedLemmas.{answered_here}
 use Rattle.wgr_entries.proofs.LookupTexts.{slot_answered}
 use Rattle.wgr_model.specs.RowLaws.{AreConsistent}
 use Rattle.wgr_entries.proofs.WordLemmas.{slot_word}
 use Rattle.wgr_entries.proofs.lookup.slot_rows.Goals as goal
 
-pub returns-clause-stands : goal.returns-clause-stands
-returns-clause-stands g c db pending stood = stands_read g.S.Store c.args.conn.now c.query.new.conn db pending stood slot_text c.query.ensures.survives (λ others. (slot_asks others).means.plain) c.query.ensures.kept c.query.ensures.idle
+pub returns-clause-reads : goal.returns-clause-reads
+returns-clause-reads g c = reads_query g.S.Store c.args.conn.now c.query.new.conn slot_text c.query.ensures.survives (λ others. (slot_asks others).means.plain) c.query.ensures.kept c.query.ensures.idle
 
 pub returns-clause-listed : goal.returns-clause-listed
 returns-clause-listed g c db pending stood clean =

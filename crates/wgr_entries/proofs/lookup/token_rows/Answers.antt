@@ -7,12 +7,12 @@ use Rattle.wgr_tables.proofs.AskedLemmas.{answered_here}
 use Rattle.wgr_entries.proofs.LookupTexts.{token_answered}
 use Rattle.wgr_entries.proofs.LookupLemmas.{on_each, token_listed}
 use Rattle.wgr_entries.proofs.LookupTexts.{token_text, token_asks}
-use Rattle.wgr_tables.proofs.ReadLemmas.{stands_read, rows_read}
+use Rattle.wgr_tables.proofs.ReadLemmas.{rows_read, reads_query}
 use Rattle.wgr_entries.proofs.WordLemmas.{token_word}
 use Rattle.wgr_entries.proofs.lookup.token_rows.Goals as goal
 
-pub returns-clause-stands : goal.returns-clause-stands
-returns-clause-stands g c db pending stood = stands_read g.S.Store c.args.conn.now c.query.new.conn db pending stood token_text c.query.ensures.survives (λ others. (token_asks others).means.plain) c.query.ensures.kept c.query.ensures.idle
+pub returns-clause-reads : goal.returns-clause-reads
+returns-clause-reads g c = reads_query g.S.Store c.args.conn.now c.query.new.conn token_text c.query.ensures.survives (λ others. (token_asks others).means.plain) c.query.ensures.kept c.query.ensures.idle
 
 pub returns-clause-listed : goal.returns-clause-listed
 returns-clause-listed g c db pending stood clean =

@@ -17,7 +17,7 @@ use Rattle.wgr_opening.proofs.check.good_outlines.Goals as goal
 pub returns-clause-good : goal.returns-clause-good
 returns-clause-good g c clean first =
     let old = state g.S.Store c.args.conn.now in
-    let before = c.stored_outlines.ensures.clean clean in
+    let before = c.stored_outlines.ensures.reads.clean clean in
     let laid : Laid old = λ live. (first live).0 in
     let found = subst (λ o. IfSome o (λ x. IsTrue old.is_open × HasTables old.now.trees x.items)) c.in-Some.is (c.in_ok-networks.ensures.some before laid) in
     let live = found.0 in
@@ -28,13 +28,13 @@ returns-clause-good g c clean first =
     (c.read_tables.ensures.kept (λ _. laid)) c.read_tables.ensures.survives in
     both_told c.stored_outlines.result (AllByRecursion (StoresNetwork (tables_of old.now)) c.as_slice.result.now) _ _ (c.stored_outlines.ensures.answer old.now [] stood clean) (c.stored_outlines.ensures.outlines old.now [] stood clean) (λ so outlines stored.
     let good = is_good old.now (first live).0 (first live).1 sound ids found.1 (subst (AllByRecursion (StoresNetwork (tables_of old.now))) c.as_slice.ensures.value so) in
-    (live, good, c.stored_outlines.ensures.stands old.now [] stood, outlines_formed (outline_in outlines) (tables_of old.now) good.consistent stored))
+    (live, good, c.stored_outlines.ensures.reads.stands old.now [] stood, outlines_formed (outline_in outlines) (tables_of old.now) good.consistent stored))
 
 pub returns-clause-kept : goal.returns-clause-kept
 returns-clause-kept g c version clean shown =
     let old = state g.S.Store c.args.conn.now in
     let first = version clean in
-    let before = c.stored_outlines.ensures.clean clean in
+    let before = c.stored_outlines.ensures.reads.clean clean in
     let laid : Laid old = λ live. (first live).0 in
     let found = subst (λ o. IfSome o (λ x. IsTrue old.is_open × HasTables old.now.trees x.items)) c.in-Some.is (c.in_ok-networks.ensures.some before laid) in
     let live = found.0 in
@@ -43,7 +43,7 @@ returns-clause-kept g c version clean shown =
     let stood = stands_read g.S.Store c.args.conn.now c.read_tables.new.conn c.requires.idle c.read_tables.ensures.idle live (register old.now (first live).0 (first live).1 sound ids found.1)
     (c.is_autocommit-settled.ensures.settled (c.is_autocommit-settled.ensures.value ∙ ap not c.requires.idle)) (λ trees open_then may. g.met.S.Store.settled c.args.conn.now.store trees open_then may)
     (c.read_tables.ensures.kept (λ _. laid)) c.read_tables.ensures.survives in
-    (live, (c.stored_outlines.ensures.stands old.now [] stood).shows clean shown)
+    (live, (c.stored_outlines.ensures.reads.stands old.now [] stood).shows clean shown)
 
 pub returns-in_default-clause-only : goal.returns-in_default-clause-only
 returns-in_default-clause-only g c clean first =
@@ -55,7 +55,7 @@ returns-in_default-clause-only g c clean first =
 pub returns-clause-only : goal.returns-clause-only
 returns-clause-only g c clean first =
     let old = state g.S.Store c.args.conn.now in
-    let before = c.stored_outlines.ensures.clean clean in
+    let before = c.stored_outlines.ensures.reads.clean clean in
     let laid : Laid old = λ live. (first live).0 in
     let found = subst (λ o. IfSome o (λ x. IsTrue old.is_open × HasTables old.now.trees x.items)) c.in-Some.is (c.in_ok-networks.ensures.some before laid) in
     let live = found.0 in
@@ -80,7 +80,7 @@ returns-clause-cause g c version =
     let new = state g.S.Store c.stored_outlines.new.conn in
     cause_if_clean old new c.stored_outlines.result (λ clean.
     let first = version clean in
-    let before = c.stored_outlines.ensures.clean clean in
+    let before = c.stored_outlines.ensures.reads.clean clean in
     let laid : Laid old = λ live. (first live).0 in
     let found = subst (λ o. IfSome o (λ x. IsTrue old.is_open × HasTables old.now.trees x.items)) c.in-Some.is (c.in_ok-networks.ensures.some before laid) in
     let live = found.0 in
@@ -89,4 +89,4 @@ returns-clause-cause g c version =
     let stood = stands_read g.S.Store c.args.conn.now c.read_tables.new.conn c.requires.idle c.read_tables.ensures.idle live (register old.now (first live).0 (first live).1 sound ids found.1)
     (c.is_autocommit-settled.ensures.settled (c.is_autocommit-settled.ensures.value ∙ ap not c.requires.idle)) (λ trees open_then may. g.met.S.Store.settled c.args.conn.now.store trees open_then may)
     (c.read_tables.ensures.kept (λ _. laid)) c.read_tables.ensures.survives in
-    walk_cause old mid new c.read_tables.ensures.survives c.stored_outlines.ensures.survives c.stored_outlines.result (c.stored_outlines.ensures.cause old.now [] stood (ids_apart old.now ids found.1)))
+    walk_cause old mid new c.read_tables.ensures.survives c.stored_outlines.ensures.reads.survives c.stored_outlines.result (c.stored_outlines.ensures.cause old.now [] stood (ids_apart old.now ids found.1)))

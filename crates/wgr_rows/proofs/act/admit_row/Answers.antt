@@ -6,6 +6,7 @@ use Rattle.wgr_columns.specs.Decode.{tables_of}
 use Rattle.wgr_sql.specs.Causes.{HasCause}
 use Rattle.wgr_sql.proofs.SurvivesLemmas.{survives_next}
 use Rattle.wgr_rows.proofs.ActLemmas.{fault_told, is_admitted, is_full, is_held, is_over, is_servers, is_spent, later}
+use Rattle.wgr_tables.proofs.ReadLemmas.{reads_next}
 use Rattle.wgr_rows.proofs.act.admit_row.Goals as goal
 
 pub returns-in_err-head-clause-cause : goal.returns-in_err-head-clause-cause
@@ -18,38 +19,38 @@ returns-then-eq-clause-found g c db pending w stood good here is clean ends =
     let head = c.in_ok-head.ensures.found db pending w stood good here is clean in
     is_servers n c.args.now c.args.key.now c.args.until (ap (same_key c.args.key.now) (sym head.server) ∙ sym c.if-eq.ensures)
 
-pub returns-in_err-number-clause-stands : goal.returns-in_err-number-clause-stands
-returns-in_err-number-clause-stands g c db pending stood = c.key_row.ensures.stands db pending (c.head_row.ensures.stands db pending stood)
+pub returns-in_err-number-clause-reads : goal.returns-in_err-number-clause-reads
+returns-in_err-number-clause-reads g c = reads_next c.head_row.ensures.reads c.key_row.ensures.reads
 
 pub returns-in_err-number-clause-cause : goal.returns-in_err-number-clause-cause
 returns-in_err-number-clause-cause g c db pending w stood good here is =
     let old = state g.S.Store c.args.conn.now in
     let new = state g.S.Store c.key_row.new.conn in
     fault_told (HasCause old new) c.from_residual-in_err-number.result c.in_err-number.field-0.0 c.from_residual-in_err-number.ensures.1
-    (later old (state g.S.Store c.head_row.new.conn) new c.head_row.ensures.survives c.key_row.ensures.survives c.in_err-number.field-0.0 (c.in_err-number.ensures.cause db pending w (c.head_row.ensures.stands db pending stood) good here is))
+    (later old (state g.S.Store c.head_row.new.conn) new c.head_row.ensures.reads.survives c.key_row.ensures.reads.survives c.in_err-number.field-0.0 (c.in_err-number.ensures.cause db pending w (c.head_row.ensures.reads.stands db pending stood) good here is))
 
-pub returns-in-Some-clause-stands : goal.returns-in-Some-clause-stands
-returns-in-Some-clause-stands g c db pending stood = c.key_row.ensures.stands db pending (c.head_row.ensures.stands db pending stood)
+pub returns-in-Some-clause-reads : goal.returns-in-Some-clause-reads
+returns-in-Some-clause-reads g c = reads_next c.head_row.ensures.reads c.key_row.ensures.reads
 
 pub returns-in-Some-clause-found : goal.returns-in-Some-clause-found
 returns-in-Some-clause-found g c db pending w stood good here is clean ends =
     let n = (holding_of (tables_of db) w).network in
-    let head = c.in_ok-head.ensures.found db pending w stood good here is (c.key_row.ensures.clean clean) in
-    let holder = rw c.in-Some.is at c.in_ok-number.ensures.found db pending w (c.head_row.ensures.stands db pending stood) good here is clean in
+    let head = c.in_ok-head.ensures.found db pending w stood good here is (c.key_row.ensures.reads.clean clean) in
+    let holder = rw c.in-Some.is at c.in_ok-number.ensures.found db pending w (c.head_row.ensures.reads.stands db pending stood) good here is clean in
     is_held n c.args.now c.args.key.now c.args.until c.in-Some.number (ap (same_key c.args.key.now) (sym head.server) ∙ sym c.if-eq.ensures) holder
 
-pub returns-then-is_expired-clause-stands : goal.returns-then-is_expired-clause-stands
-returns-then-is_expired-clause-stands g c db pending stood = c.key_row.ensures.stands db pending (c.head_row.ensures.stands db pending stood)
+pub returns-then-is_expired-clause-reads : goal.returns-then-is_expired-clause-reads
+returns-then-is_expired-clause-reads g c = reads_next c.head_row.ensures.reads c.key_row.ensures.reads
 
 pub returns-then-is_expired-clause-found : goal.returns-then-is_expired-clause-found
 returns-then-is_expired-clause-found g c db pending w stood good here is clean ends =
     let n = (holding_of (tables_of db) w).network in
-    let head = c.in_ok-head.ensures.found db pending w stood good here is (c.key_row.ensures.clean clean) in
-    let holder = rw c.in_default.is at c.in_ok-number.ensures.found db pending w (c.head_row.ensures.stands db pending stood) good here is clean in
+    let head = c.in_ok-head.ensures.found db pending w stood good here is (c.key_row.ensures.reads.clean clean) in
+    let holder = rw c.in_default.is at c.in_ok-number.ensures.found db pending w (c.head_row.ensures.reads.stands db pending stood) good here is clean in
     is_over n c.args.now c.args.key.now c.args.until (ap (same_key c.args.key.now) (sym head.server) ∙ sym c.if-eq.ensures) holder (sym c.if-is_expired.ensures)
 
-pub returns-in_err-expired-clause-stands : goal.returns-in_err-expired-clause-stands
-returns-in_err-expired-clause-stands g c db pending stood = c.expired_rows.ensures.stands db pending (c.key_row.ensures.stands db pending (c.head_row.ensures.stands db pending stood))
+pub returns-in_err-expired-clause-reads : goal.returns-in_err-expired-clause-reads
+returns-in_err-expired-clause-reads g c = reads_next (reads_next c.head_row.ensures.reads c.key_row.ensures.reads) c.expired_rows.ensures.reads
 
 pub returns-in_err-expired-clause-cause : goal.returns-in_err-expired-clause-cause
 returns-in_err-expired-clause-cause g c db pending w stood good here is =
@@ -57,11 +58,11 @@ returns-in_err-expired-clause-cause g c db pending w stood good here is =
     let mid = state g.S.Store c.key_row.new.conn in
     let new = state g.S.Store c.expired_rows.new.conn in
     fault_told (HasCause old new) c.from_residual-in_err-expired.result c.in_err-expired.field-0.0 c.from_residual-in_err-expired.ensures.1
-    (later old mid new (survives_next _ _ _ c.head_row.ensures.survives c.key_row.ensures.survives) c.expired_rows.ensures.survives c.in_err-expired.field-0.0
-    (c.in_err-expired.ensures.cause db pending w (c.key_row.ensures.stands db pending (c.head_row.ensures.stands db pending stood)) good here is))
+    (later old mid new (survives_next _ _ _ c.head_row.ensures.reads.survives c.key_row.ensures.reads.survives) c.expired_rows.ensures.reads.survives c.in_err-expired.field-0.0
+    (c.in_err-expired.ensures.cause db pending w (c.key_row.ensures.reads.stands db pending (c.head_row.ensures.reads.stands db pending stood)) good here is))
 
-pub returns-in_err-has_room-clause-stands : goal.returns-in_err-has_room-clause-stands
-returns-in_err-has_room-clause-stands g c db pending stood = c.has_room.ensures.stands db pending (c.expired_rows.ensures.stands db pending (c.key_row.ensures.stands db pending (c.head_row.ensures.stands db pending stood)))
+pub returns-in_err-has_room-clause-reads : goal.returns-in_err-has_room-clause-reads
+returns-in_err-has_room-clause-reads g c = reads_next (reads_next (reads_next c.head_row.ensures.reads c.key_row.ensures.reads) c.expired_rows.ensures.reads) c.has_room.ensures.reads
 
 pub returns-in_err-has_room-clause-cause : goal.returns-in_err-has_room-clause-cause
 returns-in_err-has_room-clause-cause g c db pending w stood good here is =
@@ -69,59 +70,59 @@ returns-in_err-has_room-clause-cause g c db pending w stood good here is =
     let mid = state g.S.Store c.expired_rows.new.conn in
     let new = state g.S.Store c.has_room.new.conn in
     fault_told (HasCause old new) c.from_residual-in_err-has_room.result c.in_err-has_room.field-0.0 c.from_residual-in_err-has_room.ensures.1
-    (later old mid new (survives_next _ _ _ (survives_next _ _ _ c.head_row.ensures.survives c.key_row.ensures.survives) c.expired_rows.ensures.survives) c.has_room.ensures.survives c.in_err-has_room.field-0.0
-    (c.in_err-has_room.ensures.cause db pending w (c.expired_rows.ensures.stands db pending (c.key_row.ensures.stands db pending (c.head_row.ensures.stands db pending stood))) good here is))
+    (later old mid new (survives_next _ _ _ (survives_next _ _ _ c.head_row.ensures.reads.survives c.key_row.ensures.reads.survives) c.expired_rows.ensures.reads.survives) c.has_room.ensures.reads.survives c.in_err-has_room.field-0.0
+    (c.in_err-has_room.ensures.cause db pending w (c.expired_rows.ensures.reads.stands db pending (c.key_row.ensures.reads.stands db pending (c.head_row.ensures.reads.stands db pending stood))) good here is))
 
-pub returns-then-not-branch-clause-stands : goal.returns-then-not-branch-clause-stands
-returns-then-not-branch-clause-stands g c db pending stood = c.has_room.ensures.stands db pending (c.expired_rows.ensures.stands db pending (c.key_row.ensures.stands db pending (c.head_row.ensures.stands db pending stood)))
+pub returns-then-not-branch-clause-reads : goal.returns-then-not-branch-clause-reads
+returns-then-not-branch-clause-reads g c = reads_next (reads_next (reads_next c.head_row.ensures.reads c.key_row.ensures.reads) c.expired_rows.ensures.reads) c.has_room.ensures.reads
 
 pub returns-then-not-branch-clause-found : goal.returns-then-not-branch-clause-found
 returns-then-not-branch-clause-found g c db pending w stood good here is clean ends =
     let n = (holding_of (tables_of db) w).network in
-    let at_key = c.head_row.ensures.stands db pending stood in
-    let at_expired = c.key_row.ensures.stands db pending at_key in
-    let at_room = c.expired_rows.ensures.stands db pending at_expired in
-    let expired_clean = c.has_room.ensures.clean clean in
-    let key_clean = c.expired_rows.ensures.clean expired_clean in
-    let head = c.in_ok-head.ensures.found db pending w stood good here is (c.key_row.ensures.clean key_clean) in
+    let at_key = c.head_row.ensures.reads.stands db pending stood in
+    let at_expired = c.key_row.ensures.reads.stands db pending at_key in
+    let at_room = c.expired_rows.ensures.reads.stands db pending at_expired in
+    let expired_clean = c.has_room.ensures.reads.clean clean in
+    let key_clean = c.expired_rows.ensures.reads.clean expired_clean in
+    let head = c.in_ok-head.ensures.found db pending w stood good here is (c.key_row.ensures.reads.clean key_clean) in
     let holder = rw c.in_default.is at c.in_ok-number.ensures.found db pending w at_key good here is key_clean in
     let over = c.in_ok-expired.ensures.found db pending w at_expired good here is expired_clean ends in
     let room = c.in_ok-has_room.ensures.found db pending w at_room good here is clean c.args.now head (c.as_slice.ensures.value ∙ over) in
     is_full n c.args.now c.args.key.now c.args.until (ap (same_key c.args.key.now) (sym head.server) ∙ sym c.if-eq.ensures) holder (sym c.if-is_expired.ensures) (sym room ∙ c.if-not-branch.true)
 
-pub returns-then-head-gt-MAX_NUMBER-clause-stands : goal.returns-then-head-gt-MAX_NUMBER-clause-stands
-returns-then-head-gt-MAX_NUMBER-clause-stands g c db pending stood = c.has_room.ensures.stands db pending (c.expired_rows.ensures.stands db pending (c.key_row.ensures.stands db pending (c.head_row.ensures.stands db pending stood)))
+pub returns-then-head-gt-MAX_NUMBER-clause-reads : goal.returns-then-head-gt-MAX_NUMBER-clause-reads
+returns-then-head-gt-MAX_NUMBER-clause-reads g c = reads_next (reads_next (reads_next c.head_row.ensures.reads c.key_row.ensures.reads) c.expired_rows.ensures.reads) c.has_room.ensures.reads
 
 pub returns-then-head-gt-MAX_NUMBER-clause-found : goal.returns-then-head-gt-MAX_NUMBER-clause-found
 returns-then-head-gt-MAX_NUMBER-clause-found g c db pending w stood good here is clean ends =
     let n = (holding_of (tables_of db) w).network in
-    let at_key = c.head_row.ensures.stands db pending stood in
-    let at_expired = c.key_row.ensures.stands db pending at_key in
-    let at_room = c.expired_rows.ensures.stands db pending at_expired in
-    let expired_clean = c.has_room.ensures.clean clean in
-    let key_clean = c.expired_rows.ensures.clean expired_clean in
-    let head = c.in_ok-head.ensures.found db pending w stood good here is (c.key_row.ensures.clean key_clean) in
+    let at_key = c.head_row.ensures.reads.stands db pending stood in
+    let at_expired = c.key_row.ensures.reads.stands db pending at_key in
+    let at_room = c.expired_rows.ensures.reads.stands db pending at_expired in
+    let expired_clean = c.has_room.ensures.reads.clean clean in
+    let key_clean = c.expired_rows.ensures.reads.clean expired_clean in
+    let head = c.in_ok-head.ensures.found db pending w stood good here is (c.key_row.ensures.reads.clean key_clean) in
     let holder = rw c.in_default.is at c.in_ok-number.ensures.found db pending w at_key good here is key_clean in
     let over = c.in_ok-expired.ensures.found db pending w at_expired good here is expired_clean ends in
     let room = c.in_ok-has_room.ensures.found db pending w at_room good here is clean c.args.now head (c.as_slice.ensures.value ∙ over) in
     is_spent n c.args.now c.args.key.now c.args.until (ap (same_key c.args.key.now) (sym head.server) ∙ sym c.if-eq.ensures) holder (sym c.if-is_expired.ensures) (sym room ∙ c.if-not-branch.false) (omega (arith, c.if-head-gt-MAX_NUMBER.true, head.next))
 
-pub returns-clause-stands : goal.returns-clause-stands
-returns-clause-stands g c db pending stood = c.has_room.ensures.stands db pending (c.expired_rows.ensures.stands db pending (c.key_row.ensures.stands db pending (c.head_row.ensures.stands db pending stood)))
+pub returns-clause-reads : goal.returns-clause-reads
+returns-clause-reads g c = reads_next (reads_next (reads_next c.head_row.ensures.reads c.key_row.ensures.reads) c.expired_rows.ensures.reads) c.has_room.ensures.reads
 
 pub returns-clause-found : goal.returns-clause-found
 returns-clause-found g c db pending w stood good here is clean ends =
     let n = (holding_of (tables_of db) w).network in
-    let at_key = c.head_row.ensures.stands db pending stood in
-    let at_expired = c.key_row.ensures.stands db pending at_key in
-    let at_room = c.expired_rows.ensures.stands db pending at_expired in
-    let expired_clean = c.has_room.ensures.clean clean in
-    let key_clean = c.expired_rows.ensures.clean expired_clean in
-    let head = c.in_ok-head.ensures.found db pending w stood good here is (c.key_row.ensures.clean key_clean) in
+    let at_key = c.head_row.ensures.reads.stands db pending stood in
+    let at_expired = c.key_row.ensures.reads.stands db pending at_key in
+    let at_room = c.expired_rows.ensures.reads.stands db pending at_expired in
+    let expired_clean = c.has_room.ensures.reads.clean clean in
+    let key_clean = c.expired_rows.ensures.reads.clean expired_clean in
+    let head = c.in_ok-head.ensures.found db pending w stood good here is (c.key_row.ensures.reads.clean key_clean) in
     let holder = rw c.in_default.is at c.in_ok-number.ensures.found db pending w at_key good here is key_clean in
     let over = c.in_ok-expired.ensures.found db pending w at_expired good here is expired_clean ends in
     let room = c.in_ok-has_room.ensures.found db pending w at_room good here is clean c.args.now head (c.as_slice.ensures.value ∙ over) in
     (is_admitted n c.args.now c.args.key.now c.args.until (ap (same_key c.args.key.now) (sym head.server) ∙ sym c.if-eq.ensures) holder (sym c.if-is_expired.ensures) (sym room ∙ c.if-not-branch.false) (omega (arith, c.if-head-gt-MAX_NUMBER.false, head.next)), head, over)
 
 pub returns-clause-head : goal.returns-clause-head
-returns-clause-head g c db pending w stood good here is clean = c.in_ok-head.ensures.found db pending w stood good here is (c.key_row.ensures.clean (c.expired_rows.ensures.clean (c.has_room.ensures.clean clean)))
+returns-clause-head g c db pending w stood good here is clean = c.in_ok-head.ensures.found db pending w stood good here is (c.key_row.ensures.reads.clean (c.expired_rows.ensures.reads.clean (c.has_room.ensures.reads.clean clean)))

@@ -4,14 +4,14 @@ use Rattle.wgr_model.specs.Rows.{peer_id}
 use Rattle.wgr_sql.proofs.ResultLemmas.{if_ok}
 use Rattle.wgr_columns.specs.Decode.{AreNatural}
 use Rattle.wgr_tables.proofs.AskedLemmas.{answered_here}
-use Rattle.wgr_tables.proofs.ReadLemmas.{stands_read, rows_read}
+use Rattle.wgr_tables.proofs.ReadLemmas.{rows_read, reads_query}
 use Rattle.wgr_rows.specs.Holder.{ShowPeer}
 use Rattle.wgr_rows.proofs.LeadShown.{peer_listed, peer_numbers}
 use Rattle.wgr_rows.proofs.LeadTexts.{peer_answered, peer_asks, peer_text}
 use Rattle.wgr_rows.proofs.allowed.peer_rows.Goals as goal
 
-pub returns-clause-stands : goal.returns-clause-stands
-returns-clause-stands g c db pending stood = stands_read g.S.Store c.args.conn.now c.query.new.conn db pending stood peer_text c.query.ensures.survives (λ others. (peer_asks others).means.plain) c.query.ensures.kept c.query.ensures.idle
+pub returns-clause-reads : goal.returns-clause-reads
+returns-clause-reads g c = reads_query g.S.Store c.args.conn.now c.query.new.conn peer_text c.query.ensures.survives (λ others. (peer_asks others).means.plain) c.query.ensures.kept c.query.ensures.idle
 
 pub returns-clause-listed : goal.returns-clause-listed
 returns-clause-listed g c db pending stood clean =

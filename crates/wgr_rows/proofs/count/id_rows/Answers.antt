@@ -1,13 +1,13 @@
 use Rattle.std.proofs.Common.{◌≡◌, length}
 use Rattle.wgr_sql.proofs.ResultLemmas.{if_ok}
 use Rattle.wgr_tables.proofs.AskedLemmas.{answered_here}
-use Rattle.wgr_tables.proofs.ReadLemmas.{stands_read, rows_read}
+use Rattle.wgr_tables.proofs.ReadLemmas.{rows_read, reads_query}
 use Rattle.wgr_rows.specs.Owned.{any_end, owned_count}
 use Rattle.wgr_rows.proofs.OwnedLemmas.{ids_answered, ids_asks, ids_counted, ids_params, ids_text}
 use Rattle.wgr_rows.proofs.count.id_rows.Goals as goal
 
-pub returns-clause-stands : goal.returns-clause-stands
-returns-clause-stands g c db pending stood = stands_read g.S.Store c.args.conn.now c.query.new.conn db pending stood ids_text c.query.ensures.survives (λ others. (ids_asks others).means.plain) c.query.ensures.kept c.query.ensures.idle
+pub returns-clause-reads : goal.returns-clause-reads
+returns-clause-reads g c = reads_query g.S.Store c.args.conn.now c.query.new.conn ids_text c.query.ensures.survives (λ others. (ids_asks others).means.plain) c.query.ensures.kept c.query.ensures.idle
 
 pub returns-clause-counted : goal.returns-clause-counted
 returns-clause-counted g c db pending stood clean =

@@ -11,7 +11,7 @@ use Rattle.wgr_columns.specs.Fields.{IsPeerIdAt}
 use Rattle.wgr_rows.specs.Owned.{ShowOwned, is_over}
 use Rattle.wgr_rows.proofs.OwnedLemmas.{ids_there, numbers_are}
 use Rattle.wgr_peers.proofs.TableLemmas.{none_expired}
-use Rattle.wgr_sql.proofs.SurvivesLemmas.{survives_still}
+use Rattle.wgr_tables.proofs.ReadLemmas.{reads_still}
 use Rattle.wgr_rows.proofs.expired.expired_rows.Goals as goal
 
 pub returns-clause-found : goal.returns-clause-found
@@ -32,5 +32,5 @@ returns-clause-cause g c db pending w stood is here id = never_stores _ (state g
 pub returns-then-now-soonest-clause-found : goal.returns-then-now-soonest-clause-found
 returns-then-now-soonest-clause-found g c db pending w stood is here id clean ends = c.new.ensures.items ∙ sym (none_expired c.args.soonest c.args.now _ c.if-now-soonest.true ends).0
 
-pub returns-then-now-soonest-clause-survives : goal.returns-then-now-soonest-clause-survives
-returns-then-now-soonest-clause-survives g c = survives_still (state g.S.Store c.args.conn.now)
+pub returns-then-now-soonest-clause-reads : goal.returns-then-now-soonest-clause-reads
+returns-then-now-soonest-clause-reads g c = reads_still g.S.Store c.args.conn.now c.requires.idle

@@ -2,14 +2,14 @@ use Rattle.wgr_sql.proofs.ResultLemmas.{if_ok}
 use Rattle.wgr_columns.specs.Decode.{peer_in}
 use Rattle.wgr_columns.specs.Stored.{AreRising}
 use Rattle.wgr_tables.proofs.AskedLemmas.{answered_here}
-use Rattle.wgr_tables.proofs.ReadLemmas.{stands_read, rows_read}
+use Rattle.wgr_tables.proofs.ReadLemmas.{rows_read, reads_query}
 use Rattle.wgr_rows.specs.Keyed.{HaveNumbers}
 use Rattle.wgr_rows.specs.Owned.{ShowOwned, is_over}
 use Rattle.wgr_rows.proofs.OwnedLemmas.{over_answered, over_asks, over_listed, over_numbers, over_params, over_rise, over_text}
 use Rattle.wgr_rows.proofs.expired.over_rows.Goals as goal
 
-pub returns-clause-stands : goal.returns-clause-stands
-returns-clause-stands g c db pending stood = stands_read g.S.Store c.args.conn.now c.query.new.conn db pending stood over_text c.query.ensures.survives (λ others. (over_asks others).means.plain) c.query.ensures.kept c.query.ensures.idle
+pub returns-clause-reads : goal.returns-clause-reads
+returns-clause-reads g c = reads_query g.S.Store c.args.conn.now c.query.new.conn over_text c.query.ensures.survives (λ others. (over_asks others).means.plain) c.query.ensures.kept c.query.ensures.idle
 
 pub returns-clause-listed : goal.returns-clause-listed
 returns-clause-listed g c db pending stood clean =

@@ -3,7 +3,7 @@ use Rattle.std.specs.HashSet.{HashSet, contains, hash_set_len}
 use Rattle.std.specs.List.{list_any}
 use Rattle.sqlite.specs.Given.{HasBegun}
 use Rattle.sqlite.specs.Held.{state}
-use Rattle.sqlite.specs.State.{FailsToQuery, HasCleanDisk, Survives}
+use Rattle.sqlite.specs.State.{FailsToQuery, HasCleanDisk}
 use Rattle.wgr_text.specs.Prefix.{AddrValue, PrefixValue}
 use Rattle.wgr_sql.specs.Causes.{HasCause}
 use Rattle.wgr_sql.proofs.ResultLemmas.{if_ok}
@@ -11,14 +11,14 @@ use Rattle.wgr_core.specs.Network.{live_at}
 use Rattle.wgr_model.specs.Rows.{holding_of}
 use Rattle.wgr_model.proofs.RuleLemmas.{rules as rules_of}
 use Rattle.wgr_columns.specs.Decode.{tables_of}
-use Rattle.wgr_tables.specs.Standing.{Stands}
+use Rattle.wgr_tables.specs.Standing.{OnlyReads}
 use Rattle.wgr_rows.specs.Holding.{below, hold_params, holds_text}
 use Rattle.wgr_rows.specs.Telling.{IsToldTo}
 use Rattle.wgr_rows.specs.Staying.{stays_on}
 use Rattle.wgr_rows.proofs.Coming.{holds_moved, number_low, told_first}
-use Rattle.wgr_rows.proofs.FreeLemmas.{below_begins, begun_stays, failed_stands, floor_from, found_in, params_are, shown_sound, stands_good, stands_sound, stays_stands}
+use Rattle.wgr_rows.proofs.FreeLemmas.{below_begins, begun_stays, failed_reads, floor_from, found_in, params_are, shown_sound, stands_good, stands_sound, stays_reads, stays_stands}
 use Rattle.wgr_rows.proofs.HeldLemmas.{lowest_at}
-use Rattle.wgr_rows.proofs.SelectLemmas.{begun, commits_nothing}
+use Rattle.wgr_rows.proofs.SelectLemmas.{begun}
 use Rattle.wgr_rows.proofs.StopLemmas.{begin_cause}
 use Rattle.wgr_checks.proofs.WalkCauses.{walk_cause}
 use Rattle.wgr_rows.proofs.free.free_row.Goals as goal
@@ -32,13 +32,13 @@ none_in s true is e i = none_among s.keys i (is.0 refl)
     none_among (k ∷ keys) i e = absurd (omega (arith, e))
 none_in s false is e i = absurd (true≢false e)
 
-pub returns-in-Err-clause-stands : goal.returns-in-Err-clause-stands
-returns-in-Err-clause-stands g c db pending stood =
+pub returns-in-Err-clause-reads : goal.returns-in-Err-clause-reads
+returns-in-Err-clause-reads g c =
     let old = c.args.conn.now in
     let new = c.query.follows.lender-at-none in
     let held = rw (c.in-Err.is, c.holds_text.ensures) at c.query.follows.holds-at-none in
     let yes : IsTrue c.is_autocommit-settled.result = rw (c.is_autocommit-settled.ensures.value, c.requires.idle) in
-    failed_stands g.S.Store old db pending stood (not c.is_empty-shows_peers.result) new _ (c.is_autocommit-settled.ensures.settled yes) held.survives (held.mode c.requires.idle) (λ clean. (c.in-Err.error, held.err clean))
+    failed_reads g.S.Store old (not c.is_empty-shows_peers.result) new _ (c.is_autocommit-settled.ensures.settled yes) held.survives (held.mode c.requires.idle) (λ clean. (c.in-Err.error, held.err clean))
 
 pub lowest_in-requires : goal.lowest_in-requires
 lowest_in-requires g c = record {
@@ -55,8 +55,8 @@ lowest_in-requires g c = record {
       (begun shows_peers g.S.Store (hold_params c.args.network p start.number) c.args.conn.now mid here).0 good);
 }
 
-pub returns-clause-stands : goal.returns-clause-stands
-returns-clause-stands g c db pending stood =
+pub returns-clause-reads : goal.returns-clause-reads
+returns-clause-reads g c =
     let shows_peers = not c.is_empty-shows_peers.result in
     let old = c.args.conn.now in
     let mid = c.in-Ok.rows.conn.now in
@@ -64,7 +64,7 @@ returns-clause-stands g c db pending stood =
     let same : end ≡ c.conn-2-1.given.0 = search rules in
     let yes : IsTrue c.is_autocommit-settled.result = rw (c.is_autocommit-settled.ensures.value, c.requires.idle) in
     let first = begun_stays g.S.Store shows_peers _ c.holds_text.ensures old mid _ c.in-Ok.ensures.mode c.in-Ok.ensures.survives c.in-Ok.ensures.begun in
-    subst (λ h. Stands g.S.Store h db pending) same (stays_stands g.S.Store old db pending stood end (c.is_autocommit-settled.ensures.settled yes) (stays_on g.S.Store old mid end first c.lowest_in.ensures.stays))
+    subst (OnlyReads g.S.Store old) same (stays_reads g.S.Store old end c.requires.idle (c.is_autocommit-settled.ensures.settled yes) (stays_on g.S.Store old mid end first c.lowest_in.ensures.stays))
 
 pub returns-clause-found : goal.returns-clause-found
 returns-clause-found g c db pending w stood is here id clean =
@@ -100,21 +100,6 @@ returns-clause-found g c db pending w stood is here id clean =
     let starts = subst (λ (q : PrefixValue). (start.number ≡ q.address.number) ⊎ (start.number ≡ c.args.floor)) (c.prefix-prefix.ensures.value ∙ pool) one in
     lowest_at shows_peers (contains nat_eq c.args.expired.now) none (state g.S.Store mid).now db shows c.args.network p c.args.pool.now c.prefix-prefix.ensures.value
     w id (sym pool) is here now tells start same_family from (floor_from (live_at n now) (rules_of (tables_of db) is w here).pool start.number c.args.floor starts floor) moved o m) found
-
-pub returns-in-Err-clause-survives : goal.returns-in-Err-clause-survives
-returns-in-Err-clause-survives g c =
-    let held = rw (c.in-Err.is, c.holds_text.ensures) at c.query.follows.holds-at-none in
-    commits_nothing (not c.is_empty-shows_peers.result) _ (state g.S.Store c.args.conn.now) (state g.S.Store c.query.follows.lender-at-none) held.survives
-
-pub returns-clause-survives : goal.returns-clause-survives
-returns-clause-survives g c =
-    let shows_peers = not c.is_empty-shows_peers.result in
-    let old = c.args.conn.now in
-    let mid = c.in-Ok.rows.conn.now in
-    let end = c.lowest_in.new.rows.conn.now in
-    let same : end ≡ c.conn-2-1.given.0 = search rules in
-    let first = begun_stays g.S.Store shows_peers _ c.holds_text.ensures old mid _ c.in-Ok.ensures.mode c.in-Ok.ensures.survives c.in-Ok.ensures.begun in
-    subst (λ h. Survives (state g.S.Store old) (state g.S.Store h) (λ _. ⊥)) same (stays_on g.S.Store old mid end first c.lowest_in.ensures.stays).1
 
 pub returns-in-Err-clause-cause : goal.returns-in-Err-clause-cause
 returns-in-Err-clause-cause g c db pending w stood is here id pool =

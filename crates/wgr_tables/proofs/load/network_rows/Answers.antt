@@ -7,12 +7,12 @@ use Rattle.wgr_tables.specs.Loads.{ShowNetwork}
 use Rattle.wgr_tables.proofs.ListedLemmas.{network_listed}
 use Rattle.wgr_tables.proofs.Meanings.{network_text, network_asks}
 use Rattle.wgr_tables.proofs.StoredLemmas.{network_stored}
-use Rattle.wgr_tables.proofs.ReadLemmas.{stands_read, rows_read}
+use Rattle.wgr_tables.proofs.ReadLemmas.{rows_read, reads_query}
 use Rattle.wgr_tables.proofs.AskedLemmas.{answered_here, network_answered}
 use Rattle.wgr_tables.proofs.load.network_rows.Goals as goal
 
-pub returns-clause-stands : goal.returns-clause-stands
-returns-clause-stands g c db pending stood = stands_read g.S.Store c.args.conn.now c.query.new.conn db pending stood network_text c.query.ensures.survives (λ others. (network_asks others).means.plain) c.query.ensures.kept c.query.ensures.idle
+pub returns-clause-reads : goal.returns-clause-reads
+returns-clause-reads g c = reads_query g.S.Store c.args.conn.now c.query.new.conn network_text c.query.ensures.survives (λ others. (network_asks others).means.plain) c.query.ensures.kept c.query.ensures.idle
 
 pub returns-clause-listed : goal.returns-clause-listed
 returns-clause-listed g c db pending stood clean =

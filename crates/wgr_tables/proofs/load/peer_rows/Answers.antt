@@ -7,12 +7,12 @@ use Rattle.wgr_tables.specs.Loads.{ShowPeers}
 use Rattle.wgr_tables.proofs.ListedLemmas.{peers_listed}
 use Rattle.wgr_tables.proofs.Meanings.{peers_text, peers_asks}
 use Rattle.wgr_tables.proofs.StoredLemmas.{peers_stored, peers_rise}
-use Rattle.wgr_tables.proofs.ReadLemmas.{stands_read, rows_read}
+use Rattle.wgr_tables.proofs.ReadLemmas.{rows_read, reads_query}
 use Rattle.wgr_tables.proofs.AskedLemmas.{answered_here, peers_answered}
 use Rattle.wgr_tables.proofs.load.peer_rows.Goals as goal
 
-pub returns-clause-stands : goal.returns-clause-stands
-returns-clause-stands g c db pending stood = stands_read g.S.Store c.args.conn.now c.query.new.conn db pending stood peers_text c.query.ensures.survives (λ others. (peers_asks others).means.plain) c.query.ensures.kept c.query.ensures.idle
+pub returns-clause-reads : goal.returns-clause-reads
+returns-clause-reads g c = reads_query g.S.Store c.args.conn.now c.query.new.conn peers_text c.query.ensures.survives (λ others. (peers_asks others).means.plain) c.query.ensures.kept c.query.ensures.idle
 
 pub returns-clause-listed : goal.returns-clause-listed
 returns-clause-listed g c db pending stood clean =

@@ -7,12 +7,12 @@ use Rattle.wgr_tables.specs.Loads.{ShowRoutes}
 use Rattle.wgr_tables.proofs.ListedLemmas.{routes_listed}
 use Rattle.wgr_tables.proofs.Meanings.{routes_text, routes_asks}
 use Rattle.wgr_tables.proofs.StoredLemmas.{routes_stored}
-use Rattle.wgr_tables.proofs.ReadLemmas.{stands_read, rows_read}
+use Rattle.wgr_tables.proofs.ReadLemmas.{rows_read, reads_query}
 use Rattle.wgr_tables.proofs.AskedLemmas.{answered_here, routes_answered}
 use Rattle.wgr_tables.proofs.load.route_rows.Goals as goal
 
-pub returns-clause-stands : goal.returns-clause-stands
-returns-clause-stands g c db pending stood = stands_read g.S.Store c.args.conn.now c.query.new.conn db pending stood routes_text c.query.ensures.survives (λ others. (routes_asks others).means.plain) c.query.ensures.kept c.query.ensures.idle
+pub returns-clause-reads : goal.returns-clause-reads
+returns-clause-reads g c = reads_query g.S.Store c.args.conn.now c.query.new.conn routes_text c.query.ensures.survives (λ others. (routes_asks others).means.plain) c.query.ensures.kept c.query.ensures.idle
 
 pub returns-clause-listed : goal.returns-clause-listed
 returns-clause-listed g c db pending stood clean =

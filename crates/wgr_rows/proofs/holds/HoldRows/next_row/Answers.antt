@@ -11,7 +11,7 @@ use Rattle.wgr_rows.specs.Holding.{Hold, hold_params, holds_text, to_come}
 use Rattle.wgr_rows.specs.declared.progress.Progress.TheVariants.{Running}
 use Rattle.wgr_rows.proofs.Coming.{come_as, first_is, good_back, last_was, number_low, told_next}
 use Rattle.wgr_sql.specs.Causes.{HasCause}
-use Rattle.wgr_pool.specs.declared.allot.Stop.TheVariants.{Store}
+use Rattle.wgr_pool.specs.declared.allot.Stop.TheVariants.{Source}
 use Rattle.wgr_rows.specs.Holding.{max_holds}
 use Rattle.wgr_rows.proofs.StopLemmas.{advance_cause, for_cause, limit_cause, order_cause, row_cause}
 use Rattle.wgr_rows.proofs.holds.HoldRows.next_row.Goals as goal
@@ -110,7 +110,7 @@ returns-then-self-gt-MAX_HOLDS-clause-blames g c =
     let self = c.args.self.now in
     let mid = self.rows.now.conn.now in
     let more : max_holds < self.taken = omega (arith, c.if-self-gt-MAX_HOLDS.true) in
-    for_cause self.network self.pool (state g.S.Store mid) (state g.S.Store mid) self.at Store
+    for_cause self.network self.pool (state g.S.Store mid) (state g.S.Store mid) self.at Source
     (limit_cause g.S.Store self.shows_peers self.network self.pool self.start.number c.rules_hold.ensures.prefix c.rules_hold.ensures.address (number_low self.start c.rules_hold-2.ensures) self.taken self.first self.last self.at c.in-Running.is mid self.told more)
 
 pub returns-in-Err-clause-blames : goal.returns-in-Err-clause-blames
@@ -130,7 +130,7 @@ returns-in_default-hold_in-clause-blames g c =
     let row = c.in-Some.row.now in
     let params = hold_params self.network self.pool self.start.number in
     let some : row_if c.advance.new.self.has_row new ≡ Some row = sym c.get.ensures ∙ ap option_copied c.in-Some.is in
-    for_cause self.network self.pool (state g.S.Store mid) (state g.S.Store new) self.at Store
+    for_cause self.network self.pool (state g.S.Store mid) (state g.S.Store new) self.at Source
     (row_cause g.S.Store self.shows_peers self.network self.pool self.start.number c.rules_hold.ensures.prefix c.rules_hold.ensures.address (number_low self.start c.rules_hold-2.ensures) self.taken self.first self.last self.at c.in-Running.is mid self.told new c.advance.ensures.survives row
     (λ clean. let rested = c.advance.ensures.same clean in search (rules, rested))
     (λ clean given runs.
@@ -148,7 +148,7 @@ returns-then-not-is_from-clause-blames g c =
     let params = hold_params self.network self.pool self.start.number in
     let hold : Hold = (c.in-Some-hold_in.span, c.in-Some-hold_in.number) in
     let some : row_if c.advance.new.self.has_row new ≡ Some row = sym c.get.ensures ∙ ap option_copied c.in-Some.is in
-    for_cause self.network self.pool (state g.S.Store mid) (state g.S.Store new) self.at Store
+    for_cause self.network self.pool (state g.S.Store mid) (state g.S.Store new) self.at Source
     (order_cause g.S.Store self.shows_peers self.network self.pool self.start.number c.rules_hold.ensures.prefix c.rules_hold.ensures.address (number_low self.start c.rules_hold-2.ensures) self.taken self.first self.last self.at c.in-Running.is mid self.told new c.advance.ensures.survives row
     (λ clean. let rested = c.advance.ensures.same clean in search (rules, rested))
     (λ clean given runs.
