@@ -18,7 +18,7 @@ use Rattle.wgr_orders.specs.Orders.{order_event}
 use Rattle.wgr_model.specs.RowLaws.{IsRowStep}
 use Rattle.wgr_model.specs.Steps.{Answer, Event}
 use Rattle.wgr_orders.specs.declared.order.Order.{Order}
-use Rattle.wgr_register.specs.Ends.{EndsAt, OrderEnds, is_change}
+use Rattle.wgr_register.specs.Ends.{StandsAfter, OrderEnds, is_change}
 use Rattle.wgr_register.specs.Standing.{StandsAt}
 use Rattle.wgr_register.specs.declared.fault.Done as done
 use Rattle.wgr_register.specs.declared.fault.OrderFault.{OrderFault}
@@ -28,7 +28,7 @@ use Rattle.wgr_sql.specs.Calls.{IsKept}
 use Rattle.wgr_schema.specs.Fresh.{IsFresh, no_schema}
 use Rattle.wgr_columns.specs.Decode.{tables_of}
 use Rattle.wgr_opening.specs.Good.{IsGood}
-use Rattle.wgr_file.specs.OnFiles.{AreThoseOf, EndsIn, HasEnded, IsClosedIn, IsClosedTo, IsMade, IsOpen, StandIn, Stays, StoodIn}
+use Rattle.wgr_file.specs.OnFiles.{AreThoseOf, EndsIn, HasEnded, IsClosedIn, IsClosedTo, IsMadeInFiles, IsOpen, StandIn, FilesStay, StoodIn}
 
 -- files that hold a good register are found to hold it
 held_is : (left db : Database) (next : Image) → IsGood left → ∥ HoldsDatabase next left.trees ∥₁ → StoodIn next db → db ≡ left
@@ -66,7 +66,7 @@ module _ {D : Type 0} {g : disk.Ghosts D} where
   closed_as conn register closed same is = subst (IsClosedTo g closed) same is
 
   pub stays : (conn left : Held (FileStore D g)) (start : Image) (closed : Option (Files D)) → (HasCleanDisk (file_state conn) → AreThoseOf start (file_state conn).now.trees)
-      → (HasCleanDisk (file_state left) → HasCleanDisk (file_state conn)) → IsKept (file_state conn) (file_state left) → IsClosedTo g closed left → Stays g start closed
+      → (HasCleanDisk (file_state left) → HasCleanDisk (file_state conn)) → IsKept (file_state conn) (file_state left) → IsClosedTo g closed left → FilesStay g start closed
   stays conn left start None those clean kept is = tt
   stays conn left start (Some files) those clean kept is = λ honest.
       let c = is honest in
@@ -87,7 +87,7 @@ module _ {D : Type 0} {g : disk.Ghosts D} where
   found_both conn left start (Some files) P Q those clean one other closed = λ honest. let now = (closed honest).clean in ((file_state conn).now, those (clean now), one now, other now)
 
   -- a register that was opened and closed as it was
-  pub stays_open : (register left : Held (FileStore D g)) (start : Image) (closed : Option (Files D)) → IsOpen start register → left ≡ register → IsClosedTo g closed left → Stays g start closed
+  pub stays_open : (register left : Held (FileStore D g)) (start : Image) (closed : Option (Files D)) → IsOpen start register → left ≡ register → IsClosedTo g closed left → FilesStay g start closed
   stays_open register left start None opened same is = tt
   stays_open register left start (Some files) opened same is = λ honest.
       let c = subst (IsClosedIn g files) same (is honest) in
@@ -98,7 +98,7 @@ module _ {D : Type 0} {g : disk.Ghosts D} where
 
   pub made : (conn register : Held (FileStore D g)) (start : Image) (closed : Option (Files D)) → (HasCleanDisk (file_state conn) → IsDatabase (file_state conn).now)
       → (HasCleanDisk (file_state conn) → AreThoseOf start (file_state conn).now.trees) → (HasCleanDisk (file_state register) → HasCleanDisk (file_state conn)) → (file_state conn).now.schema ≡ no_schema
-      → (HasCleanDisk (file_state register) → (db : Database) × IsFresh db × StandsAt over_files register db []) → IsClosedTo g closed register → IsMade g start closed
+      → (HasCleanDisk (file_state register) → (db : Database) × IsFresh db × StandsAt over_files register db []) → IsClosedTo g closed register → IsMadeInFiles g start closed
   made conn register start closed sound those clean blank fresh is = record {
     made = register;
     closed_to = is;
@@ -129,7 +129,7 @@ module _ {D : Type 0} {g : disk.Ghosts D} where
       let o = has.ends is.clean in
       let end = o.2 is.clean in
       let step = subst (λ (a : Answer). IsRowStep (tables_of o.0) (order_event order) a (tables_of end.2)) end.1 end.3 in
-      let at = subst (λ (a : Answer). EndsAt over_files has.left (is_change a (order_event order)) o.0 [] end.2) end.1 end.4 in
+      let at = subst (λ (a : Answer). StandsAfter over_files has.left (is_change a (order_event order)) o.0 [] end.2) end.1 end.4 in
       (o.0, o.1, end.2, step, stand_in has.left files end.2 [] is at)
   ends_in files start order (Err (order_fault.Refused why)) has honest =
       let is = has.closed_to honest in
@@ -140,7 +140,7 @@ module _ {D : Type 0} {g : disk.Ghosts D} where
       let o = has.ends is.clean in
       (o.0, o.1, stand_in has.left files o.0 (order_event order ∷ []) is o.2)
 
-  pub made_in : (files : Files D) (start : Image) → IsMade g start (Some files) → AreClean g files.log files.db → (db : Database) × StandIn g files db
+  pub made_in : (files : Files D) (start : Image) → IsMadeInFiles g start (Some files) → AreClean g files.log files.db → (db : Database) × StandIn g files db
   made_in files start has honest =
       let is = has.closed_to honest in
       let fresh = has.fresh is.clean in

@@ -16,7 +16,7 @@ use Rattle.wgr_register.specs.Standing.{StandsAt}
 use Rattle.wgr_register.specs.declared.fault.Done.{Done}
 use Rattle.wgr_register.specs.declared.fault.OrderFault.{OrderFault}
 use Rattle.wgr_opening.specs.Good.{IsGood}
-use Rattle.wgr_file.specs.OnFiles.{EndsIn, HasEnded, IsClosedIn, IsMade, StandIn, StoodIn}
+use Rattle.wgr_file.specs.OnFiles.{EndsIn, HasEnded, IsClosedIn, IsMadeInFiles, StandIn, StoodIn}
 
 -- an order that ended leaves its step's rows in the files
 abbrev pub OrdersEndInFiles : {D : Type 0} → disk.Ghosts D → Files D → Type 0
@@ -28,7 +28,7 @@ ClosedIsInFiles {D} g files = (left : Held (FileStore D g)) (db : Database) (lat
 
 -- a register that was made is in the files
 abbrev pub MadeIsInFiles : {D : Type 0} → disk.Ghosts D → Files D → Type 0
-MadeIsInFiles g files = (start : Image) → IsMade g start (Some files) → AreClean g files.log files.db → (db : Database) × StandIn g files db
+MadeIsInFiles g files = (start : Image) → IsMadeInFiles g start (Some files) → AreClean g files.log files.db → (db : Database) × StandIn g files db
 
 -- the register that a contract names is the one in the files
 abbrev pub FoundIsStored : Type 0

@@ -47,14 +47,14 @@ pub record WasBlank (start : Image) (db : Database) : Type 0 where
 
 -- Each image that the files have, as they read now and after any stop, holds these trees, and so does the file of
 -- the database without its log.
-abbrev pub Hold : {D : Type 0} → disk.Ghosts D → Files D → Trees → Type 0
-Hold g files trees = (image : Image) → outcomes g files.log files.db image → HoldsAlone image trees
+abbrev pub FilesHold : {D : Type 0} → disk.Ghosts D → Files D → Trees → Type 0
+FilesHold g files trees = (image : Image) → outcomes g files.log files.db image → HoldsAlone image trees
 
 -- the connection was open on a clean disk, and the files hold what it showed
 pub record IsClosedIn {D : Type 0} (g : disk.Ghosts D) (files : Files D) (left : Held (FileStore D g)) : Type 0 where
   pub clean : HasCleanDisk (file_state left)
   pub live : IsTrue (file_state left).is_open
-  pub holds : Hold g files (file_state left).now.trees
+  pub holds : FilesHold g files (file_state left).now.trees
 
 -- and so if files are given, and all calls on them were answered as by honest files
 abbrev pub IsClosedTo : {D : Type 0} (g : disk.Ghosts D) → Option (Files D) → Held (FileStore D g) → Type 0
@@ -63,11 +63,11 @@ IsClosedTo g closed left = IfSome closed (λ files. AreClean g files.log files.d
 -- the files hold a register whose rows are all good
 pub record StandIn {D : Type 0} (g : disk.Ghosts D) (files : Files D) (db : Database) : Type 0 where
   pub good : IsGood db
-  pub holds : Hold g files db.trees
+  pub holds : FilesHold g files db.trees
 
 -- they hold what they held
-abbrev pub Stays : {D : Type 0} → disk.Ghosts D → Image → Option (Files D) → Type 0
-Stays g start closed = IfSome closed (λ files. AreClean g files.log files.db → (trees : Trees) × AreThoseOf start trees × Hold g files trees)
+abbrev pub FilesStay : {D : Type 0} → disk.Ghosts D → Image → Option (Files D) → Type 0
+FilesStay g start closed = IfSome closed (λ files. AreClean g files.log files.db → (trees : Trees) × AreThoseOf start trees × FilesHold g files trees)
 
 -- the rows that they held are not those of a register of the first version
 abbrev pub WereForeign : {D : Type 0} → disk.Ghosts D → Image → Option (Files D) → Type 0
@@ -84,7 +84,7 @@ abbrev pub IsOpen : {D : Type 0} {g : disk.Ghosts D} → Image → Held (FileSto
 IsOpen start register = HasCleanDisk (file_state register) → (db : Database) × StoodIn start db × StandsAt over_files register db []
 
 -- a register without entries was made in files that held no table
-pub record IsMade {D : Type 0} (g : disk.Ghosts D) (start : Image) (closed : Option (Files D)) : Type 0 where
+pub record IsMadeInFiles {D : Type 0} (g : disk.Ghosts D) (start : Image) (closed : Option (Files D)) : Type 0 where
   pub made : Held (FileStore D g)
   pub closed_to : IsClosedTo g closed made
   pub blank : HasCleanDisk (file_state made) → (db : Database) × WasBlank start db

@@ -1,7 +1,7 @@
 //! A register that is found or made in files, and closed.
 ghost use Rattle.std.specs.Prelude.{◌≡◌, Err, IfErr, IfOk, None};
 ghost use Rattle.sqlite.specs.WalFiles.{image_at};
-ghost use Rattle.wgr_file.specs.OnFiles.{IsClosedTo, IsMade, IsOpen, Stays, WereForeign, WereNotGood};
+ghost use Rattle.wgr_file.specs.OnFiles.{IsClosedTo, IsMadeInFiles, IsOpen, FilesStay, WereForeign, WereNotGood};
 ghost use Rattle.wgr_schema.specs.declared.fault.RegisterFault.TheVariants.{NotARegister, NotEmpty, NotGood};
 
 use crate::database::{self, Closed};
@@ -24,7 +24,7 @@ pub fn open_register<S: Start>(
     start: S,
 ) -> Result<Register<FileStore<FileFrom<S>>>, Unopened<S>>
     ensures open { IfOk result (IsOpen (image_at S.Start)) }
-    ensures kept { IfErr result (λ e. Stays ⟦<FileFrom<S> as Disk>⟧ (image_at S.Start) e.files) }
+    ensures kept { IfErr result (λ e. FilesStay ⟦<FileFrom<S> as Disk>⟧ (image_at S.Start) e.files) }
     ensures foreign { IfErr result (λ e. e.fault ≡ NotARegister → WereForeign ⟦<FileFrom<S> as Disk>⟧ (image_at S.Start) e.files) }
     ensures bad { IfErr result (λ e. e.fault ≡ NotGood → WereNotGood ⟦<FileFrom<S> as Disk>⟧ (image_at S.Start) e.files) }
     ensures taken { IfErr result (λ e. e.fault ≡ NotEmpty → ⊥) }
@@ -50,8 +50,8 @@ pub fn make_register<S: Start>(
     path: &str,
     start: S,
 ) -> Result<Closed<S>, Unopened<S>>
-    ensures made { IfOk result (IsMade ⟦<FileFrom<S> as Disk>⟧ (image_at S.Start)) }
-    ensures kept { IfErr result (λ e. Stays ⟦<FileFrom<S> as Disk>⟧ (image_at S.Start) e.files) }
+    ensures made { IfOk result (IsMadeInFiles ⟦<FileFrom<S> as Disk>⟧ (image_at S.Start)) }
+    ensures kept { IfErr result (λ e. FilesStay ⟦<FileFrom<S> as Disk>⟧ (image_at S.Start) e.files) }
     ensures good { IfErr result (λ e. e.fault ≡ NotGood → ⊥) }
 {
     let conn = match database::make(rt, path, start) {

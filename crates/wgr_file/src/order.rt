@@ -1,7 +1,7 @@
 //! An order of the operator on the register in files.
 ghost use Rattle.std.specs.Prelude.{◌≡◌, IfErr, IfOk};
 ghost use Rattle.sqlite.specs.WalFiles.{image_at};
-ghost use Rattle.wgr_file.specs.OnFiles.{HasEnded, Stays, WereForeign, WereNotGood};
+ghost use Rattle.wgr_file.specs.OnFiles.{HasEnded, FilesStay, WereForeign, WereNotGood};
 ghost use Rattle.wgr_schema.specs.declared.fault.RegisterFault.TheVariants.{NotARegister, NotEmpty, NotGood};
 
 use crate::database::Closed;
@@ -19,7 +19,7 @@ pub fn operate<S: Start>(
     order: &Order,
 ) -> Result<(Result<Done, OrderFault>, Closed<S>), Unopened<S>>
     ensures ended { IfOk result (λ r. HasEnded ⟦<FileFrom<S> as Disk>⟧ (image_at S.Start) r.1 order.now r.0) }
-    ensures kept { IfErr result (λ e. Stays ⟦<FileFrom<S> as Disk>⟧ (image_at S.Start) e.files) }
+    ensures kept { IfErr result (λ e. FilesStay ⟦<FileFrom<S> as Disk>⟧ (image_at S.Start) e.files) }
     ensures foreign { IfErr result (λ e. e.fault ≡ NotARegister → WereForeign ⟦<FileFrom<S> as Disk>⟧ (image_at S.Start) e.files) }
     ensures bad { IfErr result (λ e. e.fault ≡ NotGood → WereNotGood ⟦<FileFrom<S> as Disk>⟧ (image_at S.Start) e.files) }
     ensures taken { IfErr result (λ e. e.fault ≡ NotEmpty → ⊥) }

@@ -32,7 +32,7 @@ use Rattle.wgr_tables.proofs.SameBytes.{same_is}
 use Rattle.wgr_columns.specs.Decode.{tables_of}
 use Rattle.wgr_tables.specs.Writes.{Replaced, Written}
 use Rattle.wgr_register.specs.Ends.{CommitsIf, EndsWith, FailsIf, IsFound}
-use Rattle.wgr_register.specs.Given.{GivenValue, IsShown, reply_given}
+use Rattle.wgr_register.specs.Given.{GivenValue, ShowsAnswer, reply_given}
 use Rattle.wgr_register.specs.Standing.{AreSteps, StandsAt}
 use Rattle.wgr_register.proofs.GivenLemmas.{reply_gives}
 use Rattle.wgr_register.proofs.StandLemmas.{changed_at, ends_still, steps_late}
@@ -143,9 +143,9 @@ module _ {S : Type 0} (g : Ghosts S) (shown : GivenValue → Bytes) (conn : Held
   event = Ask digest name now command
 
   pub acts_done : (change : Option Change) (text : Bytes) → is_some change ≡ not (is_reading command) → Meets n (Ok (reply, change)) (outcome_of n now command) → option_map shown (reply_given now n reply) ≡ Some text
-      → CommitsIf g conn db pending id (holding_of (tables_of db) found.row).network change → EndsWith g conn db late event (IsShown shown now text)
+      → CommitsIf g conn db pending id (holding_of (tables_of db) found.row).network change → EndsWith g conn db late event (ShowsAnswer shown now text)
   acts_done None text reads meets told stands clean =
-      ends_still g conn db late event (IsShown shown now text) (Replied reply n) (sym reads) (record { pending = pending; stands = stands; consistent = consistent; steps = steps }) told (read_rows (tables_of db) consistent digest name now command id n found reply meets) clean
+      ends_still g conn db late event (ShowsAnswer shown now text) (Replied reply n) (sym reads) (record { pending = pending; stands = stands; consistent = consistent; steps = steps }) told (read_rows (tables_of db) consistent digest name now command id n found reply meets) clean
   acts_done (Some change) text reads meets told done clean =
       let next = done.0 in
       let step = changed_rows (tables_of db) consistent digest name now command id n found (tables_of next) reply change meets done.1.made in (

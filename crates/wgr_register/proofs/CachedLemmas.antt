@@ -1,5 +1,5 @@
 -- Servers' files that stay in memory.
-use Rattle.std.proofs.Common.{◌≡◌, ℕ, true, false, not, List, [], ◌∷◌, ◌++◌, Option, Some, None, Ok, cond, filter, nat_eq, is_some, flat_map, refl, sym, ap, ap₂, subst, ◌∙◌, arith, inl, inr, true≢false, eqb-true}
+use Rattle.std.proofs.Common.{◌≡◌, ℕ, true, false, not, List, [], ◌∷◌, ◌++◌, Some, cond, filter, nat_eq, is_some, flat_map, refl, sym, ap, ap₂, subst, ◌∙◌, arith, inl, inr, true≢false, eqb-true}
 use Rattle.std.specs.List.{IsDistinct}
 use Rattle.std.specs.Map.{keys_of, lookup, remove_entry}
 use Rattle.std.proofs.lemmas.List.Elements.{filter-append}
@@ -8,31 +8,15 @@ use Rattle.wgr_conf.specs.Files.{peer_section, server_config, server_interface}
 use Rattle.wgr_core.specs.Network.{NetworkValue}
 use Rattle.wgr_core.specs.declared.form.Form.{Form}
 use Rattle.wgr_core.specs.declared.form.Form.TheVariants.{Quick, Wg}
-use Rattle.wgr_model.specs.Rows.{IsFormed, Tables, holding_of}
+use Rattle.wgr_model.specs.Rows.{IsFormed, Tables}
 use Rattle.wgr_model.proofs.GatherLemmas.{eqb_self}
 use Rattle.wgr_peers.specs.declared.peer.Peer.{Peer}
 use Rattle.wgr_peers.specs.Limits.{is_expired}
 use Rattle.wgr_peers.specs.Peers.{is_live, peer_of}
 use Rattle.wgr_peers.specs.Routes.{routes_to}
 use Rattle.wgr_register.specs.Cached.{AreCurrent, AreOthersCurrent, Cached, IsCurrent, file_key}
-use Rattle.wgr_register.specs.Loaded.{Shows}
 use Rattle.wgr_register.specs.declared.kept_file.KeptFile.{KeptFile}
-use Rattle.sqlite.specs.Effect.{Database}
-use Rattle.sqlite.specs.Held.{Held}
-use Rattle.sqlite.specs.Store.{Ghosts}
-use Rattle.wgr_columns.specs.Decode.{tables_of}
-use Rattle.wgr_core.specs.Change.{Meets}
-use Rattle.wgr_core.specs.Outcome.{outcome_of}
-use Rattle.wgr_core.specs.declared.change.Change.{Change}
-use Rattle.wgr_core.specs.declared.command.Command.{Command}
-use Rattle.wgr_core.specs.declared.reply.Reply.{Reply}
-use Rattle.wgr_model.specs.Register.{Bytes}
-use Rattle.wgr_model.specs.RowLaws.{AreConsistent}
-use Rattle.wgr_model.specs.Steps.{IsProperCommand}
-use Rattle.wgr_tables.specs.Writes.{Written}
-use Rattle.wgr_register.specs.Ends.{CommitsIf, IsFound}
 use Rattle.wgr_register.proofs.CacheLemmas.{found_put, found_rest}
-use Rattle.wgr_register.proofs.LoadedLemmas.{changed_other, shown_so}
 
 -- ---- keys
 
@@ -93,16 +77,3 @@ steady_push m now peers p so_far same =
 pub same_config : (n : NetworkValue) (m now : ℕ) (form : Form) → filter (is_live m) n.peers ≡ filter (is_live now) n.peers → server_config n m form ≡ server_config n now form
 same_config n m now form same =
     ap (λ (peers : List Peer). server_interface n form ++ flat_map (λ p. peer_section p (routes_to (filter (λ r. is_some (peer_of peers r.1)) n.routes) p.number)) peers) same
-
--- ---- what the connection shows
-
-module _ {S : Type 0} (g : Ghosts S) (conn : Held S) (db : Database) (pending : List Written) (consistent : AreConsistent (tables_of db)) (digest name : Bytes) (now : ℕ) (command : Command) (proper : IsProperCommand command) (id : ℕ) (n : NetworkValue)
-    (found : IsFound (tables_of db) digest name id n) (reply : Reply) (files kept : Cached) (current : AreCurrent files (tables_of db)) where
-  -- the files that are kept once the change, if there is one, is committed
-  pub current_so : (change : Option Change) → Meets n (Ok (reply, change)) (outcome_of n now command) → CommitsIf g conn db pending id (holding_of (tables_of db) found.row).network change
-      → (is_some change ≡ false → kept ≡ files) → (is_some change ≡ true → (t : Tables) → AreOthersCurrent id files t → AreCurrent kept t) → Shows g conn (AreCurrent kept)
-  current_so None meets stands same drops = shown_so g conn db pending (AreCurrent kept) stands (subst (λ (l : Cached). AreCurrent l (tables_of db)) (sym (same refl)) current)
-  current_so (Some change) meets done same drops =
-      let next = done.0 in
-      shown_so g conn next [] (AreCurrent kept) done.2
-      (drops refl (tables_of next) (others_after id files (tables_of db) (tables_of next) (changed_other (tables_of db) (tables_of next) consistent digest name now command proper id n found reply change meets done.1.made) current))

@@ -8,6 +8,7 @@ pub mod CacheLemmas
 pub mod LoadedLemmas
 pub mod CachedLemmas
 pub mod KnownLemmas
+pub mod MemoryLemmas
 pub mod StayLemmas
 pub mod CauseLemmas
 pub mod OrderCauses

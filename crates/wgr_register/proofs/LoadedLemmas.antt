@@ -1,6 +1,7 @@
 -- The networks that a register keeps in memory, after what a call does to them and to the rows.
-use Rattle.std.proofs.Common.{◌≡◌, ℕ, false, List, [], Option, Some, None, Result, Ok, Err, IsErrAnd, IsTrue, IsPermutation, map, nat_eq, sym, ap, subst, ◌∙◌, true≢false, inl, inr}
-use Rattle.std.specs.Map.{remove_entry}
+use Rattle.std.proofs.Common.{◌≡◌, ℕ, false, List, [], Some, Result, Ok, Err, IsErrAnd, IsTrue, IsPermutation, map, nat_eq, sym, ap, subst, ◌∙◌, true≢false, inl, inr}
+use Rattle.std.specs.List.{IsDistinct}
+use Rattle.std.specs.Map.{keys_of, remove_entry}
 use Rattle.std.specs.declared.vec.Vec.{Vec}
 use Rattle.std.specs.declared.alloc.Global.{Global}
 use Rattle.lru.specs.LruCache.{LruCache, put_entries}
@@ -9,7 +10,7 @@ use Rattle.sqlite.specs.State.{HasCleanDisk}
 use Rattle.sqlite.specs.Store.{Ghosts}
 use Rattle.sqlite.specs.Held.{Held, state}
 use Rattle.wgr_core.specs.Network.{NetworkValue}
-use Rattle.wgr_core.specs.Change.{Meets, applied, applied_if}
+use Rattle.wgr_core.specs.Change.{Meets, applied}
 use Rattle.wgr_core.specs.Outcome.{outcome_of}
 use Rattle.wgr_core.specs.declared.change.Change.{Change}
 use Rattle.wgr_core.specs.declared.command.Command.{Command}
@@ -32,17 +33,14 @@ use Rattle.wgr_columns.specs.Decode.{tables_of}
 use Rattle.wgr_entries.specs.Lookups.{IsSlotOf}
 use Rattle.wgr_tables.specs.Standing.{Stands}
 use Rattle.wgr_tables.specs.Writes.{Written}
-use Rattle.wgr_register.specs.Ends.{CommitsIf, IsFound}
+use Rattle.wgr_register.specs.Ends.{IsFound}
 use Rattle.wgr_register.specs.Loaded.{AreFormed, AreOthersFormed, Loaded, Shows, UnlessFault}
 use Rattle.wgr_register.specs.declared.fault.AskFault.{AskFault}
 use Rattle.wgr_register.specs.declared.fault.AskFault.TheVariants as fault
-use Rattle.wgr_register.proofs.CacheLemmas.{apart, found_put, lookup_rest}
+use Rattle.wgr_register.proofs.CacheLemmas.{found_put, found_rest}
 use Rattle.wgr_register.proofs.AskLemmas.{act_done, changed_rows, one_row}
 
 -- ---- one is taken, and one is kept
-
-pub others_left : (id : ℕ) (loaded : Loaded) (t : Tables) → AreFormed loaded t → AreOthersFormed id (remove_entry (nat_eq id) loaded) t
-others_left id loaded t formed other n off found = formed other n (sym (lookup_rest (nat_eq id) (nat_eq other) (apart id other off) loaded) ∙ found)
 
 pub formed_others : (id : ℕ) (loaded : Loaded) (t : Tables) → AreFormed loaded t → AreOthersFormed id loaded t
 formed_others id loaded t formed other n off found = formed other n found
@@ -52,6 +50,9 @@ put_formed c id n t others own other m found = elim (found_put c id n other m fo
   | inl same ↦ subst (λ i. IsFormed t i m) same.0 (subst (IsFormed t id) same.1 own)
   | inr was ↦ others other m was.0 was.1
 ]
+
+pub rest_formed : (id : ℕ) (loaded : Loaded) (t : Tables) → IsDistinct nat_eq (keys_of loaded) → AreOthersFormed id loaded t → AreFormed (remove_entry (nat_eq id) loaded) t
+rest_formed id loaded t distinct others other n found = let was = found_rest id other loaded distinct n found in others other n was.0 was.1
 
 pub none_formed : (t : Tables) → AreFormed [] t
 none_formed t id n found = cc
@@ -107,9 +108,6 @@ module _ (t u : Tables) (is : AreConsistent t) (digest name : Bytes) (now : ℕ)
       let formed = formed_after (holding_of t v.0) (put_other (holding_of t w) after held (holding_of t v.0) (is_held v.0 v.1) apart) in
       subst (λ i. IsFormed u i m) v.2 (subst (IsFormed u v.0.id) (sym v.3) formed)
 
-  pub changed_others : (loaded : Loaded) → AreOthersFormed id loaded t → AreOthersFormed id loaded u
-  changed_others loaded others other m off there = changed_other other m off (others other m off there)
-
 pub found_formed : (t : Tables) (digest name : Bytes) (id : ℕ) (n : NetworkValue) → IsFound t digest name id n → IsFormed t id n
 found_formed t digest name id n found = (found.row, found.there, found.at, found.value)
 
@@ -162,16 +160,3 @@ module _ {S : Type 0} (g : Ghosts S) where
   shows_if (Err fault.UnknownToken) conn P shows = λ clean live. shows clean clean live
   shows_if (Err fault.NoSuchNetwork) conn P shows = λ clean live. shows clean clean live
   shows_if (Err (fault.Fault why)) conn P shows = tt
-
-  module _ (conn : Held S) (db : Database) (pending : List Written) (consistent : AreConsistent (tables_of db)) (digest name : Bytes) (now : ℕ) (command : Command) (proper : IsProperCommand command) (id : ℕ) (n : NetworkValue)
-      (found : IsFound (tables_of db) digest name id n) (reply : Reply) (loaded kept : Loaded) (others : AreOthersFormed id loaded (tables_of db)) where
-    -- the networks that are kept once the change, if there is one, is committed
-    pub committed_so : (change : Option Change) → Meets n (Ok (reply, change)) (outcome_of n now command) → CommitsIf g conn db pending id (holding_of (tables_of db) found.row).network change
-        → ((t : Tables) → AreOthersFormed id loaded t → IsFormed t id (applied_if change n) → AreFormed kept t) → Shows g conn (AreFormed kept)
-    committed_so None meets stands keeps = shown_so conn db pending (AreFormed kept) stands (keeps (tables_of db) others (found_formed (tables_of db) digest name id n found))
-    committed_so (Some change) meets done keeps =
-        let next = done.0 in
-        let replaces = done.1.made in
-        shown_so conn next [] (AreFormed kept) done.2
-        (keeps (tables_of next) (changed_others (tables_of db) (tables_of next) consistent digest name now command proper id n found reply change meets replaces loaded others)
-        (changed_own (tables_of db) (tables_of next) consistent digest name now command proper id n found reply change meets replaces))

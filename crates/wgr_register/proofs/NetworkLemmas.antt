@@ -21,7 +21,7 @@ use Rattle.wgr_entries.specs.OrderSteps.{new_row}
 use Rattle.wgr_entries.specs.Lookups.{settled}
 use Rattle.wgr_tables.specs.Writes.{Changes, NetworkGained}
 use Rattle.wgr_register.proofs.AskLemmas.{still}
-use Rattle.wgr_register.specs.Ends.{Admits}
+use Rattle.wgr_register.specs.Ends.{AdmitsNetwork}
 use Rattle.wgr_register.specs.declared.fault.OrderFault.{OrderFault}
 
 module _ (t : Tables) where
@@ -113,6 +113,6 @@ module _ (t : Tables) (is : AreConsistent t) (tenant name : Bytes) (s : Settings
 
 -- of other lists that are equal
 pub admits_by : (ts us : List Tenant) (hs ks : List Holding) (id : ℕ) (name : Bytes) (s : Settings) (r : Result ℕ OrderFault) → ts ≡ us → hs ≡ ks
-    → Admits (record { tenants = ts; tokens = []; networks = hs }) id name s r → Admits (record { tenants = us; tokens = []; networks = ks }) id name s r
+    → AdmitsNetwork (record { tenants = ts; tokens = []; networks = hs }) id name s r → AdmitsNetwork (record { tenants = us; tokens = []; networks = ks }) id name s r
 admits_by ts us hs ks id name s r same alike is =
-    subst (λ (x : List Tenant). Admits (record { tenants = x; tokens = []; networks = ks }) id name s r) same (subst (λ (x : List Holding). Admits (record { tenants = ts; tokens = []; networks = x }) id name s r) alike is)
+    subst (λ (x : List Tenant). AdmitsNetwork (record { tenants = x; tokens = []; networks = ks }) id name s r) same (subst (λ (x : List Holding). AdmitsNetwork (record { tenants = ts; tokens = []; networks = x }) id name s r) alike is)

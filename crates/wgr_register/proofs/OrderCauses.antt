@@ -9,7 +9,7 @@ use Rattle.wgr_sql.specs.declared.fault.Fault.{Fault}
 use Rattle.wgr_sql.specs.declared.fault.Fault.TheVariants.{NoMemory, Store}
 use Rattle.wgr_sql.proofs.CauseLemmas.{cause_after, hindered_after}
 use Rattle.wgr_register.specs.Causes.{IfOrderFault}
-use Rattle.wgr_register.specs.Ends.{Admits}
+use Rattle.wgr_register.specs.Ends.{AdmitsNetwork}
 use Rattle.wgr_register.specs.declared.fault.Done.{Done}
 use Rattle.wgr_register.specs.declared.fault.OrderFault.{OrderFault}
 use Rattle.wgr_register.specs.declared.fault.OrderFault.TheVariants as order_fault
@@ -38,7 +38,7 @@ module _ (P : Type 0) (old mid new : State) (r : Result Done OrderFault) (why : 
 
 -- it isn't admitted: that is a refusal, or want of memory
 pub admitted_stops : (P : Type 0) (old new : State) (r : Result Done OrderFault) (why : OrderFault) → IsErrAnd r (λ e. e ≡ why) → (register : Register) (tenant : ℕ) (name : Bytes) (settings : Settings)
-    → Admits register tenant name settings (Err why) → IfOrderFault (HasCauseOr P old new) r
+    → AdmitsNetwork register tenant name settings (Err why) → IfOrderFault (HasCauseOr P old new) r
 admitted_stops P old new r (order_fault.Fault why) is register tenant name settings admits = order_handed (HasCauseOr P old new) r why is (subst (HasCauseOr P old new) (sym admits) tt)
 admitted_stops P old new (Ok done) (order_fault.Refused why) is register tenant name settings admits = tt
 admitted_stops P old new (Err (order_fault.Refused other)) (order_fault.Refused why) is register tenant name settings admits = tt

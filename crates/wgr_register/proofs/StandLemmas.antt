@@ -28,7 +28,7 @@ use Rattle.wgr_tables.specs.Standing.{IsDone, Stands}
 use Rattle.wgr_tables.specs.Writes.{Changes, Written}
 use Rattle.wgr_rows.specs.declared.fault.RowFault.{RowFault}
 use Rattle.wgr_rows.specs.declared.fault.RowFault.TheVariants as on_rows
-use Rattle.wgr_register.specs.Ends.{AskEnds, EndsAt, EndsStill, EndsWith, OrderEnds, ask_fault, is_change, row_fault}
+use Rattle.wgr_register.specs.Ends.{AskEnds, StandsAfter, EndsStill, EndsWith, OrderEnds, ask_fault, is_change, row_fault}
 use Rattle.wgr_register.specs.Given.{GivenValue}
 use Rattle.wgr_register.specs.Standing.{AreSteps, StandsAt}
 use Rattle.wgr_register.specs.declared.fault.AskFault.{AskFault}
@@ -78,7 +78,7 @@ module _ {S : Type 0} (g : Ghosts S) where
   pub at_more : (conn : Held S) (db : Database) (late : List Event) (event : Event) → StandsAt g conn db late → StandsAt g conn db (event ∷ late)
   at_more conn db late event at = record { pending = at.pending; stands = at.stands; consistent = at.consistent; steps = steps_more (tables_of db) at.pending late event at.steps }
 
-  still_at : (conn : Held S) (db : Database) (late : List Event) (b : Bool) → b ≡ false → StandsAt g conn db late → EndsAt g conn b db late db
+  still_at : (conn : Held S) (db : Database) (late : List Event) (b : Bool) → b ≡ false → StandsAt g conn db late → StandsAfter g conn b db late db
   still_at conn db late true is at = absurd (true≢false is)
   still_at conn db late false is at = (refl, at)
 
@@ -88,12 +88,12 @@ module _ {S : Type 0} (g : Ghosts S) where
   ends_still conn db late event P answer reads at holds step clean = (answer, holds, db, step, still_at conn db late (is_change answer event) reads at)
 
   -- a change
-  pub changed_at : (conn : Held S) (db next : Database) (late : List Event) (b : Bool) → b ≡ true → StandsAt g conn next [] → EndsAt g conn b db late next
+  pub changed_at : (conn : Held S) (db next : Database) (late : List Event) (b : Bool) → b ≡ true → StandsAt g conn next [] → StandsAfter g conn b db late next
   changed_at conn db next late true is at = at
   changed_at conn db next late false is at = absurd (true≢false (sym is))
 
   -- in one of two ways, whichever it was
-  pub either_way : (conn : Held S) (db next : Database) (late : List Event) (b : Bool) → EndsAt g conn b db late next → StandsAt g conn next [] ⊎ ((next ≡ db) × StandsAt g conn db late)
+  pub either_way : (conn : Held S) (db next : Database) (late : List Event) (b : Bool) → StandsAfter g conn b db late next → StandsAt g conn next [] ⊎ ((next ≡ db) × StandsAt g conn db late)
   either_way conn db next late true at = inl at
   either_way conn db next late false at = inr at
 

@@ -1,7 +1,5 @@
 -- Networks that stay in memory across an order.
 use Rattle.std.proofs.Common.{◌≡◌, ℕ, Bool, false, not, List, [], ◌∷◌, Option, Some, None, Result, Ok, Err, IsTrue, IsErrAnd, map, nat_eq, sym, ap, subst, ◌∙◌, inl, inr, true≢false}
-use Rattle.std.specs.List.{IsDistinct}
-use Rattle.std.specs.Map.{keys_of, remove_entry}
 use Rattle.sqlite.specs.Effect.{Database}
 use Rattle.sqlite.specs.Held.{Held, state}
 use Rattle.sqlite.specs.State.{HasCleanDisk}
@@ -21,18 +19,15 @@ use Rattle.wgr_model.proofs.RowRunLemmas.{row_step}
 use Rattle.wgr_model.proofs.SameLemmas.{slot_sym}
 use Rattle.wgr_columns.specs.Decode.{tables_of}
 use Rattle.wgr_entries.specs.Lookups.{IsSlotOf}
-use Rattle.wgr_register.specs.Ends.{EndsAt, OrderEnds, is_change}
-use Rattle.wgr_register.specs.Loaded.{AreFormed, AreOthersFormed, Loaded, Shows, UnlessUndone}
+use Rattle.wgr_register.specs.Ends.{StandsAfter, OrderEnds, is_change}
+use Rattle.wgr_register.specs.Loaded.{Shows, UnlessUndone}
 use Rattle.wgr_register.specs.declared.fault.Done.{Done}
 use Rattle.wgr_register.specs.declared.fault.OrderFault.{OrderFault}
 use Rattle.wgr_register.specs.declared.fault.OrderFault.TheVariants as order_fault
 use Rattle.wgr_sql.specs.declared.fault.Fault.{Fault}
-use Rattle.wgr_register.specs.Cached.{AreCurrent, Cached}
-use Rattle.wgr_register.proofs.CacheLemmas.{found_rest}
-use Rattle.wgr_register.proofs.CachedLemmas.{current_after}
-use Rattle.wgr_outline.specs.declared.outline.Outline.{Outline}
-use Rattle.wgr_opening.specs.Outlines.{AreOutlines}
-use Rattle.wgr_register.proofs.KnownLemmas.{outlines_after}
+use Rattle.wgr_register.specs.Memory.{EndsNone, IsMemoryOf}
+use Rattle.wgr_register.specs.declared.memory.Memory.{Memory}
+use Rattle.wgr_register.proofs.MemoryLemmas.{memory_after}
 use Rattle.wgr_register.proofs.LoadedLemmas.{formed_in, known_so, shown_so}
 use Rattle.wgr_tables.specs.Standing.{Stands}
 use Rattle.wgr_tables.specs.Writes.{Written}
@@ -55,20 +50,7 @@ undone_then (Ok done) P Q next holds = next holds
 undone_then (Err (order_fault.Refused why)) P Q next holds = next holds
 undone_then (Err (order_fault.Fault why)) P Q next holds = tt
 
--- ---- one is dropped
-
-pub rest_formed : (id : ℕ) (loaded : Loaded) (t : Tables) → IsDistinct nat_eq (keys_of loaded) → AreOthersFormed id loaded t → AreFormed (remove_entry (nat_eq id) loaded) t
-rest_formed id loaded t distinct others other n found = let was = found_rest id other loaded distinct n found in others other n was.0 was.1
-
 -- ---- which networks an order leaves
-
--- an order that ends no network
-abbrev pub EndsNone : Event → Type 0
-EndsNone (AddTenant name) = Unit {0}
-EndsNone (Grant tenant digest) = Unit {0}
-EndsNone (EndToken digest) = Unit {0}
-EndsNone (AddNetwork tenant name settings) = Unit {0}
-EndsNone event = ⊥
 
 either : (o : Option OrderRefusal) (r s : Register) (h : Holding) → Has r.networks h → Has s.networks h → Has (given o r s).1.networks h
 either (Some why) r s h before after = before
@@ -132,7 +114,7 @@ module _ {S : Type 0} (g : Ghosts S) where
       (undone_then r (IsTrue (state g old).is_open) (Shows g new Q) (λ was_live. next (known_so g old db pending P stands shows before was_live)) open_)
 
 module _ {S : Type 0} (g : Ghosts S) (conn : Held S) (db : Database) (late : List Event) where
-  pub at_next : (next : Database) (b : Bool) → EndsAt g conn b db late next → HasCleanDisk (state g conn) → IsTrue (state g conn).is_open → (state g conn).now ≡ next
+  pub at_next : (next : Database) (b : Bool) → StandsAfter g conn b db late next → HasCleanDisk (state g conn) → IsTrue (state g conn).is_open → (state g conn).now ≡ next
   at_next next b at clean live = elim (either_way g conn db next late b at) [
     | inl there ↦ there.stands.shows clean live
     | inr same ↦ same.1.stands.shows clean live ∙ sym same.0
@@ -148,11 +130,5 @@ module _ {S : Type 0} (g : Ghosts S) (conn : Held S) (db : Database) (late : Lis
     shown_after event (Err (order_fault.Fault why)) ends after before = tt
 
   module _ (consistent : AreConsistent (tables_of db)) (event : Event) (proper : IsProper event) (none : EndsNone event) (r : Result Done OrderFault) (ends : OrderEnds g conn db late event r) where
-    pub stay_shown : (loaded : Loaded) → AreFormed loaded (tables_of db) → UnlessUndone r (Shows g conn (AreFormed loaded))
-    stay_shown loaded formed = shown_after (AreFormed loaded) event r ends (λ answer u step other n found. one_stays (tables_of db) u consistent event proper answer step none other n (formed other n found)) formed
-
-    pub files_shown : (files : Cached) → AreCurrent files (tables_of db) → UnlessUndone r (Shows g conn (AreCurrent files))
-    files_shown files current = shown_after (AreCurrent files) event r ends (λ answer u step. current_after files (tables_of db) u (one_stays (tables_of db) u consistent event proper answer step none) current) current
-
-    pub outlines_shown : (known : ℕ → Option Outline) → AreOutlines known (tables_of db) → UnlessUndone r (Shows g conn (AreOutlines known))
-    outlines_shown known are = shown_after (AreOutlines known) event r ends (λ answer u step. outlines_after known (tables_of db) u (one_stays (tables_of db) u consistent event proper answer step none) are) are
+    pub memory_shown : (m : Memory) → IsMemoryOf m (tables_of db) → UnlessUndone r (Shows g conn (IsMemoryOf m))
+    memory_shown m is = shown_after (IsMemoryOf m) event r ends (λ answer u step. memory_after m (tables_of db) u (one_stays (tables_of db) u consistent event proper answer step none) is) is

@@ -7,7 +7,7 @@ use Rattle.wgr_core.specs.Network.{NetworkValue}
 use Rattle.wgr_core.specs.declared.form.Form.{Form}
 use Rattle.wgr_core.specs.declared.form.Form.TheVariants.{Quick, Wg}
 use Rattle.wgr_model.specs.Rows.{IsFormed, Tables}
-use Rattle.wgr_register.specs.Moments.{IsWithin}
+use Rattle.wgr_register.specs.Moments.{IsInSpan}
 use Rattle.wgr_register.specs.declared.kept_file.KeptFile.{KeptFile}
 
 -- files by the keys of their networks and forms
@@ -24,7 +24,7 @@ file_key id Quick = id * 2 + 1
 
 -- the file of the network that the rows of this id form, at each of its moments
 abbrev pub IsCurrent : Tables → ℕ → Form → KeptFile → Type 0
-IsCurrent t id form e = (n : NetworkValue) × IsFormed t id n × ((m : ℕ) → IsWithin e.moments m → e.text.items ≡ server_config n m form)
+IsCurrent t id form e = (n : NetworkValue) × IsFormed t id n × ((m : ℕ) → IsInSpan e.moments m → e.text.items ≡ server_config n m form)
 
 -- each file that is found is current
 abbrev pub AreCurrent : Cached → Tables → Type 0

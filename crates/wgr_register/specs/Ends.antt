@@ -25,7 +25,7 @@ use Rattle.wgr_rows.specs.declared.fault.RowFault.{RowFault}
 use Rattle.wgr_rows.specs.declared.fault.RowFault.TheVariants as on_rows
 use Rattle.wgr_tables.specs.Standing.{IsDone, Stands}
 use Rattle.wgr_tables.specs.Writes.{Replaced, Written}
-use Rattle.wgr_register.specs.Given.{GivenValue, IsShown}
+use Rattle.wgr_register.specs.Given.{GivenValue, ShowsAnswer}
 use Rattle.wgr_register.specs.Standing.{StandsAt}
 use Rattle.wgr_register.specs.declared.fault.AskFault.{AskFault}
 use Rattle.wgr_register.specs.declared.fault.AskFault.TheVariants as fault
@@ -40,13 +40,13 @@ is_change answered.Done event = true
 is_change answer event = false
 
 -- A change that is done is acknowledged, so no event is late any more; else all is as it was.
-abbrev pub EndsAt : {S : Type 0} → Ghosts S → Held S → Bool → Database → List Event → Database → Type 0
-EndsAt g conn true db late next = StandsAt g conn next []
-EndsAt g conn false db late next = (next ≡ db) × StandsAt g conn db late
+abbrev pub StandsAfter : {S : Type 0} → Ghosts S → Held S → Bool → Database → List Event → Database → Type 0
+StandsAfter g conn true db late next = StandsAt g conn next []
+StandsAfter g conn false db late next = (next ≡ db) × StandsAt g conn db late
 
 -- the event is a step with an answer like this
 abbrev pub EndsWith : {S : Type 0} → Ghosts S → Held S → Database → List Event → Event → (Answer → Type 0) → Type 0
-EndsWith g conn db late event P = HasCleanDisk (state g conn) → (answer : Answer) × P answer × (next : Database) × IsRowStep (tables_of db) event answer (tables_of next) × EndsAt g conn (is_change answer event) db late next
+EndsWith g conn db late event P = HasCleanDisk (state g conn) → (answer : Answer) × P answer × (next : Database) × IsRowStep (tables_of db) event answer (tables_of next) × StandsAfter g conn (is_change answer event) db late next
 
 -- the event is a step with this answer that leaves every row, and all is as it was
 abbrev pub EndsStill : {S : Type 0} → Ghosts S → Held S → Database → List Event → Event → Answer → Type 0
@@ -58,7 +58,7 @@ EndsLate g conn db late event = StandsAt g conn db (event ∷ late)
 
 -- how a request ends: with a text that shows its answer, with a refusal, or with a fault
 abbrev pub AskEnds : {S : Type 0} → Ghosts S → (GivenValue → Bytes) → Held S → Database → List Event → Event → ℕ → Result (Vec ℕ Global) AskFault → Type 0
-AskEnds g shown conn db late event now (Ok text) = EndsWith g conn db late event (IsShown shown now text.items)
+AskEnds g shown conn db late event now (Ok text) = EndsWith g conn db late event (ShowsAnswer shown now text.items)
 AskEnds g shown conn db late event now (Err (fault.Refused why)) = EndsStill g conn db late event (Declined why)
 AskEnds g shown conn db late event now (Err fault.UnknownToken) = EndsStill g conn db late event UnknownToken
 AskEnds g shown conn db late event now (Err fault.NoSuchNetwork) = EndsStill g conn db late event NoSuchNetwork
@@ -71,10 +71,10 @@ OrderEnds g conn db late event (Err (order_fault.Refused why)) = EndsStill g con
 OrderEnds g conn db late event (Err (order_fault.Fault why)) = EndsLate g conn db late event
 
 -- a new network passes the checks against these and has an id that no other has, or it is refused
-abbrev pub Admits : Register → ℕ → Bytes → Settings → Result ℕ OrderFault → Type 0
-Admits r tenant name settings (Ok new) = IsAdmitted r tenant name settings (Ok new)
-Admits r tenant name settings (Err (order_fault.Refused why)) = IsAdmitted r tenant name settings (Err why)
-Admits r tenant name settings (Err (order_fault.Fault why)) = why ≡ NoMemory
+abbrev pub AdmitsNetwork : Register → ℕ → Bytes → Settings → Result ℕ OrderFault → Type 0
+AdmitsNetwork r tenant name settings (Ok new) = IsAdmitted r tenant name settings (Ok new)
+AdmitsNetwork r tenant name settings (Err (order_fault.Refused why)) = IsAdmitted r tenant name settings (Err why)
+AdmitsNetwork r tenant name settings (Err (order_fault.Fault why)) = why ≡ NoMemory
 
 -- why a command isn't done, as a fault of a request
 abbrev pub ask_fault : ActFault → AskFault

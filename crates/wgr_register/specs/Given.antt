@@ -45,5 +45,5 @@ given_of now (Listed networks) = Some (OfNetworks (map as_added networks))
 given_of now _ = None
 
 -- the text shows what the answer gives
-abbrev pub IsShown : (GivenValue → Bytes) → ℕ → Bytes → Answer → Type 0
-IsShown shown now text answer = option_map shown (given_of now answer) ≡ Some text
+abbrev pub ShowsAnswer : (GivenValue → Bytes) → ℕ → Bytes → Answer → Type 0
+ShowsAnswer shown now text answer = option_map shown (given_of now answer) ≡ Some text

@@ -8,5 +8,6 @@ pub mod Loaded
 pub mod Moments
 pub mod Cached
 pub mod Known
+pub mod Memory
 pub mod Left
 pub mod Causes

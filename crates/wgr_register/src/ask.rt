@@ -1,6 +1,5 @@
 //! Requests of tenants.
 ghost use Rattle.std.specs.Prelude.{◌≡◌, ℕ, List, true, false, None, IfErr, IfOk, IfSome, IfNone, OnErr, OnOk, is_some, nat_eq, ⊤};
-ghost use Rattle.std.specs.Map.{remove_entry};
 ghost use Rattle.sqlite.specs.Effect.{Database};
 ghost use Rattle.sqlite.specs.State.{HasCleanDisk, Survives};
 ghost use Rattle.sqlite.specs.Held.{state};
@@ -8,58 +7,49 @@ ghost use Rattle.wgr_core.specs.Outcome.{is_reading};
 ghost use Rattle.wgr_model.specs.Laws.{Has};
 ghost use Rattle.wgr_model.specs.Register.{Bytes};
 ghost use Rattle.wgr_model.specs.RowLaws.{AreConsistent};
-ghost use Rattle.wgr_model.specs.Rows.{IsFormed, NetworkRow, holding_of, register_of};
+ghost use Rattle.wgr_model.specs.Rows.{IsFormed, NetworkRow, Tables, holding_of, register_of};
 ghost use Rattle.wgr_model.specs.Steps.{Ask, Event, network_at};
 ghost use Rattle.wgr_sql.specs.Causes.{HasCause, HasCauseOr};
 ghost use Rattle.wgr_sql.specs.declared.fault.Fault.TheVariants.{NoMemory};
 ghost use Rattle.wgr_columns.specs.Decode.{tables_of};
 ghost use Rattle.wgr_entries.specs.Lookups.{IsSlotOf};
-ghost use Rattle.wgr_tables.specs.Standing.{Stands};
+ghost use Rattle.wgr_tables.specs.Standing.{OnlyReads, Stands};
 ghost use Rattle.wgr_tables.specs.Writes.{Written};
 ghost use Rattle.wgr_conf.specs.Files.{server_config};
 ghost use Rattle.wgr_core.specs.Network.{NetworkValue};
-ghost use Rattle.wgr_opening.specs.Outlines.{AreOutlines};
 ghost use Rattle.wgr_rows.specs.Act.{is_directed};
-ghost use Rattle.wgr_register.specs.Cached.{AreCurrent, files_of};
 ghost use Rattle.wgr_register.specs.Given.{OfFile};
 ghost use Rattle.wgr_register.specs.Causes.{AskStops, IfFault, StopsIf};
 ghost use Rattle.wgr_register.specs.Ends.{AskEnds, CommitsIf, FailsIf, IsFound};
-ghost use Rattle.wgr_register.specs.Loaded.{AreFormed, AreOthersFormed, Shows, UnlessFault, entries_of};
-ghost use Rattle.wgr_register.specs.Known.{known_outline};
+ghost use Rattle.wgr_register.specs.Loaded.{Shows, UnlessFault};
+ghost use Rattle.wgr_register.specs.Memory.{IsMemoryOf};
 ghost use Rattle.wgr_register.specs.Standing.{StandsAt};
 
-use crate::asked::{Asked, is_first};
 use crate::fault::AskFault;
-use crate::files::{Files, drop_changed, kept_text, made_text};
 use crate::given::{Render, render_plain, render_reply};
-use crate::loaded::{Networks, forget, is_kept, keep, keep_changed, take};
-use crate::outlines::{note, outline_of, outline_with};
+use crate::memory::Memory;
 use sqlite::{Alter, Connection};
 use std::alloc::Global;
 use wgr_core::{Change, Command, Form, Name, Network};
 use wgr_entries::{network_id, tenant_of_token};
-use wgr_opening::Outlines;
-use wgr_rows::{is_directed, row_act};
+use wgr_rows::row_act;
 use wgr_tables::{Fault, commit_change, load_network};
 
 // The network whose row has this id: the kept one, which is taken out, or else the one that its rows form.
 fn take_network<S: Alter>(
     alloc: Global,
     conn: &mut Connection<S>,
-    loaded: &mut Option<Networks>,
+    memory: &mut Memory,
     id: u32,
 ) -> Result<Network, Fault>
     requires idle { conn.old.in_transaction ≡ false }
-    ensures idle { conn.new.in_transaction ≡ false }
-    ensures stands { (db : Database) (pending : List Written) → Stands S.Store conn.old db pending → Stands S.Store conn.new db pending }
-    ensures clean { HasCleanDisk (state S.Store conn.new) → HasCleanDisk (state S.Store conn.old) }
-    ensures taken { entries_of loaded.new ≡ remove_entry (nat_eq id) (entries_of loaded.old) }
-    ensures formed { (db : Database) (pending : List Written) → Stands S.Store conn.old db pending → AreConsistent (tables_of db) → AreFormed (entries_of loaded.old) (tables_of db) → HasCleanDisk (state S.Store conn.new)
+    ensures reads { OnlyReads S.Store conn.old conn.new }
+    ensures rest { (t : Tables) → IsMemoryOf memory.old t → IsMemoryOf memory.new t }
+    ensures formed { (db : Database) (pending : List Written) → Stands S.Store conn.old db pending → AreConsistent (tables_of db) → IsMemoryOf memory.old (tables_of db) → HasCleanDisk (state S.Store conn.new)
         → IfOk result (λ n. IsFormed (tables_of db) id n) }
-    ensures survives { Survives (state S.Store conn.old) (state S.Store conn.new) (λ _. ⊥) }
     ensures cause { (db : Database) (pending : List Written) → Stands S.Store conn.old db pending → AreConsistent (tables_of db) → (HasCleanDisk (state S.Store conn.new) → (w : NetworkRow) × Has (tables_of db).networks w × (w.id ≡ id)) → IfErr result (HasCause (state S.Store conn.old) (state S.Store conn.new)) }
 {
-    if let Some(network) = take(loaded, id) {
+    if let Some(network) = memory.take(id) {
         return Ok(network);
     }
     match load_network(alloc, conn, id)? {
@@ -76,14 +66,11 @@ fn find_id<S: Alter>(
     name: &[u8],
 ) -> Result<Option<u32>, Fault>
     requires idle { conn.old.in_transaction ≡ false }
-    ensures idle { conn.new.in_transaction ≡ false }
-    ensures stands { (db : Database) (pending : List Written) → Stands S.Store conn.old db pending → Stands S.Store conn.new db pending }
-    ensures clean { HasCleanDisk (state S.Store conn.new) → HasCleanDisk (state S.Store conn.old) }
+    ensures reads { OnlyReads S.Store conn.old conn.new }
     ensures some { (db : Database) (pending : List Written) → Stands S.Store conn.old db pending → HasCleanDisk (state S.Store conn.new)
         → IfOk result (λ found. IfSome found (λ id. (w : NetworkRow) × Has (tables_of db).networks w × IsSlotOf w tenant name.now × (w.id ≡ id))) }
     ensures none { (db : Database) (pending : List Written) → Stands S.Store conn.old db pending → AreConsistent (tables_of db) → HasCleanDisk (state S.Store conn.new)
         → IfOk result (λ found. IfNone found (network_at (register_of (tables_of db)).networks tenant name.now ≡ None)) }
-    ensures survives { Survives (state S.Store conn.old) (state S.Store conn.new) (λ _. ⊥) }
     ensures cause { (db : Database) (pending : List Written) → Stands S.Store conn.old db pending → AreConsistent (tables_of db) → IfErr result (HasCause (state S.Store conn.old) (state S.Store conn.new)) }
 {
     let Ok(read) = Name::read(alloc, name) else {
@@ -123,9 +110,7 @@ fn commit_if<S: Alter>(
 fn act_on<S: Alter, R: Render>(
     alloc: Global,
     conn: &mut Connection<S>,
-    loaded: &mut Option<Networks>,
-    files: &mut Option<Files>,
-    outlines: &mut Option<Outlines>,
+    memory: &mut Memory,
     id: u32,
     network: Network,
     now: u64,
@@ -137,13 +122,9 @@ fn act_on<S: Alter, R: Render>(
     ensures clean { HasCleanDisk (state S.Store conn.new) → HasCleanDisk (state S.Store conn.old) }
     ensures ends { (db : Database) (late : List Event) (digest name : Bytes) → StandsAt S.Store conn.old db late → IsFound (tables_of db) digest name id network
         → AskEnds S.Store R.shown conn.new db late (Ask digest name now command.now) now result }
-    ensures formed { (db : Database) (late : List Event) (digest name : Bytes) → StandsAt S.Store conn.old db late → IsFound (tables_of db) digest name id network → AreOthersFormed id (entries_of loaded.old) (tables_of db)
-        → UnlessFault result (Shows S.Store conn.new (AreFormed (entries_of loaded.new))) }
-    ensures current { (db : Database) (late : List Event) (digest name : Bytes) → StandsAt S.Store conn.old db late → IsFound (tables_of db) digest name id network → AreCurrent (files_of files.old) (tables_of db)
-        → UnlessFault result (Shows S.Store conn.new (AreCurrent (files_of files.new))) }
-    ensures outlines { (db : Database) (late : List Event) (digest name : Bytes) → StandsAt S.Store conn.old db late → IsFound (tables_of db) digest name id network → AreOutlines (known_outline outlines.old) (tables_of db)
-        → UnlessFault result (Shows S.Store conn.new (AreOutlines (known_outline outlines.new))) }
-    ensures memory { is_reading command.now ≡ true → IfFault (λ why. why ≡ NoMemory) result }
+    ensures memory { (db : Database) (late : List Event) (digest name : Bytes) → StandsAt S.Store conn.old db late → IsFound (tables_of db) digest name id network → IsMemoryOf memory.old (tables_of db)
+        → UnlessFault result (Shows S.Store conn.new (IsMemoryOf memory.new)) }
+    ensures reading { is_reading command.now ≡ true → IfFault (λ why. why ≡ NoMemory) result }
     ensures survives { Survives (state S.Store conn.old) (state S.Store conn.new) (λ _. ⊤) }
     ensures stops { (db : Database) (late : List Event) (digest name : Bytes) → StandsAt S.Store conn.old db late → IsFound (tables_of db) digest name id network → IfFault (HasCauseOr (AskStops (tables_of db) digest name now command.now) (state S.Store conn.old) (state S.Store conn.new)) result }
 {
@@ -151,17 +132,16 @@ fn act_on<S: Alter, R: Render>(
     let (reply, change) = match network.act(alloc, now, command) {
         Ok(done) => done,
         Err(why) => {
-            keep(alloc, loaded, id, network);
+            memory.keep(alloc, id, network);
             return Err(AskFault::from(why));
         }
     };
     let text = render_reply(alloc, render, &network, now, &reply)?;
-    drop_changed(files, id, &change);
     commit_if(conn, id, &change)?;
-    let before = outline_with(outlines, id, &network);
+    let before = memory.outline_with(id, &network);
     let outline = before.after(now, command, &reply, &change);
-    note(alloc, outlines, id, outline);
-    keep_changed(alloc, loaded, id, network, change);
+    memory.after(alloc, id, outline, &change);
+    memory.keep_changed(alloc, id, network, change);
     Ok(text)
 }
 
@@ -170,9 +150,7 @@ fn act_on<S: Alter, R: Render>(
 fn act_on_rows<S: Alter, R: Render>(
     alloc: Global,
     conn: &mut Connection<S>,
-    loaded: &mut Option<Networks>,
-    files: &mut Option<Files>,
-    outlines: &mut Option<Outlines>,
+    memory: &mut Memory,
     id: u32,
     now: u64,
     command: &Command,
@@ -182,27 +160,21 @@ fn act_on_rows<S: Alter, R: Render>(
     requires directed { is_directed command.now ≡ true }
     ensures idle { conn.new.in_transaction ≡ false }
     ensures clean { HasCleanDisk (state S.Store conn.new) → HasCleanDisk (state S.Store conn.old) }
-    ensures ends { (db : Database) (late : List Event) (digest name : Bytes) (n : NetworkValue) → StandsAt S.Store conn.old db late → IsFound (tables_of db) digest name id n → AreOutlines (known_outline outlines.old) (tables_of db)
+    ensures ends { (db : Database) (late : List Event) (digest name : Bytes) (n : NetworkValue) → StandsAt S.Store conn.old db late → IsFound (tables_of db) digest name id n → IsMemoryOf memory.old (tables_of db)
         → AskEnds S.Store R.shown conn.new db late (Ask digest name now command.now) now result }
-    ensures formed { (db : Database) (late : List Event) (digest name : Bytes) (n : NetworkValue) → StandsAt S.Store conn.old db late → IsFound (tables_of db) digest name id n → AreOutlines (known_outline outlines.old) (tables_of db) → AreFormed (entries_of loaded.old) (tables_of db)
-        → UnlessFault result (Shows S.Store conn.new (AreFormed (entries_of loaded.new))) }
-    ensures current { (db : Database) (late : List Event) (digest name : Bytes) (n : NetworkValue) → StandsAt S.Store conn.old db late → IsFound (tables_of db) digest name id n → AreOutlines (known_outline outlines.old) (tables_of db) → AreCurrent (files_of files.old) (tables_of db)
-        → UnlessFault result (Shows S.Store conn.new (AreCurrent (files_of files.new))) }
-    ensures outlines { (db : Database) (late : List Event) (digest name : Bytes) (n : NetworkValue) → StandsAt S.Store conn.old db late → IsFound (tables_of db) digest name id n → AreOutlines (known_outline outlines.old) (tables_of db)
-        → UnlessFault result (Shows S.Store conn.new (AreOutlines (known_outline outlines.new))) }
+    ensures memory { (db : Database) (late : List Event) (digest name : Bytes) (n : NetworkValue) → StandsAt S.Store conn.old db late → IsFound (tables_of db) digest name id n → IsMemoryOf memory.old (tables_of db)
+        → UnlessFault result (Shows S.Store conn.new (IsMemoryOf memory.new)) }
     ensures cause { (db : Database) (late : List Event) (digest name : Bytes) (n : NetworkValue) → StandsAt S.Store conn.old db late → IsFound (tables_of db) digest name id n → is_reading command.now ≡ true → IfFault (HasCause (state S.Store conn.old) (state S.Store conn.new)) result }
     ensures survives { Survives (state S.Store conn.old) (state S.Store conn.new) (λ _. ⊤) }
-    ensures stops { (db : Database) (late : List Event) (digest name : Bytes) (n : NetworkValue) → StandsAt S.Store conn.old db late → IsFound (tables_of db) digest name id n → AreOutlines (known_outline outlines.old) (tables_of db) → IfFault (HasCauseOr (AskStops (tables_of db) digest name now command.now) (state S.Store conn.old) (state S.Store conn.new)) result }
+    ensures stops { (db : Database) (late : List Event) (digest name : Bytes) (n : NetworkValue) → StandsAt S.Store conn.old db late → IsFound (tables_of db) digest name id n → IsMemoryOf memory.old (tables_of db) → IfFault (HasCauseOr (AskStops (tables_of db) digest name now command.now) (state S.Store conn.old) (state S.Store conn.new)) result }
 {
     command.forms_hold();
-    let before = outline_of(outlines, id);
+    let before = memory.outline(id);
     let (reply, changes) = row_act(alloc, conn, id, now, &before, command)?;
     let text = render_plain(alloc, render, &reply)?;
-    drop_changed(files, id, &changes);
     commit_if(conn, id, &changes)?;
-    forget(loaded, id);
     let outline = before.after(now, command, &reply, &changes);
-    note(alloc, outlines, id, outline);
+    memory.after(alloc, id, outline, &changes);
     Ok(text)
 }
 
@@ -211,37 +183,31 @@ fn act_on_rows<S: Alter, R: Render>(
 fn file_at<S: Alter, R: Render>(
     alloc: Global,
     conn: &mut Connection<S>,
-    loaded: &mut Option<Networks>,
-    files: &mut Option<Files>,
+    memory: &mut Memory,
     id: u32,
     form: Form,
     now: u64,
     render: &R,
 ) -> Result<Vec<u8>, Fault>
     requires idle { conn.old.in_transaction ≡ false }
-    ensures idle { conn.new.in_transaction ≡ false }
-    ensures stands { (db : Database) (pending : List Written) → Stands S.Store conn.old db pending → Stands S.Store conn.new db pending }
-    ensures clean { HasCleanDisk (state S.Store conn.new) → HasCleanDisk (state S.Store conn.old) }
-    ensures text { (db : Database) (pending : List Written) → Stands S.Store conn.old db pending → AreConsistent (tables_of db) → AreFormed (entries_of loaded.old) (tables_of db) → AreCurrent (files_of files.old) (tables_of db) → HasCleanDisk (state S.Store conn.new)
+    ensures reads { OnlyReads S.Store conn.old conn.new }
+    ensures text { (db : Database) (pending : List Written) → Stands S.Store conn.old db pending → AreConsistent (tables_of db) → IsMemoryOf memory.old (tables_of db) → HasCleanDisk (state S.Store conn.new)
         → IfOk result (λ text. (n : NetworkValue) × IsFormed (tables_of db) id n × (R.shown (OfFile (server_config n now form)) ≡ text.items)) }
-    ensures formed { (db : Database) (pending : List Written) → Stands S.Store conn.old db pending → AreConsistent (tables_of db) → AreFormed (entries_of loaded.old) (tables_of db) → HasCleanDisk (state S.Store conn.new)
-        → OnOk result (AreFormed (entries_of loaded.new) (tables_of db)) }
-    ensures current { (db : Database) (pending : List Written) → Stands S.Store conn.old db pending → AreConsistent (tables_of db) → AreFormed (entries_of loaded.old) (tables_of db) → AreCurrent (files_of files.old) (tables_of db) → HasCleanDisk (state S.Store conn.new)
-        → OnOk result (AreCurrent (files_of files.new) (tables_of db)) }
-    ensures survives { Survives (state S.Store conn.old) (state S.Store conn.new) (λ _. ⊥) }
+    ensures memory { (db : Database) (pending : List Written) → Stands S.Store conn.old db pending → AreConsistent (tables_of db) → IsMemoryOf memory.old (tables_of db) → HasCleanDisk (state S.Store conn.new)
+        → OnOk result (IsMemoryOf memory.new (tables_of db)) }
     ensures cause { (db : Database) (pending : List Written) → Stands S.Store conn.old db pending → AreConsistent (tables_of db) → (HasCleanDisk (state S.Store conn.new) → (w : NetworkRow) × Has (tables_of db).networks w × (w.id ≡ id)) → IfErr result (HasCause (state S.Store conn.old) (state S.Store conn.new)) }
 {
-    let Ok(kept) = kept_text(alloc, files, id, form, now, render) else {
+    let Ok(kept) = memory.kept_text(alloc, id, form, now, render) else {
         return Err(Fault::NoMemory);
     };
     if let Some(text) = kept {
         return Ok(text);
     }
-    let network = take_network(alloc, conn, loaded, id)?;
-    let Ok(text) = made_text(alloc, files, id, &network, form, now, render) else {
+    let network = take_network(alloc, conn, memory, id)?;
+    let Ok(text) = memory.made_text(alloc, id, &network, form, now, render) else {
         return Err(Fault::NoMemory);
     };
-    keep(alloc, loaded, id, network);
+    memory.keep(alloc, id, network);
     Ok(text)
 }
 
@@ -249,10 +215,7 @@ fn file_at<S: Alter, R: Render>(
 pub(crate) fn ask<S: Alter, R: Render>(
     alloc: Global,
     conn: &mut Connection<S>,
-    loaded: &mut Option<Networks>,
-    files: &mut Option<Files>,
-    outlines: &mut Option<Outlines>,
-    asked: &mut Option<Asked>,
+    memory: &mut Memory,
     digest: &[u8; 32],
     name: &[u8],
     now: u64,
@@ -260,15 +223,11 @@ pub(crate) fn ask<S: Alter, R: Render>(
     render: &R,
 ) -> Result<Vec<u8>, AskFault>
     requires idle { conn.old.in_transaction ≡ false }
-    requires formed { Shows S.Store conn.old (AreFormed (entries_of loaded.old)) }
-    requires current { Shows S.Store conn.old (AreCurrent (files_of files.old)) }
-    requires outlines { Shows S.Store conn.old (AreOutlines (known_outline outlines.old)) }
+    requires memory { Shows S.Store conn.old (IsMemoryOf memory.old) }
     ensures idle { conn.new.in_transaction ≡ false }
     ensures clean { HasCleanDisk (state S.Store conn.new) → HasCleanDisk (state S.Store conn.old) }
     ensures ends { (db : Database) (late : List Event) → StandsAt S.Store conn.old db late → AskEnds S.Store R.shown conn.new db late (Ask digest.now name.now now command.now) now result }
-    ensures formed { (db : Database) (late : List Event) → StandsAt S.Store conn.old db late → UnlessFault result (Shows S.Store conn.new (AreFormed (entries_of loaded.new))) }
-    ensures current { (db : Database) (late : List Event) → StandsAt S.Store conn.old db late → UnlessFault result (Shows S.Store conn.new (AreCurrent (files_of files.new))) }
-    ensures outlines { (db : Database) (late : List Event) → StandsAt S.Store conn.old db late → UnlessFault result (Shows S.Store conn.new (AreOutlines (known_outline outlines.new))) }
+    ensures memory { (db : Database) (late : List Event) → StandsAt S.Store conn.old db late → UnlessFault result (Shows S.Store conn.new (IsMemoryOf memory.new)) }
     ensures cause { (db : Database) (late : List Event) → StandsAt S.Store conn.old db late → is_reading command.now ≡ true → IfFault (HasCause (state S.Store conn.old) (state S.Store conn.new)) result }
     ensures stops { (db : Database) (late : List Event) → StandsAt S.Store conn.old db late → IfFault (HasCauseOr (AskStops (tables_of db) digest.now name.now now command.now) (state S.Store conn.old) (state S.Store conn.new)) result }
 {
@@ -279,16 +238,12 @@ pub(crate) fn ask<S: Alter, R: Render>(
         return Err(AskFault::NoSuchNetwork);
     };
     if let Command::ServerFile { form } = command {
-        let text = file_at(alloc, conn, loaded, files, id, *form, now, render)?;
+        let text = file_at(alloc, conn, memory, id, *form, now, render)?;
         return Ok(text);
     }
-    if is_directed(command) && !is_kept(loaded, id) && is_first(alloc, asked, id) {
-        return act_on_rows(
-            alloc, conn, loaded, files, outlines, id, now, command, render,
-        );
+    if memory.answers_by_rows(alloc, id, command) {
+        return act_on_rows(alloc, conn, memory, id, now, command, render);
     }
-    let network = take_network(alloc, conn, loaded, id)?;
-    act_on(
-        alloc, conn, loaded, files, outlines, id, network, now, command, render,
-    )
+    let network = take_network(alloc, conn, memory, id)?;
+    act_on(alloc, conn, memory, id, network, now, command, render)
 }

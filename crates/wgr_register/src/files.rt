@@ -12,20 +12,16 @@ ghost use Rattle.wgr_model.specs.Rows.{IsFormed, Tables};
 ghost use Rattle.wgr_peers.specs.Limits.{is_expired};
 ghost use Rattle.wgr_peers.specs.Peers.{is_live};
 ghost use Rattle.wgr_register.specs.Cached.{AreCurrent, AreOthersCurrent, IsCurrent, file_key, files_of};
-ghost use Rattle.wgr_register.specs.Moments.{IsWithin};
+ghost use Rattle.wgr_register.specs.Moments.{IsInSpan};
 ghost use Rattle.wgr_register.specs.Given.{OfFile};
 ghost use Rattle.wgr_register.specs.Recent.{max_recent};
-ghost use Rattle.wgr_register.specs.Loaded.{UnlessFault, UnlessUndone};
 
-use crate::fault::{AskFault, Done, OrderFault};
 use crate::given::{Given, Render};
 use crate::kept_file::{KeptFile, Moments};
 use crate::recent::{MAX_RECENT, Recent};
 use std::alloc::{AllocError, Global};
 use wgr_conf::server_file;
 use wgr_core::{Change, Form, Network, Peer};
-use wgr_orders::Census;
-use wgr_tables::Fault;
 
 /// How many servers' files stay in memory between requests, of all tenants together.
 pub const FILES_IN_MEMORY: usize = MAX_RECENT;
@@ -151,8 +147,8 @@ pub(crate) fn made_text<R: Render>(
 
 // The moments around this one at which the same leases run.
 fn steady_moments(peers: &[Peer], now: u64) -> Moments
-    ensures within { IsWithin result now }
-    ensures steady { (m : ℕ) → IsWithin result m → filter (is_live m) peers.now ≡ filter (is_live now) peers.now }
+    ensures within { IsInSpan result now }
+    ensures steady { (m : ℕ) → IsInSpan result m → filter (is_live m) peers.now ≡ filter (is_live now) peers.now }
 {
     let mut moments = Moments::all();
     for peer in peers {

@@ -1,7 +1,7 @@
 //! A server's file with the moments at which it is the network's.
 ghost use Rattle.std.specs.Prelude.{◌≡◌, ℕ, ◌<◌, ◌≤◌, ◌↔◌, IsTrue, IfSome};
 ghost use Rattle.wgr_peers.specs.Limits.{is_expired};
-ghost use Rattle.wgr_register.specs.Moments.{IsWithin};
+ghost use Rattle.wgr_register.specs.Moments.{IsInSpan};
 
 /// The moments from one on, and before another, if there is one. Seconds since 1970-01-01.
 #[derive(Clone, Copy)]
@@ -13,7 +13,7 @@ pub(crate) struct Moments {
 impl Moments {
     /// All moments.
     pub(crate) fn all() -> Moments
-        ensures { (m : ℕ) → IsWithin result m }
+        ensures { (m : ℕ) → IsInSpan result m }
     {
         Moments {
             from: 0,
@@ -23,7 +23,7 @@ impl Moments {
 
     /// Whether this moment is one of these.
     pub(crate) fn has(&self, now: u64) -> bool
-        ensures { IsTrue result ↔ IsWithin self.now now }
+        ensures { IsTrue result ↔ IsInSpan self.now now }
     {
         let Moments { from, until } = *self;
         from <= now && comes_before(now, until)
@@ -32,9 +32,9 @@ impl Moments {
     /// The moments of this span at which a lease with this end is over exactly if it is over at `now`. The
     /// end bounds them from below if it is past, and from above if it is to come.
     pub(crate) fn around(self, end: u64, now: u64) -> Moments
-        ensures within { IsWithin self now → IsWithin result now }
-        ensures narrower { (m : ℕ) → IsWithin result m → IsWithin self m }
-        ensures steady { (m : ℕ) → IsWithin result m → is_expired m end ≡ is_expired now end }
+        ensures within { IsInSpan self now → IsInSpan result now }
+        ensures narrower { (m : ℕ) → IsInSpan result m → IsInSpan self m }
+        ensures steady { (m : ℕ) → IsInSpan result m → is_expired m end ≡ is_expired now end }
     {
         if end <= now {
             Moments {

@@ -4,13 +4,13 @@
 mod ask;
 mod asked;
 mod census;
-mod dropped;
 mod fault;
 mod files;
 mod given;
 mod kept_file;
 mod list;
 mod loaded;
+mod memory;
 mod order;
 mod outlines;
 mod recent;

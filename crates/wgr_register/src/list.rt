@@ -1,7 +1,7 @@
 //! The list of a tenant's networks.
 ghost use Rattle.std.specs.Prelude.{◌≡◌, ℕ, List, map, false, IfErr, IfOk, IsTrue, OnOk};
 ghost use Rattle.sqlite.specs.Effect.{Database};
-ghost use Rattle.sqlite.specs.State.{HasCleanDisk, Survives};
+ghost use Rattle.sqlite.specs.State.{HasCleanDisk};
 ghost use Rattle.sqlite.specs.Held.{state};
 ghost use Rattle.wgr_model.specs.Listing.{put_entry};
 ghost use Rattle.wgr_model.specs.RowLaws.{AreConsistent};
@@ -11,7 +11,7 @@ ghost use Rattle.wgr_sql.specs.Causes.{HasCause};
 ghost use Rattle.wgr_sql.specs.declared.fault.Fault.TheVariants.{NoMemory, Store};
 ghost use Rattle.wgr_columns.specs.Decode.{network_in, tables_of};
 ghost use Rattle.wgr_entries.specs.Lookups.{settled};
-ghost use Rattle.wgr_tables.specs.Standing.{Stands};
+ghost use Rattle.wgr_tables.specs.Standing.{OnlyReads, Stands};
 ghost use Rattle.wgr_columns.specs.Stored.{IsKeptNetwork, stored_network};
 ghost use Rattle.wgr_tables.specs.Writes.{Written};
 ghost use Rattle.wgr_register.specs.Causes.{IfFault};
@@ -74,12 +74,9 @@ fn added_networks<S: Alter>(
     tenant: u32,
 ) -> Result<Vec<(Name, Network)>, Fault>
     requires idle { conn.old.in_transaction ≡ false }
-    ensures idle { conn.new.in_transaction ≡ false }
-    ensures stands { (db : Database) (pending : List Written) → Stands S.Store conn.old db pending → Stands S.Store conn.new db pending }
-    ensures clean { HasCleanDisk (state S.Store conn.new) → HasCleanDisk (state S.Store conn.old) }
+    ensures reads { OnlyReads S.Store conn.old conn.new }
     ensures listed { (db : Database) (pending : List Written) → Stands S.Store conn.old db pending → AreConsistent (tables_of db) → HasCleanDisk (state S.Store conn.new)
         → IfOk result (λ networks. networks.items ≡ map as_added (seen_by (tables_of db) tenant)) }
-    ensures survives { Survives (state S.Store conn.old) (state S.Store conn.new) (λ _. ⊥) }
     ensures cause { (db : Database) (pending : List Written) → Stands S.Store conn.old db pending → AreConsistent (tables_of db) → IfErr result (HasCause (state S.Store conn.old) (state S.Store conn.new)) }
 {
     let rows = networks_of_tenant(conn, tenant)?;
@@ -94,9 +91,7 @@ pub(crate) fn networks<S: Alter, R: Render>(
     render: &R,
 ) -> Result<Vec<u8>, AskFault>
     requires idle { conn.old.in_transaction ≡ false }
-    ensures idle { conn.new.in_transaction ≡ false }
-    ensures clean { HasCleanDisk (state S.Store conn.new) → HasCleanDisk (state S.Store conn.old) }
-    ensures stands { (db : Database) (pending : List Written) → Stands S.Store conn.old db pending → Stands S.Store conn.new db pending }
+    ensures reads { OnlyReads S.Store conn.old conn.new }
     ensures open { HasCleanDisk (state S.Store conn.new) → UnlessFault result (IsTrue (state S.Store conn.old).is_open) }
     ensures ends { (db : Database) (late : List Event) (now : ℕ) → StandsAt S.Store conn.old db late → AskEnds S.Store R.shown conn.new db late (Networks digest.now) now result }
     ensures cause { (db : Database) (late : List Event) → StandsAt S.Store conn.old db late → IfFault (HasCause (state S.Store conn.old) (state S.Store conn.new)) result }

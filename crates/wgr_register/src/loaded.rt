@@ -8,14 +8,11 @@ ghost use Rattle.std.specs.Map.{keys_of, lookup, remove_entry};
 ghost use Rattle.wgr_core.specs.Change.{Fits, applied_if};
 ghost use Rattle.wgr_model.specs.Rows.{IsFormed, Tables};
 ghost use Rattle.wgr_register.specs.Recent.{max_recent};
-ghost use Rattle.wgr_register.specs.Loaded.{AreFormed, AreOthersFormed, UnlessFault, UnlessUndone, entries_of};
+ghost use Rattle.wgr_register.specs.Loaded.{AreFormed, AreOthersFormed, entries_of};
 
-use crate::fault::{AskFault, Done, OrderFault};
 use crate::recent::{MAX_RECENT, Recent};
 use std::alloc::{AllocError, Global};
 use wgr_core::{Change, Network};
-use wgr_orders::Census;
-use wgr_tables::Fault;
 
 /// How many networks stay in memory between requests, of all tenants together.
 pub const NETWORKS_IN_MEMORY: usize = MAX_RECENT;

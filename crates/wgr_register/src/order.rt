@@ -8,18 +8,14 @@ ghost use Rattle.wgr_model.specs.Consistent.{max_entries};
 ghost use Rattle.wgr_model.specs.Steps.{AddNetwork, AddTenant, EndNetwork, EndToken, Event, Grant, IsProper};
 ghost use Rattle.wgr_sql.specs.Causes.{HasCauseOr};
 ghost use Rattle.wgr_columns.specs.Decode.{tables_of};
-ghost use Rattle.wgr_register.specs.Cached.{AreCurrent, files_of};
 ghost use Rattle.wgr_register.specs.Causes.{IfOrderFault, OrderStops};
-ghost use Rattle.wgr_register.specs.Ends.{Admits, OrderEnds};
-ghost use Rattle.wgr_opening.specs.Outlines.{AreOutlines};
-ghost use Rattle.wgr_register.specs.Known.{known_outline};
-ghost use Rattle.wgr_register.specs.Loaded.{AreFormed, Shows, UnlessUndone, entries_of};
+ghost use Rattle.wgr_register.specs.Ends.{AdmitsNetwork, OrderEnds};
+ghost use Rattle.wgr_register.specs.Loaded.{Shows, UnlessUndone};
+ghost use Rattle.wgr_register.specs.Memory.{EndsNone, IsMemoryOf};
 ghost use Rattle.wgr_register.specs.Standing.{StandsAt};
 
 use crate::fault::{Done, OrderFault};
-use crate::files::{Files, drop_files};
-use crate::loaded::{Networks, forget};
-use crate::outlines::forget_outline;
+use crate::memory::Memory;
 use sqlite::{Alter, Connection};
 use std::alloc::Global;
 use wgr_core::Name;
@@ -28,7 +24,6 @@ use wgr_entries::{
     tenants,
 };
 use wgr_model::MAX_ENTRIES;
-use wgr_opening::Outlines;
 use wgr_orders::{Holding, Order, OrderRefusal, Settings, Tenant, admit_network, unused_id};
 use wgr_tables::Fault;
 
@@ -36,9 +31,7 @@ use wgr_tables::Fault;
 pub(crate) fn operate<S: Alter>(
     alloc: Global,
     conn: &mut Connection<S>,
-    loaded: &mut Option<Networks>,
-    files: &mut Option<Files>,
-    outlines: &mut Option<Outlines>,
+    memory: &mut Memory,
     order: &Order,
 ) -> Result<Done, OrderFault>
     requires idle { conn.old.in_transaction ≡ false }
@@ -46,9 +39,8 @@ pub(crate) fn operate<S: Alter>(
     ensures clean { HasCleanDisk (state S.Store conn.new) → HasCleanDisk (state S.Store conn.old) }
     ensures open { HasCleanDisk (state S.Store conn.new) → UnlessUndone result (IsTrue (state S.Store conn.old).is_open) }
     ensures ends { (db : Database) (late : List Event) → StandsAt S.Store conn.old db late → OrderEnds S.Store conn.new db late (order_event order.now) result }
-    ensures formed { (db : Database) (late : List Event) → StandsAt S.Store conn.old db late → AreFormed (entries_of loaded.old) (tables_of db) → UnlessUndone result (Shows S.Store conn.new (AreFormed (entries_of loaded.new))) }
-    ensures current { (db : Database) (late : List Event) → StandsAt S.Store conn.old db late → AreCurrent (files_of files.old) (tables_of db) → UnlessUndone result (Shows S.Store conn.new (AreCurrent (files_of files.new))) }
-    ensures outlines { (db : Database) (late : List Event) → StandsAt S.Store conn.old db late → AreOutlines (known_outline outlines.old) (tables_of db) → UnlessUndone result (Shows S.Store conn.new (AreOutlines (known_outline outlines.new))) }
+    ensures memory { (db : Database) (late : List Event) → StandsAt S.Store conn.old db late → IsMemoryOf memory.old (tables_of db) → UnlessUndone result (Shows S.Store conn.new (IsMemoryOf memory.new)) }
+    ensures stays { EndsNone (order_event order.now) → memory.new ≡ memory.old }
     ensures stops { (db : Database) (late : List Event) → StandsAt S.Store conn.old db late → IfOrderFault (HasCauseOr (OrderStops (tables_of db) (order_event order.now)) (state S.Store conn.old) (state S.Store conn.new)) result }
 {
     order.forms_hold();
@@ -61,9 +53,7 @@ pub(crate) fn operate<S: Alter>(
             name,
             settings,
         } => add_network(alloc, conn, tenant, name, settings),
-        Order::EndNetwork { tenant, name } => end_network(
-            conn, loaded, files, outlines, tenant, name,
-        ),
+        Order::EndNetwork { tenant, name } => end_network(conn, memory, tenant, name),
     }
 }
 
@@ -86,9 +76,7 @@ fn end_token<S: Alter>(conn: &mut Connection<S>, digest: &[u8; 32]) -> Result<Do
 // Removes the network of this name that the tenant has, with its peers and routes.
 fn end_network<S: Alter>(
     conn: &mut Connection<S>,
-    loaded: &mut Option<Networks>,
-    files: &mut Option<Files>,
-    outlines: &mut Option<Outlines>,
+    memory: &mut Memory,
     tenant: &Name,
     name: &Name,
 ) -> Result<Done, OrderFault>
@@ -97,9 +85,7 @@ fn end_network<S: Alter>(
     ensures clean { HasCleanDisk (state S.Store conn.new) → HasCleanDisk (state S.Store conn.old) }
     ensures open { HasCleanDisk (state S.Store conn.new) → UnlessUndone result (IsTrue (state S.Store conn.old).is_open) }
     ensures ends { (db : Database) (late : List Event) → StandsAt S.Store conn.old db late → OrderEnds S.Store conn.new db late (EndNetwork tenant.now name.now) result }
-    ensures formed { (db : Database) (late : List Event) → StandsAt S.Store conn.old db late → AreFormed (entries_of loaded.old) (tables_of db) → UnlessUndone result (Shows S.Store conn.new (AreFormed (entries_of loaded.new))) }
-    ensures current { (db : Database) (late : List Event) → StandsAt S.Store conn.old db late → AreCurrent (files_of files.old) (tables_of db) → UnlessUndone result (Shows S.Store conn.new (AreCurrent (files_of files.new))) }
-    ensures outlines { (db : Database) (late : List Event) → StandsAt S.Store conn.old db late → AreOutlines (known_outline outlines.old) (tables_of db) → UnlessUndone result (Shows S.Store conn.new (AreOutlines (known_outline outlines.new))) }
+    ensures memory { (db : Database) (late : List Event) → StandsAt S.Store conn.old db late → IsMemoryOf memory.old (tables_of db) → UnlessUndone result (Shows S.Store conn.new (IsMemoryOf memory.new)) }
     ensures stops { (db : Database) (late : List Event) → StandsAt S.Store conn.old db late → IfOrderFault (HasCauseOr (OrderStops (tables_of db) (EndNetwork tenant.now name.now)) (state S.Store conn.old) (state S.Store conn.new)) result }
 {
     let Some(id) = tenant_id(conn, tenant)? else {
@@ -108,10 +94,8 @@ fn end_network<S: Alter>(
     let Some(network) = network_id(conn, id, name)? else {
         return Err(OrderFault::Refused(OrderRefusal::NoNetwork));
     };
-    forget(loaded, network);
-    drop_files(files, network);
-    forget_outline(outlines, network);
     wgr_entries::end_network(conn, network)?;
+    memory.forget(network);
     Ok(Done)
 }
 
@@ -208,7 +192,7 @@ fn admit(
     name: &Name,
     settings: &Settings,
 ) -> Result<u32, OrderFault>
-    ensures { Admits (record { tenants = tenants.now; tokens = []; networks = networks.now }) id name.now settings.now result }
+    ensures { AdmitsNetwork (record { tenants = tenants.now; tokens = []; networks = networks.now }) id name.now settings.now result }
 {
     match admit_network(alloc, tenants, networks, id, name, settings) {
         Ok(Ok(new)) => Ok(new),

@@ -12,7 +12,6 @@ ghost use Rattle.wgr_outline.specs.Outline.{IsOutline};
 ghost use Rattle.wgr_register.specs.Known.{AreOtherOutlines, known_outline};
 
 use std::alloc::Global;
-use wgr_core::Network;
 use wgr_opening::Outlines;
 use wgr_outline::Outline;
 
@@ -26,16 +25,6 @@ pub(crate) fn outline_of(outlines: &Option<Outlines>, id: u32) -> Outline
     match known.outline(id) {
         Some(outline) => outline,
         None => Outline::unknown(),
-    }
-}
-
-/// The same, where the network is at hand and knows when its leases end.
-pub(crate) fn outline_with(outlines: &Option<Outlines>, id: u32, network: &Network) -> Outline
-    ensures { (t : Tables) → AreConsistent t → AreOutlines (known_outline outlines.now) t → IsFormed t id network.now → IsOutline result network.now }
-{
-    Outline {
-        end: network.soonest_end(),
-        floor: outline_of(outlines, id).floor,
     }
 }
 

@@ -22,19 +22,16 @@ ghost use Rattle.wgr_schema.specs.declared.fault.RegisterFault.TheVariants.{NotA
 ghost use Rattle.wgr_columns.specs.Decode.{tables_of};
 ghost use Rattle.wgr_opening.specs.Good.{IsGood};
 
-use crate::asked::Asked;
-use crate::dropped::{drop_after_failure, drop_after_fault, drop_if_unread};
 use crate::fault::{AskFault, Done, OpenFault, OrderFault};
-use crate::files::{self, Files};
 use crate::given::Render;
-use crate::loaded::{self, Networks};
+use crate::memory::Memory;
 use crate::{ask, census, list, order};
 use sqlite::{Alter, Connection};
 use std::alloc::Global;
 use std::marker::Model;
 use wgr_core::Command;
 use wgr_entries::tenant_of_token;
-use wgr_opening::{Outlines, check_register};
+use wgr_opening::check_register;
 use wgr_orders::{Census, Order};
 use wgr_schema::make;
 use wgr_tables::Fault;
@@ -44,25 +41,21 @@ use wgr_tables::Fault;
 /// The [`NETWORKS_IN_MEMORY`](crate::NETWORKS_IN_MEMORY) most recently used networks stay in
 /// memory as their rows form them, so a request loads a network only where it isn't one of them. So do the
 /// [`FILES_IN_MEMORY`](crate::FILES_IN_MEMORY) most recently used servers' files. The first Add or Owner on a
-/// network that isn't in memory reads only the rows that it needs, and loads nothing; a moment before which
-/// no lease ends stays in memory for every network, so that Add needn't search for expired peers.
+/// network that isn't in memory reads only the rows that it needs, and loads nothing. Of every network stay in
+/// memory a moment before which no lease ends, so that Add needn't search for expired peers, and an address
+/// below which none is free, so that it needn't read the addresses that are held.
 ///
 /// Every contract names the database that the register is in, and the events that a stop at
 /// this moment may leave done: those that were answered by a fault since the last acknowledged change.
 pub struct Register<S: Alter> {
     conn: Connection<S>,
-    loaded: Option<Networks>,
-    files: Option<Files>,
-    asked: Option<Asked>,
-    outlines: Option<Outlines>,
+    memory: Memory,
 }
 
 impl<S: Alter> Model for Register<S> {
     ghost use Rattle.sqlite.specs.Held.{Held, held_code};
-    ghost use Rattle.wgr_register.specs.Cached.{AreCurrent, files_of};
-    ghost use Rattle.wgr_opening.specs.Outlines.{AreOutlines};
-    ghost use Rattle.wgr_register.specs.Known.{known_outline};
-    ghost use Rattle.wgr_register.specs.Loaded.{AreFormed, Shows, entries_of};
+    ghost use Rattle.wgr_register.specs.Loaded.{Shows};
+    ghost use Rattle.wgr_register.specs.Memory.{IsMemoryOf};
     ghost use Rattle.wgr_register.specs.Standing.{IsAtRest};
 
     ghost Value = { Held S };
@@ -71,7 +64,7 @@ impl<S: Alter> Model for Register<S> {
 
     ghost view = { λ r. r.conn };
 
-    ghost invariant = { λ r. IsAtRest S.Store r.conn × Shows S.Store r.conn (AreFormed (entries_of r.loaded)) × Shows S.Store r.conn (AreCurrent (files_of r.files)) × Shows S.Store r.conn (AreOutlines (known_outline r.outlines)) };
+    ghost invariant = { λ r. IsAtRest S.Store r.conn × Shows S.Store r.conn (IsMemoryOf r.memory) };
 }
 
 impl<S: Alter> Register<S> {
@@ -96,10 +89,7 @@ impl<S: Alter> Register<S> {
         match make(&mut conn) {
             Ok(()) => Ok(Register {
                 conn,
-                loaded: None,
-                files: None,
-                asked: None,
-                outlines: None,
+                memory: Memory::new(),
             }),
             Err(fault) => Err(OpenFault {
                 fault,
@@ -131,10 +121,7 @@ impl<S: Alter> Register<S> {
         match check_register(alloc, &mut conn) {
             Ok(outlines) => Ok(Register {
                 conn,
-                loaded: None,
-                files: None,
-                asked: None,
-                outlines: Some(outlines),
+                memory: Memory::of(outlines),
             }),
             Err(fault) => Err(OpenFault {
                 fault,
@@ -163,7 +150,7 @@ impl<S: Alter> Register<S> {
     pub fn loaded(&self) -> usize
         ensures at_most { result ≤ max_recent }
     {
-        loaded::count(&self.loaded)
+        self.memory.networks()
     }
 
     /// How many servers' files stay in memory now, of all tenants together: at most
@@ -172,7 +159,7 @@ impl<S: Alter> Register<S> {
     pub fn cached(&self) -> usize
         ensures at_most { result ≤ max_recent }
     {
-        files::count(&self.files)
+        self.memory.files()
     }
 
     /// Whether the store has failed for good: a query that reads one token fails for another reason than want
@@ -183,9 +170,7 @@ impl<S: Alter> Register<S> {
         ensures stands { (db : Database) (late : List Event) → StandsAt S.Store self.old db late → StandsAt S.Store self.new db late }
         ensures cause { (db : Database) (late : List Event) → StandsAt S.Store self.old db late → result ≡ true → HasCause (state S.Store self.old) (state S.Store self.new) Store }
     {
-        self.loaded = None;
-        self.files = None;
-        self.outlines = None;
+        self.memory.forget_all();
         let found = tenant_of_token(&mut self.conn, &[0; 32]);
         is_fault_of_store(&found)
     }
@@ -196,10 +181,7 @@ impl<S: Alter> Register<S> {
     {
         let Register {
             conn,
-            loaded: _loaded,
-            files: _files,
-            asked: _asked,
-            outlines: _leases,
+            memory: _memory,
         } = self;
         conn
     }
@@ -212,20 +194,8 @@ impl<S: Alter> Register<S> {
         ensures ends { (db : Database) (late : List Event) → StandsAt S.Store self.old db late → OrderEnds S.Store self.new db late (order_event order.now) result }
         ensures stops { (db : Database) (late : List Event) → StandsAt S.Store self.old db late → IfOrderFault (HasCauseOr (OrderStops (tables_of db) (order_event order.now)) (state S.Store self.old) (state S.Store self.new)) result }
     {
-        let ended = order::operate(
-            alloc,
-            &mut self.conn,
-            &mut self.loaded,
-            &mut self.files,
-            &mut self.outlines,
-            order,
-        );
-        drop_after_failure(
-            &mut self.loaded,
-            &mut self.files,
-            &mut self.outlines,
-            &ended,
-        );
+        let ended = order::operate(alloc, &mut self.conn, &mut self.memory, order);
+        self.memory.after_order(&ended);
         ended
     }
 
@@ -252,22 +222,14 @@ impl<S: Alter> Register<S> {
         let answered = ask::ask(
             alloc,
             &mut self.conn,
-            &mut self.loaded,
-            &mut self.files,
-            &mut self.outlines,
-            &mut self.asked,
+            &mut self.memory,
             digest,
             name,
             now,
             command,
             render,
         );
-        drop_after_fault(
-            &mut self.loaded,
-            &mut self.files,
-            &mut self.outlines,
-            &answered,
-        );
+        self.memory.after_request(&answered);
         answered
     }
 
@@ -286,12 +248,7 @@ impl<S: Alter> Register<S> {
         ensures cause { IfFault (HasCause (state S.Store self.old) (state S.Store self.new)) result }
     {
         let answered = list::networks(alloc, &mut self.conn, digest, render);
-        drop_after_fault(
-            &mut self.loaded,
-            &mut self.files,
-            &mut self.outlines,
-            &answered,
-        );
+        self.memory.after_request(&answered);
         answered
     }
 
@@ -306,7 +263,7 @@ impl<S: Alter> Register<S> {
         ensures cause { IfErr result (HasCause (state S.Store self.old) (state S.Store self.new)) }
     {
         let read = census::census(alloc, &mut self.conn);
-        drop_if_unread(&mut self.loaded, &mut self.files, &mut self.outlines, &read);
+        self.memory.after_census(&read);
         read
     }
 }

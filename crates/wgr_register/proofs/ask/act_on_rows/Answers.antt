@@ -8,9 +8,9 @@ use Rattle.wgr_sql.specs.declared.fault.Fault.TheVariants.{NoMemory}
 use Rattle.wgr_columns.specs.Decode.{tables_of}
 use Rattle.wgr_rows.specs.Act.{as_acted}
 use Rattle.wgr_rows.specs.declared.fault.RowFault.{RowFault}
-use Rattle.wgr_register.specs.Loaded.{AreFormed, entries_of}
+use Rattle.wgr_register.specs.Memory.{IsMemoryOf}
 use Rattle.wgr_register.proofs.AskLemmas.{acts_done, acts_late, at_found, refused_rows}
-use Rattle.wgr_register.proofs.LoadedLemmas.{committed_so, formed_others, found_formed, shown_so, unless}
+use Rattle.wgr_register.proofs.LoadedLemmas.{found_formed, shown_so, unless}
 use Rattle.wgr_register.proofs.StandLemmas.{ask_if, ask_unread, at_read, late_ends, rows_undone_ends}
 use Rattle.wgr_register.proofs.CauseLemmas.{ask_stops, fault_handed, row_handed, row_weaker, stopped_after, stopped_clean, survives_any, survives_on}
 use Rattle.sqlite.specs.Effect.{Database}
@@ -21,21 +21,18 @@ use Rattle.wgr_register.specs.Standing.{StandsAt}
 use Rattle.wgr_sql.specs.Causes.{HasCause, HasCauseOr}
 use Rattle.wgr_register.specs.Causes.{AskStops, StopsIf}
 use Rattle.wgr_sql.proofs.CauseLemmas.{cause_weaker}
-use Rattle.wgr_register.specs.Cached.{AreCurrent, files_of}
-use Rattle.wgr_register.proofs.CachedLemmas.{current_so}
 use Rattle.wgr_model.specs.Rows.{holding_of}
-use Rattle.wgr_opening.specs.Outlines.{AreOutlines}
-use Rattle.wgr_register.specs.Known.{known_outline}
-use Rattle.wgr_register.proofs.KnownLemmas.{formed_rules, outlines_so}
+use Rattle.wgr_register.proofs.KnownLemmas.{formed_rules}
+use Rattle.wgr_register.proofs.MemoryLemmas.{memory_so}
 use Rattle.wgr_register.proofs.ask.act_on_rows.Given.{Over}
 use Rattle.wgr_register.proofs.ask.act_on_rows.Goals.{In_ok-reply}
 use Rattle.wgr_register.proofs.ask.act_on_rows.Goals as goal
 
 -- the change that is to be committed is the command's
 met_by : (g : Over) (c : In_ok-reply g) (db : Database) (late : List Event) (digest name : Bytes) (n : NetworkValue) (at : StandsAt g.S.Store c.args.conn.now db late) (found : IsFound (tables_of db) digest name c.args.id n)
-    → AreOutlines (known_outline c.args.outlines.now) (tables_of db) → HasCleanDisk (state g.S.Store c.row_act.new.conn) → Meets n (Ok (c.in_ok-reply.reply, c.in_ok-reply.changes)) (outcome_of n c.args.now c.args.command.now)
+    → IsMemoryOf c.args.memory.now (tables_of db) → HasCleanDisk (state g.S.Store c.row_act.new.conn) → Meets n (Ok (c.in_ok-reply.reply, c.in_ok-reply.changes)) (outcome_of n c.args.now c.args.command.now)
 met_by g c db late digest name n at found are clean =
-    let outlined = c.outline_of-before.ensures (tables_of db) (holding_of (tables_of db) found.row).network at.consistent are (found.row, found.there, found.at, refl) in
+    let outlined = c.outline-before.ensures (tables_of db) (holding_of (tables_of db) found.row).network at.consistent are (found.row, found.there, found.at, refl) in
     at_found (tables_of db) digest name c.args.id n found c.args.now c.args.command.now (Ok (c.in_ok-reply.reply, c.in_ok-reply.changes)) (c.in_ok-reply.ensures.outcome db at.pending found.row at.stands at.consistent found.there found.at clean outlined)
 
 -- ---- the command isn't done
@@ -43,20 +40,12 @@ met_by g c db late digest name n at found are clean =
 pub returns-in_err-reply-clause-ends : goal.returns-in_err-reply-clause-ends
 returns-in_err-reply-clause-ends g c db late digest name n at found are =
     let event = Ask digest name c.args.now c.args.command.now in
-    ask_if g.S.Store g.R.Render.shown c.row_act.new.conn db late event c.args.now c.from_residual.result c.row_act.ensures.idle at.stands.sound at.consistent (λ clean.
-    rows_undone_ends g.S.Store g.R.Render.shown c.row_act.new.conn db late event c.args.now c.from_residual.result c.in_err-reply.field-0.0 c.from_residual.ensures.1 (at_read g.S.Store c.args.conn.now c.row_act.new.conn db late (c.row_act.ensures.stands db) at)
+    ask_if g.S.Store g.R.Render.shown c.row_act.new.conn db late event c.args.now c.from_residual.result c.row_act.ensures.reads.idle at.stands.sound at.consistent (λ clean.
+    rows_undone_ends g.S.Store g.R.Render.shown c.row_act.new.conn db late event c.args.now c.from_residual.result c.in_err-reply.field-0.0 c.from_residual.ensures.1 (at_read g.S.Store c.args.conn.now c.row_act.new.conn db late (c.row_act.ensures.reads.stands db) at)
     (λ refusal is. refused_rows (tables_of db) at.consistent digest name c.args.now c.args.command.now c.args.id n found refusal
     (subst (λ (w : RowFault). Meets n (as_acted (Err w)) (outcome_of n c.args.now c.args.command.now)) is
-    (let outlined = c.outline_of-before.ensures (tables_of db) (holding_of (tables_of db) found.row).network at.consistent are (found.row, found.there, found.at, refl) in
+    (let outlined = c.outline-before.ensures (tables_of db) (holding_of (tables_of db) found.row).network at.consistent are (found.row, found.there, found.at, refl) in
     at_found (tables_of db) digest name c.args.id n found c.args.now c.args.command.now (as_acted (Err c.in_err-reply.field-0.0)) (c.in_err-reply.ensures.outcome db at.pending found.row at.stands at.consistent found.there found.at clean outlined)))))
-
-pub returns-in_err-reply-clause-formed : goal.returns-in_err-reply-clause-formed
-returns-in_err-reply-clause-formed g c db late digest name n at found are formed =
-    unless c.from_residual.result _ (shown_so g.S.Store c.row_act.new.conn db at.pending (AreFormed (entries_of c.args.loaded.now)) (c.row_act.ensures.stands db at.pending at.stands) formed)
-
-pub returns-in_err-reply-clause-current : goal.returns-in_err-reply-clause-current
-returns-in_err-reply-clause-current g c db late digest name n at found are current =
-    unless c.from_residual.result _ (shown_so g.S.Store c.row_act.new.conn db at.pending (AreCurrent (files_of c.args.files.now)) (c.row_act.ensures.stands db at.pending at.stands) current)
 
 pub returns-in_err-reply-clause-cause : goal.returns-in_err-reply-clause-cause
 returns-in_err-reply-clause-cause g c db late digest name n at found reads =
@@ -69,13 +58,13 @@ returns-in_err-reply-clause-stops g c db late digest name n at found are =
     (row_weaker P (state g.S.Store c.args.conn.now) (state g.S.Store c.row_act.new.conn) c.in_err-reply.field-0.0 (c.in_err-reply.ensures.cause db at.pending found.row at.stands at.consistent found.there found.at))
 
 pub returns-in_err-reply-clause-survives : goal.returns-in_err-reply-clause-survives
-returns-in_err-reply-clause-survives g c = survives_any _ _ c.row_act.ensures.survives
+returns-in_err-reply-clause-survives g c = survives_any _ _ c.row_act.ensures.reads.survives
 
 -- ---- its text isn't made
 
 pub returns-in_err-text-clause-ends : goal.returns-in_err-text-clause-ends
 returns-in_err-text-clause-ends g c db late digest name n at found are =
-    ask_unread g.S.Store g.R.Render.shown _ _ db late _ _ _ _ c.from_residual-in_err-text.ensures.1 (c.row_act.ensures.stands db) at
+    ask_unread g.S.Store g.R.Render.shown _ _ db late _ _ _ _ c.from_residual-in_err-text.ensures.1 (c.row_act.ensures.reads.stands db) at
 
 pub returns-in_err-text-clause-cause : goal.returns-in_err-text-clause-cause
 returns-in_err-text-clause-cause g c db late digest name n at found reads = fault_handed (HasCause (state g.S.Store c.args.conn.now) (state g.S.Store c.row_act.new.conn)) c.from_residual-in_err-text.result NoMemory c.from_residual-in_err-text.ensures.1 tt
@@ -85,14 +74,14 @@ returns-in_err-text-clause-stops g c db late digest name n at found are =
     fault_handed (HasCauseOr (AskStops (tables_of db) digest name c.args.now c.args.command.now) (state g.S.Store c.args.conn.now) (state g.S.Store c.row_act.new.conn)) _ NoMemory c.from_residual-in_err-text.ensures.1 tt
 
 pub returns-in_err-text-clause-survives : goal.returns-in_err-text-clause-survives
-returns-in_err-text-clause-survives g c = survives_any _ _ c.row_act.ensures.survives
+returns-in_err-text-clause-survives g c = survives_any _ _ c.row_act.ensures.reads.survives
 
 -- ---- its change isn't committed
 
 pub returns-in_err-commit_if-clause-ends : goal.returns-in_err-commit_if-clause-ends
 returns-in_err-commit_if-clause-ends g c db late digest name n at found are =
     let event = Ask digest name c.args.now c.args.command.now in
-    let there = c.row_act.ensures.stands db at.pending at.stands in
+    let there = c.row_act.ensures.reads.stands db at.pending at.stands in
     ask_if g.S.Store g.R.Render.shown c.commit_if.new.conn db late event c.args.now c.from_residual-in_err-commit_if.result c.commit_if.ensures.idle at.stands.sound at.consistent (λ clean.
     let met = met_by g (goal.at.returns-in_err-commit_if-clause-ends g c).In_ok-reply db late digest name n at found are (c.commit_if.ensures.clean clean) in
     late_ends g.S.Store g.R.Render.shown c.commit_if.new.conn db late event c.args.now c.from_residual-in_err-commit_if.result c.in_err-commit_if.field-0.0 c.from_residual-in_err-commit_if.ensures.1
@@ -109,55 +98,41 @@ returns-in_err-commit_if-clause-stops g c db late digest name n at found are =
     let old = state g.S.Store c.args.conn.now in
     let mid = state g.S.Store c.row_act.new.conn in
     let new = state g.S.Store c.commit_if.new.conn in
-    let there = c.row_act.ensures.stands db at.pending at.stands in
+    let there = c.row_act.ensures.reads.stands db at.pending at.stands in
     stopped_clean P old new c.from_residual-in_err-commit_if.result (λ clean.
     let met = met_by g (goal.at.returns-in_err-commit_if-clause-stops g c).In_ok-reply db late digest name n at found are (c.commit_if.ensures.clean clean) in
-    stopped_after P old mid new c.from_residual-in_err-commit_if.result c.row_act.ensures.survives c.commit_if.ensures.survives
+    stopped_after P old mid new c.from_residual-in_err-commit_if.result c.row_act.ensures.reads.survives c.commit_if.ensures.survives
     (fault_handed (HasCauseOr P mid new) c.from_residual-in_err-commit_if.result why c.from_residual-in_err-commit_if.ensures.1
     (cause_weaker (StopsIf c.args.id c.in_ok-reply.changes (tables_of db)) P mid new
     (ask_stops (tables_of db) digest name c.args.now c.args.command.now c.args.id n found c.in_ok-reply.reply c.in_ok-reply.changes met c.in_ok-reply.ensures.change) why (c.in_err-commit_if.ensures.cause db at.pending there))))
 
 pub returns-in_err-commit_if-clause-survives : goal.returns-in_err-commit_if-clause-survives
-returns-in_err-commit_if-clause-survives g c = survives_on _ _ _ c.row_act.ensures.survives c.commit_if.ensures.survives
+returns-in_err-commit_if-clause-survives g c = survives_on _ _ _ c.row_act.ensures.reads.survives c.commit_if.ensures.survives
 
 -- ---- it is done
 
 pub returns-clause-ends : goal.returns-clause-ends
 returns-clause-ends g c db late digest name n at found are clean =
-    let there = c.row_act.ensures.stands db at.pending at.stands in
+    let there = c.row_act.ensures.reads.stands db at.pending at.stands in
     let met = met_by g (goal.at.returns-clause-ends g c).In_ok-reply db late digest name n at found are (c.commit_if.ensures.clean clean) in
     acts_done g.S.Store g.R.Render.shown c.commit_if.new.conn db at.pending late at.consistent at.steps digest name c.args.now c.args.command.now (c.forms_hold.ensures.asked, c.forms_hold.ensures.forms) c.args.id n found c.in_ok-reply.reply
     c.in_ok-reply.changes c.in_ok-text.text.items c.in_ok-reply.ensures.change met (c.in_ok-text.ensures c.args.now n) (c.in_ok-commit_if.ensures.done db at.pending found.row there at.consistent found.there found.at clean) clean
 
-pub returns-clause-formed : goal.returns-clause-formed
-returns-clause-formed g c db late digest name n at found are formed clean live =
-    let there = c.row_act.ensures.stands db at.pending at.stands in
-    let met = met_by g (goal.at.returns-clause-formed g c).In_ok-reply db late digest name n at found are (c.commit_if.ensures.clean clean) in
-    committed_so g.S.Store c.commit_if.new.conn db at.pending at.consistent digest name c.args.now c.args.command.now (c.forms_hold.ensures.asked, c.forms_hold.ensures.forms) c.args.id n found c.in_ok-reply.reply
-    (entries_of c.args.loaded.now) (entries_of c.forget.new.loaded) (formed_others c.args.id (entries_of c.args.loaded.now) (tables_of db) formed) c.in_ok-reply.changes met
-    (c.in_ok-commit_if.ensures.done db at.pending found.row there at.consistent found.there found.at clean) (λ t others own. c.forget.ensures t others) clean live
-
-pub returns-clause-current : goal.returns-clause-current
-returns-clause-current g c db late digest name n at found are current clean live =
-    let there = c.row_act.ensures.stands db at.pending at.stands in
-    let met = met_by g (goal.at.returns-clause-current g c).In_ok-reply db late digest name n at found are (c.commit_if.ensures.clean clean) in
-    current_so g.S.Store c.commit_if.new.conn db at.pending at.consistent digest name c.args.now c.args.command.now (c.forms_hold.ensures.asked, c.forms_hold.ensures.forms) c.args.id n found c.in_ok-reply.reply
-    (files_of c.args.files.now) (files_of c.drop_changed.new.files) current c.in_ok-reply.changes met (c.in_ok-commit_if.ensures.done db at.pending found.row there at.consistent found.there found.at clean)
-    (λ none. ap files_of (c.drop_changed.ensures.none none)) c.drop_changed.ensures.some clean live
-
 pub returns-clause-survives : goal.returns-clause-survives
-returns-clause-survives g c = survives_on _ _ _ c.row_act.ensures.survives c.commit_if.ensures.survives
+returns-clause-survives g c = survives_on _ _ _ c.row_act.ensures.reads.survives c.commit_if.ensures.survives
 
--- ---- what is known of networks that aren't in memory
+-- ---- what stays in memory
 
-pub returns-in_err-reply-clause-outlines : goal.returns-in_err-reply-clause-outlines
-returns-in_err-reply-clause-outlines g c db late digest name n at found are =
-    unless c.from_residual.result _ (shown_so g.S.Store c.row_act.new.conn db at.pending (AreOutlines (known_outline c.args.outlines.now)) (c.row_act.ensures.stands db at.pending at.stands) are)
+pub returns-in_err-reply-clause-memory : goal.returns-in_err-reply-clause-memory
+returns-in_err-reply-clause-memory g c db late digest name n at found is =
+    unless c.from_residual.result _ (shown_so g.S.Store c.row_act.new.conn db at.pending (IsMemoryOf c.args.memory.now) (c.row_act.ensures.reads.stands db at.pending at.stands) is)
 
-pub returns-clause-outlines : goal.returns-clause-outlines
-returns-clause-outlines g c db late digest name n at found are clean live =
-    let there = c.row_act.ensures.stands db at.pending at.stands in
-    let met = met_by g (goal.at.returns-clause-outlines g c).In_ok-reply db late digest name n at found are (c.commit_if.ensures.clean clean) in
-    outlines_so g.S.Store c.commit_if.new.conn db at.pending at.consistent digest name c.args.now c.args.command.now (c.forms_hold.ensures.asked, c.forms_hold.ensures.forms) c.args.id n found c.in_ok-reply.reply
-    (known_outline c.args.outlines.now) (known_outline c.note.new.outlines) c.after-outline.result are c.note.ensures c.in_ok-reply.changes met (c.in_ok-commit_if.ensures.done db at.pending found.row there at.consistent found.there found.at clean)
-    (let formed = found_formed (tables_of db) digest name c.args.id n found in c.after-outline.ensures n (formed_rules (tables_of db) at.consistent c.args.id n formed) (c.outline_of-before.ensures (tables_of db) n at.consistent are formed) met) clean live
+pub returns-clause-memory : goal.returns-clause-memory
+returns-clause-memory g c db late digest name n at found is clean live =
+    let there = c.row_act.ensures.reads.stands db at.pending at.stands in
+    let met = met_by g (goal.at.returns-clause-memory g c).In_ok-reply db late digest name n at found is (c.commit_if.ensures.clean clean) in
+    let formed = found_formed (tables_of db) digest name c.args.id n found in
+    memory_so g.S.Store c.commit_if.new.conn db at.pending at.consistent digest name c.args.now c.args.command.now (c.forms_hold.ensures.asked, c.forms_hold.ensures.forms) c.args.id n found c.in_ok-reply.reply c.after.new.self
+    c.in_ok-reply.changes met (c.in_ok-commit_if.ensures.done db at.pending found.row there at.consistent found.there found.at clean)
+    (λ u after. c.after.ensures (tables_of db) u n is after
+    (c.after-outline.ensures n (formed_rules (tables_of db) at.consistent c.args.id n formed) (c.outline-before.ensures (tables_of db) n at.consistent is formed) met)) clean live

@@ -10,10 +10,10 @@ use Rattle.wgr_register.proofs.CauseLemmas.{if_clean, ids_apart, told_at}
 use Rattle.wgr_register.proofs.ask.take_network.Goals as goal
 
 pub returns-in-Some-clause-formed : goal.returns-in-Some-clause-formed
-returns-in-Some-clause-formed g c db pending stood is formed clean = formed c.args.id c.in-Some.network (sym c.take.ensures.value ∙ c.in-Some.is)
+returns-in-Some-clause-formed g c db pending stood good is clean = is.networks c.args.id c.in-Some.network (sym c.take.ensures.value ∙ c.in-Some.is)
 
 pub returns-in-Some-2-clause-formed : goal.returns-in-Some-2-clause-formed
-returns-in-Some-2-clause-formed g c db pending stood is formed clean = rw c.in-Some-2.is at c.in_ok-network.ensures.some db pending stood is.rows.keyed clean
+returns-in-Some-2-clause-formed g c db pending stood good is clean = rw c.in-Some-2.is at c.in_ok-network.ensures.some db pending stood good.rows.keyed clean
 
 pub returns-in_err-network-clause-cause : goal.returns-in_err-network-clause-cause
 returns-in_err-network-clause-cause g c db pending stood good there = if_clean (state g.S.Store c.args.conn.now) (state g.S.Store c.load_network.new.conn) c.from_residual.result (λ clean.

@@ -6,12 +6,12 @@ use Rattle.wgr_orders.specs.declared.census.Counted.{Counted}
 use Rattle.wgr_columns.specs.Decode.{tables_of}
 use Rattle.wgr_sql.specs.Causes.{HasCause}
 use Rattle.wgr_sql.proofs.CauseLemmas.{cause_after, handed}
-use Rattle.wgr_sql.proofs.SurvivesLemmas.{survives_next}
 use Rattle.wgr_register.specs.Census.{with_counts}
+use Rattle.wgr_tables.proofs.ReadLemmas.{reads_next}
 use Rattle.wgr_register.proofs.census.all_counted.Goals as goal
 
-pub returns-in_err-network-clause-stands : goal.returns-in_err-network-clause-stands
-returns-in_err-network-clause-stands g c db pending stood = c.counted.ensures.stands db pending (c.loop-holding.invariant.stands db pending stood)
+pub returns-in_err-network-clause-reads : goal.returns-in_err-network-clause-reads
+returns-in_err-network-clause-reads g c = reads_next c.loop-holding.invariant.reads c.counted.ensures.reads
 
 pub returns-in_err-network-clause-cause : goal.returns-in_err-network-clause-cause
 returns-in_err-network-clause-cause g c db pending stood =
@@ -20,7 +20,7 @@ returns-in_err-network-clause-cause g c db pending stood =
     let new = state g.S.Store c.counted.new.conn in
     let before = c.loop-holding.invariant in
     handed (HasCause old new) c.from_residual.result c.in_err-network.field-0.0 c.from_residual.ensures.1
-    (cause_after old mid new ⊥ ⊥ (λ _. ⊥) (λ _. ⊥) before.survives c.counted.ensures.survives (λ none. none) c.in_err-network.field-0.0 (c.in_err-network.ensures.cause db pending (before.stands db pending stood)))
+    (cause_after old mid new ⊥ ⊥ (λ _. ⊥) (λ _. ⊥) before.reads.survives c.counted.ensures.reads.survives (λ none. none) c.in_err-network.field-0.0 (c.in_err-network.ensures.cause db pending (before.reads.stands db pending stood)))
 
 pub loop-holding-preserved : goal.loop-holding-preserved
 loop-holding-preserved g c =
@@ -28,22 +28,19 @@ loop-holding-preserved g c =
     let networks = c.loop-holding.networks.items in
     let rest = c.next.new.self.rest.items in
     record {
-      idle = c.counted.ensures.idle;
-      stands = λ db pending stood. c.counted.ensures.stands db pending (before.stands db pending stood);
-      clean = λ clean. before.clean (c.counted.ensures.clean clean);
-      survives = survives_next _ _ _ before.survives c.counted.ensures.survives;
+      reads = reads_next before.reads c.counted.ensures.reads;
       counted = λ db pending stood clean.
           let f = with_counts (tables_of db) in
           let h : Holding = c.in-Some.holding in
-          let now : c.in_ok-network.network ≡ f h = c.in_ok-network.ensures.counted db pending (before.stands db pending stood) clean in
-          before.counted db pending stood (c.counted.ensures.clean clean)
+          let now : c.in_ok-network.network ≡ f h = c.in_ok-network.ensures.counted db pending (before.reads.stands db pending stood) clean in
+          before.counted db pending stood (c.counted.ensures.reads.clean clean)
           ∙ ap (λ (left : List Holding). networks ++ map f left) c.in-Some.ensures.steps.0
           ∙ sym (append_assoc networks (f h ∷ []) (map f rest))
           ∙ ap (λ (made : List Counted). made ++ map f rest) (ap (λ (x : Counted). networks ++ x ∷ []) (sym {A = Counted} now) ∙ sym {A = List Counted} c.in_ok-keep.ensures.kept);
     }
 
-pub returns-in_err-keep-clause-stands : goal.returns-in_err-keep-clause-stands
-returns-in_err-keep-clause-stands g c db pending stood = c.counted.ensures.stands db pending (c.loop-holding.invariant.stands db pending stood)
+pub returns-in_err-keep-clause-reads : goal.returns-in_err-keep-clause-reads
+returns-in_err-keep-clause-reads g c = reads_next c.loop-holding.invariant.reads c.counted.ensures.reads
 
 pub returns-clause-counted : goal.returns-clause-counted
 returns-clause-counted g c db pending stood clean =

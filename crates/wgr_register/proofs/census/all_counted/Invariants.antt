@@ -1,9 +1,9 @@
-use Rattle.std.proofs.Common.{◌≡◌, ◌++◌, List, map, false}
+use Rattle.std.proofs.Common.{◌≡◌, ◌++◌, List, map}
 use Rattle.sqlite.specs.Effect.{Database}
-use Rattle.sqlite.specs.State.{HasCleanDisk, Survives}
+use Rattle.sqlite.specs.State.{HasCleanDisk}
 use Rattle.sqlite.specs.Held.{state}
 use Rattle.wgr_columns.specs.Decode.{tables_of}
-use Rattle.wgr_tables.specs.Standing.{Stands}
+use Rattle.wgr_tables.specs.Standing.{OnlyReads, Stands}
 use Rattle.wgr_tables.specs.Writes.{Written}
 use Rattle.wgr_register.specs.Census.{with_counts}
 use Rattle.wgr_register.proofs.census.all_counted.Given as goal
@@ -11,10 +11,7 @@ use Rattle.wgr_register.proofs.census.all_counted.Given as goal
 -- those that were counted, and those that are left
 abbrev pub invariant-loop-holding : goal.invariant-loop-holding
 invariant-loop-holding g l = record {
-  idle : l.conn.in_transaction ≡ false;
-  stands : (db : Database) (pending : List Written) → Stands g.S.Store l.initial.conn db pending → Stands g.S.Store l.conn db pending;
-  clean : HasCleanDisk (state g.S.Store l.conn) → HasCleanDisk (state g.S.Store l.initial.conn);
-  survives : Survives (state g.S.Store l.initial.conn) (state g.S.Store l.conn) (λ _. ⊥);
+  reads : OnlyReads g.S.Store l.initial.conn l.conn;
   counted : (db : Database) (pending : List Written) → Stands g.S.Store l.initial.conn db pending → HasCleanDisk (state g.S.Store l.conn)
       → map (with_counts (tables_of db)) l.fn.holdings.items ≡ l.networks.items ++ map (with_counts (tables_of db)) l.holding-iterator.rest.items;
 }

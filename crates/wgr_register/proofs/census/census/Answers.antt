@@ -6,6 +6,7 @@ use Rattle.wgr_entries.specs.Lookups.{settled}
 use Rattle.wgr_sql.specs.Causes.{HasCause}
 use Rattle.wgr_sql.proofs.CauseLemmas.{cause_after, handed}
 use Rattle.wgr_sql.proofs.SurvivesLemmas.{survives_next}
+use Rattle.wgr_tables.proofs.ReadLemmas.{reads_next}
 use Rattle.wgr_register.specs.Census.{with_counts}
 use Rattle.wgr_register.proofs.CauseLemmas.{network_kept, tenant_kept, token_kept}
 use Rattle.wgr_register.proofs.census.census.Goals as goal
@@ -15,8 +16,8 @@ returns-in_err-tenants-clause-cause g c db pending stood good =
     handed (HasCause (state g.S.Store c.args.conn.now) (state g.S.Store c.tenants.new.conn)) c.from_residual.result c.in_err-tenants.field-0.0 c.from_residual.ensures.1
     (c.in_err-tenants.ensures.cause db pending stood (tenant_kept (tables_of db) good))
 
-pub returns-in_err-tokens-clause-stands : goal.returns-in_err-tokens-clause-stands
-returns-in_err-tokens-clause-stands g c db pending stood = c.tokens.ensures.stands db pending (c.tenants.ensures.stands db pending stood)
+pub returns-in_err-tokens-clause-reads : goal.returns-in_err-tokens-clause-reads
+returns-in_err-tokens-clause-reads g c = reads_next c.tenants.ensures.reads c.tokens.ensures.reads
 
 pub returns-in_err-tokens-clause-cause : goal.returns-in_err-tokens-clause-cause
 returns-in_err-tokens-clause-cause g c db pending stood good =
@@ -24,25 +25,24 @@ returns-in_err-tokens-clause-cause g c db pending stood good =
     let mid = state g.S.Store c.tenants.new.conn in
     let new = state g.S.Store c.tokens.new.conn in
     handed (HasCause old new) c.from_residual-in_err-tokens.result c.in_err-tokens.field-0.0 c.from_residual-in_err-tokens.ensures.1
-    (cause_after old mid new ⊥ ⊥ (λ _. ⊥) (λ _. ⊥) c.tenants.ensures.survives c.tokens.ensures.survives (λ none. none) c.in_err-tokens.field-0.0
-    (c.in_err-tokens.ensures.cause db pending (c.tenants.ensures.stands db pending stood) (token_kept (tables_of db) good)))
+    (cause_after old mid new ⊥ ⊥ (λ _. ⊥) (λ _. ⊥) c.tenants.ensures.reads.survives c.tokens.ensures.reads.survives (λ none. none) c.in_err-tokens.field-0.0
+    (c.in_err-tokens.ensures.cause db pending (c.tenants.ensures.reads.stands db pending stood) (token_kept (tables_of db) good)))
 
-pub returns-in_err-holdings-clause-stands : goal.returns-in_err-holdings-clause-stands
-returns-in_err-holdings-clause-stands g c db pending stood = c.settled_networks.ensures.stands db pending (c.tokens.ensures.stands db pending (c.tenants.ensures.stands db pending stood))
+pub returns-in_err-holdings-clause-reads : goal.returns-in_err-holdings-clause-reads
+returns-in_err-holdings-clause-reads g c = reads_next (reads_next c.tenants.ensures.reads c.tokens.ensures.reads) c.settled_networks.ensures.reads
 
 pub returns-in_err-holdings-clause-cause : goal.returns-in_err-holdings-clause-cause
 returns-in_err-holdings-clause-cause g c db pending stood good =
     let old = state g.S.Store c.args.conn.now in
     let mid = state g.S.Store c.tokens.new.conn in
     let new = state g.S.Store c.settled_networks.new.conn in
-    let before = survives_next old (state g.S.Store c.tenants.new.conn) mid c.tenants.ensures.survives c.tokens.ensures.survives in
+    let before = survives_next old (state g.S.Store c.tenants.new.conn) mid c.tenants.ensures.reads.survives c.tokens.ensures.reads.survives in
     handed (HasCause old new) c.from_residual-in_err-holdings.result c.in_err-holdings.field-0.0 c.from_residual-in_err-holdings.ensures.1
-    (cause_after old mid new ⊥ ⊥ (λ _. ⊥) (λ _. ⊥) before c.settled_networks.ensures.survives (λ none. none) c.in_err-holdings.field-0.0
-    (c.in_err-holdings.ensures.cause db pending (c.tokens.ensures.stands db pending (c.tenants.ensures.stands db pending stood)) (network_kept (tables_of db) good)))
+    (cause_after old mid new ⊥ ⊥ (λ _. ⊥) (λ _. ⊥) before c.settled_networks.ensures.reads.survives (λ none. none) c.in_err-holdings.field-0.0
+    (c.in_err-holdings.ensures.cause db pending (c.tokens.ensures.reads.stands db pending (c.tenants.ensures.reads.stands db pending stood)) (network_kept (tables_of db) good)))
 
-pub returns-in_err-networks-clause-stands : goal.returns-in_err-networks-clause-stands
-returns-in_err-networks-clause-stands g c db pending stood =
-    c.all_counted.ensures.stands db pending (c.settled_networks.ensures.stands db pending (c.tokens.ensures.stands db pending (c.tenants.ensures.stands db pending stood)))
+pub returns-in_err-networks-clause-reads : goal.returns-in_err-networks-clause-reads
+returns-in_err-networks-clause-reads g c = reads_next (reads_next (reads_next c.tenants.ensures.reads c.tokens.ensures.reads) c.settled_networks.ensures.reads) c.all_counted.ensures.reads
 
 pub returns-in_err-networks-clause-cause : goal.returns-in_err-networks-clause-cause
 returns-in_err-networks-clause-cause g c db pending stood good =
@@ -50,25 +50,24 @@ returns-in_err-networks-clause-cause g c db pending stood good =
     let near = state g.S.Store c.tokens.new.conn in
     let mid = state g.S.Store c.settled_networks.new.conn in
     let new = state g.S.Store c.all_counted.new.conn in
-    let first = survives_next old (state g.S.Store c.tenants.new.conn) near c.tenants.ensures.survives c.tokens.ensures.survives in
-    let before = survives_next old near mid first c.settled_networks.ensures.survives in
+    let first = survives_next old (state g.S.Store c.tenants.new.conn) near c.tenants.ensures.reads.survives c.tokens.ensures.reads.survives in
+    let before = survives_next old near mid first c.settled_networks.ensures.reads.survives in
     handed (HasCause old new) c.from_residual-in_err-networks.result c.in_err-networks.field-0.0 c.from_residual-in_err-networks.ensures.1
-    (cause_after old mid new ⊥ ⊥ (λ _. ⊥) (λ _. ⊥) before c.all_counted.ensures.survives (λ none. none) c.in_err-networks.field-0.0
-    (c.in_err-networks.ensures.cause db pending (c.settled_networks.ensures.stands db pending (c.tokens.ensures.stands db pending (c.tenants.ensures.stands db pending stood)))))
+    (cause_after old mid new ⊥ ⊥ (λ _. ⊥) (λ _. ⊥) before c.all_counted.ensures.reads.survives (λ none. none) c.in_err-networks.field-0.0
+    (c.in_err-networks.ensures.cause db pending (c.settled_networks.ensures.reads.stands db pending (c.tokens.ensures.reads.stands db pending (c.tenants.ensures.reads.stands db pending stood)))))
 
-pub returns-clause-stands : goal.returns-clause-stands
-returns-clause-stands g c db pending stood =
-    c.all_counted.ensures.stands db pending (c.settled_networks.ensures.stands db pending (c.tokens.ensures.stands db pending (c.tenants.ensures.stands db pending stood)))
+pub returns-clause-reads : goal.returns-clause-reads
+returns-clause-reads g c = reads_next (reads_next (reads_next c.tenants.ensures.reads c.tokens.ensures.reads) c.settled_networks.ensures.reads) c.all_counted.ensures.reads
 
 pub returns-clause-listed : goal.returns-clause-listed
 returns-clause-listed g c db pending stood clean =
     let f = with_counts (tables_of db) in
-    let one = c.tenants.ensures.stands db pending stood in
-    let two = c.tokens.ensures.stands db pending one in
-    let three = c.settled_networks.ensures.stands db pending two in
-    let clean3 = c.all_counted.ensures.clean clean in
-    let clean2 = c.settled_networks.ensures.clean clean3 in
-    let clean1 = c.tokens.ensures.clean clean2 in
+    let one = c.tenants.ensures.reads.stands db pending stood in
+    let two = c.tokens.ensures.reads.stands db pending one in
+    let three = c.settled_networks.ensures.reads.stands db pending two in
+    let clean3 = c.all_counted.ensures.reads.clean clean in
+    let clean2 = c.settled_networks.ensures.reads.clean clean3 in
+    let clean1 = c.tokens.ensures.reads.clean clean2 in
     let (rows, same, are) = c.in_ok-holdings.ensures.listed db pending two clean3 in
     record {
       tenants = c.in_ok-tenants.ensures.listed db pending stood clean1;

@@ -5,13 +5,14 @@ use Rattle.wgr_columns.specs.Decode.{tables_of}
 use Rattle.wgr_entries.specs.Lookups.{peer_count, route_count}
 use Rattle.wgr_sql.specs.Causes.{HasCause}
 use Rattle.wgr_sql.proofs.CauseLemmas.{cause_after, handed}
+use Rattle.wgr_tables.proofs.ReadLemmas.{reads_next}
 use Rattle.wgr_register.proofs.census.counted.Goals as goal
 
 pub returns-in_err-peers-clause-cause : goal.returns-in_err-peers-clause-cause
 returns-in_err-peers-clause-cause g c db pending stood = handed (HasCause (state g.S.Store c.args.conn.now) (state g.S.Store c.count_peers.new.conn)) c.from_residual.result c.in_err-peers.field-0.0 c.from_residual.ensures.1 (c.in_err-peers.ensures.cause db pending stood)
 
-pub returns-in_err-routes-clause-stands : goal.returns-in_err-routes-clause-stands
-returns-in_err-routes-clause-stands g c db pending stood = c.count_routes.ensures.stands db pending (c.count_peers.ensures.stands db pending stood)
+pub returns-in_err-routes-clause-reads : goal.returns-in_err-routes-clause-reads
+returns-in_err-routes-clause-reads g c = reads_next c.count_peers.ensures.reads c.count_routes.ensures.reads
 
 pub returns-in_err-routes-clause-cause : goal.returns-in_err-routes-clause-cause
 returns-in_err-routes-clause-cause g c db pending stood =
@@ -19,14 +20,14 @@ returns-in_err-routes-clause-cause g c db pending stood =
     let mid = state g.S.Store c.count_peers.new.conn in
     let new = state g.S.Store c.count_routes.new.conn in
     handed (HasCause old new) c.from_residual-in_err-routes.result c.in_err-routes.field-0.0 c.from_residual-in_err-routes.ensures.1
-    (cause_after old mid new ⊥ ⊥ (λ _. ⊥) (λ _. ⊥) c.count_peers.ensures.survives c.count_routes.ensures.survives (λ none. none) c.in_err-routes.field-0.0 (c.in_err-routes.ensures.cause db pending (c.count_peers.ensures.stands db pending stood)))
+    (cause_after old mid new ⊥ ⊥ (λ _. ⊥) (λ _. ⊥) c.count_peers.ensures.reads.survives c.count_routes.ensures.reads.survives (λ none. none) c.in_err-routes.field-0.0 (c.in_err-routes.ensures.cause db pending (c.count_peers.ensures.reads.stands db pending stood)))
 
-pub returns-clause-stands : goal.returns-clause-stands
-returns-clause-stands g c db pending stood = c.count_routes.ensures.stands db pending (c.count_peers.ensures.stands db pending stood)
+pub returns-clause-reads : goal.returns-clause-reads
+returns-clause-reads g c = reads_next c.count_peers.ensures.reads c.count_routes.ensures.reads
 
 pub returns-clause-counted : goal.returns-clause-counted
 returns-clause-counted g c db pending stood clean =
     let t = tables_of db in
-    let peers = c.in_ok-peers.ensures.counted db pending stood (c.count_routes.ensures.clean clean) ∙ ap (λ (h : Holding). peer_count t h.id) c.holding.view_is in
-    let routes = c.in_ok-routes.ensures.counted db pending (c.count_peers.ensures.stands db pending stood) clean ∙ ap (λ (h : Holding). route_count t h.id) c.holding.view_is in
+    let peers = c.in_ok-peers.ensures.counted db pending stood (c.count_routes.ensures.reads.clean clean) ∙ ap (λ (h : Holding). peer_count t h.id) c.holding.view_is in
+    let routes = c.in_ok-routes.ensures.counted db pending (c.count_peers.ensures.reads.stands db pending stood) clean ∙ ap (λ (h : Holding). route_count t h.id) c.holding.view_is in
     λ k. record { holding = c.args.holding; peers = peers k; routes = routes k }

@@ -1,6 +1,6 @@
 use Rattle.std.proofs.Common.{subst, sym}
 use Rattle.wgr_register.specs.Loaded.{AreFormed, entries_of}
-use Rattle.wgr_register.proofs.StayLemmas.{rest_formed}
+use Rattle.wgr_register.proofs.LoadedLemmas.{rest_formed}
 use Rattle.wgr_register.proofs.loaded.forget.Goals as goal
 
 pub returns : goal.returns

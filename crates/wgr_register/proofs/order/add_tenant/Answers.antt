@@ -25,19 +25,19 @@ tenant_joins : (g : Over) (c : After-add_tenant g) (db : Database) (late : List 
 tenant_joins g c db late at clean =
     let t = tables_of db in
     let listing = c.add_tenant.ensures.clean clean in
-    let free : id_of t.tenants c.args.name.now ≡ None = sym (c.in_ok-tenant_id.ensures.found db at.pending at.stands (c.tenant_ids.ensures.clean listing)) ∙ c.in-None.is in
-    let listed = c.in_ok-ids.ensures.listed db at.pending (c.tenant_id.ensures.stands db at.pending at.stands) listing in
+    let free : id_of t.tenants c.args.name.now ≡ None = sym (c.in_ok-tenant_id.ensures.found db at.pending at.stands (c.tenant_ids.ensures.reads.clean listing)) ∙ c.in-None.is in
+    let listed = c.in_ok-ids.ensures.listed db at.pending (c.tenant_id.ensures.reads.stands db at.pending at.stands) listing in
     let room = room_by t c.in_ok-ids.ids.items listed false (rw c.as_slice.ensures.value at (sym c.is_full.ensures ∙ c.if-is_full.false)) in
     let unused = unused_by t c.in_ok-ids.ids.items listed c.unused_id.result (rw c.as_slice-2.ensures.value at c.unused_id.ensures.unused) in
     tenant_comes t at.consistent c.args.name.now free room c.unused_id.result c.unused_id.ensures.id unused
 
 pub returns-in_err-tenant_id-clause-ends : goal.returns-in_err-tenant_id-clause-ends
 returns-in_err-tenant_id-clause-ends g c db late at proper =
-    order_unread g.S.Store _ _ db late _ _ _ c.from_residual.ensures.1 (c.tenant_id.ensures.stands db) at
+    order_unread g.S.Store _ _ db late _ _ _ c.from_residual.ensures.1 (c.tenant_id.ensures.reads.stands db) at
 
 pub returns-in_default-clause-ends : goal.returns-in_default-clause-ends
 returns-in_default-clause-ends g c db late at proper = (
-  at_read g.S.Store _ _ db late (c.tenant_id.ensures.stands db) at,
+  at_read g.S.Store _ _ db late (c.tenant_id.ensures.reads.stands db) at,
   λ clean.
       let held : id_of (tables_of db).tenants c.args.name.now ≡ Some c.in_default.field-0 = sym (c.in_ok-tenant_id.ensures.found db at.pending at.stands clean) ∙ c.in_default.is in
       name_held (tables_of db) at.consistent c.args.name.now c.in_default.field-0 held,
@@ -46,14 +46,14 @@ returns-in_default-clause-ends g c db late at proper = (
 pub returns-in_err-ids-clause-ends : goal.returns-in_err-ids-clause-ends
 returns-in_err-ids-clause-ends g c db late at proper =
     order_unread g.S.Store _ _ db late _ _ _ c.from_residual-in_err-ids.ensures.1
-    (λ pending stood. c.tenant_ids.ensures.stands db pending (c.tenant_id.ensures.stands db pending stood)) at
+    (λ pending stood. c.tenant_ids.ensures.reads.stands db pending (c.tenant_id.ensures.reads.stands db pending stood)) at
 
 pub returns-then-is_full-clause-ends : goal.returns-then-is_full-clause-ends
 returns-then-is_full-clause-ends g c db late at proper = (
-  at_read g.S.Store _ _ db late (λ pending stood. c.tenant_ids.ensures.stands db pending (c.tenant_id.ensures.stands db pending stood)) at,
+  at_read g.S.Store _ _ db late (λ pending stood. c.tenant_ids.ensures.reads.stands db pending (c.tenant_id.ensures.reads.stands db pending stood)) at,
   λ clean.
-      let mid = c.tenant_id.ensures.stands db at.pending at.stands in
-      let free : id_of (tables_of db).tenants c.args.name.now ≡ None = sym (c.in_ok-tenant_id.ensures.found db at.pending at.stands (c.tenant_ids.ensures.clean clean)) ∙ c.in-None.is in
+      let mid = c.tenant_id.ensures.reads.stands db at.pending at.stands in
+      let free : id_of (tables_of db).tenants c.args.name.now ≡ None = sym (c.in_ok-tenant_id.ensures.found db at.pending at.stands (c.tenant_ids.ensures.reads.clean clean)) ∙ c.in-None.is in
       let listed = c.in_ok-ids.ensures.listed db at.pending mid clean in
       let full = room_by (tables_of db) c.in_ok-ids.ids.items listed true (rw c.as_slice.ensures.value at (sym c.is_full.ensures ∙ c.if-is_full.true)) in
       tenants_full (tables_of db) at.consistent c.args.name.now free full,
@@ -62,31 +62,31 @@ returns-then-is_full-clause-ends g c db late at proper = (
 pub returns-in_err-add_tenant-clause-ends : goal.returns-in_err-add_tenant-clause-ends
 returns-in_err-add_tenant-clause-ends g c db late at proper =
     let ends = tenant_joins g (goal.at.returns-in_err-add_tenant-clause-ends g c).After-add_tenant db late at in
-    let near = c.tenant_ids.ensures.stands db at.pending (c.tenant_id.ensures.stands db at.pending at.stands) in
+    let near = c.tenant_ids.ensures.reads.stands db at.pending (c.tenant_id.ensures.reads.stands db at.pending at.stands) in
     order_unwritten g.S.Store _ _ db late _ proper _ _ (TenantGained (record { id = c.unused_id.result; name = c.args.name.now })) c.from_residual-in_err-add_tenant.ensures.1 c.add_tenant.ensures.idle
     ends at (c.in_err-add_tenant.ensures.fault db at.pending near)
 
 pub returns-clause-ends : goal.returns-clause-ends
 returns-clause-ends g c db late at proper clean =
     let ends = tenant_joins g (goal.at.returns-clause-ends g c).After-add_tenant db late at clean in
-    let near = c.tenant_ids.ensures.stands db at.pending (c.tenant_id.ensures.stands db at.pending at.stands) in
+    let near = c.tenant_ids.ensures.reads.stands db at.pending (c.tenant_id.ensures.reads.stands db at.pending at.stands) in
     order_done g.S.Store _ db late _ (TenantGained (record { id = c.unused_id.result; name = c.args.name.now })) proper at.consistent ends (c.in_ok-add_tenant.ensures.done db at.pending near clean) clean
 
 -- ---- why it ends by a fault
 
 pub returns-in_err-tenant_id-clause-stops : goal.returns-in_err-tenant_id-clause-stops
 returns-in_err-tenant_id-clause-stops g c db late at =
-    unread_stops _ _ _ _ _ _ c.from_residual.ensures.1 (survives_still _) c.tenant_id.ensures.survives (c.in_err-tenant_id.ensures.cause db at.pending at.stands at.consistent)
+    unread_stops _ _ _ _ _ _ c.from_residual.ensures.1 (survives_still _) c.tenant_id.ensures.reads.survives (c.in_err-tenant_id.ensures.cause db at.pending at.stands at.consistent)
 
 pub returns-in_err-ids-clause-stops : goal.returns-in_err-ids-clause-stops
 returns-in_err-ids-clause-stops g c db late at =
-    unread_stops _ _ _ _ _ _ c.from_residual-in_err-ids.ensures.1 c.tenant_id.ensures.survives c.tenant_ids.ensures.survives (c.in_err-ids.ensures.cause db at.pending (c.tenant_id.ensures.stands db at.pending at.stands) (tenant_kept (tables_of db) at.consistent))
+    unread_stops _ _ _ _ _ _ c.from_residual-in_err-ids.ensures.1 c.tenant_id.ensures.reads.survives c.tenant_ids.ensures.reads.survives (c.in_err-ids.ensures.cause db at.pending (c.tenant_id.ensures.reads.stands db at.pending at.stands) (tenant_kept (tables_of db) at.consistent))
 
 pub returns-in_err-add_tenant-clause-stops : goal.returns-in_err-add_tenant-clause-stops
 returns-in_err-add_tenant-clause-stops g c db late at =
     let ends = tenant_joins g (goal.at.returns-in_err-add_tenant-clause-stops g c).After-add_tenant db late at in
-    let near = c.tenant_ids.ensures.stands db at.pending (c.tenant_id.ensures.stands db at.pending at.stands) in
-    unwritten_stops _ _ _ _ _ _ c.from_residual-in_err-add_tenant.ensures.1 (survives_next _ _ _ c.tenant_id.ensures.survives c.tenant_ids.ensures.survives) _ c.add_tenant.ensures.survives
+    let near = c.tenant_ids.ensures.reads.stands db at.pending (c.tenant_id.ensures.reads.stands db at.pending at.stands) in
+    unwritten_stops _ _ _ _ _ _ c.from_residual-in_err-add_tenant.ensures.1 (survives_next _ _ _ c.tenant_id.ensures.reads.survives c.tenant_ids.ensures.reads.survives) _ c.add_tenant.ensures.survives
     (λ clean refused. record { write = TenantGained (record { id = c.unused_id.result; name = c.args.name.now }); does = ends clean; stops = refused }) (c.in_err-add_tenant.ensures.cause db at.pending near)
 
 -- ---- where it isn't undone, the store was open
@@ -101,10 +101,10 @@ pub returns-in_err-ids-clause-open : goal.returns-in_err-ids-clause-open
 returns-in_err-ids-clause-open g c clean = undone _ _ _ c.from_residual-in_err-ids.ensures.1
 
 pub returns-then-is_full-clause-open : goal.returns-then-is_full-clause-open
-returns-then-is_full-clause-open g c clean = c.in_ok-tenant_id.ensures.open (c.tenant_ids.ensures.clean clean)
+returns-then-is_full-clause-open g c clean = c.in_ok-tenant_id.ensures.open (c.tenant_ids.ensures.reads.clean clean)
 
 pub returns-in_err-add_tenant-clause-open : goal.returns-in_err-add_tenant-clause-open
 returns-in_err-add_tenant-clause-open g c clean = undone _ _ _ c.from_residual-in_err-add_tenant.ensures.1
 
 pub returns-clause-open : goal.returns-clause-open
-returns-clause-open g c clean = c.in_ok-tenant_id.ensures.open (c.tenant_ids.ensures.clean (c.add_tenant.ensures.clean clean))
+returns-clause-open g c clean = c.in_ok-tenant_id.ensures.open (c.tenant_ids.ensures.reads.clean (c.add_tenant.ensures.clean clean))

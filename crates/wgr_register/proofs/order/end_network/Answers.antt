@@ -19,12 +19,8 @@ use Rattle.wgr_register.specs.Standing.{StandsAt}
 use Rattle.wgr_sql.proofs.SurvivesLemmas.{survives_next, survives_still}
 use Rattle.wgr_register.proofs.OrderCauses.{unread_stops, unwritten_stops}
 use Rattle.wgr_register.specs.Ends.{EndsWith, is_change}
-use Rattle.wgr_register.specs.Cached.{AreCurrent, files_of}
-use Rattle.wgr_register.specs.Loaded.{AreFormed, entries_of}
-use Rattle.wgr_register.proofs.CachedLemmas.{others_after}
-use Rattle.wgr_opening.specs.Outlines.{AreOutlines}
-use Rattle.wgr_register.specs.Known.{known_outline}
-use Rattle.wgr_register.proofs.KnownLemmas.{other_outlines_after}
+use Rattle.wgr_register.specs.Memory.{IsMemoryOf}
+use Rattle.wgr_register.proofs.MemoryLemmas.{others_of}
 use Rattle.wgr_register.proofs.LoadedLemmas.{shown_so}
 use Rattle.wgr_register.proofs.StayLemmas.{at_next, other_stays, undone}
 use Rattle.wgr_register.proofs.order.end_network.Given.{Over}
@@ -33,10 +29,10 @@ use Rattle.wgr_register.proofs.order.end_network.Goals as goal
 
 module _ (g : Over) (c : After-end_network g) (db : Database) (late : List Event) (at : StandsAt g.S.Store c.args.conn.now db late) (clean : HasCleanDisk (state g.S.Store c.end_network.new.conn)) where
   known : id_of (tables_of db).tenants c.args.tenant.now ≡ Some c.in-Some.id
-  known = sym (c.in_ok-id.ensures.found db at.pending at.stands (c.network_id.ensures.clean (c.end_network.ensures.clean clean))) ∙ c.in-Some.is
+  known = sym (c.in_ok-id.ensures.found db at.pending at.stands (c.network_id.ensures.reads.clean (c.end_network.ensures.clean clean))) ∙ c.in-Some.is
 
   found : (w : NetworkRow) × Has (tables_of db).networks w × IsSlotOf w c.in-Some.id c.args.name.now × (w.id ≡ c.in-Some-2.network)
-  found = rw c.in-Some-2.is at c.in_ok-network.ensures.some db at.pending (c.tenant_id.ensures.stands db at.pending at.stands) (c.end_network.ensures.clean clean)
+  found = rw c.in-Some-2.is at c.in_ok-network.ensures.some db at.pending (c.tenant_id.ensures.reads.stands db at.pending at.stands) (c.end_network.ensures.clean clean)
 
   -- what the write does, if it is made
   network_goes : (u : Tables) → Changes (NetworkLost c.in-Some-2.network) (tables_of db) u → IsRowStep (tables_of db) (EndNetwork c.args.tenant.now c.args.name.now) Done u
@@ -58,11 +54,11 @@ module _ (g : Over) (c : After-end_network g) (db : Database) (late : List Event
 
 pub returns-in_err-id-clause-ends : goal.returns-in_err-id-clause-ends
 returns-in_err-id-clause-ends g c db late at =
-    order_unread g.S.Store _ _ db late _ _ _ c.from_residual.ensures.1 (c.tenant_id.ensures.stands db) at
+    order_unread g.S.Store _ _ db late _ _ _ c.from_residual.ensures.1 (c.tenant_id.ensures.reads.stands db) at
 
 pub returns-in_default-clause-ends : goal.returns-in_default-clause-ends
 returns-in_default-clause-ends g c db late at = (
-  at_read g.S.Store _ _ db late (c.tenant_id.ensures.stands db) at,
+  at_read g.S.Store _ _ db late (c.tenant_id.ensures.reads.stands db) at,
   λ clean.
       let none : id_of (tables_of db).tenants c.args.tenant.now ≡ None = sym (c.in_ok-id.ensures.found db at.pending at.stands clean) ∙ c.in_default.is in
       nobody_has (tables_of db) at.consistent c.args.tenant.now c.args.name.now none,
@@ -71,43 +67,43 @@ returns-in_default-clause-ends g c db late at = (
 pub returns-in_err-network-clause-ends : goal.returns-in_err-network-clause-ends
 returns-in_err-network-clause-ends g c db late at =
     order_unread g.S.Store _ _ db late _ _ _ c.from_residual-in_err-network.ensures.1
-    (λ pending stood. c.network_id.ensures.stands db pending (c.tenant_id.ensures.stands db pending stood)) at
+    (λ pending stood. c.network_id.ensures.reads.stands db pending (c.tenant_id.ensures.reads.stands db pending stood)) at
 
 pub returns-in_default-2-clause-ends : goal.returns-in_default-2-clause-ends
 returns-in_default-2-clause-ends g c db late at = (
-  at_read g.S.Store _ _ db late (λ pending stood. c.network_id.ensures.stands db pending (c.tenant_id.ensures.stands db pending stood)) at,
+  at_read g.S.Store _ _ db late (λ pending stood. c.network_id.ensures.reads.stands db pending (c.tenant_id.ensures.reads.stands db pending stood)) at,
   λ clean.
-      let mid = c.tenant_id.ensures.stands db at.pending at.stands in
-      let known : id_of (tables_of db).tenants c.args.tenant.now ≡ Some c.in-Some.id = sym (c.in_ok-id.ensures.found db at.pending at.stands (c.network_id.ensures.clean clean)) ∙ c.in-Some.is in
+      let mid = c.tenant_id.ensures.reads.stands db at.pending at.stands in
+      let known : id_of (tables_of db).tenants c.args.tenant.now ≡ Some c.in-Some.id = sym (c.in_ok-id.ensures.found db at.pending at.stands (c.network_id.ensures.reads.clean clean)) ∙ c.in-Some.is in
       none_ends (tables_of db) at.consistent c.args.tenant.now c.args.name.now c.in-Some.id known (no_network (tables_of db) c.in-Some.id c.args.name.now (rw c.in_default-2.is at c.in_ok-network.ensures.none db at.pending mid clean)),
 )
 
 pub returns-in_err-end_network-clause-ends : goal.returns-in_err-end_network-clause-ends
 returns-in_err-end_network-clause-ends g c db late at =
     let ends = network_goes g (goal.at.returns-in_err-end_network-clause-ends g c).After-end_network db late at in
-    let near = c.network_id.ensures.stands db at.pending (c.tenant_id.ensures.stands db at.pending at.stands) in
+    let near = c.network_id.ensures.reads.stands db at.pending (c.tenant_id.ensures.reads.stands db at.pending at.stands) in
     order_unwritten g.S.Store _ _ db late _ tt _ _ (NetworkLost c.in-Some-2.network) c.from_residual-in_err-end_network.ensures.1 c.end_network.ensures.idle ends at (c.in_err-end_network.ensures.fault db at.pending near at.consistent.rows.keyed)
 
 pub returns-clause-ends : goal.returns-clause-ends
 returns-clause-ends g c db late at clean =
-    let near = c.network_id.ensures.stands db at.pending (c.tenant_id.ensures.stands db at.pending at.stands) in
+    let near = c.network_id.ensures.reads.stands db at.pending (c.tenant_id.ensures.reads.stands db at.pending at.stands) in
     network_gone g (goal.at.returns-clause-ends g c).After-end_network db late at clean (c.in_ok-end_network.ensures.done db at.pending near at.consistent.rows.keyed clean) clean
 
 -- ---- why it ends by a fault
 
 pub returns-in_err-id-clause-stops : goal.returns-in_err-id-clause-stops
 returns-in_err-id-clause-stops g c db late at =
-    unread_stops _ _ _ _ _ _ c.from_residual.ensures.1 (survives_still _) c.tenant_id.ensures.survives (c.in_err-id.ensures.cause db at.pending at.stands at.consistent)
+    unread_stops _ _ _ _ _ _ c.from_residual.ensures.1 (survives_still _) c.tenant_id.ensures.reads.survives (c.in_err-id.ensures.cause db at.pending at.stands at.consistent)
 
 pub returns-in_err-network-clause-stops : goal.returns-in_err-network-clause-stops
 returns-in_err-network-clause-stops g c db late at =
-    unread_stops _ _ _ _ _ _ c.from_residual-in_err-network.ensures.1 c.tenant_id.ensures.survives c.network_id.ensures.survives (c.in_err-network.ensures.cause db at.pending (c.tenant_id.ensures.stands db at.pending at.stands) at.consistent)
+    unread_stops _ _ _ _ _ _ c.from_residual-in_err-network.ensures.1 c.tenant_id.ensures.reads.survives c.network_id.ensures.reads.survives (c.in_err-network.ensures.cause db at.pending (c.tenant_id.ensures.reads.stands db at.pending at.stands) at.consistent)
 
 pub returns-in_err-end_network-clause-stops : goal.returns-in_err-end_network-clause-stops
 returns-in_err-end_network-clause-stops g c db late at =
     let ends = network_goes g (goal.at.returns-in_err-end_network-clause-stops g c).After-end_network db late at in
-    let near = c.network_id.ensures.stands db at.pending (c.tenant_id.ensures.stands db at.pending at.stands) in
-    unwritten_stops _ _ _ _ _ _ c.from_residual-in_err-end_network.ensures.1 (survives_next _ _ _ c.tenant_id.ensures.survives c.network_id.ensures.survives) _ c.end_network.ensures.survives
+    let near = c.network_id.ensures.reads.stands db at.pending (c.tenant_id.ensures.reads.stands db at.pending at.stands) in
+    unwritten_stops _ _ _ _ _ _ c.from_residual-in_err-end_network.ensures.1 (survives_next _ _ _ c.tenant_id.ensures.reads.survives c.network_id.ensures.reads.survives) _ c.end_network.ensures.survives
     (λ clean refused. record { write = NetworkLost c.in-Some-2.network; does = ends clean; stops = refused }) (c.in_err-end_network.ensures.cause db at.pending near)
 
 -- ---- where it isn't undone, the store was open
@@ -122,88 +118,36 @@ pub returns-in_err-network-clause-open : goal.returns-in_err-network-clause-open
 returns-in_err-network-clause-open g c clean = undone _ _ _ c.from_residual-in_err-network.ensures.1
 
 pub returns-in_default-2-clause-open : goal.returns-in_default-2-clause-open
-returns-in_default-2-clause-open g c clean = c.in_ok-id.ensures.open (c.network_id.ensures.clean clean)
+returns-in_default-2-clause-open g c clean = c.in_ok-id.ensures.open (c.network_id.ensures.reads.clean clean)
 
 pub returns-in_err-end_network-clause-open : goal.returns-in_err-end_network-clause-open
 returns-in_err-end_network-clause-open g c clean = undone _ _ _ c.from_residual-in_err-end_network.ensures.1
 
 pub returns-clause-open : goal.returns-clause-open
-returns-clause-open g c clean = c.in_ok-id.ensures.open (c.network_id.ensures.clean (c.end_network.ensures.clean clean))
+returns-clause-open g c clean = c.in_ok-id.ensures.open (c.network_id.ensures.reads.clean (c.end_network.ensures.clean clean))
 
--- ---- which networks stay in memory
+-- ---- what stays in memory
 
-pub returns-in_err-id-clause-formed : goal.returns-in_err-id-clause-formed
-returns-in_err-id-clause-formed g c db late at formed = undone _ _ _ c.from_residual.ensures.1
+pub returns-in_err-id-clause-memory : goal.returns-in_err-id-clause-memory
+returns-in_err-id-clause-memory g c db late at is = undone _ _ _ c.from_residual.ensures.1
 
-pub returns-in_default-clause-formed : goal.returns-in_default-clause-formed
-returns-in_default-clause-formed g c db late at formed =
-    shown_so g.S.Store c.tenant_id.new.conn db at.pending (AreFormed (entries_of c.args.loaded.now)) (c.tenant_id.ensures.stands db at.pending at.stands) formed
+pub returns-in_default-clause-memory : goal.returns-in_default-clause-memory
+returns-in_default-clause-memory g c db late at is =
+    shown_so g.S.Store c.tenant_id.new.conn db at.pending (IsMemoryOf c.args.memory.now) (c.tenant_id.ensures.reads.stands db at.pending at.stands) is
 
-pub returns-in_err-network-clause-formed : goal.returns-in_err-network-clause-formed
-returns-in_err-network-clause-formed g c db late at formed = undone _ _ _ c.from_residual-in_err-network.ensures.1
+pub returns-in_err-network-clause-memory : goal.returns-in_err-network-clause-memory
+returns-in_err-network-clause-memory g c db late at is = undone _ _ _ c.from_residual-in_err-network.ensures.1
 
-pub returns-in_default-2-clause-formed : goal.returns-in_default-2-clause-formed
-returns-in_default-2-clause-formed g c db late at formed =
-    shown_so g.S.Store c.network_id.new.conn db at.pending (AreFormed (entries_of c.args.loaded.now)) (c.network_id.ensures.stands db at.pending (c.tenant_id.ensures.stands db at.pending at.stands)) formed
+pub returns-in_default-2-clause-memory : goal.returns-in_default-2-clause-memory
+returns-in_default-2-clause-memory g c db late at is =
+    shown_so g.S.Store c.network_id.new.conn db at.pending (IsMemoryOf c.args.memory.now) (c.network_id.ensures.reads.stands db at.pending (c.tenant_id.ensures.reads.stands db at.pending at.stands)) is
 
-pub returns-in_err-end_network-clause-formed : goal.returns-in_err-end_network-clause-formed
-returns-in_err-end_network-clause-formed g c db late at formed = undone _ _ _ c.from_residual-in_err-end_network.ensures.1
+pub returns-in_err-end_network-clause-memory : goal.returns-in_err-end_network-clause-memory
+returns-in_err-end_network-clause-memory g c db late at is = undone _ _ _ c.from_residual-in_err-end_network.ensures.1
 
-pub returns-clause-formed : goal.returns-clause-formed
-returns-clause-formed g c db late at formed clean live =
-    let near = c.network_id.ensures.stands db at.pending (c.tenant_id.ensures.stands db at.pending at.stands) in
+pub returns-clause-memory : goal.returns-clause-memory
+returns-clause-memory g c db late at is clean live =
+    let near = c.network_id.ensures.reads.stands db at.pending (c.tenant_id.ensures.reads.stands db at.pending at.stands) in
     let done = c.in_ok-end_network.ensures.done db at.pending near at.consistent.rows.keyed clean in
-    others_show g (goal.at.returns-clause-formed g c).After-end_network db late at clean done live (AreFormed (entries_of c.forget.new.loaded))
-    (λ u stays. c.forget.ensures u (λ other n off there. stays other n off (formed other n there)))
-
--- ---- and which files
-
-pub returns-in_err-id-clause-current : goal.returns-in_err-id-clause-current
-returns-in_err-id-clause-current g c db late at current = undone _ _ _ c.from_residual.ensures.1
-
-pub returns-in_default-clause-current : goal.returns-in_default-clause-current
-returns-in_default-clause-current g c db late at current =
-    shown_so g.S.Store c.tenant_id.new.conn db at.pending (AreCurrent (files_of c.args.files.now)) (c.tenant_id.ensures.stands db at.pending at.stands) current
-
-pub returns-in_err-network-clause-current : goal.returns-in_err-network-clause-current
-returns-in_err-network-clause-current g c db late at current = undone _ _ _ c.from_residual-in_err-network.ensures.1
-
-pub returns-in_default-2-clause-current : goal.returns-in_default-2-clause-current
-returns-in_default-2-clause-current g c db late at current =
-    shown_so g.S.Store c.network_id.new.conn db at.pending (AreCurrent (files_of c.args.files.now)) (c.network_id.ensures.stands db at.pending (c.tenant_id.ensures.stands db at.pending at.stands)) current
-
-pub returns-in_err-end_network-clause-current : goal.returns-in_err-end_network-clause-current
-returns-in_err-end_network-clause-current g c db late at current = undone _ _ _ c.from_residual-in_err-end_network.ensures.1
-
-pub returns-clause-current : goal.returns-clause-current
-returns-clause-current g c db late at current clean live =
-    let near = c.network_id.ensures.stands db at.pending (c.tenant_id.ensures.stands db at.pending at.stands) in
-    let done = c.in_ok-end_network.ensures.done db at.pending near at.consistent.rows.keyed clean in
-    others_show g (goal.at.returns-clause-current g c).After-end_network db late at clean done live (AreCurrent (files_of c.drop_files.new.files))
-    (λ u stays. c.drop_files.ensures u (others_after c.in-Some-2.network (files_of c.args.files.now) (tables_of db) u stays current))
-
--- ---- and what is known of the ends of outlines
-
-pub returns-in_err-id-clause-outlines : goal.returns-in_err-id-clause-outlines
-returns-in_err-id-clause-outlines g c db late at are = undone _ _ _ c.from_residual.ensures.1
-
-pub returns-in_default-clause-outlines : goal.returns-in_default-clause-outlines
-returns-in_default-clause-outlines g c db late at are =
-    shown_so g.S.Store c.tenant_id.new.conn db at.pending (AreOutlines (known_outline c.args.outlines.now)) (c.tenant_id.ensures.stands db at.pending at.stands) are
-
-pub returns-in_err-network-clause-outlines : goal.returns-in_err-network-clause-outlines
-returns-in_err-network-clause-outlines g c db late at are = undone _ _ _ c.from_residual-in_err-network.ensures.1
-
-pub returns-in_default-2-clause-outlines : goal.returns-in_default-2-clause-outlines
-returns-in_default-2-clause-outlines g c db late at are =
-    shown_so g.S.Store c.network_id.new.conn db at.pending (AreOutlines (known_outline c.args.outlines.now)) (c.network_id.ensures.stands db at.pending (c.tenant_id.ensures.stands db at.pending at.stands)) are
-
-pub returns-in_err-end_network-clause-outlines : goal.returns-in_err-end_network-clause-outlines
-returns-in_err-end_network-clause-outlines g c db late at are = undone _ _ _ c.from_residual-in_err-end_network.ensures.1
-
-pub returns-clause-outlines : goal.returns-clause-outlines
-returns-clause-outlines g c db late at are clean live =
-    let near = c.network_id.ensures.stands db at.pending (c.tenant_id.ensures.stands db at.pending at.stands) in
-    let done = c.in_ok-end_network.ensures.done db at.pending near at.consistent.rows.keyed clean in
-    others_show g (goal.at.returns-clause-outlines g c).After-end_network db late at clean done live (AreOutlines (known_outline c.forget_outline.new.outlines))
-    (λ u stays. c.forget_outline.ensures u (other_outlines_after c.in-Some-2.network (known_outline c.args.outlines.now) (tables_of db) u stays are))
+    others_show g (goal.at.returns-clause-memory g c).After-end_network db late at clean done live (IsMemoryOf c.forget.new.self)
+    (λ u stays. c.forget.ensures u (others_of c.in-Some-2.network c.args.memory.now (tables_of db) u stays is))

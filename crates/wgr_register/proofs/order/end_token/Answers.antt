@@ -26,11 +26,11 @@ token_goes g c db late at clean =
 
 pub returns-in_err-_holder-clause-ends : goal.returns-in_err-_holder-clause-ends
 returns-in_err-_holder-clause-ends g c db late at =
-    order_unread g.S.Store _ _ db late _ _ _ c.from_residual.ensures.1 (c.tenant_of_token.ensures.stands db) at
+    order_unread g.S.Store _ _ db late _ _ _ c.from_residual.ensures.1 (c.tenant_of_token.ensures.reads.stands db) at
 
 pub returns-in_default-clause-ends : goal.returns-in_default-clause-ends
 returns-in_default-clause-ends g c db late at = (
-  at_read g.S.Store _ _ db late (c.tenant_of_token.ensures.stands db) at,
+  at_read g.S.Store _ _ db late (c.tenant_of_token.ensures.reads.stands db) at,
   λ clean.
       let none : tenant_of_token (tables_of db).tokens c.args.digest.now ≡ None = sym (c.in_ok-_holder.ensures.found db at.pending at.stands clean) ∙ c.in_default.is in
       no_such_token (tables_of db) at.consistent c.args.digest.now none,
@@ -39,26 +39,26 @@ returns-in_default-clause-ends g c db late at = (
 pub returns-in_err-end_token-clause-ends : goal.returns-in_err-end_token-clause-ends
 returns-in_err-end_token-clause-ends g c db late at =
     let ends = token_goes g (goal.at.returns-in_err-end_token-clause-ends g c).After-end_token db late at in
-    let there = c.tenant_of_token.ensures.stands db at.pending at.stands in
+    let there = c.tenant_of_token.ensures.reads.stands db at.pending at.stands in
     order_unwritten g.S.Store _ _ db late _ tt _ _ (TokenLost c.args.digest.now) c.from_residual-in_err-end_token.ensures.1 c.end_token.ensures.idle ends at (c.in_err-end_token.ensures.fault db at.pending there)
 
 pub returns-clause-ends : goal.returns-clause-ends
 returns-clause-ends g c db late at clean =
     let ends = token_goes g (goal.at.returns-clause-ends g c).After-end_token db late at clean in
-    let there = c.tenant_of_token.ensures.stands db at.pending at.stands in
+    let there = c.tenant_of_token.ensures.reads.stands db at.pending at.stands in
     order_done g.S.Store _ db late _ (TokenLost c.args.digest.now) tt at.consistent ends (c.in_ok-end_token.ensures.done db at.pending there clean) clean
 
 -- ---- why it ends by a fault
 
 pub returns-in_err-_holder-clause-stops : goal.returns-in_err-_holder-clause-stops
 returns-in_err-_holder-clause-stops g c db late at =
-    unread_stops _ _ _ _ _ _ c.from_residual.ensures.1 (survives_still _) c.tenant_of_token.ensures.survives (c.in_err-_holder.ensures.cause db at.pending at.stands at.consistent)
+    unread_stops _ _ _ _ _ _ c.from_residual.ensures.1 (survives_still _) c.tenant_of_token.ensures.reads.survives (c.in_err-_holder.ensures.cause db at.pending at.stands at.consistent)
 
 pub returns-in_err-end_token-clause-stops : goal.returns-in_err-end_token-clause-stops
 returns-in_err-end_token-clause-stops g c db late at =
     let ends = token_goes g (goal.at.returns-in_err-end_token-clause-stops g c).After-end_token db late at in
-    let there = c.tenant_of_token.ensures.stands db at.pending at.stands in
-    unwritten_stops _ _ _ _ _ _ c.from_residual-in_err-end_token.ensures.1 c.tenant_of_token.ensures.survives _ c.end_token.ensures.survives
+    let there = c.tenant_of_token.ensures.reads.stands db at.pending at.stands in
+    unwritten_stops _ _ _ _ _ _ c.from_residual-in_err-end_token.ensures.1 c.tenant_of_token.ensures.reads.survives _ c.end_token.ensures.survives
     (λ clean refused. record { write = TokenLost c.args.digest.now; does = ends clean; stops = refused }) (c.in_err-end_token.ensures.cause db at.pending there)
 
 -- ---- where it isn't undone, the store was open

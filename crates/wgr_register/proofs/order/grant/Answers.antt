@@ -23,22 +23,22 @@ token_joins : (g : Over) (c : After-add_token g) (db : Database) (late : List Ev
     → Changes (TokenGained (record { digest = c.args.digest.now; tenant = c.in-Some.id })) (tables_of db) u → IsRowStep (tables_of db) (Grant c.args.tenant.now c.args.digest.now) Done u
 token_joins g c db late at clean =
     let t = tables_of db in
-    let mid = c.tenant_id.ensures.stands db at.pending at.stands in
+    let mid = c.tenant_id.ensures.reads.stands db at.pending at.stands in
     let counting = c.add_token.ensures.clean clean in
-    let looking = c.count_tokens.ensures.clean counting in
-    let known : id_of t.tenants c.args.tenant.now ≡ Some c.in-Some.id = sym (c.in_ok-id.ensures.found db at.pending at.stands (c.tenant_of_token.ensures.clean looking)) ∙ c.in-Some.is in
+    let looking = c.count_tokens.ensures.reads.clean counting in
+    let known : id_of t.tenants c.args.tenant.now ≡ Some c.in-Some.id = sym (c.in_ok-id.ensures.found db at.pending at.stands (c.tenant_of_token.ensures.reads.clean looking)) ∙ c.in-Some.is in
     let free : tenant_of_token t.tokens c.args.digest.now ≡ None = sym (c.in_ok-tenant_of_token.ensures.found db at.pending mid looking) ∙ c.in-None.is in
-    let counted = c.in_ok-count.ensures.counted db at.pending (c.tenant_of_token.ensures.stands db at.pending mid) counting in
+    let counted = c.in_ok-count.ensures.counted db at.pending (c.tenant_of_token.ensures.reads.stands db at.pending mid) counting in
     let room = tokens_by t c.in_ok-count.count counted false (sym c.is_full.ensures ∙ c.if-is_full.false) in
     token_comes t at.consistent c.args.tenant.now c.args.digest.now c.in-Some.id known free room
 
 pub returns-in_err-id-clause-ends : goal.returns-in_err-id-clause-ends
 returns-in_err-id-clause-ends g c db late at proper =
-    order_unread g.S.Store _ _ db late _ _ _ c.from_residual.ensures.1 (c.tenant_id.ensures.stands db) at
+    order_unread g.S.Store _ _ db late _ _ _ c.from_residual.ensures.1 (c.tenant_id.ensures.reads.stands db) at
 
 pub returns-in_default-clause-ends : goal.returns-in_default-clause-ends
 returns-in_default-clause-ends g c db late at proper = (
-  at_read g.S.Store _ _ db late (c.tenant_id.ensures.stands db) at,
+  at_read g.S.Store _ _ db late (c.tenant_id.ensures.reads.stands db) at,
   λ clean.
       let none : id_of (tables_of db).tenants c.args.tenant.now ≡ None = sym (c.in_ok-id.ensures.found db at.pending at.stands clean) ∙ c.in_default.is in
       nobody_gets (tables_of db) at.consistent c.args.tenant.now c.args.digest.now none,
@@ -47,14 +47,14 @@ returns-in_default-clause-ends g c db late at proper = (
 pub returns-in_err-tenant_of_token-clause-ends : goal.returns-in_err-tenant_of_token-clause-ends
 returns-in_err-tenant_of_token-clause-ends g c db late at proper =
     order_unread g.S.Store _ _ db late _ _ _ c.from_residual-in_err-tenant_of_token.ensures.1
-    (λ pending stood. c.tenant_of_token.ensures.stands db pending (c.tenant_id.ensures.stands db pending stood)) at
+    (λ pending stood. c.tenant_of_token.ensures.reads.stands db pending (c.tenant_id.ensures.reads.stands db pending stood)) at
 
 pub returns-in_default-2-clause-ends : goal.returns-in_default-2-clause-ends
 returns-in_default-2-clause-ends g c db late at proper = (
-  at_read g.S.Store _ _ db late (λ pending stood. c.tenant_of_token.ensures.stands db pending (c.tenant_id.ensures.stands db pending stood)) at,
+  at_read g.S.Store _ _ db late (λ pending stood. c.tenant_of_token.ensures.reads.stands db pending (c.tenant_id.ensures.reads.stands db pending stood)) at,
   λ clean.
-      let mid = c.tenant_id.ensures.stands db at.pending at.stands in
-      let known : id_of (tables_of db).tenants c.args.tenant.now ≡ Some c.in-Some.id = sym (c.in_ok-id.ensures.found db at.pending at.stands (c.tenant_of_token.ensures.clean clean)) ∙ c.in-Some.is in
+      let mid = c.tenant_id.ensures.reads.stands db at.pending at.stands in
+      let known : id_of (tables_of db).tenants c.args.tenant.now ≡ Some c.in-Some.id = sym (c.in_ok-id.ensures.found db at.pending at.stands (c.tenant_of_token.ensures.reads.clean clean)) ∙ c.in-Some.is in
       let held : tenant_of_token (tables_of db).tokens c.args.digest.now ≡ Some c.in_default-2.field-0 = sym (c.in_ok-tenant_of_token.ensures.found db at.pending mid clean) ∙ c.in_default-2.is in
       held_already (tables_of db) at.consistent c.args.tenant.now c.args.digest.now c.in-Some.id known c.in_default-2.field-0 held,
 )
@@ -62,16 +62,16 @@ returns-in_default-2-clause-ends g c db late at proper = (
 pub returns-in_err-count-clause-ends : goal.returns-in_err-count-clause-ends
 returns-in_err-count-clause-ends g c db late at proper =
     order_unread g.S.Store _ _ db late _ _ _ c.from_residual-in_err-count.ensures.1
-    (λ pending stood. c.count_tokens.ensures.stands db pending (c.tenant_of_token.ensures.stands db pending (c.tenant_id.ensures.stands db pending stood))) at
+    (λ pending stood. c.count_tokens.ensures.reads.stands db pending (c.tenant_of_token.ensures.reads.stands db pending (c.tenant_id.ensures.reads.stands db pending stood))) at
 
 pub returns-then-is_full-clause-ends : goal.returns-then-is_full-clause-ends
 returns-then-is_full-clause-ends g c db late at proper = (
-  at_read g.S.Store _ _ db late (λ pending stood. c.count_tokens.ensures.stands db pending (c.tenant_of_token.ensures.stands db pending (c.tenant_id.ensures.stands db pending stood))) at,
+  at_read g.S.Store _ _ db late (λ pending stood. c.count_tokens.ensures.reads.stands db pending (c.tenant_of_token.ensures.reads.stands db pending (c.tenant_id.ensures.reads.stands db pending stood))) at,
   λ clean.
-      let mid = c.tenant_id.ensures.stands db at.pending at.stands in
-      let near = c.tenant_of_token.ensures.stands db at.pending mid in
-      let clean2 = c.count_tokens.ensures.clean clean in
-      let known : id_of (tables_of db).tenants c.args.tenant.now ≡ Some c.in-Some.id = sym (c.in_ok-id.ensures.found db at.pending at.stands (c.tenant_of_token.ensures.clean clean2)) ∙ c.in-Some.is in
+      let mid = c.tenant_id.ensures.reads.stands db at.pending at.stands in
+      let near = c.tenant_of_token.ensures.reads.stands db at.pending mid in
+      let clean2 = c.count_tokens.ensures.reads.clean clean in
+      let known : id_of (tables_of db).tenants c.args.tenant.now ≡ Some c.in-Some.id = sym (c.in_ok-id.ensures.found db at.pending at.stands (c.tenant_of_token.ensures.reads.clean clean2)) ∙ c.in-Some.is in
       let free : tenant_of_token (tables_of db).tokens c.args.digest.now ≡ None = sym (c.in_ok-tenant_of_token.ensures.found db at.pending mid clean2) ∙ c.in-None.is in
       let full = tokens_by (tables_of db) c.in_ok-count.count (c.in_ok-count.ensures.counted db at.pending near clean) true (sym c.is_full.ensures ∙ c.if-is_full.true) in
       tokens_full (tables_of db) at.consistent c.args.tenant.now c.args.digest.now c.in-Some.id known free full,
@@ -80,36 +80,36 @@ returns-then-is_full-clause-ends g c db late at proper = (
 pub returns-in_err-add_token-clause-ends : goal.returns-in_err-add_token-clause-ends
 returns-in_err-add_token-clause-ends g c db late at proper =
     let ends = token_joins g (goal.at.returns-in_err-add_token-clause-ends g c).After-add_token db late at in
-    let last = c.count_tokens.ensures.stands db at.pending (c.tenant_of_token.ensures.stands db at.pending (c.tenant_id.ensures.stands db at.pending at.stands)) in
+    let last = c.count_tokens.ensures.reads.stands db at.pending (c.tenant_of_token.ensures.reads.stands db at.pending (c.tenant_id.ensures.reads.stands db at.pending at.stands)) in
     order_unwritten g.S.Store _ _ db late _ proper _ _ (TokenGained (record { digest = c.args.digest.now; tenant = c.in-Some.id })) c.from_residual-in_err-add_token.ensures.1 c.add_token.ensures.idle
     ends at (c.in_err-add_token.ensures.fault db at.pending last)
 
 pub returns-clause-ends : goal.returns-clause-ends
 returns-clause-ends g c db late at proper clean =
     let ends = token_joins g (goal.at.returns-clause-ends g c).After-add_token db late at clean in
-    let last = c.count_tokens.ensures.stands db at.pending (c.tenant_of_token.ensures.stands db at.pending (c.tenant_id.ensures.stands db at.pending at.stands)) in
+    let last = c.count_tokens.ensures.reads.stands db at.pending (c.tenant_of_token.ensures.reads.stands db at.pending (c.tenant_id.ensures.reads.stands db at.pending at.stands)) in
     order_done g.S.Store _ db late _ (TokenGained (record { digest = c.args.digest.now; tenant = c.in-Some.id })) proper at.consistent ends (c.in_ok-add_token.ensures.done db at.pending last clean) clean
 
 -- ---- why it ends by a fault
 
 pub returns-in_err-id-clause-stops : goal.returns-in_err-id-clause-stops
 returns-in_err-id-clause-stops g c db late at =
-    unread_stops _ _ _ _ _ _ c.from_residual.ensures.1 (survives_still _) c.tenant_id.ensures.survives (c.in_err-id.ensures.cause db at.pending at.stands at.consistent)
+    unread_stops _ _ _ _ _ _ c.from_residual.ensures.1 (survives_still _) c.tenant_id.ensures.reads.survives (c.in_err-id.ensures.cause db at.pending at.stands at.consistent)
 
 pub returns-in_err-tenant_of_token-clause-stops : goal.returns-in_err-tenant_of_token-clause-stops
 returns-in_err-tenant_of_token-clause-stops g c db late at =
-    unread_stops _ _ _ _ _ _ c.from_residual-in_err-tenant_of_token.ensures.1 c.tenant_id.ensures.survives c.tenant_of_token.ensures.survives (c.in_err-tenant_of_token.ensures.cause db at.pending (c.tenant_id.ensures.stands db at.pending at.stands) at.consistent)
+    unread_stops _ _ _ _ _ _ c.from_residual-in_err-tenant_of_token.ensures.1 c.tenant_id.ensures.reads.survives c.tenant_of_token.ensures.reads.survives (c.in_err-tenant_of_token.ensures.cause db at.pending (c.tenant_id.ensures.reads.stands db at.pending at.stands) at.consistent)
 
 pub returns-in_err-count-clause-stops : goal.returns-in_err-count-clause-stops
 returns-in_err-count-clause-stops g c db late at =
-    let near = c.tenant_of_token.ensures.stands db at.pending (c.tenant_id.ensures.stands db at.pending at.stands) in
-    unread_stops _ _ _ _ _ _ c.from_residual-in_err-count.ensures.1 (survives_next _ _ _ c.tenant_id.ensures.survives c.tenant_of_token.ensures.survives) c.count_tokens.ensures.survives (c.in_err-count.ensures.cause db at.pending near)
+    let near = c.tenant_of_token.ensures.reads.stands db at.pending (c.tenant_id.ensures.reads.stands db at.pending at.stands) in
+    unread_stops _ _ _ _ _ _ c.from_residual-in_err-count.ensures.1 (survives_next _ _ _ c.tenant_id.ensures.reads.survives c.tenant_of_token.ensures.reads.survives) c.count_tokens.ensures.reads.survives (c.in_err-count.ensures.cause db at.pending near)
 
 pub returns-in_err-add_token-clause-stops : goal.returns-in_err-add_token-clause-stops
 returns-in_err-add_token-clause-stops g c db late at =
     let ends = token_joins g (goal.at.returns-in_err-add_token-clause-stops g c).After-add_token db late at in
-    let last = c.count_tokens.ensures.stands db at.pending (c.tenant_of_token.ensures.stands db at.pending (c.tenant_id.ensures.stands db at.pending at.stands)) in
-    let survived = survives_next _ _ _ (survives_next _ _ _ c.tenant_id.ensures.survives c.tenant_of_token.ensures.survives) c.count_tokens.ensures.survives in
+    let last = c.count_tokens.ensures.reads.stands db at.pending (c.tenant_of_token.ensures.reads.stands db at.pending (c.tenant_id.ensures.reads.stands db at.pending at.stands)) in
+    let survived = survives_next _ _ _ (survives_next _ _ _ c.tenant_id.ensures.reads.survives c.tenant_of_token.ensures.reads.survives) c.count_tokens.ensures.reads.survives in
     unwritten_stops _ _ _ _ _ _ c.from_residual-in_err-add_token.ensures.1 survived _ c.add_token.ensures.survives
     (λ clean refused. record { write = TokenGained (record { digest = c.args.digest.now; tenant = c.in-Some.id }); does = ends clean; stops = refused }) (c.in_err-add_token.ensures.cause db at.pending last)
 
@@ -125,16 +125,16 @@ pub returns-in_err-tenant_of_token-clause-open : goal.returns-in_err-tenant_of_t
 returns-in_err-tenant_of_token-clause-open g c clean = undone _ _ _ c.from_residual-in_err-tenant_of_token.ensures.1
 
 pub returns-in_default-2-clause-open : goal.returns-in_default-2-clause-open
-returns-in_default-2-clause-open g c clean = c.in_ok-id.ensures.open (c.tenant_of_token.ensures.clean clean)
+returns-in_default-2-clause-open g c clean = c.in_ok-id.ensures.open (c.tenant_of_token.ensures.reads.clean clean)
 
 pub returns-in_err-count-clause-open : goal.returns-in_err-count-clause-open
 returns-in_err-count-clause-open g c clean = undone _ _ _ c.from_residual-in_err-count.ensures.1
 
 pub returns-then-is_full-clause-open : goal.returns-then-is_full-clause-open
-returns-then-is_full-clause-open g c clean = c.in_ok-id.ensures.open (c.tenant_of_token.ensures.clean (c.count_tokens.ensures.clean clean))
+returns-then-is_full-clause-open g c clean = c.in_ok-id.ensures.open (c.tenant_of_token.ensures.reads.clean (c.count_tokens.ensures.reads.clean clean))
 
 pub returns-in_err-add_token-clause-open : goal.returns-in_err-add_token-clause-open
 returns-in_err-add_token-clause-open g c clean = undone _ _ _ c.from_residual-in_err-add_token.ensures.1
 
 pub returns-clause-open : goal.returns-clause-open
-returns-clause-open g c clean = c.in_ok-id.ensures.open (c.tenant_of_token.ensures.clean (c.count_tokens.ensures.clean (c.add_token.ensures.clean clean)))
+returns-clause-open g c clean = c.in_ok-id.ensures.open (c.tenant_of_token.ensures.reads.clean (c.count_tokens.ensures.reads.clean (c.add_token.ensures.clean clean)))

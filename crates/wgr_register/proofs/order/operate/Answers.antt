@@ -1,8 +1,5 @@
 use Rattle.wgr_model.specs.Steps.{AddNetwork, AddTenant, EndToken, Grant}
-use Rattle.wgr_register.specs.Cached.{files_of}
-use Rattle.wgr_register.specs.Known.{known_outline}
-use Rattle.wgr_register.specs.Loaded.{entries_of}
-use Rattle.wgr_register.proofs.StayLemmas.{outlines_shown, files_shown, stay_shown}
+use Rattle.wgr_register.proofs.StayLemmas.{memory_shown}
 use Rattle.wgr_register.proofs.order.operate.Goals as goal
 
 pub returns-in-AddTenant-clause-ends : goal.returns-in-AddTenant-clause-ends
@@ -35,64 +32,27 @@ returns-in-AddNetwork-clause-stops g c db late at = rw c.in-AddNetwork.is (c.add
 pub returns-in-EndNetwork-clause-stops : goal.returns-in-EndNetwork-clause-stops
 returns-in-EndNetwork-clause-stops g c db late at = rw c.in-EndNetwork.is (c.end_network.ensures.stops db late at)
 
--- ---- which networks stay in memory
+-- ---- what stays in memory
 
-pub returns-in-AddTenant-clause-formed : goal.returns-in-AddTenant-clause-formed
-returns-in-AddTenant-clause-formed g c db late at =
+pub returns-in-AddTenant-clause-memory : goal.returns-in-AddTenant-clause-memory
+returns-in-AddTenant-clause-memory g c db late at =
     let proper = rw c.in-AddTenant.is at c.forms_hold.ensures in
-    stay_shown g.S.Store _ db late at.consistent (AddTenant c.in-AddTenant.name) proper tt _ (c.add_tenant.ensures.ends db late at proper) (entries_of c.args.loaded.now)
+    memory_shown g.S.Store _ db late at.consistent (AddTenant c.in-AddTenant.name) proper tt _ (c.add_tenant.ensures.ends db late at proper) c.args.memory.now
 
-pub returns-in-Grant-clause-formed : goal.returns-in-Grant-clause-formed
-returns-in-Grant-clause-formed g c db late at =
+pub returns-in-Grant-clause-memory : goal.returns-in-Grant-clause-memory
+returns-in-Grant-clause-memory g c db late at =
     let proper = rw c.in-Grant.is at c.forms_hold.ensures in
-    stay_shown g.S.Store _ db late at.consistent (Grant c.in-Grant.tenant c.in-Grant.digest) proper tt _ (c.grant.ensures.ends db late at proper) (entries_of c.args.loaded.now)
+    memory_shown g.S.Store _ db late at.consistent (Grant c.in-Grant.tenant c.in-Grant.digest) proper tt _ (c.grant.ensures.ends db late at proper) c.args.memory.now
 
-pub returns-in-EndToken-clause-formed : goal.returns-in-EndToken-clause-formed
-returns-in-EndToken-clause-formed g c db late at =
+pub returns-in-EndToken-clause-memory : goal.returns-in-EndToken-clause-memory
+returns-in-EndToken-clause-memory g c db late at =
     let proper = rw c.in-EndToken.is at c.forms_hold.ensures in
-    stay_shown g.S.Store _ db late at.consistent (EndToken c.in-EndToken.digest) proper tt _ (c.end_token.ensures.ends db late at) (entries_of c.args.loaded.now)
+    memory_shown g.S.Store _ db late at.consistent (EndToken c.in-EndToken.digest) proper tt _ (c.end_token.ensures.ends db late at) c.args.memory.now
 
-pub returns-in-AddNetwork-clause-formed : goal.returns-in-AddNetwork-clause-formed
-returns-in-AddNetwork-clause-formed g c db late at =
+pub returns-in-AddNetwork-clause-memory : goal.returns-in-AddNetwork-clause-memory
+returns-in-AddNetwork-clause-memory g c db late at =
     let proper = rw c.in-AddNetwork.is at c.forms_hold.ensures in
-    stay_shown g.S.Store _ db late at.consistent (AddNetwork c.in-AddNetwork.tenant c.in-AddNetwork.name c.in-AddNetwork.settings) proper tt _ (c.add_network.ensures.ends db late at proper) (entries_of c.args.loaded.now)
+    memory_shown g.S.Store _ db late at.consistent (AddNetwork c.in-AddNetwork.tenant c.in-AddNetwork.name c.in-AddNetwork.settings) proper tt _ (c.add_network.ensures.ends db late at proper) c.args.memory.now
 
-pub returns-in-AddTenant-clause-current : goal.returns-in-AddTenant-clause-current
-returns-in-AddTenant-clause-current g c db late at =
-    let proper = rw c.in-AddTenant.is at c.forms_hold.ensures in
-    files_shown g.S.Store _ db late at.consistent (AddTenant c.in-AddTenant.name) proper tt _ (c.add_tenant.ensures.ends db late at proper) (files_of c.args.files.now)
-
-pub returns-in-Grant-clause-current : goal.returns-in-Grant-clause-current
-returns-in-Grant-clause-current g c db late at =
-    let proper = rw c.in-Grant.is at c.forms_hold.ensures in
-    files_shown g.S.Store _ db late at.consistent (Grant c.in-Grant.tenant c.in-Grant.digest) proper tt _ (c.grant.ensures.ends db late at proper) (files_of c.args.files.now)
-
-pub returns-in-EndToken-clause-current : goal.returns-in-EndToken-clause-current
-returns-in-EndToken-clause-current g c db late at =
-    let proper = rw c.in-EndToken.is at c.forms_hold.ensures in
-    files_shown g.S.Store _ db late at.consistent (EndToken c.in-EndToken.digest) proper tt _ (c.end_token.ensures.ends db late at) (files_of c.args.files.now)
-
-pub returns-in-AddNetwork-clause-current : goal.returns-in-AddNetwork-clause-current
-returns-in-AddNetwork-clause-current g c db late at =
-    let proper = rw c.in-AddNetwork.is at c.forms_hold.ensures in
-    files_shown g.S.Store _ db late at.consistent (AddNetwork c.in-AddNetwork.tenant c.in-AddNetwork.name c.in-AddNetwork.settings) proper tt _ (c.add_network.ensures.ends db late at proper) (files_of c.args.files.now)
-
-pub returns-in-AddTenant-clause-outlines : goal.returns-in-AddTenant-clause-outlines
-returns-in-AddTenant-clause-outlines g c db late at =
-    let proper = rw c.in-AddTenant.is at c.forms_hold.ensures in
-    outlines_shown g.S.Store _ db late at.consistent (AddTenant c.in-AddTenant.name) proper tt _ (c.add_tenant.ensures.ends db late at proper) (known_outline c.args.outlines.now)
-
-pub returns-in-Grant-clause-outlines : goal.returns-in-Grant-clause-outlines
-returns-in-Grant-clause-outlines g c db late at =
-    let proper = rw c.in-Grant.is at c.forms_hold.ensures in
-    outlines_shown g.S.Store _ db late at.consistent (Grant c.in-Grant.tenant c.in-Grant.digest) proper tt _ (c.grant.ensures.ends db late at proper) (known_outline c.args.outlines.now)
-
-pub returns-in-EndToken-clause-outlines : goal.returns-in-EndToken-clause-outlines
-returns-in-EndToken-clause-outlines g c db late at =
-    let proper = rw c.in-EndToken.is at c.forms_hold.ensures in
-    outlines_shown g.S.Store _ db late at.consistent (EndToken c.in-EndToken.digest) proper tt _ (c.end_token.ensures.ends db late at) (known_outline c.args.outlines.now)
-
-pub returns-in-AddNetwork-clause-outlines : goal.returns-in-AddNetwork-clause-outlines
-returns-in-AddNetwork-clause-outlines g c db late at =
-    let proper = rw c.in-AddNetwork.is at c.forms_hold.ensures in
-    outlines_shown g.S.Store _ db late at.consistent (AddNetwork c.in-AddNetwork.tenant c.in-AddNetwork.name c.in-AddNetwork.settings) proper tt _ (c.add_network.ensures.ends db late at proper) (known_outline c.args.outlines.now)
+pub returns-in-EndNetwork-clause-stays : goal.returns-in-EndNetwork-clause-stays
+returns-in-EndNetwork-clause-stays g c none = absurd (rw c.in-EndNetwork.is at none)

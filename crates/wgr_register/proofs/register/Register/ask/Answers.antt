@@ -5,10 +5,8 @@ use Rattle.sqlite.specs.State.{HasCleanDisk}
 use Rattle.wgr_model.specs.Rows.{Tables}
 use Rattle.wgr_model.specs.Steps.{Ask, Event}
 use Rattle.wgr_columns.specs.Decode.{tables_of}
-use Rattle.wgr_register.specs.Cached.{AreCurrent, files_of}
-use Rattle.wgr_opening.specs.Outlines.{AreOutlines}
-use Rattle.wgr_register.specs.Known.{known_outline}
-use Rattle.wgr_register.specs.Loaded.{AreFormed, Shows, UnlessFault, entries_of}
+use Rattle.wgr_register.specs.Memory.{IsMemoryOf}
+use Rattle.wgr_register.specs.Loaded.{Shows, UnlessFault}
 use Rattle.wgr_register.specs.Standing.{StandsAt}
 use Rattle.wgr_register.proofs.LoadedLemmas.{unless_map}
 use Rattle.wgr_register.proofs.StandLemmas.{ask_somewhere}
@@ -19,14 +17,8 @@ use Rattle.wgr_register.proofs.register.Register.ask.Given.{Over}
 use Rattle.wgr_register.proofs.register.Register.ask.Goals.{After-ask-answered}
 use Rattle.wgr_register.proofs.register.Register.ask.Goals as goal
 
-pub ask-answered-requires-clause-formed : goal.ask-answered-requires-clause-formed
-ask-answered-requires-clause-formed g c = c.self.invariant.1
-
-pub ask-answered-requires-clause-current : goal.ask-answered-requires-clause-current
-ask-answered-requires-clause-current g c = c.self.invariant.2
-
-pub ask-answered-requires-clause-outlines : goal.ask-answered-requires-clause-outlines
-ask-answered-requires-clause-outlines g c = c.self.invariant.3
+pub ask-answered-requires-clause-memory : goal.ask-answered-requires-clause-memory
+ask-answered-requires-clause-memory g c = c.self.invariant.1
 
 -- what is kept in memory is of the rows that are shown, unless a fault ended the request
 kept : (g : Over) (c : After-ask-answered g) (P : Tables → Type 0) → ((db : Database) (late : List Event) → StandsAt g.S.Store c.self.inside.conn db late → UnlessFault c.ask-answered.result (Shows g.S.Store c.ask-answered.new.conn P))
@@ -45,9 +37,7 @@ invariant_of-self g c =
             let held = c.self.invariant.0.somewhere (c.ask-answered.ensures.clean clean) in
             ask_somewhere g.S.Store g.R.Render.shown c.ask-answered.new.conn held.0 held.1 (Ask c.args.digest.now c.args.name.now c.args.now c.args.command.now) c.args.now c.ask-answered.result (c.ask-answered.ensures.ends held.0 held.1 held.2) clean;
       },
-      λ clean live. c.drop_after_fault.ensures.formed shown (kept g a (AreFormed (entries_of c.ask-answered.new.loaded)) c.ask-answered.ensures.formed clean live),
-      λ clean live. c.drop_after_fault.ensures.current shown (kept g a (AreCurrent (files_of c.ask-answered.new.files)) c.ask-answered.ensures.current clean live),
-      λ clean live. c.drop_after_fault.ensures.outlines shown (kept g a (AreOutlines (known_outline c.ask-answered.new.outlines)) c.ask-answered.ensures.outlines clean live),
+      λ clean live. c.after_request.ensures.is_of shown (kept g a (IsMemoryOf c.ask-answered.new.memory) c.ask-answered.ensures.memory clean live),
     )
 
 pub returns-clause-ends : goal.returns-clause-ends

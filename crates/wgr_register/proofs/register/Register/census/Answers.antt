@@ -4,10 +4,8 @@ use Rattle.sqlite.specs.Held.{state}
 use Rattle.sqlite.specs.State.{HasCleanDisk}
 use Rattle.wgr_model.specs.Rows.{Tables}
 use Rattle.wgr_columns.specs.Decode.{tables_of}
-use Rattle.wgr_register.specs.Cached.{AreCurrent, files_of}
-use Rattle.wgr_opening.specs.Outlines.{AreOutlines}
-use Rattle.wgr_register.specs.Known.{known_outline}
-use Rattle.wgr_register.specs.Loaded.{AreFormed, Shows, entries_of}
+use Rattle.wgr_register.specs.Loaded.{Shows}
+use Rattle.wgr_register.specs.Memory.{IsMemoryOf}
 use Rattle.wgr_register.specs.Standing.{StandsAt}
 use Rattle.wgr_register.proofs.LoadedLemmas.{shown_read}
 use Rattle.wgr_register.proofs.StandLemmas.{at_read}
@@ -23,9 +21,9 @@ module _ (g : Over) (c : After-census-read g) (P : Tables → Type 0) (shows : S
     (live : IsTrue (state g.S.Store c.census-read.new.conn).is_open) where
   kept : OnOk c.census-read.result (P (tables_of (state g.S.Store c.census-read.new.conn).now))
   kept =
-      let before = c.census-read.ensures.clean clean in
+      let before = c.census-read.ensures.reads.clean clean in
       let held = c.self.invariant.0.somewhere before in
-      let stands = c.census-read.ensures.stands held.0 held.2.pending held.2.stands in
+      let stands = c.census-read.ensures.reads.stands held.0 held.2.pending held.2.stands in
       on_ok c.census-read.result c.census-read.result (IsTrue (state g.S.Store c.self.inside.conn).is_open) (P (tables_of (state g.S.Store c.census-read.new.conn).now))
       (λ was_live. shown_read g.S.Store c.self.inside.conn c.census-read.new.conn held.0 held.2.pending P held.2.stands stands shows before was_live clean live) (c.census-read.ensures.open clean) refl
 
@@ -34,19 +32,17 @@ invariant_of-self g c =
     let a = (goal.at.invariant_of-self g c).After-census-read in
     let shown = tables_of (state g.S.Store c.census-read.new.conn).now in (
       record {
-        idle = c.census-read.ensures.idle;
+        idle = c.census-read.ensures.reads.idle;
         somewhere = λ clean.
-            let held = c.self.invariant.0.somewhere (c.census-read.ensures.clean clean) in
-            (held.0, held.1, at_read g.S.Store c.self.inside.conn c.census-read.new.conn held.0 held.1 (c.census-read.ensures.stands held.0) held.2);
+            let held = c.self.invariant.0.somewhere (c.census-read.ensures.reads.clean clean) in
+            (held.0, held.1, at_read g.S.Store c.self.inside.conn c.census-read.new.conn held.0 held.1 (c.census-read.ensures.reads.stands held.0) held.2);
       },
-      λ clean live. c.drop_if_unread.ensures.formed shown (kept g a (AreFormed (entries_of c.self.inside.loaded)) c.self.invariant.1 clean live),
-      λ clean live. c.drop_if_unread.ensures.current shown (kept g a (AreCurrent (files_of c.self.inside.files)) c.self.invariant.2 clean live),
-      λ clean live. c.drop_if_unread.ensures.outlines shown (kept g a (AreOutlines (known_outline c.self.inside.outlines)) c.self.invariant.3 clean live),
+      λ clean live. c.after_census.ensures.is_of shown (kept g a (IsMemoryOf c.self.inside.memory) c.self.invariant.1 clean live),
     )
 
 pub returns-clause-stands : goal.returns-clause-stands
 returns-clause-stands g c db late at =
-    at_read g.S.Store c.self.inside.conn c.census-read.new.conn db late (c.census-read.ensures.stands db) (subst (λ h. StandsAt g.S.Store h db late) (sym c.self.view_is) at)
+    at_read g.S.Store c.self.inside.conn c.census-read.new.conn db late (c.census-read.ensures.reads.stands db) (subst (λ h. StandsAt g.S.Store h db late) (sym c.self.view_is) at)
 
 pub returns-clause-listed : goal.returns-clause-listed
 returns-clause-listed g c db late at clean =
@@ -58,5 +54,5 @@ returns-clause-cause g c =
     let new = state g.S.Store c.census-read.new.conn in
     subst (λ h. IfErr c.census-read.result (HasCause (state g.S.Store h) new)) c.self.view_is
     (if_clean (state g.S.Store c.self.inside.conn) new c.census-read.result (λ clean.
-    let held = c.self.invariant.0.somewhere (c.census-read.ensures.clean clean) in
+    let held = c.self.invariant.0.somewhere (c.census-read.ensures.reads.clean clean) in
     c.census-read.ensures.cause held.0 held.2.pending held.2.stands held.2.consistent))

@@ -1,9 +1,6 @@
 use Rattle.std.proofs.Common.{[]}
 use Rattle.sqlite.specs.Held.{state}
 use Rattle.wgr_columns.specs.Decode.{tables_of}
-use Rattle.wgr_register.proofs.CachedLemmas.{none_current}
-use Rattle.wgr_register.proofs.KnownLemmas.{none_known}
-use Rattle.wgr_register.proofs.LoadedLemmas.{none_formed}
 use Rattle.wgr_register.proofs.StandLemmas.{at_fresh}
 use Rattle.wgr_register.proofs.register.Register.create.Goals as goal
 
@@ -13,9 +10,7 @@ invariant_of-result g c = (
     idle = c.make.ensures.idle;
     somewhere = λ clean. let made = c.in-Ok.ensures.done clean in (made.0, [], at_fresh g.S.Store c.make.new.conn made.0 made.1 made.2);
   },
-  λ clean live. none_formed (tables_of (state g.S.Store c.make.new.conn).now),
-  λ clean live. none_current (tables_of (state g.S.Store c.make.new.conn).now),
-  λ clean live. none_known (tables_of (state g.S.Store c.make.new.conn).now),
+  λ clean live. c.new.ensures (tables_of (state g.S.Store c.make.new.conn).now),
 )
 
 pub returns-in-Ok-clause-done : goal.returns-in-Ok-clause-done

@@ -4,10 +4,8 @@ use Rattle.sqlite.specs.State.{HasCleanDisk}
 use Rattle.wgr_model.specs.Rows.{Tables}
 use Rattle.wgr_model.specs.Steps.{Networks}
 use Rattle.wgr_columns.specs.Decode.{tables_of}
-use Rattle.wgr_register.specs.Cached.{AreCurrent, files_of}
-use Rattle.wgr_opening.specs.Outlines.{AreOutlines}
-use Rattle.wgr_register.specs.Known.{known_outline}
-use Rattle.wgr_register.specs.Loaded.{AreFormed, Shows, UnlessFault, entries_of}
+use Rattle.wgr_register.specs.Memory.{IsMemoryOf}
+use Rattle.wgr_register.specs.Loaded.{Shows, UnlessFault}
 use Rattle.wgr_register.specs.Standing.{StandsAt}
 use Rattle.wgr_register.proofs.LoadedLemmas.{shown_read, unless_map}
 use Rattle.wgr_register.proofs.StandLemmas.{ask_somewhere}
@@ -23,9 +21,9 @@ module _ (g : Over) (c : After-networks-answered g) (P : Tables → Type 0) (sho
     (live : IsTrue (state g.S.Store c.networks-answered.new.conn).is_open) where
   kept : UnlessFault c.networks-answered.result (P (tables_of (state g.S.Store c.networks-answered.new.conn).now))
   kept =
-      let before = c.networks-answered.ensures.clean clean in
+      let before = c.networks-answered.ensures.reads.clean clean in
       let held = c.self.invariant.0.somewhere before in
-      let stands = c.networks-answered.ensures.stands held.0 held.2.pending held.2.stands in
+      let stands = c.networks-answered.ensures.reads.stands held.0 held.2.pending held.2.stands in
       unless_map c.networks-answered.result (IsTrue (state g.S.Store c.self.inside.conn).is_open) (P (tables_of (state g.S.Store c.networks-answered.new.conn).now))
       (λ was_live. shown_read g.S.Store c.self.inside.conn c.networks-answered.new.conn held.0 held.2.pending P held.2.stands stands shows before was_live clean live) (c.networks-answered.ensures.open clean)
 
@@ -34,14 +32,12 @@ invariant_of-self g c =
     let a = (goal.at.invariant_of-self g c).After-networks-answered in
     let shown = tables_of (state g.S.Store c.networks-answered.new.conn).now in (
       record {
-        idle = c.networks-answered.ensures.idle;
+        idle = c.networks-answered.ensures.reads.idle;
         somewhere = λ clean.
-            let held = c.self.invariant.0.somewhere (c.networks-answered.ensures.clean clean) in
+            let held = c.self.invariant.0.somewhere (c.networks-answered.ensures.reads.clean clean) in
             ask_somewhere g.S.Store g.R.Render.shown c.networks-answered.new.conn held.0 held.1 (Networks c.args.digest.now) 0 c.networks-answered.result (c.networks-answered.ensures.ends held.0 held.1 0 held.2) clean;
       },
-      λ clean live. c.drop_after_fault.ensures.formed shown (kept g a (AreFormed (entries_of c.self.inside.loaded)) c.self.invariant.1 clean live),
-      λ clean live. c.drop_after_fault.ensures.current shown (kept g a (AreCurrent (files_of c.self.inside.files)) c.self.invariant.2 clean live),
-      λ clean live. c.drop_after_fault.ensures.outlines shown (kept g a (AreOutlines (known_outline c.self.inside.outlines)) c.self.invariant.3 clean live),
+      λ clean live. c.after_request.ensures.is_of shown (kept g a (IsMemoryOf c.self.inside.memory) c.self.invariant.1 clean live),
     )
 
 pub returns-clause-ends : goal.returns-clause-ends
@@ -52,5 +48,5 @@ returns-clause-cause g c =
     let new = state g.S.Store c.networks-answered.new.conn in
     subst (λ h. IfFault (HasCause (state g.S.Store h) new) c.networks-answered.result) c.self.view_is
     (asked_clean (state g.S.Store c.self.inside.conn) new c.networks-answered.result (λ clean.
-    let held = c.self.invariant.0.somewhere (c.networks-answered.ensures.clean clean) in
+    let held = c.self.invariant.0.somewhere (c.networks-answered.ensures.reads.clean clean) in
     c.networks-answered.ensures.cause held.0 held.1 held.2))

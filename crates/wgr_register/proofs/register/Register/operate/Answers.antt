@@ -9,10 +9,8 @@ use Rattle.wgr_sql.specs.Causes.{HasCauseOr}
 use Rattle.wgr_register.specs.Causes.{IfOrderFault, OrderStops}
 use Rattle.wgr_register.specs.Standing.{StandsAt}
 use Rattle.wgr_columns.specs.Decode.{tables_of}
-use Rattle.wgr_register.specs.Cached.{AreCurrent, files_of}
-use Rattle.wgr_opening.specs.Outlines.{AreOutlines}
-use Rattle.wgr_register.specs.Known.{known_outline}
-use Rattle.wgr_register.specs.Loaded.{AreFormed, Shows, UnlessUndone, entries_of}
+use Rattle.wgr_register.specs.Loaded.{Shows, UnlessUndone}
+use Rattle.wgr_register.specs.Memory.{IsMemoryOf}
 use Rattle.wgr_register.proofs.StayLemmas.{shown_then}
 use Rattle.wgr_register.proofs.StandLemmas.{order_somewhere}
 use Rattle.wgr_register.proofs.register.Register.operate.Given.{Over}
@@ -39,9 +37,7 @@ invariant_of-self g c =
             let held = c.self.invariant.0.somewhere (c.operate-ended.ensures.clean clean) in
             order_somewhere g.S.Store c.operate-ended.new.conn held.0 held.1 (order_event c.args.order.now) c.operate-ended.result (c.operate-ended.ensures.ends held.0 held.1 held.2) clean;
       },
-      λ clean live. c.drop_after_failure.ensures.formed shown (kept g a (AreFormed (entries_of c.self.inside.loaded)) c.self.invariant.1 clean live (AreFormed (entries_of c.operate-ended.new.loaded)) c.operate-ended.ensures.formed),
-      λ clean live. c.drop_after_failure.ensures.current shown (kept g a (AreCurrent (files_of c.self.inside.files)) c.self.invariant.2 clean live (AreCurrent (files_of c.operate-ended.new.files)) c.operate-ended.ensures.current),
-      λ clean live. c.drop_after_failure.ensures.outlines shown (kept g a (AreOutlines (known_outline c.self.inside.outlines)) c.self.invariant.3 clean live (AreOutlines (known_outline c.operate-ended.new.outlines)) c.operate-ended.ensures.outlines),
+      λ clean live. c.after_order.ensures.is_of shown (kept g a (IsMemoryOf c.self.inside.memory) c.self.invariant.1 clean live (IsMemoryOf c.operate-ended.new.memory) c.operate-ended.ensures.memory),
     )
 
 pub returns-clause-ends : goal.returns-clause-ends
