@@ -14,7 +14,7 @@ use Rattle.wgr_peers.specs.declared.peer.Status.{Status}
 use Rattle.wgr_core.specs.Network.{NetworkValue}
 use Rattle.wgr_core.specs.declared.reply.PeerView.{PeerView}
 use Rattle.wgr_reply.specs.Bodies.{adopted_data, fact_members, networks_data, owner_data, peers_data, revoked_data}
-use Rattle.wgr_reply.specs.Shown.{endpoint_text, peer_data}
+use Rattle.wgr_reply.specs.Shown.{peer_data}
 use Rattle.wgr_reply.specs.declared.bodies.Fact.{Fact}
 use Rattle.wgr_reply.specs.declared.bodies.Fact.TheVariants as fact
 
@@ -61,10 +61,6 @@ one_network = refl
 no_networks : compact_text (networks_data []) ≡ codes "{\"networks\":[]}"
 unfolding serde_json_on_literals
 no_networks = refl
-
-ipv6_endpoint : endpoint_text (codes "2001:db8::1") 51820 ≡ codes "[2001:db8::1]:51820"
-unfolding digits
-ipv6_endpoint = refl
 
 revoked : compact_text (revoked_data 2) ≡ codes "{\"revoked\":2}"
 unfolding serde_json_on_literals digits

@@ -1,4 +1,3 @@
-pub mod Ascii
 pub mod BodyExamples
-pub mod Items
 pub mod ReplyExamples
+pub mod StatusLemmas

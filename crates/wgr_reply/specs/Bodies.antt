@@ -3,7 +3,8 @@ use Rattle.std.specs.Prelude.{ℕ, List, map, codes}
 use Rattle.serde_json.specs.Data.{Data, string, object, Members, member, no_members}
 use Rattle.wgr_core.specs.Network.{NetworkValue}
 use Rattle.wgr_core.specs.declared.reply.PeerView.{PeerView}
-use Rattle.wgr_reply.specs.Shown.{array_of, count, network_data, peer_data}
+use Rattle.wgr_json.specs.Values.{array_of, count}
+use Rattle.wgr_reply.specs.Shown.{network_data, peer_data}
 use Rattle.wgr_reply.specs.declared.bodies.Fact.{Fact}
 use Rattle.wgr_reply.specs.declared.bodies.Fact.TheVariants as fact
 use Rattle.wgr_reply.specs.declared.bodies.Problem.{Problem}

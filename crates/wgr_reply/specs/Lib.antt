@@ -1,6 +1,6 @@
 pub mod Bodies
 pub mod Refused
 pub mod Response
-pub mod Sending
 pub mod Shown
+pub mod StatusLine
 pub mod Whole

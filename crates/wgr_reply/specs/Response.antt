@@ -9,7 +9,8 @@ use Rattle.wgr_http.specs.declared.reply.Kind.TheVariants as kind
 use Rattle.wgr_http.specs.declared.status_code.StatusCode.{StatusCode}
 use Rattle.wgr_http.specs.declared.status_code.StatusCode.TheVariants as status
 use Rattle.wgr_reply.specs.Bodies.{adopted_data, networks_data, owner_data, peers_data, revoked_data}
-use Rattle.wgr_reply.specs.Shown.{count, peer_data}
+use Rattle.wgr_json.specs.Values.{count}
+use Rattle.wgr_reply.specs.Shown.{peer_data}
 use Rattle.wgr_request.specs.Fault.{field_name}
 use Rattle.wgr_request.specs.Paths.{allow_text}
 use Rattle.wgr_core.specs.RefusalNames.{refusal_name}

@@ -1,28 +1,12 @@
 -- The JSON that shows peers and networks. Numbers are whole, and each text is a string.
-use Rattle.std.specs.Prelude.{ℕ, ◌==◌, List, ◌++◌, cond, map, codes, decimal, Option, Some, None}
-use Rattle.std.specs.List.{list_any}
-use Rattle.serde_json.specs.Data.{Data, null, number, unsigned, string, array, object, member, no_members}
-use Rattle.serde_json.specs.View.{items_of}
-use Rattle.wgr_text.specs.KeyText.{key_text}
-use Rattle.wgr_text.specs.Prefix.{PrefixValue}
-use Rattle.wgr_text.specs.PrefixText.{canonical_text}
-use Rattle.wgr_text.specs.declared.key.Key.{Key}
+use Rattle.std.specs.Prelude.{ℕ, List, map, codes, Option, Some, None}
+use Rattle.serde_json.specs.Data.{Data, null, string, object, member, no_members}
+use Rattle.wgr_json.specs.Endpoint.{endpoint_text}
+use Rattle.wgr_json.specs.Values.{array_of, count, key_data, prefix_data}
 use Rattle.wgr_peers.specs.declared.peer.Status.{Status}
 use Rattle.wgr_pool.specs.PrefixTests.{full}
 use Rattle.wgr_core.specs.Network.{NetworkValue}
 use Rattle.wgr_core.specs.declared.reply.PeerView.{PeerView}
-
-abbrev pub count : ℕ → Data
-count n = number (unsigned n)
-
-abbrev pub array_of : List Data → Data
-array_of ds = array (items_of ds)
-
-abbrev pub key_data : Key → Data
-key_data key = string (key_text key.0)
-
-abbrev pub prefix_data : PrefixValue → Data
-prefix_data p = string (canonical_text p)
 
 -- what an interface showed of a peer, or null
 abbrev pub status_data : Option Status → Data
@@ -43,11 +27,6 @@ peer_data v =
     (member (codes "number") (count v.peer.number)
     (member (codes "routes") (array_of (map prefix_data v.routes))
     (member (codes "status") (status_data v.peer.status) no_members))))))))
-
--- a host, an IPv6 address in brackets (RFC 3986 section 3.2.2), and a port
-abbrev pub endpoint_text : List ℕ → ℕ → List ℕ
-endpoint_text host port =
-    cond (list_any (λ b. b == 58) host) (codes "[" ++ host ++ codes "]:" ++ decimal port) (host ++ codes ":" ++ decimal port)
 
 -- a network under its name, without its peers
 abbrev pub network_data : List ℕ × NetworkValue → Data

@@ -1,19 +1,16 @@
--- No number of an array is a float where none of its items has one.
-use Rattle.std.proofs.Common.{◌≡◌, ℕ, List, [], ◌∷◌, false, map, refl, Option, Some, None}
-use Rattle.serde_json.specs.Data.{Data}
+-- No number in a reply is a float.
+use Rattle.std.proofs.Common.{◌≡◌, ℕ, List, false, refl, Option, Some, None}
 use Rattle.serde_json.specs.Written.{has_float, members_have_float}
 use Rattle.wgr_peers.specs.declared.peer.Status.{Status}
 use Rattle.wgr_core.specs.declared.reply.PeerView.{PeerView}
 use Rattle.wgr_core.specs.Network.{NetworkValue}
 use Rattle.wgr_reply.specs.Bodies.{adopted_data, fact_members, networks_data, peers_data, problem_data}
-use Rattle.wgr_reply.specs.Shown.{array_of, count, network_data, peer_data, prefix_data, status_data}
+use Rattle.wgr_json.specs.Values.{count, prefix_data}
+use Rattle.wgr_json.specs.Whole.{array_whole}
+use Rattle.wgr_reply.specs.Shown.{network_data, peer_data, status_data}
 use Rattle.wgr_reply.specs.declared.bodies.Fact.{Fact}
 use Rattle.wgr_reply.specs.declared.bodies.Fact.TheVariants as fact
 use Rattle.wgr_reply.specs.declared.bodies.Problem.{Problem}
-
-pub array_whole : {A : Type 0} (show : A → Data) → ((x : A) → has_float (show x) ≡ false) → (xs : List A) → has_float (array_of (map show xs)) ≡ false
-array_whole show whole [] = refl
-array_whole show whole (x ∷ xs) = rw (whole x) (array_whole show whole xs)
 
 pub status_whole : (s : Option Status) → has_float (status_data s) ≡ false
 status_whole None = refl

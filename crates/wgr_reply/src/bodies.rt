@@ -5,12 +5,13 @@ ghost use Rattle.serde_json.specs.Events.{SendsValue};
 ghost use Rattle.wgr_reply.specs.Bodies.{adopted_data, networks_data, owner_data, peers_data, problem_data, revoked_data};
 ghost use Rattle.wgr_reply.specs.Whole.{adopted_whole, networks_whole, peers_whole, problem_whole};
 
-use crate::json::ToJson;
-use crate::list::List;
-use crate::member::{send_member, send_number, send_text};
 use serde::Serializer;
 use std::alloc::Global;
 use wgr_core::{Name, Network, PeerView};
+use wgr_json::{List, ToJson, send_member, send_number, send_text};
+
+/// Where this crate shows values.
+pub(crate) struct InReply;
 
 /// Peers, in their order.
 #[derive(Clone, Copy)]
@@ -56,31 +57,31 @@ pub(crate) enum Fact<'a> {
     Place { field: u8, line: usize },
 }
 
-impl<'a> ToJson for Peers<'a> {
+impl<'a> ToJson<InReply> for Peers<'a> {
     ghost shown = { λ p. peers_data p.0.now };
 
     ghost whole = { λ p. peers_whole p.0.now };
 
     fn send<S: Serializer>(&self, alloc: Global, out: &mut S) -> Result<(), S::Error> {
         out.begin_map(Some(1))?;
-        send_member(alloc, "peers", &List(self.0), out)?;
+        send_member::<InReply, _, _>(alloc, "peers", &List(self.0), out)?;
         out.end_map()
     }
 }
 
-impl<'a> ToJson for Networks<'a> {
+impl<'a> ToJson<InReply> for Networks<'a> {
     ghost shown = { λ n. networks_data n.0.now };
 
     ghost whole = { λ n. networks_whole n.0.now };
 
     fn send<S: Serializer>(&self, alloc: Global, out: &mut S) -> Result<(), S::Error> {
         out.begin_map(Some(1))?;
-        send_member(alloc, "networks", &List(self.0), out)?;
+        send_member::<InReply, _, _>(alloc, "networks", &List(self.0), out)?;
         out.end_map()
     }
 }
 
-impl ToJson for Revoked {
+impl ToJson<InReply> for Revoked {
     ghost shown = { λ r. revoked_data r.0 };
 
     ghost whole = { λ r. refl };
@@ -92,7 +93,7 @@ impl ToJson for Revoked {
     }
 }
 
-impl ToJson for Owner {
+impl ToJson<InReply> for Owner {
     ghost shown = { λ o. owner_data o.0 };
 
     ghost whole = { λ o. refl };
@@ -104,20 +105,20 @@ impl ToJson for Owner {
     }
 }
 
-impl<'a> ToJson for Adopted<'a> {
+impl<'a> ToJson<InReply> for Adopted<'a> {
     ghost shown = { λ a. adopted_data a.added.now a.known };
 
     ghost whole = { λ a. adopted_whole a.added.now a.known };
 
     fn send<S: Serializer>(&self, alloc: Global, out: &mut S) -> Result<(), S::Error> {
         out.begin_map(Some(2))?;
-        send_member(alloc, "added", &List(self.added), out)?;
+        send_member::<InReply, _, _>(alloc, "added", &List(self.added), out)?;
         send_number("known", u64::from(self.known), out)?;
         out.end_map()
     }
 }
 
-impl<'a> ToJson for Problem<'a> {
+impl<'a> ToJson<InReply> for Problem<'a> {
     ghost shown = { λ p. problem_data p };
 
     ghost whole = { λ p. problem_whole p };

@@ -4,15 +4,14 @@ ghost use Rattle.serde_json.specs.Data.{member, no_members};
 ghost use Rattle.serde_json.specs.Events.{SendsValue};
 ghost use Rattle.wgr_reply.specs.Shown.{network_data};
 
-use crate::json::ToJson;
-use crate::member::{send_member, send_number, send_text};
-use crate::text::text_of_endpoint;
+use crate::bodies::InReply;
 use serde::Serializer;
 use std::alloc::Global;
 use wgr_core::{Name, Network};
+use wgr_json::{ToJson, send_member, send_number, send_text, text_of_endpoint};
 
 // A network under its name.
-impl ToJson for (Name, Network) {
+impl ToJson<InReply> for (Name, Network) {
     ghost shown = { λ e. network_data e };
 
     ghost whole = { λ e. refl };
@@ -27,8 +26,8 @@ impl ToJson for (Name, Network) {
         send_number("capacity", u64::from(network.capacity().peers()), out)?;
         send_text("endpoint", endpoint.as_str(), out)?;
         send_text("name", self.0.as_str(), out)?;
-        send_member(alloc, "pool", &network.pool().prefix(), out)?;
-        send_member(alloc, "server", &network.server_key(), out)?;
+        send_member::<InReply, _, _>(alloc, "pool", &network.pool().prefix(), out)?;
+        send_member::<InReply, _, _>(alloc, "server", &network.server_key(), out)?;
         out.end_map()
     }
 }

@@ -2,19 +2,17 @@
 ghost use Rattle.std.specs.Prelude.{◌≡◌, refl, map, Option, OnOk};
 ghost use Rattle.serde_json.specs.Data.{member, no_members};
 ghost use Rattle.serde_json.specs.Events.{SendsValue};
-ghost use Rattle.wgr_reply.specs.Shown.{key_data, peer_data, prefix_data, status_data};
+ghost use Rattle.wgr_reply.specs.Shown.{peer_data, status_data};
 ghost use Rattle.wgr_reply.specs.Whole.{peer_whole, status_whole};
 
-use crate::json::ToJson;
-use crate::list::List;
-use crate::member::{send_member, send_number, send_text};
-use crate::text::text_of_key;
+use crate::bodies::InReply;
 use serde::Serializer;
 use std::alloc::Global;
 use wgr_core::{PeerView, Status};
-use wgr_text::{Key, Prefix};
+use wgr_json::{List, ToJson, send_member, send_number, send_text};
+use wgr_text::Prefix;
 
-impl ToJson for PeerView {
+impl ToJson<InReply> for PeerView {
     ghost shown = { λ v. peer_data v };
 
     ghost whole = { λ v. peer_whole v };
@@ -22,14 +20,14 @@ impl ToJson for PeerView {
     fn send<S: Serializer>(&self, alloc: Global, out: &mut S) -> Result<(), S::Error> {
         let peer = &self.peer;
         out.begin_map(Some(8))?;
-        send_member(alloc, "address", &Prefix::full(peer.address), out)?;
+        send_member::<InReply, _, _>(alloc, "address", &Prefix::full(peer.address), out)?;
         send_number("end", peer.until.seconds(), out)?;
         send_number("keepalive", u64::from(peer.keepalive), out)?;
-        send_member(alloc, "key", &peer.key, out)?;
+        send_member::<InReply, _, _>(alloc, "key", &peer.key, out)?;
         send_text("label", peer.label.as_str(), out)?;
         send_number("number", u64::from(peer.number), out)?;
-        send_member(alloc, "routes", &List(self.routes.as_slice()), out)?;
-        send_member(alloc, "status", &SeenStatus(peer.status), out)?;
+        send_member::<InReply, _, _>(alloc, "routes", &List(self.routes.as_slice()), out)?;
+        send_member::<InReply, _, _>(alloc, "status", &SeenStatus(peer.status), out)?;
         out.end_map()
     }
 }
@@ -38,7 +36,7 @@ impl ToJson for PeerView {
 #[derive(Clone, Copy)]
 struct SeenStatus(Option<Status>);
 
-impl ToJson for SeenStatus {
+impl ToJson<InReply> for SeenStatus {
     ghost shown = { λ s. status_data s.0 };
 
     ghost whole = { λ s. status_whole s.0 };
@@ -53,19 +51,6 @@ impl ToJson for SeenStatus {
                 send_number("sent", status.sent.value(), out)?;
                 out.end_map()
             }
-        }
-    }
-}
-
-impl ToJson for Key {
-    ghost shown = { λ k. key_data k };
-
-    ghost whole = { λ k. refl };
-
-    fn send<S: Serializer>(&self, alloc: Global, out: &mut S) -> Result<(), S::Error> {
-        match text_of_key(alloc, self) {
-            Ok(text) => out.str(text.as_str()),
-            Err(_) => Err(out.custom("no memory")),
         }
     }
 }

@@ -14,7 +14,6 @@ pub(crate) fn status_of(why: Refusal) -> StatusCode
     match why {
         Refusal::NoSuchPeer | Refusal::NoSuchRoute | Refusal::NobodysAddress =>
             StatusCode::NotFound,
-        Refusal::BadField { .. } => StatusCode::BadRequest,
         Refusal::KeyHeld { .. }
         | Refusal::AddressHeld
         | Refusal::OutsidePool
@@ -36,9 +35,6 @@ pub(crate) fn fact_of(why: Refusal) -> Fact<'static>
 {
     match why {
         Refusal::KeyHeld { number } => Fact::Number(number),
-        Refusal::BadField {
-            field: wgr_core::Field::Key,
-        } => Fact::Field("key"),
         Refusal::InLine { line, .. } => Fact::Line(line),
         Refusal::NoSuchPeer
         | Refusal::AddressHeld

@@ -1,17 +1,16 @@
 //! The answer to a request, as bytes.
-ghost use Rattle.std.specs.Prelude.{◌≡◌, [], codes, IfOk};
-ghost use Rattle.serde_json.specs.Written.{compact_text};
+ghost use Rattle.std.specs.Prelude.{◌≡◌, [], IfOk};
 ghost use Rattle.wgr_http.specs.Reply.{reply_bytes};
-ghost use Rattle.wgr_http.specs.declared.reply.Kind.TheVariants as kind;
 ghost use Rattle.wgr_reply.specs.Bodies.{fact_members};
-ghost use Rattle.wgr_reply.specs.Response.{fault_shown, problem, response_bytes, shown_bytes, unavailable_shown};
+ghost use Rattle.wgr_reply.specs.Response.{done, fault_shown, json, problem, response_bytes, shown_bytes, unavailable_shown};
+ghost use Rattle.wgr_reply.specs.StatusLine.{IsOfStatus, IsReply};
 
-use crate::bodies::{Adopted, Fact, Networks, Owner, Peers, Problem, Revoked};
-use crate::json::{ToJson, to_json};
+use crate::bodies::{Adopted, Fact, InReply, Networks, Owner, Peers, Problem, Revoked};
 use crate::refused::{fact_of, status_of};
 use std::alloc::{AllocError, Global};
 use wgr_core::{Name, Network, PeerView, Refusal};
 use wgr_http::{Kind, StatusCode, write_reply};
+use wgr_json::{ToJson, to_json};
 use wgr_request::RequestFault;
 
 /// The answer to a request.
@@ -39,9 +38,17 @@ pub enum Response<'a> {
     Fault(RequestFault),
 }
 
-/// The bytes of the reply.
-pub fn write_response(alloc: Global, response: Response<'_>) -> Result<Vec<u8>, AllocError>
-    ensures { IfOk result (λ bytes. bytes.items ≡ response_bytes response.entry) }
+/// The reply to a request, as bytes.
+#[derive(Drop)]
+pub struct HttpReply {
+    /// The status in the first line of the bytes.
+    pub status: StatusCode,
+    pub bytes: Vec<u8>,
+}
+
+/// The reply.
+pub fn write_response(alloc: Global, response: Response<'_>) -> Result<HttpReply, AllocError>
+    ensures { IfOk result (λ reply. IsReply reply (response_bytes response.entry)) }
 {
     match response {
         Response::Peer(peer) => write_done(alloc, peer),
@@ -50,7 +57,7 @@ pub fn write_response(alloc: Global, response: Response<'_>) -> Result<Vec<u8>, 
         Response::Owner(number) => write_done(alloc, &Owner(number)),
         Response::Adopted { added, known } => write_done(alloc, &Adopted { added, known }),
         Response::Networks(networks) => write_done(alloc, &Networks(networks)),
-        Response::File(text) => write_reply(alloc, StatusCode::Done, Kind::Text, b"", text),
+        Response::File(text) => write_bytes(alloc, StatusCode::Done, Kind::Text, b"", text),
         Response::Refused(why) => {
             write_problem(alloc, status_of(why), b"", why.name(), fact_of(why))
         }
@@ -62,17 +69,32 @@ pub fn write_response(alloc: Global, response: Response<'_>) -> Result<Vec<u8>, 
 /// The bytes of the reply where a request can't be served because memory or the store fails. They
 /// take no memory, since there may be none to make them.
 pub fn unavailable() -> &'static [u8]
-    ensures { result.now ≡ shown_bytes unavailable_shown }
+    ensures bytes { result.now ≡ shown_bytes unavailable_shown }
+    ensures status { IsOfStatus unavailable_shown.status result.now }
 {
     b"HTTP/1.1 503 Service Unavailable\r\nContent-Type: application/json\r\nContent-Length: 23\r\nConnection: close\r\n\r\n{\"error\":\"unavailable\"}"
 }
 
+// The reply of this status and with this body.
+fn write_bytes(
+    alloc: Global,
+    status: StatusCode,
+    kind: Kind,
+    allow: &[u8],
+    body: &[u8],
+) -> Result<HttpReply, AllocError>
+    ensures { IfOk result (λ reply. IsReply reply (reply_bytes status kind allow.now body.now)) }
+{
+    let bytes = write_reply(alloc, status, kind, allow, body)?;
+    Ok(HttpReply { status, bytes })
+}
+
 // The reply that shows a value.
-fn write_done<T: ToJson>(alloc: Global, value: &T) -> Result<Vec<u8>, AllocError>
-    ensures { IfOk result (λ bytes. bytes.items ≡ reply_bytes StatusCode.Done kind.Json (codes "") (compact_text (T.shown value.now))) }
+fn write_done<T: ToJson<InReply>>(alloc: Global, value: &T) -> Result<HttpReply, AllocError>
+    ensures { IfOk result (λ reply. IsReply reply (shown_bytes (done (json (T.shown value.now))))) }
 {
     let body = to_json(alloc, value)?;
-    write_reply(alloc, StatusCode::Done, Kind::Json, b"", &body)
+    write_bytes(alloc, StatusCode::Done, Kind::Json, b"", &body)
 }
 
 // The reply that reports a refusal with the fact that it carries.
@@ -82,23 +104,23 @@ fn write_problem(
     allow: &[u8],
     name: &str,
     fact: Fact<'_>,
-) -> Result<Vec<u8>, AllocError>
-    ensures { IfOk result (λ bytes. bytes.items ≡ shown_bytes (problem status allow.now name.now (fact_members fact.entry))) }
+) -> Result<HttpReply, AllocError>
+    ensures { IfOk result (λ reply. IsReply reply (shown_bytes (problem status allow.now name.now (fact_members fact.entry)))) }
 {
     let body = to_json(alloc, &Problem { name, fact })?;
-    write_reply(alloc, status, Kind::Json, allow, &body)
+    write_bytes(alloc, status, Kind::Json, allow, &body)
 }
 
 // The reply that reports a refusal without a fact.
-fn write_plain(alloc: Global, status: StatusCode, name: &str) -> Result<Vec<u8>, AllocError>
-    ensures { IfOk result (λ bytes. bytes.items ≡ shown_bytes (problem status [] name.now (fact_members Fact.None))) }
+fn write_plain(alloc: Global, status: StatusCode, name: &str) -> Result<HttpReply, AllocError>
+    ensures { IfOk result (λ reply. IsReply reply (shown_bytes (problem status [] name.now (fact_members Fact.None)))) }
 {
     write_problem(alloc, status, b"", name, Fact::None)
 }
 
 // The reply that reports a fault of a request.
-fn write_fault(alloc: Global, fault: RequestFault) -> Result<Vec<u8>, AllocError>
-    ensures { IfOk result (λ bytes. bytes.items ≡ shown_bytes (fault_shown fault)) }
+fn write_fault(alloc: Global, fault: RequestFault) -> Result<HttpReply, AllocError>
+    ensures { IfOk result (λ reply. IsReply reply (shown_bytes (fault_shown fault))) }
 {
     match fault {
         RequestFault::Message(fault) => write_plain(alloc, fault.status(), fault.name()),

@@ -1,5 +1,3 @@
-pub mod Ascii
-pub mod Items
 pub mod Listing
 pub mod Parts
 pub mod Permuted

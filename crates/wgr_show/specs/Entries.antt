@@ -4,13 +4,13 @@ use Rattle.std.specs.List.{filter}
 use denote.Ref.{Bor}
 use Rattle.wgr_model.specs.Register.{Tenant, Token}
 use Rattle.wgr_orders.specs.declared.census.Counted.{Counted}
-use Rattle.wgr_show.specs.Shown.{Shown}
+use Rattle.wgr_show.specs.Shown.{ShownTenant}
 use Rattle.wgr_show.specs.declared.entries.Entry.{Entry}
 
-abbrev pub shown_of : Entry → Shown
+abbrev pub shown_of : Entry → ShownTenant
 shown_of e = record { name = e.tenant.now.name; tokens = map (λ t. t.now) e.tokens.now; networks = map (λ n. n.now) e.networks.now }
 
-abbrev pub entry_of : List (Bor Token) → List (Bor Counted) → Tenant → Shown
+abbrev pub entry_of : List (Bor Token) → List (Bor Counted) → Tenant → ShownTenant
 entry_of tokens networks t = record {
   name = t.name;
   tokens = map (λ x. x.now) (filter (λ x. nat_eq x.now.tenant t.id) tokens);

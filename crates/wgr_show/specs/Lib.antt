@@ -3,6 +3,5 @@ pub mod Figures
 pub mod Json
 pub mod Metrics
 pub mod Owned
-pub mod Sending
 pub mod Shown
 pub mod Whole

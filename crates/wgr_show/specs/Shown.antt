@@ -27,26 +27,26 @@ pub record IsSortedOf {X : Type 0} (key : X → Bytes) (xs ys : List X) : Type 0
   pub sorted : IsSortedByKey key (slice_cmp nat_cmp) ys
 
 -- what is shown of a tenant
-pub record Shown : Type 0 where
+pub record ShownTenant : Type 0 where
   pub name : Bytes
   pub tokens : List Token
   pub networks : List Counted
 
 -- its name, its tokens by digest and its networks by name
-pub record Shows (c : Census) (t : Tenant) (s : Shown) : Type 0 where
+pub record ShowsTenant (c : Census) (t : Tenant) (s : ShownTenant) : Type 0 where
   pub name : s.name ≡ t.name
   pub tokens : IsSortedOf (λ x. x.digest) (filter (λ x. nat_eq x.tenant t.id) c.tokens.items) s.tokens
   pub networks : IsSortedOf (λ n. n.holding.name) (filter (λ n. nat_eq n.holding.tenant t.id) c.networks.items) s.networks
 
 -- that for each of the tenants
-abbrev pub ShowsEach : Census → List Tenant → List Shown → Type 0
+abbrev pub ShowsEach : Census → List Tenant → List ShownTenant → Type 0
 ShowsEach c [] [] = Unit {0}
-ShowsEach c (t ∷ ts) (s ∷ ss) = Shows c t s × ShowsEach c ts ss
+ShowsEach c (t ∷ ts) (s ∷ ss) = ShowsTenant c t s × ShowsEach c ts ss
 ShowsEach c [] (s ∷ ss) = ⊥
 ShowsEach c (t ∷ ts) [] = ⊥
 
 -- the tenants that are asked for, by name
-pub record IsListing (c : Census) (name : Option Bytes) (shown : List Shown) : Type 0 where
+pub record IsListing (c : Census) (name : Option Bytes) (shown : List ShownTenant) : Type 0 where
   pub tenants : List Tenant
   pub asked : IsSortedOf (λ t. t.name) (asked name c.tenants.items) tenants
   pub each : ShowsEach c tenants shown

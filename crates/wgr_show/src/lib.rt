@@ -8,9 +8,6 @@
 mod columns;
 mod entries;
 mod figures;
-mod json;
-mod list;
-mod member;
 mod metrics;
 mod owned;
 mod show;
@@ -18,7 +15,6 @@ mod shown;
 mod table;
 #[cfg(test)]
 mod tests;
-mod text;
 
 pub use figures::{Figures, figures_of};
 pub use metrics::metrics_text;

@@ -5,15 +5,15 @@ ghost use Rattle.serde_json.specs.Written.{compact_text};
 ghost use Rattle.std.specs.List.Sorted.{IsSortedByKey};
 ghost use Rattle.wgr_show.specs.Entries.{entry_of, shown_of};
 ghost use Rattle.wgr_show.specs.Owned.{network_cmp, token_cmp};
-ghost use Rattle.wgr_show.specs.Json.{IsJson, register_data};
+ghost use Rattle.wgr_show.specs.Json.{IsRegisterJson, register_data};
 ghost use Rattle.wgr_show.specs.Shown.{is_there};
 
 use crate::entries::{Entry, asked_tenants, entries_of};
-use crate::json::to_json;
 use crate::owned::sorted;
 use crate::shown::Register;
 use crate::table::tables;
 use std::alloc::{AllocError, Global};
+use wgr_json::to_json;
 use wgr_orders::{Census, Counted, Tenant, Token};
 
 /// The tenants by name, each with its networks by name and its tokens by digest: all, or the one of a name.
@@ -28,7 +28,7 @@ pub fn show_text(
 ) -> Result<Option<Vec<u8>>, AllocError>
     ensures some { IfOk result (λ shown. IfSome shown (λ _. is_there (option_map (λ name. name.now) tenant.entry) census.now.tenants.items ≡ true)) }
     ensures none { IfOk result (λ shown. IfNone shown (is_there (option_map (λ name. name.now) tenant.entry) census.now.tenants.items ≡ false)) }
-    ensures json { IfOk result (λ shown. IfSome shown (λ text. is_json ≡ true → IsJson census.now (option_map (λ name. name.now) tenant.entry) text.items)) }
+    ensures json { IfOk result (λ shown. IfSome shown (λ text. is_json ≡ true → IsRegisterJson census.now (option_map (λ name. name.now) tenant.entry) text.items)) }
 {
     let tenants = asked_tenants(alloc, &census.tenants, tenant)?;
     if is_missing(tenant, &tenants) {

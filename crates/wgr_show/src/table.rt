@@ -1,8 +1,8 @@
 //! Tables for a person.
 use crate::columns::aligned;
 use crate::entries::Entry;
-use crate::text::{text_of_endpoint, text_of_prefix};
 use std::alloc::{AllocError, Global};
+use wgr_json::{text_of_endpoint, text_of_prefix};
 use wgr_orders::{Counted, Token};
 
 /// A table of networks, and one of tokens where there is one.

@@ -1,0 +1,4 @@
+pub mod Endpoint
+pub mod Sending
+pub mod Values
+pub mod Whole
