@@ -7,7 +7,7 @@ use Rattle.sqlite.specs.Held.{Held, state}
 use Rattle.wgr_model.specs.RowLaws.{RowsAreIsolated}
 use Rattle.wgr_model.specs.Runs.{Served}
 use Rattle.wgr_model.specs.Steps.{Event}
-use Rattle.wgr_office.specs.Between.{AreCalls, HasPassed, IsCall, IsKept, Keeps, PassesAll, Place, StopsKeepAcknowledged, place}
+use Rattle.wgr_office.specs.Between.{AreCalls, HasPassed, IsCall, IsKeptBetween, Keeps, PassesAll, Place, StopsKeepAcknowledged, place}
 use Rattle.wgr_office.specs.Events.{GoesAll, HaveBeenServed}
 use Rattle.wgr_office.specs.declared.answer.Answer as given
 use Rattle.wgr_office.specs.declared.run.Event as event
@@ -106,7 +106,7 @@ module _ {S : Type 0} (g : Ghosts S) where
   goes_along from to (e ∷ asked) (a ∷ answers) (s ∷ served) (mid, first, rest) = (mid.db, mid.late, first.goes, goes_along mid to asked answers served rest)
 
   kept : (k : ℕ) (from to : Place S) (asked : List event.Event) (answers : List given.Answer) (served : List Served) → StandsAt g from.conn from.db from.late → HasCleanDisk (state g from.conn)
-      → PassesAll g from to asked answers served → k ≤ length asked → IsKept g from to asked answers served k
+      → PassesAll g from to asked answers served → k ≤ length asked → IsKeptBetween g from to asked answers served k
   kept zero from to asked answers served at clean passes le =
       record { at = from; before = refl; after = passes; goes = (refl, refl); stands = at; leaves = stop_leaves g from.conn from.db from.late at clean }
   kept (suc k) from to [] answers served at clean passes le = absurd (omega (arith, le))

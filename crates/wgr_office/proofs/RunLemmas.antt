@@ -15,13 +15,13 @@ use Rattle.wgr_model.specs.Runs.{Served, acknowledged}
 use Rattle.wgr_model.specs.Steps.{Answer, Event, IsProper, Refused}
 use Rattle.wgr_model.specs.Tenants.{Agree, Fits}
 use Rattle.wgr_model.proofs.RunLemmas.{proper_more}
-use Rattle.wgr_office.specs.Events.{AgreeAsGiven, AreServed, Goes, GoesAll, HasRun, HaveBeenServed, IsAnswerTo, IsServed, IsSettled, Serves, Settles, IsAnswerIfAny, unread}
-use Rattle.wgr_office.specs.Pages.{IsAnswered, event_of}
+use Rattle.wgr_office.specs.Events.{AgreeAsGiven, HaveAnswers, Goes, GoesAll, HasRun, HaveBeenServed, IsAnswerTo, IsEventServed, IsOrderAnswer, Serves, Settles, IsAnswerIfAny, unread}
+use Rattle.wgr_office.specs.Pages.{IsAnsweredAs, event_of}
 use Rattle.wgr_office.specs.declared.answer.Answer as given
 use Rattle.wgr_office.specs.declared.answer.Answer.TheVariants as givens
 use Rattle.wgr_office.specs.declared.run.Event as event
 use Rattle.wgr_office.specs.declared.run.Event.TheVariants as events
-use Rattle.wgr_register.specs.Ends.{EndsAt, OrderEnds, is_change}
+use Rattle.wgr_register.specs.Ends.{StandsAfter, OrderEnds, is_change}
 use Rattle.wgr_register.specs.Standing.{IsAtRest, StandsAt}
 use Rattle.wgr_register.specs.declared.fault.Done as done
 use Rattle.wgr_register.specs.declared.fault.OrderFault.{OrderFault}
@@ -31,7 +31,7 @@ use Rattle.wgr_columns.specs.Decode.{tables_of}
 -- ---- one more
 
 pub served_more : (asked : List event.Event) (answers : List given.Answer) (served : List Served) (event : event.Event) (given : given.Answer) (e : Event) (a : Option Answer)
-    → AreServed asked answers served → Serves event given e a → AreServed (asked ++ event ∷ []) (answers ++ given ∷ []) (served ++ (e, a) ∷ [])
+    → HaveAnswers asked answers served → Serves event given e a → HaveAnswers (asked ++ event ∷ []) (answers ++ given ∷ []) (served ++ (e, a) ∷ [])
 served_more [] [] [] event given e a so_far one = (one, tt)
 served_more (x ∷ asked) (b ∷ answers) (y ∷ served) event given e a so_far one = (so_far.0, served_more asked answers served event given e a so_far.1 one)
 served_more [] [] (y ∷ served) event given e a so_far one = absurd so_far
@@ -59,10 +59,10 @@ row_run (s ∷ served) db late next left (mid, between, step, rest) = (tables_of
 
 module _ {S : Type 0} (g : Ghosts S) (conn : Held S) (db : Database) (late : List Event) where
   ended : (asked : event.Event) (reply : given.Answer) (e : Event) (answer : Answer) → Serves asked reply e (Some answer) → IsProper e → (next : Database) → IsRowStep (tables_of db) e answer (tables_of next)
-      → EndsAt g conn (is_change answer e) db late next → IsServed g conn db late asked reply
+      → StandsAfter g conn (is_change answer e) db late next → IsEventServed g conn db late asked reply
   ended asked reply e answer serves proper next step = each (is_change answer e) refl
     where
-      each : (b : Bool) → is_change answer e ≡ b → EndsAt g conn b db late next → IsServed g conn db late asked reply
+      each : (b : Bool) → is_change answer e ≡ b → StandsAfter g conn b db late next → IsEventServed g conn db late asked reply
       each true is at = record { e = e; answer = Some answer; serves = serves; proper = proper; next = next; left = []; goes = (step, subst (λ c. Settles c db late next []) (sym is) refl); stands = at }
       each false is (same, at) = record {
         e = e;
@@ -75,33 +75,33 @@ module _ {S : Type 0} (g : Ghosts S) (conn : Held S) (db : Database) (late : Lis
         stands = at;
       }
 
-  pub ask_served : (now : ℕ) (bytes : Vec ℕ Global) (reply : given.Answer) → IsAnswered g conn db late now bytes.items reply → HasCleanDisk (state g conn) → IsServed g conn db late (events.Ask now bytes) reply
-  ask_served now bytes (givens.Bytes b) (r, read, ends) clean =
+  pub ask_served : (now : ℕ) (bytes : Vec ℕ Global) (reply : given.Answer) → IsAnsweredAs g conn db late now bytes.items reply → HasCleanDisk (state g conn) → IsEventServed g conn db late (events.Ask now bytes) reply
+  ask_served now bytes (givens.Reply b) (r, read, ends) clean =
       let end = ends clean in
-      ended (events.Ask now bytes) (givens.Bytes b) (event_of now r) end.0 (r, read.asks, refl, end.1) read.proper end.2 end.3 end.4
+      ended (events.Ask now bytes) (givens.Reply b) (event_of now r) end.0 (r, read.asks, refl, end.1) read.proper end.2 end.3 end.4
   ask_served now bytes givens.Unavailable (inl at) clean = record { e = unread; answer = None; serves = inl refl; proper = tt; next = db; left = late; goes = (refl, inl refl); stands = at }
   ask_served now bytes givens.Unavailable (inr (r, read, at)) clean =
       record { e = event_of now r; answer = None; serves = inr (r, read.asks, refl); proper = read.proper; next = db; left = event_of now r ∷ late; goes = (refl, inr refl); stands = at }
   ask_served now bytes (givens.Order done) bad clean = absurd bad
 
-  pub order_served : (order : Order) (end : Result done.Done OrderFault) (reply : given.Answer) → OrderEnds g conn db late (order_event order) end → IsSettled end reply → IsProper (order_event order) → HasCleanDisk (state g conn)
-      → IsServed g conn db late (events.Order order) reply
+  pub order_served : (order : Order) (end : Result done.Done OrderFault) (reply : given.Answer) → OrderEnds g conn db late (order_event order) end → IsOrderAnswer end reply → IsProper (order_event order) → HasCleanDisk (state g conn)
+      → IsEventServed g conn db late (events.Order order) reply
   order_served order (Ok done) reply ends is proper clean =
       let end = ends clean in
-      subst (IsServed g conn db late (events.Order order)) (sym is) (ended (events.Order order) (givens.Order (Ok done)) (order_event order) end.0 (refl, end.1) proper end.2 end.3 end.4)
+      subst (IsEventServed g conn db late (events.Order order)) (sym is) (ended (events.Order order) (givens.Order (Ok done)) (order_event order) end.0 (refl, end.1) proper end.2 end.3 end.4)
   order_served order (Err (order_fault.Refused why)) reply ends is proper clean =
-      subst (IsServed g conn db late (events.Order order)) (sym is) (ended (events.Order order) (givens.Order (Err why)) (order_event order) (Refused (refusal_of why)) (refl, refl) proper db (ends.1 clean) (refl, ends.0))
+      subst (IsEventServed g conn db late (events.Order order)) (sym is) (ended (events.Order order) (givens.Order (Err why)) (order_event order) (Refused (refusal_of why)) (refl, refl) proper db (ends.1 clean) (refl, ends.0))
   order_served order (Err (order_fault.Fault why)) reply ends is proper clean =
-      subst (IsServed g conn db late (events.Order order)) (sym is)
+      subst (IsEventServed g conn db late (events.Order order)) (sym is)
       (record { e = order_event order; answer = None; serves = refl; proper = proper; next = db; left = order_event order ∷ late; goes = (refl, inr refl); stands = ends })
 
 -- ---- the answers of a tenant alone, as they were given
 
 given_to : (event : event.Event) (reply : given.Answer) (e : Event) (answer : Answer) → Serves event reply e (Some answer) → IsAnswerTo event reply answer
-given_to (events.Ask now bytes) (givens.Bytes b) e answer serves = serves.3
+given_to (events.Ask now bytes) (givens.Reply b) e answer serves = serves.3
 given_to (events.Ask now bytes) givens.Unavailable e answer serves = serves.3
 given_to (events.Ask now bytes) (givens.Order done) e answer serves = serves.3
-given_to (events.Order order) (givens.Bytes b) e answer serves = serves.1
+given_to (events.Order order) (givens.Reply b) e answer serves = serves.1
 given_to (events.Order order) givens.Unavailable e answer serves = serves.1
 given_to (events.Order order) (givens.Order done) e answer serves = serves.1
 
@@ -110,7 +110,7 @@ tells event reply None answer is fits = tt
 tells event reply (Some a) answer is fits = subst (IsAnswerTo event reply) (sym fits) is
 
 pub agree_given : (asked : List event.Event) (answers : List given.Answer) (served : List Served) (alone : List (Option Answer))
-    → AreServed asked answers served → Agree alone (acknowledged served) → AgreeAsGiven asked answers alone
+    → HaveAnswers asked answers served → Agree alone (acknowledged served) → AgreeAsGiven asked answers alone
 agree_given [] [] [] [] told agree = tt
 agree_given [] [] [] (a ∷ alone) told agree = absurd agree
 agree_given [] [] (s ∷ served) alone told agree = absurd told
@@ -120,11 +120,11 @@ agree_given (e ∷ asked) (b ∷ answers) [] alone told agree = absurd told
 agree_given (e ∷ asked) (givens.Unavailable ∷ answers) ((s, None) ∷ served) alone told agree = agree_given asked answers served alone told.1 agree
 agree_given (events.Ask now bytes ∷ asked) (givens.Unavailable ∷ answers) ((s, Some x) ∷ served) alone told agree = absurd told.0.3
 agree_given (events.Order order ∷ asked) (givens.Unavailable ∷ answers) ((s, Some x) ∷ served) alone told agree = absurd told.0.1
-agree_given (events.Ask now bytes ∷ asked) (givens.Bytes b ∷ answers) ((s, None) ∷ served) alone told agree = absurd told.0
-agree_given (events.Order order ∷ asked) (givens.Bytes b ∷ answers) ((s, None) ∷ served) alone told agree = absurd told.0
-agree_given (e ∷ asked) (givens.Bytes b ∷ answers) ((s, Some x) ∷ served) [] told agree = absurd agree
-agree_given (e ∷ asked) (givens.Bytes b ∷ answers) ((s, Some x) ∷ served) (a ∷ alone) told agree =
-    (tells e (givens.Bytes b) a x (given_to e (givens.Bytes b) s x told.0) agree.0, agree_given asked answers served alone told.1 agree.1)
+agree_given (events.Ask now bytes ∷ asked) (givens.Reply b ∷ answers) ((s, None) ∷ served) alone told agree = absurd told.0
+agree_given (events.Order order ∷ asked) (givens.Reply b ∷ answers) ((s, None) ∷ served) alone told agree = absurd told.0
+agree_given (e ∷ asked) (givens.Reply b ∷ answers) ((s, Some x) ∷ served) [] told agree = absurd agree
+agree_given (e ∷ asked) (givens.Reply b ∷ answers) ((s, Some x) ∷ served) (a ∷ alone) told agree =
+    (tells e (givens.Reply b) a x (given_to e (givens.Reply b) s x told.0) agree.0, agree_given asked answers served alone told.1 agree.1)
 agree_given (events.Ask now bytes ∷ asked) (givens.Order done ∷ answers) ((s, None) ∷ served) alone told agree = absurd told.0
 agree_given (events.Order order ∷ asked) (givens.Order done ∷ answers) ((s, None) ∷ served) alone told agree = absurd told.0
 agree_given (e ∷ asked) (givens.Order done ∷ answers) ((s, Some x) ∷ served) [] told agree = absurd agree
@@ -135,7 +135,7 @@ agree_given (e ∷ asked) (givens.Order done ∷ answers) ((s, Some x) ∷ serve
 
 module _ {S : Type 0} (g : Ghosts S) (db : Database) (late : List Event) (asked : List event.Event) (answers : List given.Answer) where
   pub one_more : (before after : Held S) (event : event.Event) (reply : given.Answer) → HasCleanDisk (state g after)
-      → ((mid : Database) (between : List Event) → StandsAt g before mid between → HasCleanDisk (state g after) → IsServed g after mid between event reply)
+      → ((mid : Database) (between : List Event) → StandsAt g before mid between → HasCleanDisk (state g after) → IsEventServed g after mid between event reply)
       → HaveBeenServed g before db late asked answers → HaveBeenServed g after db late (asked ++ event ∷ []) (answers ++ reply ∷ [])
   one_more before after event reply clean serve all =
       let one = serve all.next all.left all.stands clean in

@@ -13,13 +13,14 @@ use Rattle.wgr_model.specs.Tenants.{is_own, own_events, tenant_after, tenant_ans
 use Rattle.wgr_orders.specs.declared.order.Order.{Order}
 use Rattle.wgr_orders.specs.declared.order.Order.TheVariants as ordered
 use Rattle.wgr_model.proofs.WorldLemmas.{not_own, two_worlds}
-use Rattle.wgr_office.specs.Events.{AgreeAsGiven, AreServed, IsAnswerIfAny}
+use Rattle.wgr_office.specs.Events.{AgreeAsGiven, HaveAnswers, IsAnswerIfAny}
 use Rattle.wgr_office.specs.Pages.{answer_bytes, event_of, fault_page}
-use Rattle.wgr_office.specs.Worlds.{WorldsAreAlike, in_front, moment_of, own_replies, replies_to}
+use Rattle.wgr_office.specs.Worlds.{WorldsAreAlike, before_replies, moment_of, own_replies, replies_to}
 use Rattle.wgr_office.specs.declared.answer.Answer as given
 use Rattle.wgr_office.specs.declared.answer.Answer.TheVariants as givens
 use Rattle.wgr_office.specs.declared.run.Event as event
 use Rattle.wgr_office.specs.declared.run.Event.TheVariants as events
+use Rattle.wgr_reply.specs.declared.response.HttpReply.{HttpReply}
 use Rattle.wgr_request.specs.Request.{RequestView, ask, networks, refused}
 
 -- ---- bytes by the event alone
@@ -43,18 +44,18 @@ no_answer v (ordered.EndNetwork tenant name) = refl
 
 -- ---- one event
 
-asked_front : (now : ℕ) (bytes b : Vec ℕ Global) (answers : List given.Answer) (e : Event) (o : Option Answer) (rest : List (Option Answer)) (ys : List Bytes)
-    → IsAnswerIfAny (events.Ask now bytes) (givens.Bytes b) o → ((a : Answer) → o ≡ Some a → answer_bytes now a ≡ answer_bytes (moment_of e) a) → replies_to answers rest ≡ ys
-    → replies_to (givens.Bytes b ∷ answers) (o ∷ rest) ≡ in_front (moment_of e) o ys
+asked_front : (now : ℕ) (bytes : Vec ℕ Global) (b : HttpReply) (answers : List given.Answer) (e : Event) (o : Option Answer) (rest : List (Option Answer)) (ys : List Bytes)
+    → IsAnswerIfAny (events.Ask now bytes) (givens.Reply b) o → ((a : Answer) → o ≡ Some a → answer_bytes now a ≡ answer_bytes (moment_of e) a) → replies_to answers rest ≡ ys
+    → replies_to (givens.Reply b ∷ answers) (o ∷ rest) ≡ before_replies (moment_of e) o ys
 asked_front now bytes b answers e None rest ys tells moment same = same
-asked_front now bytes b answers e (Some a) rest ys tells moment same = ap₂ (λ x xs. x ∷ xs) (tells ∙ moment a refl) same
+asked_front now bytes b answers e (Some a) rest ys tells moment same = ap₂ (λ x xs. x ∷ xs) (tells.bytes ∙ moment a refl) same
 
 -- the event is the tenant's own, or it has no answer and changes nothing
 module _ (me : Bytes) (v : View) (reply : given.Answer) (answers : List given.Answer) (e : Event) (a : Answer) (es : List (Event × Answer)) where
   abbrev w : View
   w = tenant_after me v e (is_done a)
 
-  next : ((ys : List Bytes) → replies_to answers (tenant_run me w es).0 ≡ ys → replies_to (reply ∷ answers) (tenant_answer v e ∷ (tenant_run me w es).0) ≡ in_front (moment_of e) (tenant_answer v e) ys)
+  next : ((ys : List Bytes) → replies_to answers (tenant_run me w es).0 ≡ ys → replies_to (reply ∷ answers) (tenant_answer v e ∷ (tenant_run me w es).0) ≡ before_replies (moment_of e) (tenant_answer v e) ys)
       → (replies_to (reply ∷ answers) (None ∷ (tenant_run me w es).0) ≡ replies_to answers (tenant_run me w es).0)
       → replies_to answers (tenant_run me w es).0 ≡ own_replies me w (own_events me w es)
       → replies_to (reply ∷ answers) (tenant_answer v e ∷ (tenant_run me w es).0) ≡ own_replies me v (own_events me v ((e, a) ∷ es))
@@ -68,7 +69,7 @@ module _ (me : Bytes) (v : View) (reply : given.Answer) (answers : List given.An
 -- ---- all of them
 
 pub given_own : (me : Bytes) (v : View) (asked : List event.Event) (answers : List given.Answer) (served : List Served)
-    → AreServed asked answers served → AgreeAsGiven asked answers (tenant_run me v (acknowledged served)).0
+    → HaveAnswers asked answers served → AgreeAsGiven asked answers (tenant_run me v (acknowledged served)).0
     → replies_to answers (tenant_run me v (acknowledged served)).0 ≡ own_replies me v (own_events me v (acknowledged served))
 given_own me v [] [] [] told agree = refl
 given_own me v [] [] (s ∷ served) told agree = absurd told
@@ -78,16 +79,16 @@ given_own me v (x ∷ asked) (b ∷ answers) [] told agree = absurd told
 given_own me v (x ∷ asked) (givens.Unavailable ∷ answers) ((e, None) ∷ served) told agree = given_own me v asked answers served told.1 agree
 given_own me v (events.Ask now bytes ∷ asked) (givens.Unavailable ∷ answers) ((e, Some a) ∷ served) told agree = absurd told.0.3
 given_own me v (events.Order order ∷ asked) (givens.Unavailable ∷ answers) ((e, Some a) ∷ served) told agree = absurd told.0.1
-given_own me v (events.Ask now bytes ∷ asked) (givens.Bytes b ∷ answers) ((e, None) ∷ served) told agree = absurd told.0
-given_own me v (events.Order order ∷ asked) (givens.Bytes b ∷ answers) ((e, None) ∷ served) told agree = absurd told.0
-given_own me v (events.Ask now bytes ∷ asked) (givens.Bytes b ∷ answers) ((e, Some a) ∷ served) told agree =
+given_own me v (events.Ask now bytes ∷ asked) (givens.Reply b ∷ answers) ((e, None) ∷ served) told agree = absurd told.0
+given_own me v (events.Order order ∷ asked) (givens.Reply b ∷ answers) ((e, None) ∷ served) told agree = absurd told.0
+given_own me v (events.Ask now bytes ∷ asked) (givens.Reply b ∷ answers) ((e, Some a) ∷ served) told agree =
     let es = acknowledged served in
     let is : e ≡ event_of now told.0.0 = told.0.2 in
-    next me v (givens.Bytes b) answers e a es
+    next me v (givens.Reply b) answers e a es
     (λ ys same. asked_front now bytes b answers e (tenant_answer v e) (tenant_run me (tenant_after me v e (is_done a)) es).0 ys agree.0
     (λ x has. subst (λ z. answer_bytes now x ≡ answer_bytes (moment_of z) x) (sym is) (at_moment now told.0.0 v x (subst (λ z. tenant_answer v z ≡ Some x) is has))) same)
     refl (given_own me (tenant_after me v e (is_done a)) asked answers served told.1 agree.1)
-given_own me v (events.Order order ∷ asked) (givens.Bytes b ∷ answers) ((e, Some a) ∷ served) told agree = absurd told.0.1
+given_own me v (events.Order order ∷ asked) (givens.Reply b ∷ answers) ((e, Some a) ∷ served) told agree = absurd told.0.1
 given_own me v (events.Ask now bytes ∷ asked) (givens.Order done ∷ answers) ((e, None) ∷ served) told agree = absurd told.0
 given_own me v (events.Order order ∷ asked) (givens.Order done ∷ answers) ((e, None) ∷ served) told agree = absurd told.0
 given_own me v (events.Ask now bytes ∷ asked) (givens.Order done ∷ answers) ((e, Some a) ∷ served) told agree = absurd told.0.3
@@ -95,7 +96,7 @@ given_own me v (events.Order order ∷ asked) (givens.Order done ∷ answers) ((
     let es = acknowledged served in
     let none : tenant_answer v e ≡ None = ap (tenant_answer v) told.0.0 ∙ no_answer v order in
     next me v (givens.Order done) answers e a es
-    (λ ys same. subst (λ o. replies_to (givens.Order done ∷ answers) (o ∷ (tenant_run me (tenant_after me v e (is_done a)) es).0) ≡ in_front (moment_of e) o ys) (sym none) same)
+    (λ ys same. subst (λ o. replies_to (givens.Order done ∷ answers) (o ∷ (tenant_run me (tenant_after me v e (is_done a)) es).0) ≡ before_replies (moment_of e) o ys) (sym none) same)
     refl (given_own me (tenant_after me v e (is_done a)) asked answers served told.1 agree.1)
 
 pub worlds_are_alike : WorldsAreAlike

@@ -7,7 +7,7 @@ use Rattle.sqlite.specs.Held.{Held, state}
 use Rattle.sqlite.specs.Tree.{Trees}
 use Rattle.wgr_model.specs.Runs.{Served}
 use Rattle.wgr_model.specs.Steps.{Event}
-use Rattle.wgr_office.specs.Events.{Goes, GoesAll, HasRun, IsServed, Serves}
+use Rattle.wgr_office.specs.Events.{Goes, GoesAll, HasRun, IsEventServed, Serves}
 use Rattle.wgr_office.specs.declared.answer.Answer as given
 use Rattle.wgr_office.specs.declared.run.Event as event
 use Rattle.wgr_register.specs.Left.{LeavesRegister}
@@ -19,7 +19,7 @@ use Rattle.wgr_register.specs.Standing.{StandsAt}
 -- to which the event led. A disk that is clean then was clean before.
 pub record IsCall {S : Type 0} (g : Ghosts S) (old new : Held S) (event : event.Event) (given : given.Answer) : Type 0 where
   pub clean : HasCleanDisk (state g new) → HasCleanDisk (state g old)
-  pub served : (db : Database) (late : List Event) → StandsAt g old db late → HasCleanDisk (state g new) → IsServed g new db late event given
+  pub served : (db : Database) (late : List Event) → StandsAt g old db late → HasCleanDisk (state g new) → IsEventServed g new db late event given
 
 -- What a call that serves no event promises: the register is at the rows at which it was.
 pub record Keeps {S : Type 0} (g : Ghosts S) (old new : Held S) : Type 0 where
@@ -67,7 +67,7 @@ pub record HasPassed {S : Type 0} (g : Ghosts S) (old new : Held S) (db : Databa
 -- The place after the first k events of a run, to which these led and from which the others continued. Whatever
 -- a stop leaves there is a valid register: at the rows after all that was acknowledged so far, or at those
 -- that also have one event done that was answered Unavailable since the last acknowledged change.
-pub record IsKept {S : Type 0} (g : Ghosts S) (from to : Place S) (asked : List event.Event) (answers : List given.Answer) (served : List Served) (k : ℕ) : Type 0 where
+pub record IsKeptBetween {S : Type 0} (g : Ghosts S) (from to : Place S) (asked : List event.Event) (answers : List given.Answer) (served : List Served) (k : ℕ) : Type 0 where
   pub at : Place S
   pub before : PassesAll g from at (take k asked) (take k answers) (take k served)
   pub after : PassesAll g at to (drop k asked) (drop k answers) (drop k served)
@@ -79,4 +79,4 @@ pub record IsKept {S : Type 0} (g : Ghosts S) (from to : Place S) (asked : List 
 abbrev pub StopsKeepAcknowledged : {S : Type 0} → Ghosts S → Type 0
 StopsKeepAcknowledged {S} g = (old new : Held S) (db : Database) (late : List Event) (asked : List event.Event) (answers : List given.Answer)
     → StandsAt g old db late → HasCleanDisk (state g new) → (passed : HasPassed g old new db late asked answers) → (k : ℕ) → k ≤ length asked
-    → IsKept g (place old db late) (place new passed.run.all.next passed.run.all.left) asked answers passed.run.all.served k
+    → IsKeptBetween g (place old db late) (place new passed.run.all.next passed.run.all.left) asked answers passed.run.all.served k

@@ -20,6 +20,7 @@ use Rattle.wgr_register.specs.Standing.{StandsAt}
 use Rattle.wgr_register.specs.declared.fault.Done as done
 use Rattle.wgr_register.specs.declared.fault.OrderFault.{OrderFault}
 use Rattle.wgr_register.specs.declared.fault.OrderFault.TheVariants as order_fault
+use Rattle.wgr_reply.specs.StatusLine.{IsReply}
 use Rattle.wgr_request.specs.Request.{RequestView, Requests}
 use Rattle.wgr_columns.specs.Decode.{tables_of}
 
@@ -29,9 +30,9 @@ use Rattle.wgr_columns.specs.Decode.{tables_of}
 abbrev pub unread : Event
 unread = Decided None []
 
--- the answer is the model's: to a request its bytes, to an order an order's answer
+-- the answer is the model's: to a request a reply with its bytes, to an order an order's answer
 abbrev pub IsAnswerTo : event.Event → given.Answer → Answer → Type 0
-IsAnswerTo (events.Ask now bytes) (givens.Bytes reply) answer = reply.items ≡ answer_bytes now answer
+IsAnswerTo (events.Ask now bytes) (givens.Reply reply) answer = IsReply reply (answer_bytes now answer)
 IsAnswerTo (events.Order order) (givens.Order (Ok done)) answer = answer ≡ Done
 IsAnswerTo (events.Order order) (givens.Order (Err why)) answer = answer ≡ Refused (refusal_of why)
 IsAnswerTo event given answer = ⊥
@@ -45,10 +46,10 @@ Serves (events.Order order) given e (Some answer) = (e ≡ order_event order) ×
 Serves event given e answer = ⊥
 
 -- one answer for each event
-abbrev pub AreServed : List event.Event → List given.Answer → List Served → Type 0
-AreServed [] [] [] = ⊤
-AreServed (event ∷ events) (given ∷ answers) (s ∷ served) = Serves event given s.0 s.1 × AreServed events answers served
-AreServed events answers served = ⊥
+abbrev pub HaveAnswers : List event.Event → List given.Answer → List Served → Type 0
+HaveAnswers [] [] [] = ⊤
+HaveAnswers (event ∷ events) (given ∷ answers) (s ∷ served) = Serves event given s.0 s.1 × HaveAnswers events answers served
+HaveAnswers events answers served = ⊥
 
 -- ---- the rows after each event
 
@@ -69,7 +70,7 @@ GoesAll db late [] next left = (next ≡ db) × (left ≡ late)
 GoesAll db late (s ∷ served) next left = (mid : Database) × (between : List Event) × Goes db late s.0 s.1 mid between × GoesAll mid between served next left
 
 -- one event was served by a register that was at these rows
-pub record IsServed {S : Type 0} (g : Ghosts S) (conn : Held S) (db : Database) (late : List Event) (event : event.Event) (given : given.Answer) : Type 0 where
+pub record IsEventServed {S : Type 0} (g : Ghosts S) (conn : Held S) (db : Database) (late : List Event) (event : event.Event) (given : given.Answer) : Type 0 where
   pub e : Event
   pub answer : Option Answer
   pub serves : Serves event given e answer
@@ -82,7 +83,7 @@ pub record IsServed {S : Type 0} (g : Ghosts S) (conn : Held S) (db : Database) 
 -- these events were served in turn, one answer for each
 pub record HaveBeenServed {S : Type 0} (g : Ghosts S) (conn : Held S) (db : Database) (late : List Event) (asked : List event.Event) (answers : List given.Answer) : Type 0 where
   pub served : List Served
-  pub reported : AreServed asked answers served
+  pub reported : HaveAnswers asked answers served
   pub proper : AreProper served
   pub next : Database
   pub left : List Event
@@ -106,7 +107,7 @@ AgreeAsGiven events answers alone = ⊥
 -- For every tenant, the answers to its requests and its rows at the end are those that its own
 -- requests and the accepted orders about it give on its own rows alone, leaving out requests answered
 -- Unavailable; and no two peers, in any networks, have the same address.
-pub record AreApart (rows : Tables) (asked : List event.Event) (answers : List given.Answer) (served : List Served) (after : Tables) : Type 0 where
+pub record AreServedApart (rows : Tables) (asked : List event.Event) (answers : List given.Answer) (served : List Served) (after : Tables) : Type 0 where
   pub answered : (tenant : Bytes) → AgreeAsGiven asked answers (tenant_run tenant (rows_view rows tenant) (acknowledged served)).0
   pub views : (tenant : Bytes) → (tenant_run tenant (rows_view rows tenant) (acknowledged served)).1 ≡ rows_view after tenant
   pub holders : HasOneRow after
@@ -116,10 +117,10 @@ pub record AreApart (rows : Tables) (asked : List event.Event) (answers : List g
 pub record HasRun {S : Type 0} (g : Ghosts S) (conn : Held S) (db : Database) (late : List Event) (asked : List event.Event) (answers : List given.Answer) : Type 0 where
   pub all : HaveBeenServed g conn db late asked answers
   pub run : IsRowRun (tables_of db) all.served (tables_of all.next)
-  pub apart : AreApart (tables_of db) asked answers all.served (tables_of all.next)
+  pub apart : AreServedApart (tables_of db) asked answers all.served (tables_of all.next)
 
 -- the answer for the result of an order
-abbrev pub IsSettled : Result done.Done OrderFault → given.Answer → Type 0
-IsSettled (Ok done) given = given ≡ givens.Order (Ok done)
-IsSettled (Err (order_fault.Refused why)) given = given ≡ givens.Order (Err why)
-IsSettled (Err (order_fault.Fault why)) given = given ≡ givens.Unavailable
+abbrev pub IsOrderAnswer : Result done.Done OrderFault → given.Answer → Type 0
+IsOrderAnswer (Ok done) given = given ≡ givens.Order (Ok done)
+IsOrderAnswer (Err (order_fault.Refused why)) given = given ≡ givens.Order (Err why)
+IsOrderAnswer (Err (order_fault.Fault why)) given = given ≡ givens.Unavailable

@@ -15,6 +15,8 @@ use Rattle.wgr_model.specs.Steps.{Answer, Ask, Decided, Declined, Event, NoSuchN
 use Rattle.wgr_core.specs.RefusalNames.{refusal_name}
 use Rattle.wgr_reply.specs.Refused.{refusal_facts, refusal_status}
 use Rattle.wgr_reply.specs.Response.{Shown, done, fault_shown, json, plain, problem, shown_bytes, text}
+use Rattle.wgr_reply.specs.StatusLine.{IsReply}
+use Rattle.wgr_reply.specs.declared.response.HttpReply.{HttpReply}
 use Rattle.wgr_http.specs.declared.status_code.StatusCode.TheVariants as status
 use Rattle.wgr_office.specs.declared.answer.Answer as given
 use Rattle.wgr_office.specs.declared.answer.Answer.TheVariants as givens
@@ -78,31 +80,32 @@ pub record IsReadAs (now : ℕ) (message : Bytes) (r : RequestView) : Type 0 whe
 
 -- The bytes are those of the answer of a step for the request in the message; or the request is
 -- answered Unavailable, the rows are unchanged, and a stop may leave it done.
-abbrev pub IsAnswered : {S : Type 0} → Ghosts S → Held S → Database → List Event → ℕ → Bytes → given.Answer → Type 0
-IsAnswered g conn db late now message (givens.Bytes bytes) = (r : RequestView) × IsReadAs now message r × EndsWith g conn db late (event_of now r) (λ answer. bytes.items ≡ answer_bytes now answer)
-IsAnswered g conn db late now message (givens.Order done) = ⊥
-IsAnswered g conn db late now message givens.Unavailable = StandsAt g conn db late ⊎ ((r : RequestView) × IsReadAs now message r × StandsAt g conn db (event_of now r ∷ late))
+abbrev pub IsAnsweredAs : {S : Type 0} → Ghosts S → Held S → Database → List Event → ℕ → Bytes → given.Answer → Type 0
+IsAnsweredAs g conn db late now message (givens.Reply given) = (r : RequestView) × IsReadAs now message r × EndsWith g conn db late (event_of now r) (λ answer. IsReply given (answer_bytes now answer))
+IsAnsweredAs g conn db late now message (givens.Order done) = ⊥
+IsAnsweredAs g conn db late now message givens.Unavailable = StandsAt g conn db late ⊎ ((r : RequestView) × IsReadAs now message r × StandsAt g conn db (event_of now r ∷ late))
 
 -- the same for a parsed request
 abbrev pub Responds : {S : Type 0} → Ghosts S → Held S → Database → List Event → ℕ → RequestView → given.Answer → Type 0
-Responds g conn db late now r (givens.Bytes bytes) = EndsWith g conn db late (event_of now r) (λ answer. bytes.items ≡ answer_bytes now answer)
+Responds g conn db late now r (givens.Reply given) = EndsWith g conn db late (event_of now r) (λ answer. IsReply given (answer_bytes now answer))
 Responds g conn db late now r givens.Unavailable = StandsAt g conn db (event_of now r ∷ late)
 Responds g conn db late now r (givens.Order done) = ⊥
 
 -- ---- from results to answers
 
-abbrev pub IsMade : Result (Vec ℕ Global) AllocError → given.Answer → Type 0
-IsMade (Ok bytes) answer = answer ≡ givens.Bytes bytes
-IsMade (Err e) answer = answer ≡ givens.Unavailable
+abbrev pub IsPageMade : Result HttpReply AllocError → given.Answer → Type 0
+IsPageMade (Ok made) answer = answer ≡ givens.Reply made
+IsPageMade (Err e) answer = answer ≡ givens.Unavailable
 
--- these bytes, or Unavailable
+-- a reply with these bytes, or Unavailable
 abbrev pub IsPage : Bytes → given.Answer → Type 0
-IsPage page (givens.Bytes bytes) = bytes.items ≡ page
+IsPage page (givens.Reply given) = IsReply given page
 IsPage page givens.Unavailable = Unit {0}
 IsPage page (givens.Order done) = ⊥
 
+-- what is accepted is 200
 abbrev pub IsEnd : Result (Vec ℕ Global) AskFault → given.Answer → Type 0
-IsEnd (Ok bytes) answer = answer ≡ givens.Bytes bytes
+IsEnd (Ok bytes) answer = answer ≡ givens.Reply (record { status = status.Done; bytes = bytes })
 IsEnd (Err (ask_fault.Refused why)) answer = IsPage (refusal_page why) answer
 IsEnd (Err ask_fault.UnknownToken) answer = IsPage (fault_page fault.UnknownToken) answer
 IsEnd (Err ask_fault.NoSuchNetwork) answer = IsPage nowhere_page answer

@@ -1,5 +1,5 @@
 -- How a connection is served.
-use Rattle.std.specs.Prelude.{◌≡◌, ◌<◌, ℕ, Bool, true, false, List, [], drop, length, take, Option, IfSome, ◌++◌, Some, None}
+use Rattle.std.specs.Prelude.{◌≡◌, ◌<◌, ℕ, Bool, true, false, List, [], length, take, Option, IfSome, ◌++◌, Some, None}
 use Rattle.std.specs.declared.vec.Vec.{Vec}
 use Rattle.std.specs.declared.alloc.Global.{Global}
 use Rattle.std.specs.Io.KnownBytes.{Appends, Consumes}
@@ -7,9 +7,10 @@ use Rattle.sqlite.specs.Effect.{Database}
 use Rattle.sqlite.specs.Store.{Ghosts}
 use Rattle.sqlite.specs.Held.{Held}
 use Rattle.wgr_http.specs.Reading.{IsNoMore, IsReadInTime}
+use Rattle.wgr_http.specs.declared.status_code.StatusCode.{StatusCode}
 use Rattle.wgr_model.specs.Register.{Bytes}
 use Rattle.wgr_model.specs.Steps.{Event}
-use Rattle.wgr_office.specs.Pages.{IsAnswered}
+use Rattle.wgr_office.specs.Pages.{IsAnsweredAs}
 use Rattle.wgr_reply.specs.Response.{shown_bytes, unavailable_shown}
 use Rattle.wgr_office.specs.declared.answer.Answer as given
 use Rattle.wgr_office.specs.declared.answer.Answer.TheVariants as givens
@@ -19,14 +20,16 @@ use Rattle.wgr_register.specs.Standing.{StandsAt}
 use Rattle.wgr_request.specs.Laws.{RequestsAs}
 
 -- the bytes written for an answer; none for an order
-abbrev pub reply_of : given.Answer → Bytes
-reply_of (givens.Bytes bytes) = bytes.items
-reply_of givens.Unavailable = shown_bytes unavailable_shown
-reply_of (givens.Order done) = []
+abbrev pub written_reply : given.Answer → Bytes
+written_reply (givens.Reply reply) = reply.bytes.items
+written_reply givens.Unavailable = shown_bytes unavailable_shown
+written_reply (givens.Order done) = []
 
--- the three digits of the status, behind `HTTP/1.1 ` in the first line of the reply (RFC 9112 section 4)
-abbrev pub status_of : given.Answer → Bytes
-status_of answer = take 3 (drop 9 (reply_of answer))
+-- the status of these; none for an order
+abbrev pub status_of : given.Answer → Option StatusCode
+status_of (givens.Reply reply) = Some reply.status
+status_of givens.Unavailable = Some unavailable_shown.status
+status_of (givens.Order done) = None
 
 abbrev pub is_available : given.Answer → Bool
 is_available givens.Unavailable = false
@@ -34,7 +37,7 @@ is_available given = true
 
 -- a message was answered at this moment, whatever the rows of the register were
 abbrev pub IsAnsweredAt : {S : Type 0} → Ghosts S → Held S → Held S → ℕ → Bytes → given.Answer → Type 0
-IsAnsweredAt g old new now message answer = (db : Database) (late : List Event) → StandsAt g old db late → IsAnswered g new db late now message answer
+IsAnsweredAt g old new now message answer = (db : Database) (late : List Event) → StandsAt g old db late → IsAnsweredAs g new db late now message answer
 
 -- the message is what all bytes of the reader begin with, where they are known
 abbrev pub IsFront : Bytes → Option Bytes → Type 0
@@ -44,13 +47,13 @@ IsFront message (Some all) = (rest : Bytes) × (all ≡ message ++ rest)
 -- A message is what all bytes of the reader begin with, where they are known; and it asks what they ask, unless it is
 -- answered Unavailable: memory may have been refused before all of it was read.
 abbrev pub AsksAll : Bytes → Option Bytes → given.Answer → Type 0
-AsksAll message input (givens.Bytes bytes) = IsFront message input × RequestsAs message input
+AsksAll message input (givens.Reply reply) = IsFront message input × RequestsAs message input
 AsksAll message input (givens.Order done) = IsFront message input × RequestsAs message input
 AsksAll message input givens.Unavailable = IsFront message input
 
 -- A message held in memory was answered; and the answer is also one to all bytes of the reader, where they are
 -- known.
-pub record Takes {S : Type 0} (g : Ghosts S) (old new : Held S) (now : ℕ) (input : Option Bytes) (answer : given.Answer) : Type 0 where
+pub record TakesMessage {S : Type 0} (g : Ghosts S) (old new : Held S) (now : ℕ) (input : Option Bytes) (answer : given.Answer) : Type 0 where
   pub message : Vec ℕ Global
   pub held : IsAnsweredAt g old new now message.items answer
   pub all : IfSome input (λ bytes. IsAnsweredAt g old new now bytes answer)
@@ -65,7 +68,7 @@ pub record IsTaken (before after : Option Bytes) (was now : Option (List Bytes))
 
 -- the message was answered, and the reply written
 abbrev pub IsReplied : {S : Type 0} → Ghosts S → Held S → Held S → ℕ → Bytes → Option Bytes → Option Bytes → Type 0
-IsReplied g old new now message before after = (answer : given.Answer) × IsAnsweredAt g old new now message answer × Appends before after (reply_of answer)
+IsReplied g old new now message before after = (answer : given.Answer) × IsAnsweredAt g old new now message answer × Appends before after (written_reply answer)
 
 -- the states of a reader and a writer
 pub record Ends : Type 0 where
@@ -79,4 +82,4 @@ pub record Ends : Type 0 where
 abbrev pub IsServeFault : {S : Type 0} → Ghosts S → Held S → Held S → ℕ → Ends → Ends → ServeFault → Type 0
 IsServeFault g old new now before after fault.Read = (after.read_failed ≡ true) × (new ≡ old) × (after.written ≡ before.written) × (after.write_failed ≡ before.write_failed)
 IsServeFault g old new now before after (fault.Write sent) =
-    (after.write_failed ≡ true) × (after.read_failed ≡ before.read_failed) × ((answer : given.Answer) × Takes g old new now before.input answer × (sent < length (reply_of answer)) × Appends before.written after.written (take sent (reply_of answer)))
+    (after.write_failed ≡ true) × (after.read_failed ≡ before.read_failed) × ((answer : given.Answer) × TakesMessage g old new now before.input answer × (sent < length (written_reply answer)) × Appends before.written after.written (take sent (written_reply answer)))

@@ -6,14 +6,14 @@ use Rattle.wgr_model.specs.Rows.{Tables}
 use Rattle.wgr_model.specs.Runs.{Served, acknowledged}
 use Rattle.wgr_model.specs.Steps.{Answer, Ask, Event}
 use Rattle.wgr_model.specs.Tenants.{own_events, tenant_after, tenant_answer, tenant_run}
-use Rattle.wgr_office.specs.Events.{AreApart, AreServed}
+use Rattle.wgr_office.specs.Events.{AreServedApart, HaveAnswers}
 use Rattle.wgr_office.specs.Pages.{answer_bytes}
 use Rattle.wgr_office.specs.declared.answer.Answer as given
 use Rattle.wgr_office.specs.declared.answer.Answer.TheVariants as givens
 use Rattle.wgr_office.specs.declared.run.Event as event
 
 abbrev pub bytes_given : given.Answer → Bytes
-bytes_given (givens.Bytes bytes) = bytes.items
+bytes_given (givens.Reply reply) = reply.bytes.items
 bytes_given givens.Unavailable = []
 bytes_given (givens.Order done) = []
 
@@ -32,14 +32,14 @@ abbrev pub moment_of : Event → ℕ
 moment_of (Ask digest name now command) = now
 moment_of e = 0
 
-abbrev pub in_front : ℕ → Option Answer → List Bytes → List Bytes
-in_front now None replies = replies
-in_front now (Some answer) replies = answer_bytes now answer ∷ replies
+abbrev pub before_replies : ℕ → Option Answer → List Bytes → List Bytes
+before_replies now None replies = replies
+before_replies now (Some answer) replies = answer_bytes now answer ∷ replies
 
 -- the replies to them, in turn
 abbrev pub own_replies : Bytes → View → List (Event × Bool) → List Bytes
 own_replies me v [] = []
-own_replies me v (e ∷ es) = in_front (moment_of e.0) (tenant_answer v e.0) (own_replies me (tenant_after me v e.0 e.1) es)
+own_replies me v (e ∷ es) = before_replies (moment_of e.0) (tenant_answer v e.0) (own_replies me (tenant_after me v e.0 e.1) es)
 
 -- ---- two worlds
 
@@ -52,8 +52,8 @@ pub record World : Type 0 where
   pub after : Tables
 
 pub record IsWorld (w : World) : Type 0 where
-  pub reported : AreServed w.asked w.answers w.served
-  pub apart : AreApart w.rows w.asked w.answers w.served w.after
+  pub reported : HaveAnswers w.asked w.answers w.served
+  pub apart : AreServedApart w.rows w.asked w.answers w.served w.after
 
 -- the replies to a tenant in a world
 abbrev pub replies_in : Bytes → World → List Bytes

@@ -7,10 +7,10 @@ ghost use Rattle.sqlite.specs.State.{HasCleanDisk};
 ghost use Rattle.sqlite.specs.Held.{state};
 ghost use Rattle.wgr_model.specs.Steps.{Event, IsProper};
 ghost use Rattle.wgr_office.specs.Between.{HasPassed, IsCall, Keeps};
-ghost use Rattle.wgr_office.specs.Events.{HasRun, IsSettled};
+ghost use Rattle.wgr_office.specs.Events.{HasRun, IsOrderAnswer};
 ghost use Rattle.wgr_office.specs.declared.answer.Answer as given;
 ghost use Rattle.wgr_office.specs.declared.run.Event.TheVariants as events;
-ghost use Rattle.wgr_office.specs.Pages.{IsAnswered, Responds, event_of};
+ghost use Rattle.wgr_office.specs.Pages.{IsAnsweredAs, Responds, event_of};
 ghost use Rattle.wgr_columns.specs.Decode.{tables_of};
 ghost use Rattle.wgr_register.specs.Census.{IsCensus};
 ghost use Rattle.wgr_register.specs.Recent.{max_recent};
@@ -78,7 +78,7 @@ impl<S: Alter> Office<S> {
     /// Answers the message at the front of the bytes, at this moment (seconds since 1970-01-01).
     pub fn answer(&mut self, alloc: Global, now: u64, bytes: &[u8]) -> Answer
         ensures clean { HasCleanDisk (state S.Store self.new) → HasCleanDisk (state S.Store self.old) }
-        ensures answered { (db : Database) (late : List Event) → StandsAt S.Store self.old db late → IsAnswered S.Store self.new db late now bytes.now result }
+        ensures answered { (db : Database) (late : List Event) → StandsAt S.Store self.old db late → IsAnsweredAs S.Store self.new db late now bytes.now result }
     {
         match request_of(alloc, &self.paths, bytes) {
             Ok(request) => respond(alloc, &mut self.register, now, request),
@@ -88,7 +88,7 @@ impl<S: Alter> Office<S> {
 
     /// Carries out an operator's order, or refuses it, as [`run`](Office::run) does an event.
     pub fn operate(&mut self, alloc: Global, order: &Order) -> Result<Done, OrderFault>
-        ensures call { (answer : given.Answer) → IsSettled result answer → IsCall S.Store self.old self.new (events.Order order.now) answer }
+        ensures call { (answer : given.Answer) → IsOrderAnswer result answer → IsCall S.Store self.old self.new (events.Order order.now) answer }
     {
         order.forms_hold();
         self.register.operate(alloc, order)

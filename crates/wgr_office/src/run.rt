@@ -5,7 +5,7 @@ ghost use Rattle.sqlite.specs.State.{HasCleanDisk};
 ghost use Rattle.sqlite.specs.Held.{state};
 ghost use Rattle.wgr_model.specs.Steps as model;
 ghost use Rattle.wgr_office.specs.Between.{HasPassed};
-ghost use Rattle.wgr_office.specs.Events.{HasRun, IsServed, IsSettled};
+ghost use Rattle.wgr_office.specs.Events.{HasRun, IsEventServed, IsOrderAnswer};
 ghost use Rattle.wgr_register.specs.Standing.{StandsAt};
 
 use crate::answer::Answer;
@@ -48,7 +48,7 @@ pub(crate) fn run<S: Alter>(
 // Answers one event.
 fn serve<S: Alter>(alloc: Global, office: &mut Office<S>, event: &Event) -> Answer
     ensures clean { HasCleanDisk (state S.Store office.new) → HasCleanDisk (state S.Store office.old) }
-    ensures served { (db : Database) (late : List model.Event) → StandsAt S.Store office.old db late → HasCleanDisk (state S.Store office.new) → IsServed S.Store office.new db late event.now result }
+    ensures served { (db : Database) (late : List model.Event) → StandsAt S.Store office.old db late → HasCleanDisk (state S.Store office.new) → IsEventServed S.Store office.new db late event.now result }
 {
     match event {
         Event::Ask { now, bytes } => office.answer(alloc, *now, bytes.as_slice()),
@@ -58,7 +58,7 @@ fn serve<S: Alter>(alloc: Global, office: &mut Office<S>, event: &Event) -> Answ
 
 // The answer for the result of an order.
 fn settled(ended: Result<Done, OrderFault>) -> Answer
-    ensures { IsSettled ended result }
+    ensures { IsOrderAnswer ended result }
 {
     match ended {
         Ok(done) => Answer::Order(Ok(done)),

@@ -5,7 +5,7 @@ ghost use Rattle.sqlite.specs.State.{HasCleanDisk};
 ghost use Rattle.sqlite.specs.Held.{state};
 ghost use Rattle.std.specs.declared.vec.Vec.{Vec};
 ghost use Rattle.std.specs.declared.alloc.Global.{Global};
-ghost use Rattle.wgr_office.specs.Serving.{IsAnsweredAt, IsReplied, IsServeFault, IsTaken, Takes, reply_of};
+ghost use Rattle.wgr_office.specs.Serving.{IsAnsweredAt, IsReplied, IsServeFault, IsTaken, TakesMessage, written_reply};
 
 use crate::answer::Answer;
 use crate::office::Office;
@@ -39,7 +39,7 @@ impl<S: Alter> Office<S> {
         out: &mut W,
     ) -> Result<Answer, ServeFault>
         ensures clean { HasCleanDisk (state S.Store self.new) → HasCleanDisk (state S.Store self.old) }
-        ensures ok { IfOk result (λ answer. Takes S.Store self.old self.new now (R.remaining input.old) answer × Appends (W.contents out.old) (W.contents out.new) (reply_of answer)) }
+        ensures ok { IfOk result (λ answer. TakesMessage S.Store self.old self.new now (R.remaining input.old) answer × Appends (W.contents out.old) (W.contents out.new) (written_reply answer)) }
         // No read is made once the answer is decided: a client may keep its side open.
         ensures taken { (message : Vec ℕ Global)
             × IsTaken (R.remaining input.old) (R.remaining input.new) (R.pieces input.old) (R.pieces input.new) message.items
@@ -69,7 +69,7 @@ fn answered<S: Alter, R: Read>(
     input: &mut R,
 ) -> Result<Answer, DeviceError>
     ensures clean { HasCleanDisk (state S.Store office.new) → HasCleanDisk (state S.Store office.old) }
-    ensures ok { IfOk result (λ answer. Takes S.Store office.old office.new now (R.remaining input.old) answer) }
+    ensures ok { IfOk result (λ answer. TakesMessage S.Store office.old office.new now (R.remaining input.old) answer) }
     ensures taken { (message : Vec ℕ Global)
         × IsTaken (R.remaining input.old) (R.remaining input.new) (R.pieces input.old) (R.pieces input.new) message.items
         × IfOk result (λ answer. IsAnsweredAt S.Store office.old office.new now message.items answer) }

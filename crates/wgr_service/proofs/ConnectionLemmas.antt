@@ -11,7 +11,7 @@ use Rattle.sqlite.specs.Held.{Held, state}
 use Rattle.wgr_model.specs.Register.{Bytes}
 use Rattle.wgr_model.specs.RowLaws.{RowsAreIsolated}
 use Rattle.wgr_office.specs.Between.{AreCalls, IsCall, Keeps}
-use Rattle.wgr_office.specs.Serving.{Ends, IsServeFault, Takes, is_available, reply_of}
+use Rattle.wgr_office.specs.Serving.{Ends, IsServeFault, TakesMessage, is_available, written_reply, status_of}
 use Rattle.wgr_office.specs.declared.run.Event as event
 use Rattle.wgr_office.specs.declared.answer.Answer as given
 use Rattle.wgr_office.specs.declared.answer.Answer.TheVariants as givens
@@ -21,12 +21,14 @@ use Rattle.wgr_office.specs.declared.serve.ServeFault.TheVariants as serve_fault
 use Rattle.wgr_office.proofs.BetweenLemmas.{call_kept, calls_more, passed}
 use Rattle.wgr_office.proofs.RunLemmas.{ask_served}
 use Rattle.wgr_service.specs.Batch.{IsCut}
-use Rattle.wgr_service.specs.Connections.{AreServed, AreSound, AreWritten, Asked, Exchange, HasCounted, HasMet, HasOutcome, IsServed, Meeting, Ordered, Outcome, Reports, answer_of, answered, asked_of, contacts_of, cut, door_of, exchange_of, exchanges, failed, failure_line, is_request_at, line_of, meeting_of, missed, moment_of, requests_in, shown, unavailable_line, unspelled, weight}
-use Rattle.wgr_service.specs.Lines.{fault_text, is_read, settled}
+use Rattle.wgr_service.specs.Connections.{AreConnectionsServed, AreUnharmed, IsAppended, Asked, Exchange, HasCounted, HasMet, HasOutcome, IsConnectionServed, Meeting, Ordered, ConnectionEnd, Reports, given_answer, answered, asked_event, contacts_of, counted_all, cut, door_of, exchange_of, exchanges, failed, failure_line, is_request_at, line_of, meeting_of, missed, served_moment, requests_in, shown, status_in, unavailable_line, unspelled, weight}
+use Rattle.wgr_service.specs.Counts.{counted_if}
+use Rattle.wgr_service.specs.Lines.{fault_text, is_read, order_answer}
 use Rattle.wgr_service.specs.Network.{Contact, Log, Logs}
-use Rattle.wgr_service.specs.Readings.{HasTaken, Reads, is_reading_available, is_taken_available, reading_text, taken_text}
+use Rattle.wgr_service.specs.Readings.{HasTaken, HasReadRows, is_reading_available, is_taken_available, reading_text, taken_text}
 use Rattle.wgr_service.specs.Reports.{IsReport, report_line}
 use Rattle.wgr_service.specs.declared.connections.Ending.{Ending}
+use Rattle.wgr_service.specs.declared.desk.Replies.{Replies}
 use Rattle.wgr_service.specs.declared.lines.LineEnd.TheVariants as line_end
 use Rattle.wgr_service.specs.declared.network.Door.{Door}
 use Rattle.wgr_service.specs.declared.network.Door.TheVariants as door
@@ -50,11 +52,11 @@ pub appends_none : (old : Option Bytes) → Appends old old []
 appends_none None = tt
 appends_none (Some a) = sym (append-nil a)
 
-pub written_none : (is_failed : Bool) (old : Option Bytes) → AreWritten is_failed old old []
+pub written_none : (is_failed : Bool) (old : Option Bytes) → IsAppended is_failed old old []
 written_none is_failed old sound = appends_none old
 
-pub written_more : (failed_then failed_now : Bool) (old mid new : Option Bytes) (outcomes : List Outcome) (outcome : Outcome) → (failed_now ≡ false → failed_then ≡ false)
-    → AreWritten failed_then old mid (flat_map line_of outcomes) → AreWritten failed_now mid new (line_of outcome) → AreWritten failed_now old new (flat_map line_of (outcomes ++ outcome ∷ []))
+pub written_more : (failed_then failed_now : Bool) (old mid new : Option Bytes) (outcomes : List ConnectionEnd) (outcome : ConnectionEnd) → (failed_now ≡ false → failed_then ≡ false)
+    → IsAppended failed_then old mid (flat_map line_of outcomes) → IsAppended failed_now mid new (line_of outcome) → IsAppended failed_now old new (flat_map line_of (outcomes ++ outcome ∷ []))
 written_more failed_then failed_now old mid new outcomes outcome marks first next sound =
     subst (Appends old new) (flat_map_more line_of [] outcomes outcome) (appends_more old mid new (flat_map line_of outcomes) (line_of outcome) (first (marks sound)) (next sound))
 
@@ -68,7 +70,7 @@ pub logs_more : (old mid new : Log) (xs ys : List Contact) → Logs old mid xs �
 logs_more None mid new xs ys first next = tt
 logs_more (Some a) mid new xs ys first next = subst (λ (log : Log). Logs log new ys) first next ∙ ap Some (append_assoc a xs ys)
 
-pub logged_more : (old mid new : Log) (outcomes : List Outcome) (outcome : Outcome) → Logs old mid (flat_map contacts_of outcomes) → Logs mid new (contacts_of outcome) → Logs old new (flat_map contacts_of (outcomes ++ outcome ∷ []))
+pub logged_more : (old mid new : Log) (outcomes : List ConnectionEnd) (outcome : ConnectionEnd) → Logs old mid (flat_map contacts_of outcomes) → Logs mid new (contacts_of outcome) → Logs old new (flat_map contacts_of (outcomes ++ outcome ∷ []))
 logged_more old mid new outcomes outcome first next = subst (Logs old new) (flat_map_more contacts_of [] outcomes outcome) (logs_more old mid new (flat_map contacts_of outcomes) (contacts_of outcome) first next)
 
 -- ---- one connection
@@ -78,11 +80,11 @@ cut_at : (sent : ℕ) (before after : Option Bytes) (reply : Bytes) → Appends 
 cut_at sent before after reply written = (take sent reply, drop sent reply, sym (take-append-drop sent reply), written)
 
 -- what is reported of an answer
-reported : (m : Meeting) (x : Exchange) (r : Report) → IsReport (is_available (answer_of x)) r → Reports r (answered m x)
-reported m x r told = by (answer_of x) refl told
+reported : (m : Meeting) (x : Exchange) (r : Report) → IsReport (is_available (given_answer x)) r → Reports r (answered m x)
+reported m x r told = by (given_answer x) refl told
   where
-    by : (answer : given.Answer) → answer_of x ≡ answer → IsReport (is_available answer) r → Reports r (answered m x)
-    by (givens.Bytes bytes) is fine = subst (λ (k : Report). Reports k (answered m x)) (sym fine) (ap is_available is)
+    by : (answer : given.Answer) → given_answer x ≡ answer → IsReport (is_available answer) r → Reports r (answered m x)
+    by (givens.Reply reply) is fine = subst (λ (k : Report). Reports k (answered m x)) (sym fine) (ap is_available is)
     by (givens.Order done) is fine = subst (λ (k : Report). Reports k (answered m x)) (sym fine) (ap is_available is)
     by givens.Unavailable is (inl same) = subst (λ (k : Report). Reports k (answered m x)) (sym same) is
     by givens.Unavailable is (inr same) = subst (λ (k : Report). Reports k (answered m x)) (sym same) is
@@ -113,7 +115,7 @@ module _ {S : Type 0} (g : Ghosts S) where
   pub keeps_both : (old mid new : Held S) → Keeps g old mid → Keeps g mid new → Keeps g old new
   keeps_both old mid new first next = record { clean = λ clean. first.clean (next.clean clean); stands = λ db late at. next.stands db late (first.stands db late at) }
 
-  pub reads_kept : (old mid new : Held S) (asked : ReadingAsked) (end : ReadingEnd) → Reads g old mid asked end → Keeps g mid new → Reads g old new asked end
+  pub reads_kept : (old mid new : Held S) (asked : ReadingAsked) (end : ReadingEnd) → HasReadRows g old mid asked end → Keeps g mid new → HasReadRows g old new asked end
   reads_kept old mid new asked end (first, may, says) keeps = (keeps_both old mid new first keeps, may, λ db late at clean. says db late at (keeps.clean clean))
 
   -- a reading after calls belongs to the last of them, and one before all of them comes first
@@ -128,59 +130,59 @@ module _ {S : Type 0} (g : Ghosts S) where
 -- ---- a message
 
 -- a tenant's message
-module _ {S : Type 0} (g : Ghosts S) (now clock : Option ℕ) (before after : Ends) (sound : AreSound before) where
+module _ {S : Type 0} (g : Ghosts S) (now clock : Option ℕ) (before after : Ends) (sound : AreUnharmed before) where
   abbrev pub request : Meeting
   request = meeting_of door.Requests clock before after
 
-  pub no_moment : (old : Held S) → after ≡ before → moment_of now clock ≡ None → HasMet g old old now request report.Failed
-  no_moment old kept none = (failed request, ((ap (λ (e : Ends). e.written) kept, ap (λ (e : Ends). e.write_failed) kept ∙ sound.1, inr (refl, none)), refl), refl, tt, refl)
+  pub no_moment : (old : Held S) (counts : Replies) → after ≡ before → served_moment now clock ≡ None → HasMet g old old now counts counts request report.Failed
+  no_moment old counts kept none = (failed request, ((ap (λ (e : Ends). e.written) kept, ap (λ (e : Ends). e.write_failed) kept ∙ sound.1, inr (refl, none)), refl), refl, tt, refl, refl)
 
-  module _ (old mid : Held S) (cleans : HasCleanDisk (state g mid) → HasCleanDisk (state g old)) (moment : ℕ) (is : moment_of now clock ≡ Some moment) where
-    called : (answer : given.Answer) (takes : Takes g old mid moment before.input answer) → IsCall g old mid (events.Ask moment takes.message) answer
+  module _ (old mid : Held S) (cleans : HasCleanDisk (state g mid) → HasCleanDisk (state g old)) (moment : ℕ) (is : served_moment now clock ≡ Some moment) where
+    called : (answer : given.Answer) (takes : TakesMessage g old mid moment before.input answer) → IsCall g old mid (events.Ask moment takes.message) answer
     called answer takes = record { clean = cleans; served = λ db late at clean. ask_served g mid db late moment takes.message answer (takes.held db late at) clean }
 
-    pub request_answered : (new : Held S) (answer : given.Answer) (available : Bool) (r : Report) → Takes g old mid moment before.input answer → Appends before.written after.written (reply_of answer) → available ≡ is_available answer
-        → after.read_failed ≡ before.read_failed → after.write_failed ≡ before.write_failed → IsReport available r → Keeps g mid new → HasMet g old new now request r
-    request_answered new answer available r takes written whether read wrote told keeps =
+    pub request_answered : (new : Held S) (answer : given.Answer) (available : Bool) (r : Report) (first last : Replies) → last ≡ counted_if (status_of answer) first → TakesMessage g old mid moment before.input answer → Appends before.written after.written (written_reply answer) → available ≡ is_available answer
+        → after.read_failed ≡ before.read_failed → after.write_failed ≡ before.write_failed → IsReport available r → Keeps g mid new → HasMet g old new now first last request r
+    request_answered new answer available r first last counts takes written whether read wrote told keeps =
         let x = Asked moment takes.message answer in
-        (answered request x, (((refl, is, takes.asks), written, read ∙ sound.0, wrote ∙ sound.1), call_kept g old mid new (asked_of x) answer (called answer takes) keeps), refl, reported request x r (subst (λ a. IsReport a r) whether told), refl)
+        (answered request x, (((refl, is, takes.asks), written, read ∙ sound.0, wrote ∙ sound.1), call_kept g old mid new (asked_event x) answer (called answer takes) keeps), refl, reported request x r (subst (λ a. IsReport a r) whether told), refl, counts)
 
-    pub request_broken : (why : ServeFault) → IsServeFault g old mid moment before after why → HasMet g old mid now request report.Failed
-    request_broken serve_fault.Read fails = (failed request, ((fails.2, fails.3 ∙ sound.1, inl fails.0), fails.1), refl, tt, refl)
-    request_broken (serve_fault.Write sent) fails =
+    pub request_broken : (why : ServeFault) (counts : Replies) → IsServeFault g old mid moment before after why → HasMet g old mid now counts counts request report.Failed
+    request_broken serve_fault.Read counts fails = (failed request, ((fails.2, fails.3 ∙ sound.1, inl fails.0), fails.1), refl, tt, refl, refl)
+    request_broken (serve_fault.Write sent) counts fails =
         let answer = fails.2.0 in
         let takes = fails.2.1 in
-        (cut request (Asked moment takes.message answer), (((refl, is, takes.asks), cut_at sent before.written after.written (reply_of answer) fails.2.3, fails.1 ∙ sound.0, fails.0), called answer takes), refl, tt, refl)
+        (cut request (Asked moment takes.message answer), (((refl, is, takes.asks), cut_at sent before.written after.written (written_reply answer) fails.2.3, fails.1 ∙ sound.0, fails.0), called answer takes), refl, tt, refl, refl)
 
 -- an operator's order or reading
-module _ {S : Type 0} (g : Ghosts S) (now clock : Option ℕ) (before after : Ends) (sound : AreSound before) where
+module _ {S : Type 0} (g : Ghosts S) (now clock : Option ℕ) (before after : Ends) (sound : AreUnharmed before) (first last : Replies) (counts : last ≡ first) where
   abbrev pub order : Meeting
   order = meeting_of door.Orders clock before after
 
   pub line_answered : (old mid new : Held S) (end : Taken) (r : Report) → HasTaken g old mid before.input end → Appends before.written after.written (taken_text end)
-      → after.read_failed ≡ before.read_failed → after.write_failed ≡ before.write_failed → IsReport (is_taken_available end) r → Keeps g mid new → ((why : LineFault) → end ≡ taken.Order (line_end.Unspelled why) → new ≡ mid) → HasMet g old new now order r
+      → after.read_failed ≡ before.read_failed → after.write_failed ≡ before.write_failed → IsReport (is_taken_available end) r → Keeps g mid new → ((why : LineFault) → end ≡ taken.Order (line_end.Unspelled why) → new ≡ mid) → HasMet g old new now first last order r
   line_answered old mid new (taken.Order (line_end.Ended ended)) r takes written read wrote told keeps same =
       let x = Ordered takes.0 ended in
-      (answered order x, (((refl, takes.1), written, read ∙ sound.0, wrote ∙ sound.1), call_kept g old mid new (asked_of x) (settled ended) takes.2 keeps), refl, reported order x r told, refl)
+      (answered order x, (((refl, takes.1), written, read ∙ sound.0, wrote ∙ sound.1), call_kept g old mid new (asked_event x) (order_answer ended) takes.2 keeps), refl, reported order x r told, refl, counts)
   line_answered old mid new (taken.Order (line_end.Unspelled why)) r takes written read wrote told keeps same =
       let whole = wrote ∙ sound.1 in
-      (unspelled order why, ((refl, takes.1, subst (λ b. MatchBool b (IsCut before.written after.written (fault_text why)) (Appends before.written after.written (fault_text why))) (sym whole) written, read ∙ sound.0), same why refl ∙ takes.0), refl, unspelled_reported order why r whole told, refl)
+      (unspelled order why, ((refl, takes.1, subst (λ b. MatchBool b (IsCut before.written after.written (fault_text why)) (Appends before.written after.written (fault_text why))) (sym whole) written, read ∙ sound.0), same why refl ∙ takes.0), refl, unspelled_reported order why r whole told, refl, counts)
   line_answered old mid new (taken.Reading end) r takes written read wrote told keeps same =
       let whole = wrote ∙ sound.1 in
-      (shown order takes.0 end, ((refl, takes.1, subst (λ b. MatchBool b (IsCut before.written after.written (reading_text end)) (Appends before.written after.written (reading_text end))) (sym whole) written, read ∙ sound.0), reads_kept g old mid new takes.0 end takes.2 keeps), refl, shown_reported order takes.0 end r whole told, refl)
+      (shown order takes.0 end, ((refl, takes.1, subst (λ b. MatchBool b (IsCut before.written after.written (reading_text end)) (Appends before.written after.written (reading_text end))) (sym whole) written, read ∙ sound.0), reads_kept g old mid new takes.0 end takes.2 keeps), refl, shown_reported order takes.0 end r whole told, refl, counts)
 
-  pub line_broken : (old new : Held S) (end : Taken) → HasTaken g old new before.input end → IsCut before.written after.written (taken_text end) → after.read_failed ≡ before.read_failed → after.write_failed ≡ true → HasMet g old new now order report.Failed
-  line_broken old new (taken.Order (line_end.Ended ended)) takes cut_off read broken = (cut order (Ordered takes.0 ended), (((refl, takes.1), cut_off, read ∙ sound.0, broken), takes.2), refl, tt, refl)
+  pub line_broken : (old new : Held S) (end : Taken) → HasTaken g old new before.input end → IsCut before.written after.written (taken_text end) → after.read_failed ≡ before.read_failed → after.write_failed ≡ true → HasMet g old new now first last order report.Failed
+  line_broken old new (taken.Order (line_end.Ended ended)) takes cut_off read broken = (cut order (Ordered takes.0 ended), (((refl, takes.1), cut_off, read ∙ sound.0, broken), takes.2), refl, tt, refl, counts)
   line_broken old new (taken.Order (line_end.Unspelled why)) takes cut_off read broken =
-      (unspelled order why, ((refl, takes.1, subst (λ b. MatchBool b (IsCut before.written after.written (fault_text why)) (Appends before.written after.written (fault_text why))) (sym broken) cut_off, read ∙ sound.0), takes.0), refl, broken, refl)
+      (unspelled order why, ((refl, takes.1, subst (λ b. MatchBool b (IsCut before.written after.written (fault_text why)) (Appends before.written after.written (fault_text why))) (sym broken) cut_off, read ∙ sound.0), takes.0), refl, broken, refl, counts)
   line_broken old new (taken.Reading end) takes cut_off read broken =
-      (shown order takes.0 end, ((refl, takes.1, subst (λ b. MatchBool b (IsCut before.written after.written (reading_text end)) (Appends before.written after.written (reading_text end))) (sym broken) cut_off, read ∙ sound.0), takes.2), refl, broken, refl)
+      (shown order takes.0 end, ((refl, takes.1, subst (λ b. MatchBool b (IsCut before.written after.written (reading_text end)) (Appends before.written after.written (reading_text end))) (sym broken) cut_off, read ∙ sound.0), takes.2), refl, broken, refl, counts)
 
-  pub line_unread : (old new : Held S) → new ≡ old → after.written ≡ before.written → after.write_failed ≡ before.write_failed → after.read_failed ≡ true → HasMet g old new now order report.Failed
-  line_unread old new same written wrote broken = (failed order, ((written, wrote ∙ sound.1, inl broken), same), refl, tt, refl)
+  pub line_unread : (old new : Held S) → new ≡ old → after.written ≡ before.written → after.write_failed ≡ before.write_failed → after.read_failed ≡ true → HasMet g old new now first last order report.Failed
+  line_unread old new same written wrote broken = (failed order, ((written, wrote ∙ sound.1, inl broken), same), refl, tt, refl, counts)
 
 -- the line of the report is that of the outcome
-line_is : (r : Report) (outcome : Outcome) → Reports r outcome → report_line (door_of outcome) r ≡ line_of outcome
+line_is : (r : Report) (outcome : ConnectionEnd) → Reports r outcome → report_line (door_of outcome) r ≡ line_of outcome
 line_is report.Fine (answered m x) is = ap (λ b. cond b [] unavailable_line) (sym is)
 line_is report.Fine (cut m x) is = absurd is
 line_is report.Fine (shown m asked end) is = ap (λ b. cond b [] unavailable_line) (sym is.1) ∙ ap (λ b. cond b (failure_line m.door) (cond (is_reading_available end) [] unavailable_line)) (sym is.0)
@@ -206,27 +208,34 @@ line_is report.Failed (unspelled m why) is = ap (λ b. cond b (failure_line m.do
 line_is report.Failed (failed m) is = refl
 line_is report.Failed (missed at) is = refl
 
-pub report_is : (at : Door) (r : Report) (outcome : Outcome) → door_of outcome ≡ at → Reports r outcome → report_line at r ≡ line_of outcome
+pub report_is : (at : Door) (r : Report) (outcome : ConnectionEnd) → door_of outcome ≡ at → Reports r outcome → report_line at r ≡ line_of outcome
 report_is at r outcome door reports = ap (λ d. report_line d r) (sym door) ∙ line_is r outcome reports
+
+-- ---- the replies that are counted
+
+pub counted_more : (outcomes : List ConnectionEnd) (outcome : ConnectionEnd) (first mid last : Replies) → mid ≡ counted_all outcomes first → last ≡ counted_if (status_in outcome) mid
+    → last ≡ counted_all (outcomes ++ outcome ∷ []) first
+counted_more [] outcome first mid last so_far one = one ∙ ap (counted_if (status_in outcome)) so_far
+counted_more (x ∷ outcomes) outcome first mid last so_far one = counted_more outcomes outcome (counted_if (status_in x) first) mid last so_far one
 
 -- ---- all of them
 
-abbrev pub asked : List Outcome → List event.Event
-asked outcomes = map asked_of (exchanges outcomes)
+abbrev pub asked : List ConnectionEnd → List event.Event
+asked outcomes = map asked_event (exchanges outcomes)
 
-abbrev pub given_to : List Outcome → List given.Answer
-given_to outcomes = map answer_of (exchanges outcomes)
+abbrev pub given_to : List ConnectionEnd → List given.Answer
+given_to outcomes = map given_answer (exchanges outcomes)
 
 -- so many of the connections that were served so far were requests'
-pub record AreServedSoFar {S : Type 0} (g : Ghosts S) (old new : Held S) (now : Option ℕ) (count : ℕ) (outcomes : List Outcome) : Type 0 where
+pub record AreServedSoFar {S : Type 0} (g : Ghosts S) (old new : Held S) (now : Option ℕ) (count : ℕ) (outcomes : List ConnectionEnd) : Type 0 where
   pub each : requests_in outcomes ≡ count
-  pub served : All (IsServed now) outcomes
+  pub served : All (IsConnectionServed now) outcomes
   pub calls : (start : Held S) × Keeps g old start × AreCalls g start new (asked outcomes) (given_to outcomes)
 
 -- one more
-counted : (outcomes : List Outcome) (outcome : Outcome) → requests_in (outcomes ++ outcome ∷ []) ≡ requests_in outcomes + weight (door_of outcome)
+counted : (outcomes : List ConnectionEnd) (outcome : ConnectionEnd) → requests_in (outcomes ++ outcome ∷ []) ≡ requests_in outcomes + weight (door_of outcome)
 counted outcomes outcome =
-    let is_request : Outcome → Bool = λ (o : Outcome). is_request_at (door_of o) in
+    let is_request : ConnectionEnd → Bool = λ (o : ConnectionEnd). is_request_at (door_of o) in
     ap length (filter-append is_request outcomes (outcome ∷ [])) ∙ length-append (filter is_request outcomes) (filter is_request (outcome ∷ [])) ∙ ap (λ n. requests_in outcomes + n) (by (door_of outcome) refl)
   where
     by : (at : Door) → door_of outcome ≡ at → requests_in (outcome ∷ []) ≡ weight (door_of outcome)
@@ -241,44 +250,44 @@ module _ {S : Type 0} (g : Ghosts S) (old : Held S) (now : Option ℕ) where
     calls = (old, keeps_same g old, refl);
   }
 
-  module _ (mid new : Held S) (count : ℕ) (outcomes : List Outcome) (so_far : AreServedSoFar g old mid now count outcomes) where
-    one_more : (outcome : Outcome) → requests_in (outcomes ++ outcome ∷ []) ≡ count + weight (door_of outcome)
+  module _ (mid new : Held S) (count : ℕ) (outcomes : List ConnectionEnd) (so_far : AreServedSoFar g old mid now count outcomes) where
+    one_more : (outcome : ConnectionEnd) → requests_in (outcomes ++ outcome ∷ []) ≡ count + weight (door_of outcome)
     one_more outcome = counted outcomes outcome ∙ ap (λ n. n + weight (door_of outcome)) so_far.each
 
-    with_one : (outcome : Outcome) (x : Exchange) → exchange_of outcome ≡ Some x → IsServed now outcome → IsCall g mid new (asked_of x) (answer_of x) → AreServedSoFar g old new now (count + weight (door_of outcome)) (outcomes ++ outcome ∷ [])
+    with_one : (outcome : ConnectionEnd) (x : Exchange) → exchange_of outcome ≡ Some x → IsConnectionServed now outcome → IsCall g mid new (asked_event x) (given_answer x) → AreServedSoFar g old new now (count + weight (door_of outcome)) (outcomes ++ outcome ∷ [])
     with_one outcome x is served one =
         let xs = exchanges outcomes in
         let start = so_far.calls.0 in
         let more : exchanges (outcomes ++ outcome ∷ []) ≡ xs ++ x ∷ [] = filter_map-append exchange_of outcomes (outcome ∷ []) ∙ ap (λ o. xs ++ cons_option o []) is in
         record {
           each = one_more outcome;
-          served = All-append (IsServed now) outcomes (outcome ∷ []) so_far.served (search rules);
+          served = All-append (IsConnectionServed now) outcomes (outcome ∷ []) so_far.served (search rules);
           calls = (
             start,
             so_far.calls.1,
-            subst (λ ys. AreCalls g start new (map asked_of ys) (map answer_of ys)) (sym more)
-                (subst (λ es. AreCalls g start new es (map answer_of (xs ++ x ∷ []))) (sym (map-append asked_of xs (x ∷ [])))
-                (subst (AreCalls g start new (asked outcomes ++ asked_of x ∷ [])) (sym (map-append answer_of xs (x ∷ [])))
-                (calls_more g start mid new (asked outcomes) (given_to outcomes) (asked_of x) (answer_of x) so_far.calls.2 one))),
+            subst (λ ys. AreCalls g start new (map asked_event ys) (map given_answer ys)) (sym more)
+                (subst (λ es. AreCalls g start new es (map given_answer (xs ++ x ∷ []))) (sym (map-append asked_event xs (x ∷ [])))
+                (subst (AreCalls g start new (asked outcomes ++ asked_event x ∷ [])) (sym (map-append given_answer xs (x ∷ [])))
+                (calls_more g start mid new (asked outcomes) (given_to outcomes) (asked_event x) (given_answer x) so_far.calls.2 one))),
           );
         }
 
-    with_none : (outcome : Outcome) → exchange_of outcome ≡ None → IsServed now outcome → Keeps g mid new → AreServedSoFar g old new now (count + weight (door_of outcome)) (outcomes ++ outcome ∷ [])
+    with_none : (outcome : ConnectionEnd) → exchange_of outcome ≡ None → IsConnectionServed now outcome → Keeps g mid new → AreServedSoFar g old new now (count + weight (door_of outcome)) (outcomes ++ outcome ∷ [])
     with_none outcome is served keeps =
         let (start, kept, calls) = so_far.calls in
         let (front, more_kept, later) = calls_kept g start mid new (asked outcomes) (given_to outcomes) calls keeps in
         let more : exchanges (outcomes ++ outcome ∷ []) ≡ exchanges outcomes = filter_map-append exchange_of outcomes (outcome ∷ []) ∙ ap (λ o. exchanges outcomes ++ cons_option o []) is ∙ append-nil (exchanges outcomes) in
         record {
           each = one_more outcome;
-          served = All-append (IsServed now) outcomes (outcome ∷ []) so_far.served (search rules);
-          calls = (front, keeps_both g old start front kept more_kept, subst (λ ys. AreCalls g front new (map asked_of ys) (map answer_of ys)) (sym more) later);
+          served = All-append (IsConnectionServed now) outcomes (outcome ∷ []) so_far.served (search rules);
+          calls = (front, keeps_both g old start front kept more_kept, subst (λ ys. AreCalls g front new (map asked_event ys) (map given_answer ys)) (sym more) later);
         }
 
     -- nothing was done
     same_kept : new ≡ mid → Keeps g mid new
     same_kept same = subst (λ conn. Keeps g mid conn) (sym same) (keeps_same g mid)
 
-    pub served_more : (outcome : Outcome) → HasOutcome g mid new now outcome → AreServedSoFar g old new now (count + weight (door_of outcome)) (outcomes ++ outcome ∷ [])
+    pub served_more : (outcome : ConnectionEnd) → HasOutcome g mid new now outcome → AreServedSoFar g old new now (count + weight (door_of outcome)) (outcomes ++ outcome ∷ [])
     served_more (answered m x) one = with_one (answered m x) x refl one.0 one.1
     served_more (cut m x) one = with_one (cut m x) x refl one.0 one.1
     served_more (shown m asked end) one = with_none (shown m asked end) refl one.0 one.1.0
@@ -286,7 +295,7 @@ module _ {S : Type 0} (g : Ghosts S) (old : Held S) (now : Option ℕ) where
     served_more (failed m) one = with_none (failed m) refl one.0 (same_kept one.1)
     served_more (missed at) one = with_none (missed at) refl one.0 (same_kept one.1)
 
-  pub all_served : (new : Held S) (asked_for count : ℕ) (ended : Ending) (outcomes : List Outcome) → RowsAreIsolated → AreServedSoFar g old new now count outcomes → HasCounted ended asked_for outcomes → AreServed g old new now asked_for ended outcomes
+  pub all_served : (new : Held S) (asked_for count : ℕ) (ended : Ending) (outcomes : List ConnectionEnd) → RowsAreIsolated → AreServedSoFar g old new now count outcomes → HasCounted ended asked_for outcomes → AreConnectionsServed g old new now asked_for ended outcomes
   all_served new asked_for count ended outcomes law so_far counted =
       let (start, kept, calls) = so_far.calls in
       record {

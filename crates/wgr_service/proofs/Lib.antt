@@ -1,5 +1,6 @@
 pub mod BatchLemmas
 pub mod ConnectionLemmas
+pub mod CountLemmas
 pub mod Examples
 pub mod LineLemmas
 pub mod ReadingLemmas

@@ -17,9 +17,9 @@ use Rattle.wgr_register.specs.declared.fault.Done.{Done}
 use Rattle.wgr_register.specs.declared.fault.OrderFault.{OrderFault}
 use Rattle.wgr_words.specs.declared.line.LineFault.{LineFault}
 use Rattle.wgr_service.specs.Batch.{IsCut}
-use Rattle.wgr_service.specs.Connections.{Asked, Exchange, Ordered, answer_of, asked_of}
+use Rattle.wgr_service.specs.Connections.{Asked, Exchange, Ordered, given_answer, asked_event}
 use Rattle.wgr_service.specs.Lines.{end_status, end_text}
-use Rattle.wgr_service.specs.Texts.{AreOrders, EndsAt, HasCarriedOut, IsCutAtLast, IsNoOrder, SpellsLine, greatest, lines_in}
+use Rattle.wgr_service.specs.Texts.{AreOrders, EndsInput, HasCarriedOut, IsCutAtLast, IsNoOrder, SpellsLine, greatest, lines_in}
 use Rattle.wgr_service.specs.declared.lines.LineEnd.{LineEnd}
 use Rattle.wgr_service.specs.declared.lines.LineEnd.TheVariants as line_end
 use Rattle.wgr_service.proofs.ConnectionLemmas.{appends_more}
@@ -106,10 +106,10 @@ none_more (l ∷ lines) (line_end.Unspelled w ∷ ends) xs line why so_far is = 
 pub record HaveEnded {S : Type 0} (g : Ghosts S) (old new : Held S) (lines : List (Option Bytes)) (ends : List LineEnd) : Type 0 where
   pub xs : List Exchange
   pub orders : AreOrders lines ends xs
-  pub calls : AreCalls g old new (map asked_of xs) (map answer_of xs)
+  pub calls : AreCalls g old new (map asked_event xs) (map given_answer xs)
 
 module _ {S : Type 0} (g : Ghosts S) where
-  pub end_clean : (old new : Held S) (line : Option Bytes) (end : LineEnd) → EndsAt g old new line end → HasCleanDisk (state g new) → HasCleanDisk (state g old)
+  pub end_clean : (old new : Held S) (line : Option Bytes) (end : LineEnd) → EndsInput g old new line end → HasCleanDisk (state g new) → HasCleanDisk (state g old)
   end_clean old new (Some line) (line_end.Ended ended) ends clean = ends.2.clean clean
   end_clean old new (Some line) (line_end.Unspelled why) ends clean = subst (λ (conn : Held S). HasCleanDisk (state g conn)) ends.0 clean
   end_clean old new None end ends clean = subst (λ (conn : Held S). HasCleanDisk (state g conn)) ends.0 clean
@@ -118,7 +118,7 @@ module _ {S : Type 0} (g : Ghosts S) where
   none_ended old = record { xs = []; orders = tt; calls = refl }
 
   module _ (old mid new : Held S) (lines : List (Option Bytes)) (ends : List LineEnd) (so_far : HaveEnded g old mid lines ends) where
-    with_order : (line : Option Bytes) (order : Order) (ended : Result Done OrderFault) → SpellsLine line order → IsCall g mid new (asked_of (Ordered order ended)) (answer_of (Ordered order ended))
+    with_order : (line : Option Bytes) (order : Order) (ended : Result Done OrderFault) → SpellsLine line order → IsCall g mid new (asked_event (Ordered order ended)) (given_answer (Ordered order ended))
         → HaveEnded g old new (lines ++ line ∷ []) (ends ++ line_end.Ended ended ∷ [])
     with_order line order ended spells one =
         let xs = so_far.xs in
@@ -127,9 +127,9 @@ module _ {S : Type 0} (g : Ghosts S) where
           xs = xs ++ x ∷ [];
           orders = orders_more lines ends xs line order ended so_far.orders spells;
           calls =
-              subst (λ es. AreCalls g old new es (map answer_of (xs ++ x ∷ []))) (sym (map-append asked_of xs (x ∷ [])))
-              (subst (AreCalls g old new (map asked_of xs ++ asked_of x ∷ [])) (sym (map-append answer_of xs (x ∷ [])))
-              (calls_more g old mid new (map asked_of xs) (map answer_of xs) (asked_of x) (answer_of x) so_far.calls one));
+              subst (λ es. AreCalls g old new es (map given_answer (xs ++ x ∷ []))) (sym (map-append asked_event xs (x ∷ [])))
+              (subst (AreCalls g old new (map asked_event xs ++ asked_event x ∷ [])) (sym (map-append given_answer xs (x ∷ [])))
+              (calls_more g old mid new (map asked_event xs) (map given_answer xs) (asked_event x) (given_answer x) so_far.calls one));
         }
 
     with_none : (line : Option Bytes) (why : LineFault) → IsNoOrder line why → new ≡ mid → HaveEnded g old new (lines ++ line ∷ []) (ends ++ line_end.Unspelled why ∷ [])
@@ -138,10 +138,10 @@ module _ {S : Type 0} (g : Ghosts S) where
         record {
           xs = xs;
           orders = none_more lines ends xs line why so_far.orders is;
-          calls = subst (λ (conn : Held S). AreCalls g old conn (map asked_of xs) (map answer_of xs)) (sym same) so_far.calls;
+          calls = subst (λ (conn : Held S). AreCalls g old conn (map asked_event xs) (map given_answer xs)) (sym same) so_far.calls;
         }
 
-    pub ended_more : (line : Option Bytes) (end : LineEnd) → EndsAt g mid new line end → HaveEnded g old new (lines ++ line ∷ []) (ends ++ end ∷ [])
+    pub ended_more : (line : Option Bytes) (end : LineEnd) → EndsInput g mid new line end → HaveEnded g old new (lines ++ line ∷ []) (ends ++ end ∷ [])
     ended_more (Some line) (line_end.Ended ended) one = with_order (Some line) one.0 ended one.1 one.2
     ended_more (Some line) (line_end.Unspelled why) one = with_none (Some line) why one.1 one.0
     ended_more None end one = subst (λ (e : LineEnd). HaveEnded g old new (lines ++ None ∷ []) (ends ++ e ∷ [])) (sym one.1) (with_none None _ refl one.0)
@@ -150,7 +150,7 @@ module _ {S : Type 0} (g : Ghosts S) where
   carried_out old new lines ends law so_far = record {
     xs = so_far.xs;
     orders = so_far.orders;
-    run = λ db late at clean. passed g old new db late (map asked_of so_far.xs) (map answer_of so_far.xs) law so_far.calls at clean;
+    run = λ db late at clean. passed g old new db late (map asked_event so_far.xs) (map given_answer so_far.xs) law so_far.calls at clean;
   }
 
 -- ---- the lines that are left

@@ -1,5 +1,6 @@
 pub mod Batch
 pub mod Connections
+pub mod Counts
 pub mod Laws
 pub mod Lines
 pub mod Network

@@ -3,38 +3,26 @@ use Rattle.std.specs.Prelude.{◌≡◌, ◌⊎◌, ◌++◌, ℕ, Bool, true, f
 use Rattle.sqlite.specs.Store.{Ghosts}
 use Rattle.sqlite.specs.Held.{Held}
 use Rattle.wgr_model.specs.Register.{Bytes}
-use Rattle.wgr_model.specs.Steps.{OrderRefusal, NameHeld, NoSuchTenant, DigestHeld, PoolOverlaps, BadPool, PortHeld, NoSuchToken, NoNetwork, RegisterFull}
 use Rattle.wgr_office.specs.Between.{IsCall}
 use Rattle.wgr_office.specs.Serving.{is_available}
 use Rattle.wgr_office.specs.declared.answer.Answer as given
 use Rattle.wgr_office.specs.declared.answer.Answer.TheVariants as givens
 use Rattle.wgr_office.specs.declared.run.Event.TheVariants as events
 use Rattle.wgr_orders.specs.Orders.{refusal_of}
+use Rattle.wgr_orders.specs.RefusalTexts.{refusal_text}
 use Rattle.wgr_orders.specs.declared.order.Order.{Order}
 use Rattle.wgr_register.specs.declared.fault.Done.{Done}
 use Rattle.wgr_register.specs.declared.fault.OrderFault.{OrderFault}
 use Rattle.wgr_register.specs.declared.fault.OrderFault.TheVariants as order_fault
 use Rattle.wgr_sql.specs.declared.fault.Fault.TheVariants as fault
 use Rattle.wgr_words.specs.Line.{IsUnspelled, SpellsOrder, first_line}
-use Rattle.wgr_words.specs.Words.{field_name}
+use Rattle.wgr_words.specs.Words.{word_field_name}
 use Rattle.wgr_words.specs.declared.line.LineFault.{LineFault}
 use Rattle.wgr_words.specs.declared.line.LineFault.TheVariants as line_fault
 use Rattle.wgr_service.specs.declared.lines.LineEnd.{LineEnd}
 use Rattle.wgr_service.specs.declared.lines.LineEnd.TheVariants as line_end
 
 -- ---- the answer, in bytes
-
--- the refusal's name; for a pool that overlaps, the names of the tenant and of the network after it
-abbrev pub refusal_text : OrderRefusal → Bytes
-refusal_text NameHeld = codes "name_held"
-refusal_text NoSuchTenant = codes "no_such_tenant"
-refusal_text DigestHeld = codes "digest_held"
-refusal_text (PoolOverlaps tenant network) = codes "pool_overlaps " ++ tenant ++ codes " " ++ network
-refusal_text BadPool = codes "bad_pool"
-refusal_text PortHeld = codes "port_held"
-refusal_text NoSuchToken = codes "no_such_token"
-refusal_text NoNetwork = codes "no_network"
-refusal_text RegisterFull = codes "register_full"
 
 -- the exit status of the same order given as a command, and the text that it prints
 abbrev pub ended_text : Result Done OrderFault → Bytes
@@ -46,7 +34,7 @@ ended_text (Err (order_fault.Fault fault.Store)) = codes "1 store\n"
 -- why a line is no order
 abbrev pub fault_text : LineFault → Bytes
 fault_text line_fault.NoOrder = codes "2 bad_order\n"
-fault_text (line_fault.Field field) = codes "2 bad_field " ++ field_name field ++ codes "\n"
+fault_text (line_fault.Field field) = codes "2 bad_field " ++ word_field_name field ++ codes "\n"
 fault_text line_fault.NoMemory = codes "1 no_memory\n"
 
 abbrev pub end_text : LineEnd → Bytes
@@ -64,14 +52,14 @@ end_status (line_end.Unspelled why) = 2
 -- ---- what was done
 
 -- the answer for the result of an order
-abbrev pub settled : Result Done OrderFault → given.Answer
-settled (Ok done) = givens.Order (Ok done)
-settled (Err (order_fault.Refused why)) = givens.Order (Err why)
-settled (Err (order_fault.Fault why)) = givens.Unavailable
+abbrev pub order_answer : Result Done OrderFault → given.Answer
+order_answer (Ok done) = givens.Order (Ok done)
+order_answer (Err (order_fault.Refused why)) = givens.Order (Err why)
+order_answer (Err (order_fault.Fault why)) = givens.Unavailable
 
 -- the order had this result
 abbrev pub HasOrdered : {S : Type 0} → Ghosts S → Held S → Held S → Order → Result Done OrderFault → Type 0
-HasOrdered g old new order ended = IsCall g old new (events.Order order) (settled ended)
+HasOrdered g old new order ended = IsCall g old new (events.Order order) (order_answer ended)
 
 -- the line's order was carried out, or the line spells none and nothing is done
 abbrev pub EndsLine : {S : Type 0} → Ghosts S → Held S → Held S → Bytes → LineEnd → Type 0
@@ -101,5 +89,5 @@ is_read why = true
 
 -- whether neither memory nor the store failed
 abbrev pub is_end_available : LineEnd → Bool
-is_end_available (line_end.Ended ended) = is_available (settled ended)
+is_end_available (line_end.Ended ended) = is_available (order_answer ended)
 is_end_available (line_end.Unspelled why) = is_read why

@@ -17,13 +17,12 @@ use Rattle.wgr_peers.specs.Name.{is_name}
 use Rattle.wgr_register.specs.Census.{IsCensus}
 use Rattle.wgr_register.specs.Standing.{StandsAt}
 use Rattle.wgr_show.specs.Figures.{capped}
-use Rattle.wgr_show.specs.Json.{IsJson}
+use Rattle.wgr_show.specs.Json.{IsRegisterJson}
 use Rattle.wgr_show.specs.Shown.{is_there}
 use Rattle.wgr_show.specs.declared.figures.Figures.{Figures}
 use Rattle.wgr_sql.specs.declared.fault.Fault.TheVariants as fault
 use Rattle.wgr_words.specs.Line.{first_line}
 use Rattle.wgr_words.specs.Reading.{ReadingAsked, Backup, Show, Status, reading_in_line}
-use Rattle.wgr_words.specs.declared.line.LineFault.TheVariants as line_fault
 use Rattle.wgr_service.specs.Lines.{EndsLine, TakesLine, end_text, is_end_available}
 use Rattle.wgr_service.specs.Status.{status_text}
 use Rattle.wgr_service.specs.declared.desk.Tally.{Tally}
@@ -78,7 +77,7 @@ pub record ShowsFigures (t : Tables) (text : Bytes) : Type 0 where
 
 -- the entries that are asked for; of the tables only that there is something to show
 abbrev pub ShowsEntries : Census → Option Bytes → Bool → Bytes → Type 0
-ShowsEntries census tenant is_json text = (is_there tenant census.tenants.items ≡ true) × (is_json ≡ true → IsJson census tenant text)
+ShowsEntries census tenant is_json text = (is_there tenant census.tenants.items ≡ true) × (is_json ≡ true → IsRegisterJson census tenant text)
 
 -- whether it may be the name of a tenant, if one is asked for
 abbrev pub has_form : Option Bytes → Bool
@@ -111,8 +110,8 @@ SaysOf (Show (Some name) is_json) end.NoSuchTenant t = (census : Census) × IsCe
 SaysOf asked other t = Unit {0}
 
 -- the register is at the rows at which it was, and what is shown is of them
-abbrev pub Reads : {S : Type 0} → Ghosts S → Held S → Held S → ReadingAsked → ReadingEnd → Type 0
-Reads g old new asked ended = Keeps g old new × MayEnd asked ended × AtRows g old new (SaysOf asked ended)
+abbrev pub HasReadRows : {S : Type 0} → Ghosts S → Held S → Held S → ReadingAsked → ReadingEnd → Type 0
+HasReadRows g old new asked ended = Keeps g old new × MayEnd asked ended × AtRows g old new (SaysOf asked ended)
 
 -- ---- the first line
 
@@ -133,9 +132,9 @@ is_taken_available (taken.Reading ended) = is_reading_available ended
 -- the line was taken as an order, or as the reading that it spells
 abbrev pub TakesAt : {S : Type 0} → Ghosts S → Held S → Held S → Bytes → Taken → Type 0
 TakesAt g old new line (taken.Order ended) = EndsLine g old new line ended
-TakesAt g old new line (taken.Reading ended) = (asked : ReadingAsked) × (reading_in_line line ≡ Some asked) × Reads g old new asked ended
+TakesAt g old new line (taken.Reading ended) = (asked : ReadingAsked) × (reading_in_line line ≡ Some asked) × HasReadRows g old new asked ended
 
 -- and so was the first line of the input, where that is known
 abbrev pub HasTaken : {S : Type 0} → Ghosts S → Held S → Held S → Option Bytes → Taken → Type 0
 HasTaken g old new input (taken.Order ended) = TakesLine g old new input ended
-HasTaken g old new input (taken.Reading ended) = (asked : ReadingAsked) × IfSome input (λ all. SpellsFirstReading all asked) × Reads g old new asked ended
+HasTaken g old new input (taken.Reading ended) = (asked : ReadingAsked) × IfSome input (λ all. SpellsFirstReading all asked) × HasReadRows g old new asked ended

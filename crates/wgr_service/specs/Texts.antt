@@ -14,7 +14,7 @@ use Rattle.wgr_words.specs.Line.{IsUnspelled, SpellsOrder}
 use Rattle.wgr_words.specs.declared.line.LineFault.{LineFault}
 use Rattle.wgr_words.specs.declared.line.LineFault.TheVariants as line_fault
 use Rattle.wgr_service.specs.Batch.{IsCut}
-use Rattle.wgr_service.specs.Connections.{Exchange, Ordered, answer_of, asked_of}
+use Rattle.wgr_service.specs.Connections.{Exchange, Ordered, given_answer, asked_event}
 use Rattle.wgr_service.specs.Lines.{EndsLine, end_status, end_text}
 use Rattle.wgr_service.specs.declared.lines.LineEnd.{LineEnd}
 use Rattle.wgr_service.specs.declared.lines.LineEnd.TheVariants as line_end
@@ -22,22 +22,22 @@ use Rattle.wgr_service.specs.declared.lines.LineEnd.TheVariants as line_end
 -- ---- the lines of a text
 
 -- this byte comes before the first line
-abbrev pub before_lines : ℕ → List (Option Bytes) → List (Option Bytes)
-before_lines byte [] = None ∷ []
-before_lines byte (Some line ∷ lines) = Some (byte ∷ line) ∷ lines
-before_lines byte (None ∷ lines) = None ∷ lines
+abbrev pub before_texts : ℕ → List (Option Bytes) → List (Option Bytes)
+before_texts byte [] = None ∷ []
+before_texts byte (Some line ∷ lines) = Some (byte ∷ line) ∷ lines
+before_texts byte (None ∷ lines) = None ∷ lines
 
 -- each line without its newline, and `None` for what comes after the last newline, if anything does
 abbrev pub lines_in : Bytes → List (Option Bytes)
 lines_in [] = []
-lines_in (byte ∷ text) = if byte == 10 then Some [] ∷ lines_in text else before_lines byte (lines_in text)
+lines_in (byte ∷ text) = if byte == 10 then Some [] ∷ lines_in text else before_texts byte (lines_in text)
 
 -- ---- one of them
 
 -- its order was carried out, or it has none and nothing is done; an unfinished line is no order
-abbrev pub EndsAt : {S : Type 0} → Ghosts S → Held S → Held S → Option Bytes → LineEnd → Type 0
-EndsAt g old new (Some line) end = EndsLine g old new line end
-EndsAt g old new None end = (new ≡ old) × (end ≡ line_end.Unspelled line_fault.NoOrder)
+abbrev pub EndsInput : {S : Type 0} → Ghosts S → Held S → Held S → Option Bytes → LineEnd → Type 0
+EndsInput g old new (Some line) end = EndsLine g old new line end
+EndsInput g old new None end = (new ≡ old) × (end ≡ line_end.Unspelled line_fault.NoOrder)
 
 -- an unfinished line spells no order
 abbrev pub SpellsLine : Option Bytes → Order → Type 0
@@ -67,7 +67,7 @@ greatest (end ∷ ends) = max (end_status end) (greatest ends)
 pub record HasCarriedOut {S : Type 0} (g : Ghosts S) (old new : Held S) (lines : List (Option Bytes)) (ends : List LineEnd) : Type 0 where
   pub xs : List Exchange
   pub orders : AreOrders lines ends xs
-  pub run : (db : Database) (late : List Event) → StandsAt g old db late → HasCleanDisk (state g new) → HasPassed g old new db late (map asked_of xs) (map answer_of xs)
+  pub run : (db : Database) (late : List Event) → StandsAt g old db late → HasCleanDisk (state g new) → HasPassed g old new db late (map asked_event xs) (map given_answer xs)
 
 -- how these lines ended is written, but of the last only a first part, which may be none or all
 abbrev pub IsCutAtLast : Option Bytes → Option Bytes → List LineEnd → Type 0

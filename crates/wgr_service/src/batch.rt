@@ -4,7 +4,7 @@ ghost use Rattle.std.specs.Io.KnownBytes.{Appends};
 ghost use Rattle.std.specs.List.{list_all};
 ghost use Rattle.sqlite.specs.Held.{state};
 ghost use Rattle.sqlite.specs.State.{HasCleanDisk};
-ghost use Rattle.wgr_office.specs.Serving.{is_available, reply_of};
+ghost use Rattle.wgr_office.specs.Serving.{is_available, written_reply};
 ghost use Rattle.wgr_office.specs.declared.answer.Answer as given;
 ghost use Rattle.wgr_service.specs.Batch.{IsBatch, IsCut};
 ghost use Rattle.wgr_service.specs.declared.batch.BatchFault.TheVariants as fault;
@@ -32,10 +32,10 @@ pub fn answer_all<S: Alter, W: Write>(
     out: &mut W,
 ) -> Result<bool, BatchFault>
     ensures clean { HasCleanDisk (state S.Store office.new) → HasCleanDisk (state S.Store office.old) }
-    ensures answered { IfOk result (λ whole. (answers : List given.Answer) × IsBatch S.Store office.old office.new requests.now answers × Appends (W.contents out.old) (W.contents out.new) (flat_map reply_of answers) × (whole ≡ list_all is_available answers)) }
+    ensures answered { IfOk result (λ whole. (answers : List given.Answer) × IsBatch S.Store office.old office.new requests.now answers × Appends (W.contents out.old) (W.contents out.new) (flat_map written_reply answers) × (whole ≡ list_all is_available answers)) }
     ensures sound { OnOk result (W.failed out.new ≡ W.failed out.old) }
     ensures undone { result ≡ Err fault.NoMemory → (office.new ≡ office.old) × (out.new ≡ out.old) }
-    ensures cut { result ≡ Err fault.Write → (W.failed out.new ≡ true) × ((answers : List given.Answer) × IsBatch S.Store office.old office.new requests.now answers × IsCut (W.contents out.old) (W.contents out.new) (flat_map reply_of answers)) }
+    ensures cut { result ≡ Err fault.Write → (W.failed out.new ≡ true) × ((answers : List given.Answer) × IsBatch S.Store office.old office.new requests.now answers × IsCut (W.contents out.old) (W.contents out.new) (flat_map written_reply answers)) }
 {
     let answers = match office.run(alloc, requests) {
         Ok(answers) => answers,
@@ -56,9 +56,9 @@ fn are_available(answers: &[Answer]) -> bool
 
 // Writes the replies, or only their first bytes if a write fails.
 fn write_replies<W: Write>(answers: &[Answer], out: &mut W) -> Result<(), WriteFault>
-    ensures ok { OnOk result (Appends (W.contents out.old) (W.contents out.new) (flat_map reply_of answers.now)) }
+    ensures ok { OnOk result (Appends (W.contents out.old) (W.contents out.new) (flat_map written_reply answers.now)) }
     ensures sound { OnOk result (W.failed out.new ≡ W.failed out.old) }
-    ensures cut { OnErr result (IsCut (W.contents out.old) (W.contents out.new) (flat_map reply_of answers.now)) }
+    ensures cut { OnErr result (IsCut (W.contents out.old) (W.contents out.new) (flat_map written_reply answers.now)) }
     ensures failed { OnErr result (W.failed out.new ≡ true) }
 {
     for answer in answers {

@@ -5,7 +5,8 @@ ghost use Rattle.sqlite.specs.Held.{state};
 ghost use Rattle.sqlite.specs.State.{HasCleanDisk};
 ghost use Rattle.wgr_model.specs.Steps.{Event};
 ghost use Rattle.wgr_register.specs.Standing.{StandsAt};
-ghost use Rattle.wgr_service.specs.Connections.{AreServed, AreSound, AreWritten, HasMet, HasOutcome, Outcome, Reports, contacts_of, door_of, ends_of, line_of, meeting_of, moment_of, weight};
+ghost use Rattle.wgr_service.specs.Connections.{AreConnectionsServed, AreUnharmed, IsAppended, HasMet, HasOutcome, ConnectionEnd, Reports, contacts_of, counted_all, door_of, ends_of, line_of, meeting_of, served_moment, status_in, weight};
+ghost use Rattle.wgr_service.specs.Counts.{counted_if, replies_of};
 ghost use Rattle.wgr_service.specs.Network.{Logs};
 ghost use Rattle.wgr_service.specs.declared.network.Door.TheVariants as door;
 
@@ -41,7 +42,7 @@ pub enum Ending {
 /// rows are those that its own requests and the accepted orders about it give on its own rows alone. Where the
 /// network's log is known, a message asks what its connection's bytes ask (one that is answered Unavailable is
 /// what they begin with), an order is that of its connection's first line, and the answer is what was written to
-/// that connection. A reading keeps the rows.
+/// that connection. A reading keeps the rows. The desk counts each reply that was written, under its status.
 pub fn serve_connections<S: Alter, N: Network, A: Archive, E: Write>(
     alloc: Global,
     office: &mut Office<S>,
@@ -54,9 +55,10 @@ pub fn serve_connections<S: Alter, N: Network, A: Archive, E: Write>(
     ensures clean { HasCleanDisk (state S.Store office.new) → HasCleanDisk (state S.Store office.old) }
     // The register was at some rows.
     ensures stood { HasCleanDisk (state S.Store office.new) → (db : Database) × (late : List Event) × StandsAt S.Store office.old db late }
-    ensures served { (outcomes : List Outcome) × AreServed S.Store office.old office.new now count result outcomes
-        × AreWritten (E.failed err.new) (E.contents err.old) (E.contents err.new) (flat_map line_of outcomes)
-        × Logs (N.log network.old) (N.log network.new) (flat_map contacts_of outcomes) }
+    ensures served { (outcomes : List ConnectionEnd) × AreConnectionsServed S.Store office.old office.new now count result outcomes
+        × IsAppended (E.failed err.new) (E.contents err.old) (E.contents err.new) (flat_map line_of outcomes)
+        × Logs (N.log network.old) (N.log network.new) (flat_map contacts_of outcomes)
+        × (replies_of desk.new ≡ counted_all outcomes (replies_of desk.old)) }
 {
     office.rules_hold();
     rows_are_isolated();
@@ -93,9 +95,10 @@ fn serve_next<S: Alter, N: Network, A: Archive, E: Write>(
     ensures clean { HasCleanDisk (state S.Store office.new) → HasCleanDisk (state S.Store office.old) }
     ensures sound { E.failed err.new ≡ false → E.failed err.old ≡ false }
     ensures fewer { N.orders network.new < N.orders network.old + weight result.0 }
-    ensures served { (outcome : Outcome) × HasOutcome S.Store office.old office.new now outcome × (door_of outcome ≡ result.0) × Reports result.1 outcome
-        × AreWritten (E.failed err.new) (E.contents err.old) (E.contents err.new) (line_of outcome)
-        × Logs (N.log network.old) (N.log network.new) (contacts_of outcome) }
+    ensures served { (outcome : ConnectionEnd) × HasOutcome S.Store office.old office.new now outcome × (door_of outcome ≡ result.0) × Reports result.1 outcome
+        × IsAppended (E.failed err.new) (E.contents err.old) (E.contents err.new) (line_of outcome)
+        × Logs (N.log network.old) (N.log network.new) (contacts_of outcome)
+        × (replies_of desk.new ≡ counted_if (status_in outcome) (replies_of desk.old)) }
 {
     let (door, report) = serve_one(alloc, office, network, desk, now);
     desk.count_report(report);
@@ -113,8 +116,9 @@ fn serve_one<S: Alter, N: Network, A: Archive>(
 ) -> (Door, Report)
     ensures clean { HasCleanDisk (state S.Store office.new) → HasCleanDisk (state S.Store office.old) }
     ensures fewer { N.orders network.new < N.orders network.old + weight result.0 }
-    ensures outcome { (outcome : Outcome) × HasOutcome S.Store office.old office.new now outcome × (door_of outcome ≡ result.0) × Reports result.1 outcome
-        × Logs (N.log network.old) (N.log network.new) (contacts_of outcome) }
+    ensures outcome { (outcome : ConnectionEnd) × HasOutcome S.Store office.old office.new now outcome × (door_of outcome ≡ result.0) × Reports result.1 outcome
+        × Logs (N.log network.old) (N.log network.new) (contacts_of outcome)
+        × (replies_of desk.new ≡ counted_if (status_in outcome) (replies_of desk.old)) }
 {
     let Arrival {
         door,
@@ -151,7 +155,7 @@ fn serve_arrival<S: Alter, A: Archive, R: Read, W: Write>(
     out: &mut W,
 ) -> Report
     ensures clean { HasCleanDisk (state S.Store office.new) → HasCleanDisk (state S.Store office.old) }
-    ensures outcome { AreSound (ends_of R.remaining R.failed W.contents W.failed input.old out.old) → HasMet S.Store office.old office.new now (meeting_of door clock (ends_of R.remaining R.failed W.contents W.failed input.old out.old) (ends_of R.remaining R.failed W.contents W.failed input.new out.new)) result }
+    ensures outcome { AreUnharmed (ends_of R.remaining R.failed W.contents W.failed input.old out.old) → HasMet S.Store office.old office.new now (replies_of desk.old) (replies_of desk.new) (meeting_of door clock (ends_of R.remaining R.failed W.contents W.failed input.old out.old) (ends_of R.remaining R.failed W.contents W.failed input.new out.new)) result }
 {
     match door {
         Door::Requests => serve_request(alloc, office, desk, now, clock, input, out),
@@ -170,14 +174,14 @@ fn serve_request<S: Alter, A: Archive, R: Read, W: Write>(
     out: &mut W,
 ) -> Report
     ensures clean { HasCleanDisk (state S.Store office.new) → HasCleanDisk (state S.Store office.old) }
-    ensures outcome { AreSound (ends_of R.remaining R.failed W.contents W.failed input.old out.old) → HasMet S.Store office.old office.new now (meeting_of door.Requests clock (ends_of R.remaining R.failed W.contents W.failed input.old out.old) (ends_of R.remaining R.failed W.contents W.failed input.new out.new)) result }
+    ensures outcome { AreUnharmed (ends_of R.remaining R.failed W.contents W.failed input.old out.old) → HasMet S.Store office.old office.new now (replies_of desk.old) (replies_of desk.new) (meeting_of door.Requests clock (ends_of R.remaining R.failed W.contents W.failed input.old out.old) (ends_of R.remaining R.failed W.contents W.failed input.new out.new)) result }
 {
     let Some(moment) = moment_of(now, clock) else {
         return Report::Failed;
     };
     match office.serve_one(alloc, moment, input, out) {
         Ok(answer) => {
-            desk.count_reply(answer.status());
+            desk.count_reply(&answer);
             report_of(office, answer.is_available())
         }
         Err(_) => Report::Failed,
@@ -186,7 +190,7 @@ fn serve_request<S: Alter, A: Archive, R: Read, W: Write>(
 
 // The given moment, or else the clock's.
 fn moment_of(now: Option<u64>, clock: Option<u64>) -> Option<u64>
-    ensures { result ≡ moment_of now clock }
+    ensures { result ≡ served_moment now clock }
 {
     match now {
         Some(now) => Some(now),
@@ -203,7 +207,7 @@ fn serve_order<S: Alter, A: Archive, R: Read, W: Write>(
     out: &mut W,
 ) -> Report
     ensures clean { HasCleanDisk (state S.Store office.new) → HasCleanDisk (state S.Store office.old) }
-    ensures outcome { (now clock : Option ℕ) → AreSound (ends_of R.remaining R.failed W.contents W.failed input.old out.old) → HasMet S.Store office.old office.new now (meeting_of door.Orders clock (ends_of R.remaining R.failed W.contents W.failed input.old out.old) (ends_of R.remaining R.failed W.contents W.failed input.new out.new)) result }
+    ensures outcome { (now clock : Option ℕ) → AreUnharmed (ends_of R.remaining R.failed W.contents W.failed input.old out.old) → HasMet S.Store office.old office.new now (replies_of desk.old) (replies_of desk.new) (meeting_of door.Orders clock (ends_of R.remaining R.failed W.contents W.failed input.old out.old) (ends_of R.remaining R.failed W.contents W.failed input.new out.new)) result }
 {
     let taken = match take_line(alloc, office, desk, input) {
         Ok(taken) => taken,

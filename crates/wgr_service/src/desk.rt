@@ -1,11 +1,16 @@
 //! What a service knows of itself, for an operator's readings.
-ghost use Rattle.std.specs.Prelude.{◌≡◌, IfOk};
+ghost use Rattle.std.specs.Prelude.{◌≡◌, ◌+◌, IfOk};
+ghost use Rattle.wgr_office.specs.Serving.{status_of};
+ghost use Rattle.wgr_service.specs.Counts.{counted, counted_if, no_replies, replies_of};
 ghost use Rattle.wgr_service.specs.Status.{status_text};
+ghost use Rattle.wgr_show.specs.Figures.{capped};
 
 use crate::network::Pace;
 use crate::report::Report;
 use crate::taken::Taken;
 use std::alloc::{AllocError, Global};
+use wgr_http::StatusCode;
+use wgr_office::Answer;
 use wgr_show::{Figures, metrics_text};
 
 /// What was served so far. A count stays at the greatest number of 64 bits.
@@ -21,6 +26,7 @@ pub(crate) struct Tally {
     pub(crate) late: u64,
 }
 
+/// A field for each status.
 #[derive(Clone, Copy)]
 pub(crate) struct Replies {
     pub(crate) done: u64,
@@ -41,6 +47,25 @@ pub(crate) struct Orders {
     pub(crate) refused: u64,
 }
 
+impl Replies {
+    // Counts one more of this status.
+    fn add(&mut self, status: StatusCode)
+        ensures { self.new ≡ counted status self.old }
+    {
+        match status {
+            StatusCode::Done => add_one(&mut self.done),
+            StatusCode::BadRequest => add_one(&mut self.bad_request),
+            StatusCode::Unauthorized => add_one(&mut self.unauthorized),
+            StatusCode::NotFound => add_one(&mut self.not_found),
+            StatusCode::MethodNotAllowed => add_one(&mut self.wrong_method),
+            StatusCode::Conflict => add_one(&mut self.conflict),
+            StatusCode::LengthRequired => add_one(&mut self.no_length),
+            StatusCode::ContentTooLarge => add_one(&mut self.too_large),
+            StatusCode::ServiceUnavailable => add_one(&mut self.unavailable),
+        }
+    }
+}
+
 /// The desk at which an operator reads: since when the service runs, what it served, and where its files are.
 #[derive(Drop)]
 pub struct Desk<A> {
@@ -51,7 +76,9 @@ pub struct Desk<A> {
 
 impl<A> Desk<A> {
     /// The desk of a service that starts at this moment (seconds since 1970-01-01, or 0 where it isn't known).
-    pub fn new(archive: A, started: u64) -> Desk<A> {
+    pub fn new(archive: A, started: u64) -> Desk<A>
+        ensures { replies_of result ≡ no_replies }
+    {
         Desk {
             archive,
             started,
@@ -78,25 +105,19 @@ impl<A> Desk<A> {
         }
     }
 
-    /// Counts a reply by its status.
-    pub(crate) fn count_reply(&mut self, status: &[u8]) {
-        let replies = &mut self.tally.replies;
-        match status {
-            b"200" => add_one(&mut replies.done),
-            b"400" => add_one(&mut replies.bad_request),
-            b"401" => add_one(&mut replies.unauthorized),
-            b"404" => add_one(&mut replies.not_found),
-            b"405" => add_one(&mut replies.wrong_method),
-            b"409" => add_one(&mut replies.conflict),
-            b"411" => add_one(&mut replies.no_length),
-            b"413" => add_one(&mut replies.too_large),
-            b"503" => add_one(&mut replies.unavailable),
-            _ => {}
+    /// Counts the reply to a request by its status; an order has none.
+    pub(crate) fn count_reply(&mut self, answer: &Answer)
+        ensures { replies_of self.new ≡ counted_if (status_of answer.now) (replies_of self.old) }
+    {
+        if let Some(status) = answer.status() {
+            self.tally.replies.add(status);
         }
     }
 
     /// Counts an order by its exit status; a reading isn't counted.
-    pub(crate) fn count_taken(&mut self, taken: &Taken) {
+    pub(crate) fn count_taken(&mut self, taken: &Taken)
+        ensures { replies_of self.new ≡ replies_of self.old }
+    {
         let Taken::Order(end) = taken else {
             return;
         };
@@ -109,21 +130,27 @@ impl<A> Desk<A> {
     }
 
     /// Counts a connection that failed.
-    pub(crate) fn count_report(&mut self, report: Report) {
+    pub(crate) fn count_report(&mut self, report: Report)
+        ensures { replies_of self.new ≡ replies_of self.old }
+    {
         if let Report::Failed = report {
             add_one(&mut self.tally.failed);
         }
     }
 
     /// Counts a connection that was late.
-    pub(crate) fn count_pace(&mut self, pace: Pace) {
+    pub(crate) fn count_pace(&mut self, pace: Pace)
+        ensures { replies_of self.new ≡ replies_of self.old }
+    {
         if let Pace::Late = pace {
             add_one(&mut self.tally.late);
         }
     }
 }
 
-fn add_one(count: &mut u64) {
+fn add_one(count: &mut u64)
+    ensures { count.new ≡ capped (count.old + 1) }
+{
     *count = count.saturating_add(1);
 }
 

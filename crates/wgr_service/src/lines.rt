@@ -2,8 +2,9 @@
 ghost use Rattle.std.specs.Prelude.{◌≡◌, ◌++◌, codes, flat_map, true, OnErr, OnOk};
 ghost use Rattle.std.specs.Io.KnownBytes.{Appends};
 ghost use Rattle.wgr_orders.specs.Orders.{refusal_of};
+ghost use Rattle.wgr_orders.specs.RefusalTexts.{refusal_text};
 ghost use Rattle.wgr_service.specs.Batch.{IsCut};
-ghost use Rattle.wgr_service.specs.Lines.{EndsLine, end_status, end_text, is_end_available, refusal_text};
+ghost use Rattle.wgr_service.specs.Lines.{EndsLine, end_status, end_text, is_end_available};
 
 use crate::parts::write_parts;
 use sqlite::Alter;
@@ -74,7 +75,7 @@ pub fn write_line_end<W: Write>(end: &LineEnd, out: &mut W) -> Result<(), WriteF
 const NO_PART: &[u8] = b"";
 
 // The parts of the line, one after the other.
-fn end_parts<'a>(end: &'a LineEnd) -> [&'a [u8]; 6]
+fn end_parts<'a>(end: &'a LineEnd) -> [&'a [u8]; 7]
     ensures { flat_map (λ part. part.now) result ≡ end_text end.now }
 {
     let (first, name, last): (&[u8], &'a [u8], &[u8]) = match end {
@@ -90,27 +91,20 @@ fn end_parts<'a>(end: &'a LineEnd) -> [&'a [u8]; 6]
         ),
         LineEnd::Unspelled(LineFault::NoMemory) => (b"1 no_memory\n", b"", b""),
     };
-    [first, name, last, NO_PART, NO_PART, NO_PART]
+    [first, name, last, NO_PART, NO_PART, NO_PART, NO_PART]
 }
 
 // The parts of a refusal's line: its name, and what comes after it.
-fn refusal_parts<'a>(why: &'a OrderRefusal) -> [&'a [u8]; 6]
+fn refusal_parts<'a>(why: &'a OrderRefusal) -> [&'a [u8]; 7]
     ensures { flat_map (λ part. part.now) result ≡ codes "2 " ++ refusal_text (refusal_of why.now) ++ codes "\n" }
 {
-    let name: &[u8] = match why {
+    let name: &'a [u8] = why.name().as_bytes();
+    match why {
         OrderRefusal::PoolOverlaps { tenant, network } => {
             let tenant: &'a [u8] = tenant.as_bytes();
             let network: &'a [u8] = network.as_bytes();
-            return [b"2 ", b"pool_overlaps ", tenant, b" ", network, b"\n"];
+            [b"2 ", name, b" ", tenant, b" ", network, b"\n"]
         }
-        OrderRefusal::NameHeld => b"name_held",
-        OrderRefusal::NoSuchTenant => b"no_such_tenant",
-        OrderRefusal::DigestHeld => b"digest_held",
-        OrderRefusal::BadPool => b"bad_pool",
-        OrderRefusal::PortHeld => b"port_held",
-        OrderRefusal::NoSuchToken => b"no_such_token",
-        OrderRefusal::NoNetwork => b"no_network",
-        OrderRefusal::RegisterFull => b"register_full",
-    };
-    [b"2 ", name, b"\n", NO_PART, NO_PART, NO_PART]
+        _ => [b"2 ", name, b"\n", NO_PART, NO_PART, NO_PART, NO_PART],
+    }
 }

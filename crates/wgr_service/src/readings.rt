@@ -3,7 +3,8 @@
 ghost use Rattle.std.specs.Prelude.{◌≡◌, IfOk, OnErr, OnOk, flat_map, option_map, true};
 ghost use Rattle.std.specs.Io.KnownBytes.{Appends};
 ghost use Rattle.wgr_service.specs.Batch.{IsCut};
-ghost use Rattle.wgr_service.specs.Readings.{MayEnd, Reads, has_form, is_reading_available, reading_text, shown};
+ghost use Rattle.wgr_service.specs.Counts.{replies_of};
+ghost use Rattle.wgr_service.specs.Readings.{MayEnd, HasReadRows, has_form, is_reading_available, reading_text, shown};
 ghost use Rattle.wgr_words.specs.Reading.{Backup, Show, Status, reading_asked};
 
 use crate::copies::{Archive, CopyFault};
@@ -56,7 +57,8 @@ pub(crate) fn read<S: Alter, A: Archive>(
     desk: &mut Desk<A>,
     reading: Reading<'_>,
 ) -> ReadingEnd
-    ensures { Reads S.Store office.old office.new (reading_asked reading.entry) result }
+    ensures reads { HasReadRows S.Store office.old office.new (reading_asked reading.entry) result }
+    ensures counts { replies_of desk.new ≡ replies_of desk.old }
 {
     match reading {
         Reading::Status => read_status(alloc, office, desk),
@@ -69,9 +71,9 @@ pub(crate) fn read<S: Alter, A: Archive>(
 fn read_status<S: Alter, A: Archive>(
     alloc: Global,
     office: &mut Office<S>,
-    desk: &mut Desk<A>,
+    desk: &Desk<A>,
 ) -> ReadingEnd
-    ensures { Reads S.Store office.old office.new Status result }
+    ensures { HasReadRows S.Store office.old office.new Status result }
 {
     let loaded = office.loaded();
     let cached = office.cached();
@@ -101,7 +103,7 @@ fn read_entries<S: Alter>(
     tenant: Option<&str>,
     is_json: bool,
 ) -> ReadingEnd
-    ensures { Reads S.Store office.old office.new (Show (option_map (λ name. name.now) tenant.entry) is_json) result }
+    ensures { HasReadRows S.Store office.old office.new (Show (option_map (λ name. name.now) tenant.entry) is_json) result }
 {
     match has_form(alloc, tenant) {
         Ok(true) => {}
@@ -131,7 +133,8 @@ fn has_form(alloc: Global, tenant: Option<&str>) -> Result<bool, AllocError>
 
 // Copies the register's files. A service and its client may be in different folders, so the path is absolute.
 fn make_copy<A: Archive>(desk: &mut Desk<A>, file: &str) -> ReadingEnd
-    ensures { MayEnd (Backup file.now) result }
+    ensures ends { MayEnd (Backup file.now) result }
+    ensures counts { replies_of desk.new ≡ replies_of desk.old }
 {
     if !file.starts_with('/') {
         return ReadingEnd::BadFile;

@@ -1,7 +1,7 @@
 //! What is printed of a connection.
 ghost use Rattle.std.specs.Prelude.{◌≡◌, false, true};
 ghost use Rattle.wgr_office.specs.Between.{Keeps};
-ghost use Rattle.wgr_service.specs.Connections.{AreWritten, failure_line};
+ghost use Rattle.wgr_service.specs.Connections.{IsAppended, failure_line};
 ghost use Rattle.wgr_service.specs.Readings.{is_taken_available};
 ghost use Rattle.wgr_service.specs.Reports.{IsReport, report_line};
 ghost use Rattle.wgr_service.specs.declared.lines.LineEnd.TheVariants as line_end;
@@ -60,7 +60,7 @@ pub(crate) fn report_of_taken<S: Alter>(office: &mut Office<S>, taken: &Taken) -
 /// Writes the line of a report. If standard error fails, nothing can be reported.
 pub(crate) fn write_report<E: Write>(door: Door, report: Report, err: &mut E)
     ensures sound { E.failed err.new ≡ false → E.failed err.old ≡ false }
-    ensures written { AreWritten (E.failed err.new) (E.contents err.old) (E.contents err.new) (report_line door report) }
+    ensures written { IsAppended (E.failed err.new) (E.contents err.old) (E.contents err.new) (report_line door report) }
 {
     let _ = write_all(err, report_line(door, report));
 }

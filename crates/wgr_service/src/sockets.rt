@@ -238,8 +238,8 @@ fn pace_of<'a, H: Clock + Net>(
     }
 }
 
-// The clock's time, in whole seconds since 1970-01-01 00:00 UTC.
-fn seconds_now<C: Clock>(clock: &C) -> Option<u64> {
+/// The clock's time, in whole seconds since 1970-01-01 00:00 UTC, where it can be read.
+pub fn seconds_now<C: Clock>(clock: &C) -> Option<u64> {
     seconds_of(SystemTime::now(clock).ok()?)
 }
 

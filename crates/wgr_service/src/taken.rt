@@ -2,6 +2,7 @@
 ghost use Rattle.std.specs.Prelude.{◌≡◌, true, IfOk, OnErr, OnOk};
 ghost use Rattle.std.specs.Io.KnownBytes.{Appends};
 ghost use Rattle.wgr_service.specs.Batch.{IsCut};
+ghost use Rattle.wgr_service.specs.Counts.{replies_of};
 ghost use Rattle.wgr_service.specs.Readings.{HasTaken, TakesAt, is_taken_available, taken_text};
 
 use crate::copies::Archive;
@@ -46,6 +47,7 @@ pub(crate) fn take_line<S: Alter, A: Archive, R: Read>(
     ensures sound { OnOk result (R.failed input.new ≡ R.failed input.old) }
     ensures failed { OnErr result (R.failed input.new ≡ true) }
     ensures undone { OnErr result (office.new ≡ office.old) }
+    ensures counts { replies_of desk.new ≡ replies_of desk.old }
 {
     match read_first_line(alloc, input) {
         Ok(Some(line)) => Ok(take(alloc, office, desk, &line)),
@@ -62,7 +64,8 @@ fn take<S: Alter, A: Archive>(
     desk: &mut Desk<A>,
     line: &[u8],
 ) -> Taken
-    ensures { TakesAt S.Store office.old office.new line.now result }
+    ensures taken { TakesAt S.Store office.old office.new line.now result }
+    ensures counts { replies_of desk.new ≡ replies_of desk.old }
 {
     match reading_in(alloc, line) {
         Ok(Some(reading)) => Taken::Reading(read(alloc, office, desk, reading)),

@@ -1,13 +1,12 @@
 //! Orders in the lines of a text, carried out in turn.
-ghost use Rattle.std.specs.Prelude.{◌≡◌, ◌++◌, ◌<◌, ◌∷◌, ◌==◌, flat_map, length, option_map, true, IfOk, List, OnErr, OnOk, Option};
+ghost use Rattle.std.specs.Prelude.{◌≡◌, ◌++◌, ◌<◌, ◌∷◌, flat_map, length, option_map, true, IfOk, List, OnErr, OnOk, Option};
 ghost use Rattle.std.specs.Io.KnownBytes.{Appends};
-ghost use Rattle.std.specs.List.{position};
 ghost use Rattle.sqlite.specs.Held.{state};
 ghost use Rattle.sqlite.specs.State.{HasCleanDisk};
 ghost use Rattle.wgr_model.specs.Register.{Bytes};
 ghost use Rattle.wgr_service.specs.Batch.{IsCut};
 ghost use Rattle.wgr_service.specs.Lines.{end_status, end_text};
-ghost use Rattle.wgr_service.specs.Texts.{EndsAt, HasCarriedOut, IsCutAtLast, greatest, lines_in};
+ghost use Rattle.wgr_service.specs.Texts.{EndsInput, HasCarriedOut, IsCutAtLast, greatest, lines_in};
 ghost use Rattle.wgr_service.specs.declared.lines.LineEnd.{LineEnd};
 
 use crate::lines::{LineEnd, carry_out_line, write_line_end};
@@ -16,6 +15,7 @@ use std::alloc::Global;
 use wgr_io::{Write, WriteFault};
 use wgr_model::laws::rows_are_isolated;
 use wgr_office::Office;
+use wgr_text::newline;
 use wgr_words::LineFault;
 
 /// Carries out the orders in the lines of a text in turn, and writes how each ended, as a line. What comes
@@ -57,13 +57,6 @@ fn split_line(text: &[u8]) -> (Option<&[u8]>, &[u8])
     }
 }
 
-// The place of the first newline.
-fn newline(text: &[u8]) -> Option<usize>
-    ensures { result ≡ position (λ byte. byte == 10) text.now }
-{
-    text.iter().position(|byte| *byte == b'\n')
-}
-
 // Carries out the next line, and writes how it ended. Returns its status.
 fn carry_out_next<S: Alter, W: Write>(
     alloc: Global,
@@ -71,10 +64,10 @@ fn carry_out_next<S: Alter, W: Write>(
     line: Option<&[u8]>,
     out: &mut W,
 ) -> Result<u8, WriteFault>
-    ensures carried { IfOk result (λ status. (end : LineEnd) × EndsAt S.Store office.old office.new (option_map (λ line. line.now) line.entry) end × Appends (W.contents out.old) (W.contents out.new) (end_text end) × (status ≡ end_status end)) }
+    ensures carried { IfOk result (λ status. (end : LineEnd) × EndsInput S.Store office.old office.new (option_map (λ line. line.now) line.entry) end × Appends (W.contents out.old) (W.contents out.new) (end_text end) × (status ≡ end_status end)) }
     ensures sound { OnOk result (W.failed out.new ≡ W.failed out.old) }
     ensures failed { OnErr result (W.failed out.new ≡ true) }
-    ensures cut { OnErr result ((end : LineEnd) × EndsAt S.Store office.old office.new (option_map (λ line. line.now) line.entry) end × IsCut (W.contents out.old) (W.contents out.new) (end_text end)) }
+    ensures cut { OnErr result ((end : LineEnd) × EndsInput S.Store office.old office.new (option_map (λ line. line.now) line.entry) end × IsCut (W.contents out.old) (W.contents out.new) (end_text end)) }
 {
     let end = end_line(alloc, office, line);
     write_line_end(&end, out)?;
@@ -83,7 +76,7 @@ fn carry_out_next<S: Alter, W: Write>(
 
 // Carries out a line. One that is unfinished is no order.
 fn end_line<S: Alter>(alloc: Global, office: &mut Office<S>, line: Option<&[u8]>) -> LineEnd
-    ensures { EndsAt S.Store office.old office.new (option_map (λ line. line.now) line.entry) result }
+    ensures { EndsInput S.Store office.old office.new (option_map (λ line. line.now) line.entry) result }
 {
     match line {
         Some(line) => carry_out_line(alloc, office, line),

@@ -120,7 +120,7 @@ pub(super) fn wanted(rt: &(impl Abort + AllocGlobal), status: &str, body: &str) 
 pub(super) fn given(rt: &(impl Abort + AllocGlobal), answer: &Answer) -> Vec<u8> {
     let mut text = Vec::new(rt.alloc());
     match answer {
-        Answer::Bytes(bytes) => text.extend_from_slice(bytes).expect(rt, "memory"),
+        Answer::Reply(reply) => text.extend_from_slice(&reply.bytes).expect(rt, "memory"),
         Answer::Order(Ok(_)) => text.extend_from_slice(b"done").expect(rt, "memory"),
         Answer::Order(Err(why)) => {
             let why = why.to_string(rt.alloc()).expect(rt, "memory");

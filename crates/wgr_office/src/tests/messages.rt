@@ -132,7 +132,9 @@ fn serve(
     let answer = office
         .serve_one(rt.alloc(), 7, &mut input, &mut out)
         .expect(rt, "an answer");
-    assert_eq!(rt; answer.status(), wanted.get(9..12).expect(rt, "a status"));
+    let number = answer.status().expect(rt, "a status").number();
+    let line = format!(in rt.alloc(); "HTTP/1.1 {number} ").expect(rt, "memory");
+    assert!(rt; wanted.starts_with(line.as_bytes()));
     assert_eq!(rt; out.inner.as_slice(), text_of(rt, wanted).as_slice());
 }
 

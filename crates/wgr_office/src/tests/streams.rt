@@ -101,7 +101,7 @@ fn a_read_that_fails_does_nothing(rt: HostRuntime) {
     });
     let mut out = Device::new(Vec::new(rt.alloc()));
     let served = office.serve_one(rt.alloc(), 7, &mut input, &mut out);
-    assert!(rt; matches!(served, Ok(Answer::Bytes(_))));
+    assert!(rt; matches!(served, Ok(Answer::Reply(_))));
     end(office);
 }
 

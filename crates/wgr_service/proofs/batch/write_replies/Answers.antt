@@ -1,7 +1,7 @@
 use Rattle.std.proofs.Common.{◌∙◌, [], ◌∷◌, ◌++◌, take, ap, refl, subst, sym}
 use Rattle.std.specs.Io.KnownBytes.{Appends}
 use Rattle.std.proofs.lemmas.List.{take_more}
-use Rattle.wgr_office.specs.Serving.{reply_of}
+use Rattle.wgr_office.specs.Serving.{written_reply}
 use Rattle.wgr_service.proofs.BatchLemmas.{cut_within, on_err, one_more}
 use Rattle.wgr_service.proofs.ConnectionLemmas.{appends_none}
 use Rattle.wgr_service.proofs.batch.write_replies.Goals as goal
@@ -17,7 +17,7 @@ loop-answer-preserved g c =
     let wrote = subst (Appends (g.W.Write.contents c.loop-answer.out) (g.W.Write.contents c.write_all.new.out)) c.reply.ensures c.in_ok-write_all.ensures.ok in
     record {
       sound = c.in_ok-write_all.ensures.sound ∙ c.loop-answer.invariant.sound;
-      written = one_more reply_of answers at c.answer-item.result next (g.W.Write.contents c.args.out.now) (g.W.Write.contents c.loop-answer.out) (g.W.Write.contents c.write_all.new.out) c.loop-answer.invariant.written wrote;
+      written = one_more written_reply answers at c.answer-item.result next (g.W.Write.contents c.args.out.now) (g.W.Write.contents c.loop-answer.out) (g.W.Write.contents c.write_all.new.out) c.loop-answer.invariant.written wrote;
     }
 
 pub returns-in_err-write_all-clause-cut : goal.returns-in_err-write_all-clause-cut
@@ -27,4 +27,4 @@ returns-in_err-write_all-clause-cut g c =
     let next = take_more answers at c.answer-item.result c.loop-answer-test.true ∙ ap (λ x. take at answers ++ x ∷ []) (sym c.answer-item.is) in
     let sent = c.in_err-write_all.field-0.0.sent in
     let wrote = subst (λ bytes. Appends (g.W.Write.contents c.loop-answer.out) (g.W.Write.contents c.write_all.new.out) (take sent bytes)) c.reply.ensures c.in_err-write_all.ensures.sent in
-    on_err _ (cut_within reply_of answers at c.answer-item.result next (g.W.Write.contents c.args.out.now) (g.W.Write.contents c.loop-answer.out) (g.W.Write.contents c.write_all.new.out) sent c.loop-answer.invariant.written wrote)
+    on_err _ (cut_within written_reply answers at c.answer-item.result next (g.W.Write.contents c.args.out.now) (g.W.Write.contents c.loop-answer.out) (g.W.Write.contents c.write_all.new.out) sent c.loop-answer.invariant.written wrote)
