@@ -261,8 +261,8 @@ wrong_with words = or_else (fault_of wgr_app words) (if_missing (named_by words)
 
 -- ---- what is asked for, in the program's types
 
-abbrev pub text_of : Option (Bor Text) → Option Text
-text_of = option_map (λ text. text.now)
+abbrev pub optional_text : Option (Bor Text) → Option Text
+optional_text = option_map (λ text. text.now)
 
 abbrev pub texts_of : List (Bor Text) → List Text
 texts_of = map (λ text. text.now)
@@ -271,11 +271,11 @@ abbrev pub asked_of : Invocation → Asked
 asked_of (invocation.Plan pool) = Plan pool.now
 asked_of (invocation.Init db) = Init db.now
 asked_of (invocation.Operate db order) = Operate db.now (order_asked order)
-asked_of (invocation.Orders db file) = Orders db.now (text_of file)
-asked_of (invocation.Show db tenant is_json) = Show db.now (text_of tenant) is_json
+asked_of (invocation.Orders db file) = Orders db.now (optional_text file)
+asked_of (invocation.Show db tenant is_json) = Show db.now (optional_text tenant) is_json
 asked_of (invocation.Batch db now files) = Batch db.now now.now (texts_of files.items)
-asked_of (invocation.Serve db place count now orders) = Serve db.now place.now count.now (text_of now) (text_of orders)
-asked_of (invocation.Send path words digest is_json) = Send path.now (texts_of words.items) (text_of digest) is_json
+asked_of (invocation.Serve db place count now orders) = Serve db.now place.now count.now (optional_text now) (optional_text orders)
+asked_of (invocation.Send path words digest is_json) = Send path.now (texts_of words.items) (optional_text digest) is_json
 
 -- ---- a law
 

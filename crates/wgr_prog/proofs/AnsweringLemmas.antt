@@ -14,7 +14,7 @@ use Rattle.wgr_file.specs.OnFiles.{IsClosedTo, IsOpen}
 use Rattle.wgr_file.proofs.FileLemmas.{stays_open}
 use Rattle.wgr_office.specs.declared.answer.Answer as given
 use Rattle.wgr_office.specs.declared.run.Event as event
-use Rattle.wgr_office.specs.Serving.{is_available, reply_of}
+use Rattle.wgr_office.specs.Serving.{is_available, written_reply}
 use Rattle.wgr_service.specs.Batch.{IsBatch, IsCut}
 use Rattle.wgr_service.specs.Network.{Log}
 use Rattle.wgr_service.specs.declared.connections.Ending.{Ending}
@@ -22,7 +22,7 @@ use Rattle.wgr_service.specs.declared.connections.Ending.TheVariants as ending
 use Rattle.wgr_prog.specs.declared.register_words.Failure.{Failure}
 use Rattle.wgr_prog.specs.declared.register_words.Failure.TheVariants as failure
 use Rattle.wgr_prog.specs.declared.request_words.Serving.{Serving}
-use Rattle.wgr_prog.specs.Answering.{Answers, AreSpelled, EndsBatch, EndsServe, HasAnswered, HasBrokenOff, HasReplied, HasServed, IsServing, Listens, Output, ServesAll, ServesFrom}
+use Rattle.wgr_prog.specs.Answering.{AnswersRequests, AreAskedByText, EndsBatch, EndsServe, HasAnswered, HasBrokenOff, HasReplied, HasServedFiles, IsServing, Listens, Output, ServesAll, ServesFrom}
 
 module _ {D : Type 0} (g : disk.Ghosts D) (start : Image) (closed : Option (Files D)) where
   -- the office is its register
@@ -44,27 +44,27 @@ module _ {D : Type 0} (g : disk.Ghosts D) (start : Image) (closed : Option (File
       run = λ is. let o = is_open (clean is) in (o.0, o.1, batch.1 o.0 [] o.2 is);
     }
 
-    pub replied : (whole : Bool) → (answers : List given.Answer) × IsBatch over_files register left asked answers × Appends old.written new.written (flat_map reply_of answers) × (whole ≡ list_all is_available answers)
+    pub replied : (whole : Bool) → (answers : List given.Answer) × IsBatch over_files register left asked answers × Appends old.written new.written (flat_map written_reply answers) × (whole ≡ list_all is_available answers)
         → new.failed ≡ old.failed → HasReplied g start closed asked old new whole
     replied whole told sound = record { answers = told.0; answered = answered told.0 told.1; written = told.2; sound = sound; available = told.3 }
 
-    pub broken_off : (new.failed ≡ true) × ((answers : List given.Answer) × IsBatch over_files register left asked answers × IsCut old.written new.written (flat_map reply_of answers)) → HasBrokenOff g start closed asked old new
+    pub broken_off : (new.failed ≡ true) × ((answers : List given.Answer) × IsBatch over_files register left asked answers × IsCut old.written new.written (flat_map written_reply answers)) → HasBrokenOff g start closed asked old new
     broken_off told = record { answers = told.1.0; answered = answered told.1.0 told.1.1; cut = told.1.2; failed = told.0 }
 
   -- those that the words spell
-  pub ends_batch : (now : List ℕ) (files : List (List ℕ)) (requests asked : List event.Event) → asked ≡ requests → AreSpelled now files requests → (old new : Output) (r : Result Bool Failure)
-      → Answers g start closed asked old new r → EndsBatch g start closed now files old new r
-  ends_batch now files requests asked same spelled old new (Ok whole) answers = (asked, subst (AreSpelled now files) (sym same) spelled, answers)
+  pub ends_batch : (now : List ℕ) (files : List (List ℕ)) (requests asked : List event.Event) → asked ≡ requests → AreAskedByText now files requests → (old new : Output) (r : Result Bool Failure)
+      → AnswersRequests g start closed asked old new r → EndsBatch g start closed now files old new r
+  ends_batch now files requests asked same spelled old new (Ok whole) answers = (asked, subst (AreAskedByText now files) (sym same) spelled, answers)
   ends_batch now files requests asked same spelled old new (Err (failure.Field field)) answers = absurd answers
   ends_batch now files requests asked same spelled old new (Err (failure.Refused why)) answers = absurd answers
-  ends_batch now files requests asked same spelled old new (Err (failure.Register why)) answers = (answers.0, answers.1, inr (asked, subst (AreSpelled now files) (sym same) spelled))
-  ends_batch now files requests asked same spelled old new (Err failure.Device) answers = inr (asked, subst (AreSpelled now files) (sym same) spelled, answers)
+  ends_batch now files requests asked same spelled old new (Err (failure.Register why)) answers = (answers.0, answers.1, inr (asked, subst (AreAskedByText now files) (sym same) spelled))
+  ends_batch now files requests asked same spelled old new (Err failure.Device) answers = inr (asked, subst (AreAskedByText now files) (sym same) spelled, answers)
   ends_batch now files requests asked same spelled old new (Err failure.Shut) answers = absurd answers
 
   -- ---- connections
 
   module _ (register left : Held (FileStore D g)) (s : Serving) (before after : Log) (old new : Output) (is_open : IsOpen start register) (closed_to : IsClosedTo g closed left) where
-    served_from : (ended : Ending) → ServesFrom register left s ended before after → HasServed g start closed s ended before after
+    served_from : (ended : Ending) → ServesFrom register left s ended before after → HasServedFiles g start closed s ended before after
     served_from ended from =
         record { register = register; opened = is_open; left = left; closed_to = closed_to; clean = from.0; outcomes = from.1.0; served = from.1.1; listened = from.1.2 }
 

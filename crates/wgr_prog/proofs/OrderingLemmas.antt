@@ -15,7 +15,7 @@ use Rattle.wgr_words.specs.declared.field.WordFault.{WordFault}
 use Rattle.wgr_words.specs.declared.field.WordFault.TheVariants as word_fault
 use Rattle.wgr_prog.specs.Answering.{Output}
 use Rattle.wgr_prog.specs.OnRegister.{of_words}
-use Rattle.wgr_prog.specs.Ordering.{CarriesOutText, EndsOrders, HasCarried, IsText, IsTextFault}
+use Rattle.wgr_prog.specs.Ordering.{CarriesOutText, EndsOrders, HasCarried, IsOrderText, IsTextFault}
 use Rattle.wgr_prog.specs.declared.register_words.Failure.{Failure}
 use Rattle.wgr_prog.specs.declared.register_words.Failure.TheVariants as failure
 
@@ -25,7 +25,7 @@ pub has_carried : {D : Type 0} (g : disk.Ghosts D) (start : Image) (closed : Opt
 has_carried g start closed register left lines ends opened closed_to clean carried = record { register = register; opened = opened; left = left; closed_to = closed_to; clean = clean; carried = carried }
 
 -- those of the text that was read
-pub ends_orders : {D : Type 0} (g : disk.Ghosts D) (start : Image) (closed : Option (Files D)) (file : Option (List ℕ)) (was is : Input) (text : List ℕ) (old new : Output) (r : Result ℕ Failure) → IsText file was is text → CarriesOutText g start closed text old new r
+pub ends_orders : {D : Type 0} (g : disk.Ghosts D) (start : Image) (closed : Option (Files D)) (file : Option (List ℕ)) (was is : Input) (text : List ℕ) (old new : Output) (r : Result ℕ Failure) → IsOrderText file was is text → CarriesOutText g start closed text old new r
     → EndsOrders g start closed file was is old new r
 ends_orders g start closed file was is text old new (Ok status) read carries = (text, read, carries)
 ends_orders g start closed file was is text old new (Err (failure.Field f)) read carries = absurd carries

@@ -12,7 +12,7 @@ use Rattle.wgr_register.specs.declared.fault.OrderFault.TheVariants as order_fau
 use Rattle.wgr_prog.specs.declared.register_words.Failure.{Failure}
 use Rattle.wgr_prog.specs.declared.register_words.Failure.TheVariants as failure
 use Rattle.wgr_prog.specs.OnRegister.{CarriesOut, EndsAs, as_ended, of_order}
-use Rattle.wgr_words.specs.Order.{Input, IsTaken, OrdersBy}
+use Rattle.wgr_words.specs.Order.{Input, TakesInput, OrdersBy}
 
 module _ {D : Type 0} (g : disk.Ghosts D) (start : Image) (closed : Option (Files D)) where
   -- an order that wasn't done, as a failure
@@ -24,7 +24,7 @@ module _ {D : Type 0} (g : disk.Ghosts D) (start : Image) (closed : Option (File
   ends_as order (Ok done) ended = ended
   ends_as order (Err why) ended = failed order why ended
 
-  sound : (wants : Bool) (old new : Input) (token : List ℕ) → MatchBool wants (IsTaken old new token) (new ≡ old) → new.failed ≡ old.failed
+  sound : (wants : Bool) (old new : Input) (token : List ℕ) → MatchBool wants (TakesInput old new token) (new ≡ old) → new.failed ≡ old.failed
   sound true old new token took = took.sound
   sound false old new token kept = ap (λ (input : Input). input.failed) kept
 

@@ -9,7 +9,7 @@ use Rattle.wgr_register.specs.declared.fault.OrderFault.TheVariants as order_fau
 use Rattle.wgr_service.specs.declared.lines.LineEnd.TheVariants as line_end
 use Rattle.wgr_sql.specs.declared.fault.Fault.TheVariants as fault
 use Rattle.wgr_words.specs.Line.{before_newline}
-use Rattle.wgr_words.specs.Words.{field_name}
+use Rattle.wgr_words.specs.Words.{word_field_name}
 use Rattle.wgr_words.specs.declared.field.WordField.{WordField}
 use Rattle.wgr_words.specs.declared.field.WordField.TheVariants as of
 use Rattle.wgr_words.specs.declared.line.LineFault.TheVariants as line_fault
@@ -51,7 +51,7 @@ overlap tenant network one other =
     let first = both_none (codes "pool_overlaps ") tenant refl (name_free tenant one) in
     both_none (codes "pool_overlaps " ++ tenant ++ codes " ") network (both_none (codes "pool_overlaps " ++ tenant) (codes " ") first refl) (name_free network other)
 
-field : (f : WordField) → before_newline (field_name f) ≡ None
+field : (f : WordField) → before_newline (word_field_name f) ≡ None
 field of.Tenant = refl
 field of.Name = refl
 field of.Pool = refl
@@ -83,5 +83,5 @@ orders (line_end.Ended (Err (order_fault.Refused (refusal.PoolOverlaps tenant ne
 orders (line_end.Ended (Err (order_fault.Fault fault.NoMemory))) names = refl
 orders (line_end.Ended (Err (order_fault.Fault fault.Store))) names = refl
 orders (line_end.Unspelled line_fault.NoOrder) names = refl
-orders (line_end.Unspelled (line_fault.Field f)) names = refused_line (codes "bad_field " ++ field_name f) (both_none (codes "bad_field ") (field_name f) refl (field f))
+orders (line_end.Unspelled (line_fault.Field f)) names = refused_line (codes "bad_field " ++ word_field_name f) (both_none (codes "bad_field ") (word_field_name f) refl (field f))
 orders (line_end.Unspelled line_fault.NoMemory) names = refl

@@ -7,9 +7,9 @@ use Rattle.std.specs.Io.KnownBytes.{Appends}
 use Rattle.wgr_service.specs.Network.{Log, Logs, called, ended}
 use Rattle.wgr_service.proofs.ConnectionLemmas.{logs_more}
 use Rattle.wgr_words.specs.Line.{is_line, line_text}
-use Rattle.wgr_words.specs.Order.{Input, IsTaken}
+use Rattle.wgr_words.specs.Order.{Input, TakesInput}
 use Rattle.wgr_words.specs.Sent.{option_words}
-use Rattle.wgr_words.specs.Words.{line_of}
+use Rattle.wgr_words.specs.Words.{without_newline}
 use Rattle.wgr_prog.specs.Sending.{Call, MayBreak, SendsLine, SendsToken, has_failed}
 use Rattle.wgr_prog.specs.declared.send.SendFault.{SendFault}
 use Rattle.wgr_prog.specs.declared.send.SendFault.TheVariants as fault
@@ -33,8 +33,8 @@ exchanged path line before mid after c (Err fault.Device) first last whole ok er
     (whole, inr (c, logs_more before mid after (called path c.input c.before ∷ []) (ended c.after c.read_failed c.write_failed ∷ []) first last, err))
 
 -- with the token that is all of the input
-pub with_token : (path : List ℕ) (words : List (List ℕ)) (is_json : Bool) (before after : Log) (old new : Input) (text : List ℕ) (answer : Result (Vec ℕ Global) SendFault) → IsTaken old new text → is_line (line_of text ∷ []) ≡ true
-    → SendsLine path (words ++ line_of text ∷ option_words is_json) before after answer → SendsToken path words is_json before after old new answer
+pub with_token : (path : List ℕ) (words : List (List ℕ)) (is_json : Bool) (before after : Log) (old new : Input) (text : List ℕ) (answer : Result (Vec ℕ Global) SendFault) → TakesInput old new text → is_line (without_newline text ∷ []) ≡ true
+    → SendsLine path (words ++ without_newline text ∷ option_words is_json) before after answer → SendsToken path words is_json before after old new answer
 with_token path words is_json before after old new text (Ok reply) taken word sends = (text, taken, word, sends)
 with_token path words is_json before after old new text (Err fault.BadOrder) taken word sends = (text, taken, word, sends)
 with_token path words is_json before after old new text (Err fault.BadToken) taken word sends = absurd sends

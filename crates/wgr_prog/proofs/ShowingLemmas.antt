@@ -11,7 +11,7 @@ use Rattle.sqlite_disk.specs.declared.Disk as disk
 use Rattle.sqlite_disk.specs.declared.Files.{Files}
 use Rattle.sqlite_store.specs.declared.store.FileStore.{FileStore}
 use Rattle.wgr_columns.specs.Decode.{tables_of}
-use Rattle.wgr_file.specs.OnFiles.{AreThoseOf, IsClosedTo, IsOpen, Stays}
+use Rattle.wgr_file.specs.OnFiles.{AreThoseOf, IsClosedTo, IsOpen, FilesStay}
 use Rattle.wgr_model.specs.Rows.{Tables}
 use Rattle.wgr_model.specs.Steps.{Event}
 use Rattle.wgr_register.specs.Standing.{StandsAt}
@@ -20,7 +20,7 @@ use Rattle.wgr_words.specs.declared.field.WordFault.TheVariants as word_fault
 use Rattle.wgr_prog.specs.declared.register_words.Failure.{Failure}
 use Rattle.wgr_prog.specs.declared.register_words.Failure.TheVariants as failure
 use Rattle.wgr_prog.specs.OnRegister.{of_words}
-use Rattle.wgr_prog.specs.Showing.{HasRead, IsNameFault, MayEnd, SaysOf, Shows, ShowsText, has_form}
+use Rattle.wgr_prog.specs.Showing.{HasRead, IsNameFault, MayEndShow, SaysOfFiles, ShowsFiles, ShowsText, may_be_tenant}
 
 module _ {D : Type 0} (g : disk.Ghosts D) (start : Image) (closed : Option (Files D)) where
   -- a register that was read, and closed at the rows that it was at
@@ -35,7 +35,7 @@ module _ {D : Type 0} (g : disk.Ghosts D) (start : Image) (closed : Option (File
   }
 
   -- what is said of the rows, by how it ended
-  pub shows_text : (tenant : Option (List ℕ)) (is_json : Bool) (r : Result (Vec ℕ Global) Failure) → MayEnd r → HasRead g start closed (SaysOf tenant is_json r) → ShowsText g start closed tenant is_json r
+  pub shows_text : (tenant : Option (List ℕ)) (is_json : Bool) (r : Result (Vec ℕ Global) Failure) → MayEndShow r → HasRead g start closed (SaysOfFiles tenant is_json r) → ShowsText g start closed tenant is_json r
   shows_text tenant is_json (Ok text) may has = has
   shows_text tenant is_json (Err (failure.Refused why)) may has = (may, has)
   shows_text tenant is_json (Err (failure.Register why)) may has = tt
@@ -44,7 +44,7 @@ module _ {D : Type 0} (g : disk.Ghosts D) (start : Image) (closed : Option (File
   shows_text tenant is_json (Err failure.Shut) may has = absurd may
 
   -- the name was tested before
-  pub shows : (tenant : Option (List ℕ)) (is_json : Bool) (r : Result (Vec ℕ Global) Failure) → has_form tenant ≡ true → ShowsText g start closed tenant is_json r → Shows g start closed tenant is_json r
+  pub shows : (tenant : Option (List ℕ)) (is_json : Bool) (r : Result (Vec ℕ Global) Failure) → may_be_tenant tenant ≡ true → ShowsText g start closed tenant is_json r → ShowsFiles g start closed tenant is_json r
   shows tenant is_json (Ok text) form shown = (form, shown)
   shows tenant is_json (Err (failure.Refused why)) form shown = (form, shown)
   shows tenant is_json (Err (failure.Register why)) form shown = inr form
@@ -53,16 +53,16 @@ module _ {D : Type 0} (g : disk.Ghosts D) (start : Image) (closed : Option (File
   shows tenant is_json (Err failure.Shut) form shown = absurd shown
 
   -- the name can't be a tenant's, or there was no memory
-  pub shows_fault : (tenant : Option (List ℕ)) (is_json : Bool) (why : WordFault) (failed : Failure) → failed ≡ of_words why → IsNameFault tenant why → Shows g start closed tenant is_json (Err failed)
-  shows_fault tenant is_json why failed same told = subst (λ (f : Failure). Shows g start closed tenant is_json (Err f)) (sym same) (by_fault why told)
+  pub shows_fault : (tenant : Option (List ℕ)) (is_json : Bool) (why : WordFault) (failed : Failure) → failed ≡ of_words why → IsNameFault tenant why → ShowsFiles g start closed tenant is_json (Err failed)
+  shows_fault tenant is_json why failed same told = subst (λ (f : Failure). ShowsFiles g start closed tenant is_json (Err f)) (sym same) (by_fault why told)
     where
-      by_fault : (why : WordFault) → IsNameFault tenant why → Shows g start closed tenant is_json (Err (of_words why))
+      by_fault : (why : WordFault) → IsNameFault tenant why → ShowsFiles g start closed tenant is_json (Err (of_words why))
       by_fault (word_fault.Field field) told = told
       by_fault word_fault.NoMemory told = inl refl
       by_fault word_fault.Device told = absurd told
 
 -- the files hold what they held
-pub stays_read : {D : Type 0} (g : disk.Ghosts D) (start : Image) (closed : Option (Files D)) (IsTrueOf : Tables → Type 0) → HasRead g start closed IsTrueOf → Stays g start closed
+pub stays_read : {D : Type 0} (g : disk.Ghosts D) (start : Image) (closed : Option (Files D)) (IsTrueOf : Tables → Type 0) → HasRead g start closed IsTrueOf → FilesStay g start closed
 stays_read g start None IsTrueOf has = tt
 stays_read g start (Some files) IsTrueOf has = λ honest.
     let c = has.closed_to honest in

@@ -10,14 +10,14 @@ use Rattle.sqlite.specs.State.{HasCleanDisk}
 use Rattle.sqlite_disk.specs.declared.Disk as disk
 use Rattle.sqlite_disk.specs.declared.Files.{Files}
 use Rattle.sqlite_store.specs.declared.store.FileStore.{FileStore}
-use Rattle.wgr_file.specs.OnFiles.{IsClosedTo, IsOpen, Stays, StoodIn}
+use Rattle.wgr_file.specs.OnFiles.{IsClosedTo, IsOpen, FilesStay, StoodIn}
 use Rattle.wgr_office.specs.Between.{HasPassed}
-use Rattle.wgr_office.specs.Serving.{is_available, reply_of}
+use Rattle.wgr_office.specs.Serving.{is_available, written_reply}
 use Rattle.wgr_office.specs.declared.answer.Answer as given
 use Rattle.wgr_office.specs.declared.run.Event as event
 use Rattle.wgr_office.specs.declared.run.Event.TheVariants as events
 use Rattle.wgr_service.specs.Batch.{IsCut}
-use Rattle.wgr_service.specs.Connections.{AreServed, Outcome, contacts_of}
+use Rattle.wgr_service.specs.Connections.{AreConnectionsServed, ConnectionEnd, contacts_of}
 use Rattle.wgr_service.specs.Network.{Contact, Log, Logs, bound, bound_orders}
 use Rattle.wgr_service.specs.declared.connections.Ending.{Ending}
 use Rattle.wgr_service.specs.declared.connections.Ending.TheVariants as ending
@@ -29,7 +29,7 @@ use Rattle.wgr_words.specs.declared.field.WordFault.{WordFault}
 use Rattle.wgr_words.specs.declared.field.WordFault.TheVariants as word_fault
 use Rattle.wgr_prog.specs.declared.register_words.Failure.{Failure}
 use Rattle.wgr_prog.specs.declared.register_words.Failure.TheVariants as failure
-use Rattle.wgr_words.specs.Order.{IsFirst}
+use Rattle.wgr_words.specs.Order.{IsFirstFault}
 use Rattle.wgr_words.specs.Words.{IsRead, SpellsEndpoint, SpellsWhole}
 use Rattle.wgr_prog.specs.declared.request_words.Serving.{Serving}
 
@@ -54,16 +54,16 @@ IsAskedAt now (events.Ask moment bytes) = moment ≡ now
 IsAskedAt now (events.Order order) = ⊥
 
 -- this many requests, each at this moment
-abbrev pub AreAsked : ℕ → ℕ → List event.Event → Type 0
-AreAsked now count asked = (length asked ≡ count) × All (IsAskedAt now) asked
+abbrev pub AreAskedAt : ℕ → ℕ → List event.Event → Type 0
+AreAskedAt now count asked = (length asked ≡ count) × All (IsAskedAt now) asked
 
 -- the requests in these files at the moment that the text spells
-abbrev pub AreSpelled : List ℕ → List (List ℕ) → List event.Event → Type 0
-AreSpelled now files asked = (moment : ℕ) × SpellsWhole now moment × AreAsked moment (length files) asked
+abbrev pub AreAskedByText : List ℕ → List (List ℕ) → List event.Event → Type 0
+AreAskedByText now files asked = (moment : ℕ) × SpellsWhole now moment × AreAskedAt moment (length files) asked
 
 -- the moment is malformed; or it was read, and a file failed; or memory was refused
 abbrev pub IsBatchFault : List ℕ → WordFault → Type 0
-IsBatchFault now (word_fault.Field field) = IsFirst field ((of.Now, now) ∷ [])
+IsBatchFault now (word_fault.Field field) = IsFirstFault field ((of.Now, now) ∷ [])
 IsBatchFault now word_fault.NoMemory = Unit {0}
 IsBatchFault now word_fault.Device = (moment : ℕ) × SpellsWhole now moment
 
@@ -81,7 +81,7 @@ pub record HasAnswered {D : Type 0} (g : disk.Ghosts D) (start : Image) (closed 
 pub record HasReplied {D : Type 0} (g : disk.Ghosts D) (start : Image) (closed : Option (Files D)) (asked : List event.Event) (old new : Output) (whole : Bool) : Type 0 where
   pub answers : List given.Answer
   pub answered : HasAnswered g start closed asked answers
-  pub written : Appends old.written new.written (flat_map reply_of answers)
+  pub written : Appends old.written new.written (flat_map written_reply answers)
   pub sound : new.failed ≡ old.failed
   pub available : whole ≡ list_all is_available answers
 
@@ -89,15 +89,15 @@ pub record HasReplied {D : Type 0} (g : disk.Ghosts D) (start : Image) (closed :
 pub record HasBrokenOff {D : Type 0} (g : disk.Ghosts D) (start : Image) (closed : Option (Files D)) (asked : List event.Event) (old new : Output) : Type 0 where
   pub answers : List given.Answer
   pub answered : HasAnswered g start closed asked answers
-  pub cut : IsCut old.written new.written (flat_map reply_of answers)
+  pub cut : IsCut old.written new.written (flat_map written_reply answers)
   pub failed : new.failed ≡ true
 
 -- the requests are answered, or the register isn't opened, or there is no memory
-abbrev pub Answers : {D : Type 0} → disk.Ghosts D → Image → Option (Files D) → List event.Event → Output → Output → Result Bool Failure → Type 0
-Answers g start closed asked old new (Ok whole) = HasReplied g start closed asked old new whole
-Answers g start closed asked old new (Err (failure.Register why)) = (new ≡ old) × Stays g start closed
-Answers g start closed asked old new (Err failure.Device) = HasBrokenOff g start closed asked old new
-Answers g start closed asked old new (Err other) = ⊥
+abbrev pub AnswersRequests : {D : Type 0} → disk.Ghosts D → Image → Option (Files D) → List event.Event → Output → Output → Result Bool Failure → Type 0
+AnswersRequests g start closed asked old new (Ok whole) = HasReplied g start closed asked old new whole
+AnswersRequests g start closed asked old new (Err (failure.Register why)) = (new ≡ old) × FilesStay g start closed
+AnswersRequests g start closed asked old new (Err failure.Device) = HasBrokenOff g start closed asked old new
+AnswersRequests g start closed asked old new (Err other) = ⊥
 
 -- The words were read before the register was asked for; or there was no memory.
 abbrev pub OnceRead : RegisterFault → Type 0 → Type 0
@@ -105,12 +105,12 @@ OnceRead why read = (why ≡ register_fault.NoMemory) ⊎ read
 
 -- How the requests in these files end: on an error, nothing is written, or only the first bytes of the replies.
 abbrev pub EndsBatch : {D : Type 0} → disk.Ghosts D → Image → Option (Files D) → List ℕ → List (List ℕ) → Output → Output → Result Bool Failure → Type 0
-EndsBatch g start closed now files old new (Ok whole) = (asked : List event.Event) × AreSpelled now files asked × HasReplied g start closed asked old new whole
-EndsBatch g start closed now files old new (Err (failure.Field field)) = (new ≡ old) × Stays g start closed × IsFirst field ((of.Now, now) ∷ [])
+EndsBatch g start closed now files old new (Ok whole) = (asked : List event.Event) × AreAskedByText now files asked × HasReplied g start closed asked old new whole
+EndsBatch g start closed now files old new (Err (failure.Field field)) = (new ≡ old) × FilesStay g start closed × IsFirstFault field ((of.Now, now) ∷ [])
 EndsBatch g start closed now files old new (Err (failure.Refused why)) = ⊥
 EndsBatch g start closed now files old new (Err failure.Shut) = ⊥
-EndsBatch g start closed now files old new (Err (failure.Register why)) = (new ≡ old) × Stays g start closed × OnceRead why ((asked : List event.Event) × AreSpelled now files asked)
-EndsBatch g start closed now files old new (Err failure.Device) = ((new ≡ old) × Stays g start closed × ((moment : ℕ) × SpellsWhole now moment)) ⊎ ((asked : List event.Event) × AreSpelled now files asked × HasBrokenOff g start closed asked old new)
+EndsBatch g start closed now files old new (Err (failure.Register why)) = (new ≡ old) × FilesStay g start closed × OnceRead why ((asked : List event.Event) × AreAskedByText now files asked)
+EndsBatch g start closed now files old new (Err failure.Device) = ((new ≡ old) × FilesStay g start closed × ((moment : ℕ) × SpellsWhole now moment)) ⊎ ((asked : List event.Event) × AreAskedByText now files asked × HasBrokenOff g start closed asked old new)
 
 -- ---- connections
 
@@ -145,36 +145,36 @@ pub record IsServing (place count : List ℕ) (now orders : Option (List ℕ)) (
   pub orders_at : orders_of s ≡ orders
 
 -- the address that is bound, and the socket for orders
-abbrev pub address_of : Serving → List Contact
-address_of s = bound s.endpoint.0 s.endpoint.1 ∷ []
+abbrev pub bound_address : Serving → List Contact
+bound_address s = bound s.endpoint.0 s.endpoint.1 ∷ []
 
 abbrev pub socket_of : Option (List ℕ) → List Contact
 socket_of None = []
 socket_of (Some path) = bound_orders path ∷ []
 
 abbrev pub places_of : Serving → List Contact
-places_of s = address_of s ++ socket_of (orders_of s)
+places_of s = bound_address s ++ socket_of (orders_of s)
 
 -- they were bound, and the connections with these outcomes were accepted
-abbrev pub HasListened : Serving → Log → Log → List Outcome → Type 0
+abbrev pub HasListened : Serving → Log → Log → List ConnectionEnd → Type 0
 HasListened s before after outcomes = Logs before after (places_of s ++ flat_map contacts_of outcomes)
 
 -- The address can't be bound, or it was bound and the socket for orders can't be, and nothing is written; or all were
 -- bound, and a write failed before any connection came.
 abbrev pub IsUnserved : Serving → Log → Log → Output → Output → Type 0
 IsUnserved s before after old new =
-    ((after ≡ before) × (new ≡ old)) ⊎ (Logs before after (address_of s) × IsSome s.orders × (new ≡ old)) ⊎ (HasListened s before after [] × (new.failed ≡ true))
+    ((after ≡ before) × (new ≡ old)) ⊎ (Logs before after (bound_address s) × IsSome s.orders × (new ≡ old)) ⊎ (HasListened s before after [] × (new.failed ≡ true))
 
 -- Connections were served, at this address, by the register that was in the files: as many as asked for, or fewer where
 -- the store failed for good.
-pub record HasServed {D : Type 0} (g : disk.Ghosts D) (start : Image) (closed : Option (Files D)) (s : Serving) (ended : Ending) (before after : Log) : Type 0 where
+pub record HasServedFiles {D : Type 0} (g : disk.Ghosts D) (start : Image) (closed : Option (Files D)) (s : Serving) (ended : Ending) (before after : Log) : Type 0 where
   pub register : Held (FileStore D g)
   pub opened : IsOpen start register
   pub left : Held (FileStore D g)
   pub closed_to : IsClosedTo g closed left
   pub clean : HasCleanDisk (file_state left) → HasCleanDisk (file_state register)
-  pub outcomes : List Outcome
-  pub served : AreServed over_files register left s.moment s.count ended outcomes
+  pub outcomes : List ConnectionEnd
+  pub served : AreConnectionsServed over_files register left s.moment s.count ended outcomes
   pub listened : HasListened s before after outcomes
 
 -- `listening` is written, and connections are served
@@ -184,7 +184,7 @@ HasBegun old new = Appends old.written new.written (codes "listening\n") × (new
 -- the outcomes of the connections that were served
 abbrev pub ServesFrom : {D : Type 0} {g : disk.Ghosts D} → Held (FileStore D g) → Held (FileStore D g) → Serving → Ending → Log → Log → Type 0
 ServesFrom register left s ended before after =
-    (HasCleanDisk (file_state left) → HasCleanDisk (file_state register)) × ((outcomes : List Outcome) × AreServed over_files register left s.moment s.count ended outcomes × HasListened s before after outcomes)
+    (HasCleanDisk (file_state left) → HasCleanDisk (file_state register)) × ((outcomes : List ConnectionEnd) × AreConnectionsServed over_files register left s.moment s.count ended outcomes × HasListened s before after outcomes)
 
 -- `listening` is written and connections are served; or none is served
 abbrev pub Listens : {D : Type 0} {g : disk.Ghosts D} → Held (FileStore D g) → Held (FileStore D g) → Serving → Log → Log → Output → Output → Result (Unit {0}) Failure → Type 0
@@ -195,17 +195,17 @@ Listens register left s before after old new (Err other) = ⊥
 
 -- `listening` is written and connections are served; or the register isn't opened, or none is served
 abbrev pub ServesAll : {D : Type 0} → disk.Ghosts D → Image → Option (Files D) → Serving → Log → Log → Output → Output → Result (Unit {0}) Failure → Type 0
-ServesAll g start closed s before after old new (Ok done) = HasServed g start closed s ending.Served before after × HasBegun old new
-ServesAll g start closed s before after old new (Err failure.Shut) = HasServed g start closed s ending.Shut before after × HasBegun old new
-ServesAll g start closed s before after old new (Err (failure.Register why)) = (after ≡ before) × (new ≡ old) × Stays g start closed
-ServesAll g start closed s before after old new (Err failure.Device) = IsUnserved s before after old new × Stays g start closed
+ServesAll g start closed s before after old new (Ok done) = HasServedFiles g start closed s ending.Served before after × HasBegun old new
+ServesAll g start closed s before after old new (Err failure.Shut) = HasServedFiles g start closed s ending.Shut before after × HasBegun old new
+ServesAll g start closed s before after old new (Err (failure.Register why)) = (after ≡ before) × (new ≡ old) × FilesStay g start closed
+ServesAll g start closed s before after old new (Err failure.Device) = IsUnserved s before after old new × FilesStay g start closed
 ServesAll g start closed s before after old new (Err other) = ⊥
 
 -- How serving ends: at the places that the words spell, `listening` is written and connections are served; or none is
 -- served.
 abbrev pub EndsServe : {D : Type 0} → disk.Ghosts D → Image → Option (Files D) → List ℕ → List ℕ → Option (List ℕ) → Option (List ℕ) → Log → Log → Output → Output → Result (Unit {0}) Failure → Type 0
-EndsServe g start closed place count now orders before after old new (Err (failure.Field field)) = (after ≡ before) × (new ≡ old) × Stays g start closed × IsFirst field (serve_fields place count now)
+EndsServe g start closed place count now orders before after old new (Err (failure.Field field)) = (after ≡ before) × (new ≡ old) × FilesStay g start closed × IsFirstFault field (serve_fields place count now)
 EndsServe g start closed place count now orders before after old new (Err (failure.Refused why)) = ⊥
 EndsServe g start closed place count now orders before after old new (Err (failure.Register why)) =
-    (after ≡ before) × (new ≡ old) × Stays g start closed × OnceRead why ((s : Serving) × IsServing place count now orders s)
+    (after ≡ before) × (new ≡ old) × FilesStay g start closed × OnceRead why ((s : Serving) × IsServing place count now orders s)
 EndsServe g start closed place count now orders before after old new ended = (s : Serving) × IsServing place count now orders s × ServesAll g start closed s before after old new ended

@@ -4,7 +4,7 @@ use Rattle.sqlite.specs.Recovery.{Image}
 use Rattle.sqlite_disk.specs.declared.Disk as disk
 use Rattle.sqlite_disk.specs.declared.Files.{Files}
 use Rattle.wgr_words.specs.Asked.{OrderAsked}
-use Rattle.wgr_file.specs.OnFiles.{HasEnded, Stays}
+use Rattle.wgr_file.specs.OnFiles.{HasEnded, FilesStay}
 use Rattle.wgr_orders.specs.declared.order.Order.{Order}
 use Rattle.wgr_register.specs.declared.fault.Done.{Done}
 use Rattle.wgr_register.specs.declared.fault.OrderFault.{OrderFault}
@@ -40,12 +40,12 @@ as_ended (Err why) = Err (of_order why)
 abbrev pub EndsAs : {D : Type 0} → disk.Ghosts D → Image → Option (Files D) → Order → Result Done Failure → Type 0
 EndsAs g start closed order (Ok done) = HasEnded g start closed order (Ok done)
 EndsAs g start closed order (Err (failure.Refused why)) = HasEnded g start closed order (Err (order_fault.Refused why))
-EndsAs g start closed order (Err (failure.Register why)) = Stays g start closed ⊎ ((fault : Fault) × (why ≡ as_register_fault fault) × HasEnded g start closed order (Err (order_fault.Fault fault)))
+EndsAs g start closed order (Err (failure.Register why)) = FilesStay g start closed ⊎ ((fault : Fault) × (why ≡ as_register_fault fault) × HasEnded g start closed order (Err (order_fault.Fault fault)))
 EndsAs g start closed order (Err other) = ⊥
 
 -- the order that the words and the input spell had this result
-abbrev pub HasOrdered : {D : Type 0} → disk.Ghosts D → Image → Option (Files D) → OrderAsked → Input → Input → Result Done OrderFault → Type 0
-HasOrdered g start closed asked old new ended = (token : List ℕ) × (order : Order) × TakesToken asked old new token × MakesOrder asked token order × HasEnded g start closed order ended
+abbrev pub HasOrderedInFiles : {D : Type 0} → disk.Ghosts D → Image → Option (Files D) → OrderAsked → Input → Input → Result Done OrderFault → Type 0
+HasOrderedInFiles g start closed asked old new ended = (token : List ℕ) × (order : Order) × TakesToken asked old new token × MakesOrder asked token order × HasEnded g start closed order ended
 
 -- the words and the input spell an order
 abbrev pub SpellOrder : OrderAsked → Input → Input → Type 0
@@ -55,10 +55,10 @@ SpellOrder asked old new = (token : List ℕ) × (order : Order) × TakesToken a
 -- the input is reported as such; after any other the input has not failed, and the rows are unchanged. The register
 -- is opened only for an order that was read.
 abbrev pub CarriesOut : {D : Type 0} → disk.Ghosts D → Image → Option (Files D) → OrderAsked → Input → Input → Result Done Failure → Type 0
-CarriesOut g start closed asked old new (Ok done) = HasOrdered g start closed asked old new (Ok done)
-CarriesOut g start closed asked old new (Err (failure.Refused why)) = HasOrdered g start closed asked old new (Err (order_fault.Refused why))
-CarriesOut g start closed asked old new (Err (failure.Field field)) = Stays g start closed × ReportsField asked old new field
+CarriesOut g start closed asked old new (Ok done) = HasOrderedInFiles g start closed asked old new (Ok done)
+CarriesOut g start closed asked old new (Err (failure.Refused why)) = HasOrderedInFiles g start closed asked old new (Err (order_fault.Refused why))
+CarriesOut g start closed asked old new (Err (failure.Field field)) = FilesStay g start closed × ReportsField asked old new field
 CarriesOut g start closed asked old new (Err (failure.Register why)) =
-    (new.failed ≡ old.failed) × ((Stays g start closed × OnceRead why (SpellOrder asked old new)) ⊎ ((fault : Fault) × (why ≡ as_register_fault fault) × HasOrdered g start closed asked old new (Err (order_fault.Fault fault))))
-CarriesOut g start closed asked old new (Err failure.Device) = Stays g start closed × (new.failed ≡ true)
+    (new.failed ≡ old.failed) × ((FilesStay g start closed × OnceRead why (SpellOrder asked old new)) ⊎ ((fault : Fault) × (why ≡ as_register_fault fault) × HasOrderedInFiles g start closed asked old new (Err (order_fault.Fault fault))))
+CarriesOut g start closed asked old new (Err failure.Device) = FilesStay g start closed × (new.failed ≡ true)
 CarriesOut g start closed asked old new (Err failure.Shut) = ⊥

@@ -8,12 +8,12 @@ use Rattle.sqlite.specs.State.{HasCleanDisk}
 use Rattle.sqlite_disk.specs.declared.Disk as disk
 use Rattle.sqlite_disk.specs.declared.Files.{Files}
 use Rattle.sqlite_store.specs.declared.store.FileStore.{FileStore}
-use Rattle.wgr_file.specs.OnFiles.{IsClosedTo, IsOpen, Stays}
+use Rattle.wgr_file.specs.OnFiles.{IsClosedTo, IsOpen, FilesStay}
 use Rattle.wgr_service.specs.Lines.{end_text}
 use Rattle.wgr_service.specs.Texts.{HasCarriedOut, IsCutAtLast, greatest, lines_in}
 use Rattle.wgr_service.specs.declared.lines.LineEnd.{LineEnd}
 use Rattle.wgr_schema.specs.declared.fault.RegisterFault.TheVariants as register_fault
-use Rattle.wgr_words.specs.Order.{Input, IsTaken}
+use Rattle.wgr_words.specs.Order.{Input, TakesInput}
 use Rattle.wgr_words.specs.declared.field.WordFault.{WordFault}
 use Rattle.wgr_words.specs.declared.field.WordFault.TheVariants as word_fault
 use Rattle.wgr_prog.specs.Answering.{Output}
@@ -22,9 +22,9 @@ use Rattle.wgr_prog.specs.declared.register_words.Failure.{Failure}
 use Rattle.wgr_prog.specs.declared.register_words.Failure.TheVariants as failure
 
 -- all of standard input, or the text of a file, of which std says nothing
-abbrev pub IsText : Option (List ℕ) → Input → Input → List ℕ → Type 0
-IsText None old new text = IsTaken old new text
-IsText (Some file) old new text = new ≡ old
+abbrev pub IsOrderText : Option (List ℕ) → Input → Input → List ℕ → Type 0
+IsOrderText None old new text = TakesInput old new text
+IsOrderText (Some file) old new text = new ≡ old
 
 -- the input failed, or memory was refused; of a file nothing is known
 abbrev pub IsTextFault : Option (List ℕ) → Input → Input → WordFault → Type 0
@@ -63,16 +63,16 @@ pub record HasStopped {D : Type 0} (g : disk.Ghosts D) (start : Image) (closed :
 -- the lines are carried out, or the register isn't opened
 abbrev pub CarriesOutText : {D : Type 0} → disk.Ghosts D → Image → Option (Files D) → List ℕ → Output → Output → Result ℕ Failure → Type 0
 CarriesOutText g start closed text old new (Ok status) = HasReported g start closed text old new status
-CarriesOutText g start closed text old new (Err (failure.Register why)) = (new ≡ old) × Stays g start closed
+CarriesOutText g start closed text old new (Err (failure.Register why)) = (new ≡ old) × FilesStay g start closed
 CarriesOutText g start closed text old new (Err failure.Device) = HasStopped g start closed text old new
 CarriesOutText g start closed text old new (Err other) = ⊥
 
 -- and those of the text that was read, or why none was
 abbrev pub EndsOrders : {D : Type 0} → disk.Ghosts D → Image → Option (Files D) → Option (List ℕ) → Input → Input → Output → Output → Result ℕ Failure → Type 0
-EndsOrders g start closed file was is old new (Ok status) = (text : List ℕ) × IsText file was is text × HasReported g start closed text old new status
+EndsOrders g start closed file was is old new (Ok status) = (text : List ℕ) × IsOrderText file was is text × HasReported g start closed text old new status
 EndsOrders g start closed file was is old new (Err (failure.Register why)) =
-    (new ≡ old) × Stays g start closed × (((why ≡ register_fault.NoMemory) × IsTextFault file was is word_fault.NoMemory) ⊎ ((text : List ℕ) × IsText file was is text))
-EndsOrders g start closed file was is old new (Err failure.Device) = ((new ≡ old) × Stays g start closed × IsTextFault file was is word_fault.Device) ⊎ ((text : List ℕ) × IsText file was is text × HasStopped g start closed text old new)
+    (new ≡ old) × FilesStay g start closed × (((why ≡ register_fault.NoMemory) × IsTextFault file was is word_fault.NoMemory) ⊎ ((text : List ℕ) × IsOrderText file was is text))
+EndsOrders g start closed file was is old new (Err failure.Device) = ((new ≡ old) × FilesStay g start closed × IsTextFault file was is word_fault.Device) ⊎ ((text : List ℕ) × IsOrderText file was is text × HasStopped g start closed text old new)
 EndsOrders g start closed file was is old new (Err other) = ⊥
 
 abbrev pub orders_status : Result ℕ Failure → ℕ

@@ -14,12 +14,12 @@ pub data Reply : Type 0 where
   Undone : (status : ℕ) → Reply
 
 -- the same, in the program's type
-abbrev pub meant : read.Reply → Reply
-meant code.Done = Done
-meant (code.Shown text) = Shown text.now
-meant (code.Refused text) = Undone REFUSED
-meant (code.Failed text) = Undone FAULT
-meant code.Broken = Undone FAULT
+abbrev pub meant_reply : read.Reply → Reply
+meant_reply code.Done = Done
+meant_reply (code.Shown text) = Shown text.now
+meant_reply (code.Refused text) = Undone REFUSED
+meant_reply (code.Failed text) = Undone FAULT
+meant_reply code.Broken = Undone FAULT
 
 -- what stands behind the first newline
 abbrev pub behind_newline : List ℕ → List ℕ

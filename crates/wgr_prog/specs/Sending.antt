@@ -5,9 +5,9 @@ use Rattle.std.specs.declared.alloc.Global.{Global}
 use Rattle.std.specs.Io.KnownBytes.{Appends}
 use Rattle.wgr_service.specs.Network.{Contact, Log, Logs, called, ended}
 use Rattle.wgr_words.specs.Line.{is_line, line_text}
-use Rattle.wgr_words.specs.Order.{Input, IsTaken}
+use Rattle.wgr_words.specs.Order.{Input, TakesInput}
 use Rattle.wgr_words.specs.Sent.{asks_token, line_words, may_be_sent, option_words}
-use Rattle.wgr_words.specs.Words.{line_of}
+use Rattle.wgr_words.specs.Words.{without_newline}
 use Rattle.wgr_prog.specs.Messages.{ReportsDone, ReportsText}
 use Rattle.wgr_prog.specs.Reply.{Reply, Done, Shown, Undone, reply_in}
 use Rattle.wgr_prog.specs.declared.messages.TheConstants.{FAULT, REFUSED}
@@ -39,7 +39,7 @@ abbrev pub has_failed : Call → Bool
 has_failed call = call.read_failed || call.write_failed
 
 -- the line was written to the service at the path, and its reply is all that came back
-pub record IsAnswered (path : List ℕ) (line : List (List ℕ)) (before after : Log) (reply : List ℕ) : Type 0 where
+pub record IsSentBack (path : List ℕ) (line : List (List ℕ)) (before after : Log) (reply : List ℕ) : Type 0 where
   pub call : Call
   pub logged : Logs before after (met_in path call)
   pub whole : is_line line ≡ true
@@ -60,7 +60,7 @@ MayBreak other failed = ⊥
 
 -- the words are no line; or they are one, and the connection failed; or memory was refused
 abbrev pub SendsLine : List ℕ → List (List ℕ) → Log → Log → Result (Vec ℕ Global) SendFault → Type 0
-SendsLine path line before after (Ok reply) = IsAnswered path line before after reply.items
+SendsLine path line before after (Ok reply) = IsSentBack path line before after reply.items
 SendsLine path line before after (Err fault.BadOrder) = (after ≡ before) × (is_line line ≡ false)
 SendsLine path line before after (Err fault.BadToken) = ⊥
 SendsLine path line before after (Err fault.Device) = (is_line line ≡ true) × IsUnanswered path before after true
@@ -69,11 +69,11 @@ SendsLine path line before after (Err fault.NoMemory) = IsUnanswered path before
 -- all of the input is the token, a word, which comes after the words
 abbrev pub SendsTaken : List ℕ → List (List ℕ) → Bool → Log → Log → Input → Input → Result (Vec ℕ Global) SendFault → Type 0
 SendsTaken path words is_json before after old new answer =
-    (text : List ℕ) × IsTaken old new text × (is_line (line_of text ∷ []) ≡ true) × SendsLine path (words ++ line_of text ∷ option_words is_json) before after answer
+    (text : List ℕ) × TakesInput old new text × (is_line (without_newline text ∷ []) ≡ true) × SendsLine path (words ++ without_newline text ∷ option_words is_json) before after answer
 
 -- so it is; or it is no word; or it wasn't read, since the input failed or memory was refused
 abbrev pub SendsToken : List ℕ → List (List ℕ) → Bool → Log → Log → Input → Input → Result (Vec ℕ Global) SendFault → Type 0
-SendsToken path words is_json before after old new (Err fault.BadToken) = (after ≡ before) × ((text : List ℕ) × IsTaken old new text × IsNoWord (line_of text))
+SendsToken path words is_json before after old new (Err fault.BadToken) = (after ≡ before) × ((text : List ℕ) × TakesInput old new text × IsNoWord (without_newline text))
 SendsToken path words is_json before after old new (Err fault.Device) = ((after ≡ before) × (new.failed ≡ true)) ⊎ SendsTaken path words is_json before after old new (Err fault.Device)
 SendsToken path words is_json before after old new (Err fault.NoMemory) = ((after ≡ before) × (new.failed ≡ old.failed)) ⊎ SendsTaken path words is_json before after old new (Err fault.NoMemory)
 SendsToken path words is_json before after old new answer = SendsTaken path words is_json before after old new answer

@@ -18,7 +18,7 @@ use Rattle.wgr_orders.specs.declared.refusal.OrderRefusal.TheVariants.{NoSuchTen
 use Rattle.wgr_peers.specs.Name.{is_name}
 use Rattle.wgr_register.specs.Census.{IsCensus}
 use Rattle.wgr_register.specs.Standing.{StandsAt}
-use Rattle.wgr_show.specs.Json.{IsJson}
+use Rattle.wgr_show.specs.Json.{IsRegisterJson}
 use Rattle.wgr_show.specs.Shown.{is_there}
 use Rattle.wgr_words.specs.declared.field.WordField.TheVariants as of
 use Rattle.wgr_words.specs.declared.field.WordFault.{WordFault}
@@ -28,13 +28,13 @@ use Rattle.wgr_prog.specs.declared.register_words.Failure.{Failure}
 use Rattle.wgr_prog.specs.declared.register_words.Failure.TheVariants as failure
 
 -- whether a tenant may have the name, if one is given
-abbrev pub has_form : Option (List ℕ) → Bool
-has_form None = true
-has_form (Some name) = is_name name
+abbrev pub may_be_tenant : Option (List ℕ) → Bool
+may_be_tenant None = true
+may_be_tenant (Some name) = is_name name
 
 -- it can't, or there is no memory
 abbrev pub IsNameFault : Option (List ℕ) → WordFault → Type 0
-IsNameFault tenant (word_fault.Field field) = (field ≡ of.Tenant) × (has_form tenant ≡ false)
+IsNameFault tenant (word_fault.Field field) = (field ≡ of.Tenant) × (may_be_tenant tenant ≡ false)
 IsNameFault tenant word_fault.NoMemory = Unit {0}
 IsNameFault tenant word_fault.Device = ⊥
 
@@ -45,23 +45,23 @@ pub record IsTextOf (tenant : Option (List ℕ)) (is_json : Bool) (text : List �
   pub census : Census
   pub counted : IsCensus t census
   pub there : is_there tenant census.tenants.items ≡ true
-  pub json : is_json ≡ true → IsJson census tenant text
+  pub json : is_json ≡ true → IsRegisterJson census tenant text
 
 -- no tenant of these rows has the name
 abbrev pub LacksTenant : Option (List ℕ) → Tables → Type 0
 LacksTenant tenant t = (census : Census) × IsCensus t census × (is_there tenant census.tenants.items ≡ false)
 
-abbrev pub SaysOf : Option (List ℕ) → Bool → Result (Vec ℕ Global) Failure → Tables → Type 0
-SaysOf tenant is_json (Ok text) t = IsTextOf tenant is_json text.items t
-SaysOf tenant is_json (Err (failure.Refused why)) t = LacksTenant tenant t
-SaysOf tenant is_json (Err other) t = Unit {0}
+abbrev pub SaysOfFiles : Option (List ℕ) → Bool → Result (Vec ℕ Global) Failure → Tables → Type 0
+SaysOfFiles tenant is_json (Ok text) t = IsTextOf tenant is_json text.items t
+SaysOfFiles tenant is_json (Err (failure.Refused why)) t = LacksTenant tenant t
+SaysOfFiles tenant is_json (Err other) t = Unit {0}
 
 -- how showing a register may end
-abbrev pub MayEnd : Result (Vec ℕ Global) Failure → Type 0
-MayEnd (Ok text) = Unit {0}
-MayEnd (Err (failure.Refused why)) = why ≡ NoSuchTenant
-MayEnd (Err (failure.Register why)) = Unit {0}
-MayEnd (Err other) = ⊥
+abbrev pub MayEndShow : Result (Vec ℕ Global) Failure → Type 0
+MayEndShow (Ok text) = Unit {0}
+MayEndShow (Err (failure.Refused why)) = why ≡ NoSuchTenant
+MayEndShow (Err (failure.Register why)) = Unit {0}
+MayEndShow (Err other) = ⊥
 
 -- ---- the register in two files
 
@@ -79,7 +79,7 @@ ShowsText g start closed tenant is_json (Err (failure.Register why)) = Unit {0}
 ShowsText g start closed tenant is_json (Err other) = ⊥
 
 -- and the tenant's name is tested first
-abbrev pub Shows : {D : Type 0} → disk.Ghosts D → Image → Option (Files D) → Option (List ℕ) → Bool → Result (Vec ℕ Global) Failure → Type 0
-Shows g start closed tenant is_json (Err (failure.Field field)) = IsNameFault tenant (word_fault.Field field)
-Shows g start closed tenant is_json (Err (failure.Register why)) = OnceRead why (has_form tenant ≡ true)
-Shows g start closed tenant is_json shown = (has_form tenant ≡ true) × ShowsText g start closed tenant is_json shown
+abbrev pub ShowsFiles : {D : Type 0} → disk.Ghosts D → Image → Option (Files D) → Option (List ℕ) → Bool → Result (Vec ℕ Global) Failure → Type 0
+ShowsFiles g start closed tenant is_json (Err (failure.Field field)) = IsNameFault tenant (word_fault.Field field)
+ShowsFiles g start closed tenant is_json (Err (failure.Register why)) = OnceRead why (may_be_tenant tenant ≡ true)
+ShowsFiles g start closed tenant is_json shown = (may_be_tenant tenant ≡ true) × ShowsText g start closed tenant is_json shown

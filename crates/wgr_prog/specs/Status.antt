@@ -16,16 +16,16 @@ use Rattle.wgr_pool.specs.Pool.{IsPool}
 use Rattle.wgr_plan.specs.declared.planner.PlanFault.{PlanFault}
 use Rattle.wgr_plan.specs.declared.planner.PlanFault.TheVariants.{Refused, NoMemory, Read, Write}
 use Rattle.wgr_prog.specs.declared.messages.TheConstants.{DONE, FAULT, REFUSED}
-use Rattle.wgr_plan.specs.PlanFault.{Answers, Streams}
+use Rattle.wgr_plan.specs.PlanFault.{HasPlanned, Streams}
 use Rattle.wgr_service.specs.Network.{Log}
 use Rattle.wgr_prog.specs.Answering.{EndsBatch, EndsServe, Output}
-use Rattle.wgr_file.specs.OnFiles.{IsMade, Stays}
+use Rattle.wgr_file.specs.OnFiles.{IsMadeInFiles, FilesStay}
 use Rattle.wgr_prog.specs.Failures.{failure_status}
 use Rattle.wgr_prog.specs.Messages.{ReportsDone, ReportsText}
 use Rattle.wgr_prog.specs.OnRegister.{CarriesOut}
 use Rattle.wgr_prog.specs.Ordering.{EndsOrders, orders_status}
 use Rattle.wgr_prog.specs.Sending.{Sends, ReportsSent}
-use Rattle.wgr_prog.specs.Showing.{Shows}
+use Rattle.wgr_prog.specs.Showing.{ShowsFiles}
 use Rattle.wgr_words.specs.Asked.{OrderAsked}
 use Rattle.wgr_words.specs.Order.{Input, wants_token}
 use Rattle.std.specs.declared.vec.Vec.{Vec}
@@ -41,15 +41,15 @@ streams remaining read_failed contents write_failed input out = record { input =
 abbrev pub SpellsPool : Text → PrefixValue → Type 0
 SpellsPool text pool = Spells text pool.address pool.length × IsPool pool
 
-abbrev pub fault_status : PlanFault → ℕ
-fault_status (Refused line why) = REFUSED
-fault_status NoMemory = FAULT
-fault_status Read = FAULT
-fault_status (Write sent) = FAULT
+abbrev pub plan_fault_status : PlanFault → ℕ
+plan_fault_status (Refused line why) = REFUSED
+plan_fault_status NoMemory = FAULT
+plan_fault_status Read = FAULT
+plan_fault_status (Write sent) = FAULT
 
 abbrev pub plan_status : Result (Unit {0}) PlanFault → ℕ
 plan_status (Ok done) = DONE
-plan_status (Err fault) = fault_status fault
+plan_status (Err fault) = plan_fault_status fault
 
 -- the text is no pool: it is refused, and nothing is read or printed
 pub record RefusesPool (text : Text) (old new : Streams) (status : ℕ) : Type 0 where
@@ -62,7 +62,7 @@ pub record PrintsPlan (text : Text) (old new : Streams) (status : ℕ) : Type 0 
   pub pool : PrefixValue
   pub answer : Result (Unit {0}) PlanFault
   pub spelled : SpellsPool text pool
-  pub answers : Answers pool old new answer
+  pub answers : HasPlanned pool old new answer
   pub reported : status ≡ plan_status answer
 
 abbrev pub RunsPlan : Text → Streams → Streams → ℕ → Type 0
@@ -79,16 +79,16 @@ abbrev pub ReportsEnd : Option (List ℕ) → Option (List ℕ) → Bool → Boo
 ReportsEnd written written' failed failed' (Ok done) status = ReportsDone written written' failed failed' status
 ReportsEnd written written' failed failed' (Err why) status = (status ≡ failure_status why) × (written' ≡ written) × (failed' ≡ failed)
 
-abbrev pub Reports : Streams → Streams → Result Done Failure → ℕ → Type 0
-Reports old new answer status = ReportsEnd old.written new.written old.write_failed new.write_failed answer status
+abbrev pub ReportsStatus : Streams → Streams → Result Done Failure → ℕ → Type 0
+ReportsStatus old new answer status = ReportsEnd old.written new.written old.write_failed new.write_failed answer status
 
 -- a register is made, or a fault is reported; nothing is read
 pub record RunsInit {D : Type 0} (g : disk.Ghosts D) (start : Image) (closed : Option (Files D)) (old new : Streams) (status : ℕ) : Type 0 where
   pub answer : Result Done Failure
-  pub made : IfOk answer (λ done. IsMade g start closed)
-  pub kept : IfErr answer (λ why. Stays g start closed)
+  pub made : IfOk answer (λ done. IsMadeInFiles g start closed)
+  pub kept : IfErr answer (λ why. FilesStay g start closed)
   pub fault : IfErr answer (λ why. failure_status why ≡ FAULT)
-  pub reported : Reports old new answer status
+  pub reported : ReportsStatus old new answer status
   pub unread : ReadsNothing old new
 
 abbrev pub input_in : Streams → Input
@@ -98,7 +98,7 @@ input_in s = record { remaining = s.input; failed = s.read_failed }
 pub record RunsOrder {D : Type 0} (g : disk.Ghosts D) (start : Image) (closed : Option (Files D)) (asked : OrderAsked) (old new : Streams) (status : ℕ) : Type 0 where
   pub answer : Result Done Failure
   pub carried : CarriesOut g start closed asked (input_in old) (input_in new) answer
-  pub reported : Reports old new answer status
+  pub reported : ReportsStatus old new answer status
   pub unread : wants_token asked ≡ false → ReadsNothing old new
 
 abbrev pub output_in : Streams → Output
@@ -142,8 +142,8 @@ ReportsShown written written' failed failed' (Err why) status = (status ≡ fail
 -- what the register in the files has is shown, and they hold what they held
 pub record RunsShow {D : Type 0} (g : disk.Ghosts D) (start : Image) (closed : Option (Files D)) (tenant : Option Text) (is_json : Bool) (old new : Streams) (status : ℕ) : Type 0 where
   pub answer : Result (Vec ℕ Global) Failure
-  pub kept : Stays g start closed
-  pub shows : Shows g start closed tenant is_json answer
+  pub kept : FilesStay g start closed
+  pub shows : ShowsFiles g start closed tenant is_json answer
   pub reported : ReportsShown old.written new.written old.write_failed new.write_failed answer status
   pub unread : ReadsNothing old new
 
@@ -162,18 +162,18 @@ abbrev pub LacksMemory : Streams → Streams → ℕ → Type 0
 LacksMemory old new status = (new ≡ old) × (status ≡ FAULT)
 
 abbrev pub Runs : {D : Type 0} → disk.Ghosts D → Image → Option (Files D) → Asked → Log → Log → Streams → Streams → ℕ → Type 0
-Runs g start closed (Plan pool) before after old new status = (after ≡ before) × Stays g start closed × RunsPlan pool old new status
+Runs g start closed (Plan pool) before after old new status = (after ≡ before) × FilesStay g start closed × RunsPlan pool old new status
 Runs g start closed (Init db) before after old new status = (after ≡ before) × RunsInit g start closed old new status
 Runs g start closed (Operate db order) before after old new status = (after ≡ before) × RunsOrder g start closed order old new status
 Runs g start closed (Batch db now files) before after old new status = (after ≡ before) × RunsBatch g start closed now files old new status
 Runs g start closed (Serve db place count now orders) before after old new status = RunsServe g start closed place count now orders before after old new status
-Runs g start closed (Send path words digest is_json) before after old new status = Stays g start closed × RunsSend path words digest is_json before after old new status
+Runs g start closed (Send path words digest is_json) before after old new status = FilesStay g start closed × RunsSend path words digest is_json before after old new status
 Runs g start closed (Orders db file) before after old new status = (after ≡ before) × RunsOrders g start closed file old new status
 Runs g start closed (Show db tenant is_json) before after old new status = (after ≡ before) × RunsShow g start closed tenant is_json old new status
 
 -- The words ask for something: it is run, or there is no memory and the files stay as they are.
 abbrev pub ServesAsked : {D : Type 0} → disk.Ghosts D → Image → Option (Files D) → Asked → Log → Log → Streams → Streams → ℕ → Type 0
-ServesAsked g start closed asked before after old new status = ((after ≡ before) × Stays g start closed × LacksMemory old new status) ⊎ Runs g start closed asked before after old new status
+ServesAsked g start closed asked before after old new status = ((after ≡ before) × FilesStay g start closed × LacksMemory old new status) ⊎ Runs g start closed asked before after old new status
 
 -- asking for help or the version is not a mistake
 abbrev pub kind_status : ErrorKind → ℕ
@@ -200,9 +200,9 @@ abbrev pub ReportsError : Kinds → Streams → Streams → ℕ → Type 0
 ReportsError kinds old new status = LacksMemory old new status ⊎ FailsToWrite old new status ⊎ ReportsKind kinds old new status
 
 -- The words ask for something, or for nothing. Only `serve` and `send` use the network.
-pub record Serves {D : Type 0} (g : disk.Ghosts D) (start : Image) (closed : Option (Files D)) (words : List Text) (before after : Log) (old new : Streams) (status : ℕ) : Type 0 where
+pub record ServesWords {D : Type 0} (g : disk.Ghosts D) (start : Image) (closed : Option (Files D)) (words : List Text) (before after : Log) (old new : Streams) (status : ℕ) : Type 0 where
   pub served : IfSome (asked_by words) (λ asked. ServesAsked g start closed asked before after old new status)
-  pub reported : IfNone (asked_by words) ((after ≡ before) × Stays g start closed × ReportsError (wrong_with words) old new status)
+  pub reported : IfNone (asked_by words) ((after ≡ before) × FilesStay g start closed × ReportsError (wrong_with words) old new status)
 
 -- the arguments are not available: they aren't UTF-8, or there is no memory; nothing is read or printed
 pub record LacksWords (why : io.ErrorKind) (old new : Streams) (status : ℕ) : Type 0 where

@@ -2,9 +2,9 @@
 ghost use Rattle.std.specs.Prelude.{◌≡◌, IfErr, IfOk, None, option_map};
 ghost use Rattle.sqlite.specs.WalFiles.{image_at};
 ghost use Rattle.wgr_prog.specs.Answering.{output_of};
-ghost use Rattle.wgr_prog.specs.Ordering.{CarriesOutText, EndsOrders, IsText, IsTextFault, orders_status};
+ghost use Rattle.wgr_prog.specs.Ordering.{CarriesOutText, EndsOrders, IsOrderText, IsTextFault, orders_status};
 ghost use Rattle.wgr_prog.specs.Status.{RunsOrders, streams};
-ghost use Rattle.wgr_words.specs.Order.{IsTaken, input_of};
+ghost use Rattle.wgr_words.specs.Order.{TakesInput, input_of};
 
 use crate::messages;
 use crate::register_words::Failure;
@@ -66,7 +66,7 @@ fn read_text<R: Read>(
     file: Option<&str>,
     input: &mut R,
 ) -> Result<Vec<u8>, WordFault>
-    ensures ok { IfOk result (λ text. IsText (option_map (λ file. file.now) file.entry) (input_of R.remaining R.failed input.old) (input_of R.remaining R.failed input.new) text.items) }
+    ensures ok { IfOk result (λ text. IsOrderText (option_map (λ file. file.now) file.entry) (input_of R.remaining R.failed input.old) (input_of R.remaining R.failed input.new) text.items) }
     ensures err { IfErr result (IsTextFault (option_map (λ file. file.now) file.entry) (input_of R.remaining R.failed input.old) (input_of R.remaining R.failed input.new)) }
 {
     match file {
@@ -76,7 +76,7 @@ fn read_text<R: Read>(
 }
 
 fn read_input<R: Read>(alloc: Global, input: &mut R) -> Result<Vec<u8>, WordFault>
-    ensures ok { IfOk result (λ text. IsTaken (input_of R.remaining R.failed input.old) (input_of R.remaining R.failed input.new) text.items) }
+    ensures ok { IfOk result (λ text. TakesInput (input_of R.remaining R.failed input.old) (input_of R.remaining R.failed input.new) text.items) }
     ensures err { IfErr result (IsTextFault None (input_of R.remaining R.failed input.old) (input_of R.remaining R.failed input.new)) }
 {
     match read_to_end(alloc, input) {

@@ -4,8 +4,8 @@ ghost use Rattle.std.specs.IoError.{error_kind};
 ghost use Rattle.std.specs.declared.io.ErrorKind.TheVariants.{InvalidData};
 ghost use Rattle.sqlite.specs.WalFiles.{image_at};
 ghost use Rattle.clap.specs.Words.{kind_of};
-ghost use Rattle.wgr_file.specs.OnFiles.{Stays};
-ghost use Rattle.wgr_prog.specs.Status.{LacksWords, RunsPlan, Serves, fault_status, kind_status, streams};
+ghost use Rattle.wgr_file.specs.OnFiles.{FilesStay};
+ghost use Rattle.wgr_prog.specs.Status.{LacksWords, RunsPlan, ServesWords, plan_fault_status, kind_status, streams};
 ghost use Rattle.wgr_prog.specs.declared.messages.TheConstants.{DONE, FAULT, REFUSED};
 
 use crate::messages::{DONE, REFUSED, Text, device, no_memory, refusal};
@@ -46,8 +46,8 @@ pub fn run<S: Start, N: Network, R: Read, W: Write, E: Write>(
     out: &mut W,
     err: &mut E,
 ) -> (u8, Closed<S>)
-    ensures serves { IfOk arguments.now (λ all. Serves ⟦<FileFrom<S> as Disk>⟧ (image_at S.Start) result.1 (map string_bytes (drop 1 all.items)) (N.log network.old) (N.log network.new) (streams R.remaining R.failed W.contents W.failed input.old out.old) (streams R.remaining R.failed W.contents W.failed input.new out.new) result.0) }
-    ensures lacks { IfErr arguments.now (λ error. (N.log network.new ≡ N.log network.old) × Stays ⟦<FileFrom<S> as Disk>⟧ (image_at S.Start) result.1 × LacksWords (error_kind error) (streams R.remaining R.failed W.contents W.failed input.old out.old) (streams R.remaining R.failed W.contents W.failed input.new out.new) result.0) }
+    ensures serves { IfOk arguments.now (λ all. ServesWords ⟦<FileFrom<S> as Disk>⟧ (image_at S.Start) result.1 (map string_bytes (drop 1 all.items)) (N.log network.old) (N.log network.new) (streams R.remaining R.failed W.contents W.failed input.old out.old) (streams R.remaining R.failed W.contents W.failed input.new out.new) result.0) }
+    ensures lacks { IfErr arguments.now (λ error. (N.log network.new ≡ N.log network.old) × FilesStay ⟦<FileFrom<S> as Disk>⟧ (image_at S.Start) result.1 × LacksWords (error_kind error) (streams R.remaining R.failed W.contents W.failed input.old out.old) (streams R.remaining R.failed W.contents W.failed input.new out.new) result.0) }
 {
     match arguments {
         Ok(all) => program(rt, start, words_of(all), network, input, out, err),
@@ -75,7 +75,7 @@ fn program<S: Start, T: AsStr, N: Network, R: Read, W: Write, E: Write>(
     out: &mut W,
     err: &mut E,
 ) -> (u8, Closed<S>)
-    ensures { Serves ⟦<FileFrom<S> as Disk>⟧ (image_at S.Start) result.1 (map T.text words.now) (N.log network.old) (N.log network.new) (streams R.remaining R.failed W.contents W.failed input.old out.old) (streams R.remaining R.failed W.contents W.failed input.new out.new) result.0 }
+    ensures { ServesWords ⟦<FileFrom<S> as Disk>⟧ (image_at S.Start) result.1 (map T.text words.now) (N.log network.old) (N.log network.new) (streams R.remaining R.failed W.contents W.failed input.old out.old) (streams R.remaining R.failed W.contents W.failed input.new out.new) result.0 }
 {
     let alloc = rt.alloc();
     match read_words(alloc, words) {
@@ -183,15 +183,12 @@ fn run_plan<R: Read, W: Write, E: Write>(
 }
 
 fn plan_fault<E: Write>(why: &PlanFault, err: &mut E) -> u8
-    ensures status { result ≡ fault_status why.now }
+    ensures status { result ≡ plan_fault_status why.now }
 {
     match why {
         PlanFault::NoMemory => no_memory(err),
         PlanFault::Read | PlanFault::Write { .. } => device(err),
-        PlanFault::Refused {
-            line,
-            refusal: reason,
-        } => {
+        PlanFault::Refused { line, why: reason } => {
             let _ = write!(Text { err }, "wgr: line {line}: {reason}\n");
             REFUSED
         }

@@ -1,10 +1,11 @@
 //! The reply of a running service to an order or a reading.
-ghost use Rattle.std.specs.Prelude.{◌≡◌, ◌==◌, ◌++◌, codes, decimal, option_map, position, IfSome};
+ghost use Rattle.std.specs.Prelude.{◌≡◌, ◌++◌, codes, decimal, option_map, IfSome};
 ghost use Rattle.std.specs.Str.{bytes_eq};
-ghost use Rattle.wgr_prog.specs.Reply.{alone, behind_newline, meant, reply_in, reply_of};
+ghost use Rattle.wgr_prog.specs.Reply.{alone, behind_newline, meant_reply, reply_in, reply_of};
 ghost use Rattle.wgr_words.specs.Line.{before_newline};
 
 use itoa::Buffer;
+use wgr_text::newline;
 
 /// What a service answered.
 #[derive(Clone, Copy)]
@@ -23,7 +24,7 @@ pub(crate) enum Reply<'a> {
 
 /// What all bytes that came back mean.
 pub(crate) fn read_reply(all: &[u8]) -> Reply<'_>
-    ensures { meant result ≡ reply_in all.now }
+    ensures { meant_reply result ≡ reply_in all.now }
 {
     match split_line(all) {
         Some((line, rest)) => reply_of(line, rest),
@@ -42,15 +43,8 @@ fn split_line(all: &[u8]) -> Option<(&[u8], &[u8])>
     }
 }
 
-// The place of the first newline.
-fn newline(text: &[u8]) -> Option<usize>
-    ensures { result ≡ position (λ byte. byte == 10) text.now }
-{
-    text.iter().position(|byte| *byte == b'\n')
-}
-
 fn reply_of<'a>(line: &'a [u8], rest: &'a [u8]) -> Reply<'a>
-    ensures { meant result ≡ reply_of line.now rest.now }
+    ensures { meant_reply result ≡ reply_of line.now rest.now }
 {
     if is_length(line, rest.len()) {
         return Reply::Shown(rest);
@@ -74,7 +68,7 @@ fn is_length(line: &[u8], length: usize) -> bool
 
 // A reply of one line.
 fn alone(line: &[u8]) -> Reply<'_>
-    ensures { meant result ≡ alone line.now }
+    ensures { meant_reply result ≡ alone line.now }
 {
     if line == b"0 done".as_slice() {
         return Reply::Done;

@@ -1,8 +1,8 @@
 //! The commands that answer tenants' requests from the register in a file.
 ghost use Rattle.std.specs.Prelude.{◌≡◌, ℕ, Bool, IfErr, IfOk, IsSome, OnErr, OnOk, List, Option, map, option_map};
 ghost use Rattle.sqlite.specs.WalFiles.{image_at};
-ghost use Rattle.wgr_file.specs.OnFiles.{IsClosedTo, IsOpen, Stays};
-ghost use Rattle.wgr_prog.specs.Answering.{Answers, AreSpelled, EndsBatch, EndsServe, IsBatchFault, IsChoice, IsServing, Listens, ServesAll, output_of, serve_fields, socket_of};
+ghost use Rattle.wgr_file.specs.OnFiles.{IsClosedTo, IsOpen, FilesStay};
+ghost use Rattle.wgr_prog.specs.Answering.{AnswersRequests, AreAskedByText, EndsBatch, EndsServe, IsBatchFault, IsChoice, IsServing, Listens, ServesAll, output_of, serve_fields, socket_of};
 ghost use Rattle.wgr_words.specs.Order.{IsFaultIn};
 ghost use Rattle.wgr_service.specs.Network.{Logs};
 ghost use Rattle.wgr_prog.specs.Status.{RunsBatch, RunsServe, batch_status, serve_status};
@@ -13,13 +13,14 @@ use crate::requests::read_requests;
 use sqlite::{FileFrom, FileStore, Start};
 use sqlite_disk::Disk;
 use std::net::IpAddr;
-use std::time::{SystemTime, UNIX_EPOCH};
 use wgr_core::Port;
 use wgr_file::{Closed, Unopened, close, open_register};
 use wgr_io::{DeviceError, Write, write_all};
 use wgr_office::{Event, Office};
 use wgr_register::RegisterFault;
-use wgr_service::{BatchFault, Desk, Ending, FileCopies, Network, answer_all, serve_connections};
+use wgr_service::{
+    BatchFault, Desk, Ending, FileCopies, Network, answer_all, seconds_now, serve_connections,
+};
 use wgr_words::{WordFault, WordField, read_endpoint_field, read_whole_field};
 
 /// Answers the requests in files in order, and returns the exit status.
@@ -71,7 +72,7 @@ fn answer_files<S: Start, W: Write>(
 
 // The requests in the files, at this moment.
 fn read_batch(rt: &HostRuntime, now: &str, files: &[&str]) -> Result<Vec<Event>, WordFault>
-    ensures ok { IfOk result (λ requests. AreSpelled now.now (map (λ file. file.now) files.now) requests.items) }
+    ensures ok { IfOk result (λ requests. AreAskedByText now.now (map (λ file. file.now) files.now) requests.items) }
     ensures err { IfErr result (IsBatchFault now.now) }
 {
     let moment = read_whole_field(WordField::Now, now)?;
@@ -87,7 +88,7 @@ fn answer_requests<S: Start, W: Write>(
     requests: &[Event],
     out: &mut W,
 ) -> (Result<bool, Failure>, Closed<S>)
-    ensures { Answers ⟦<FileFrom<S> as Disk>⟧ (image_at S.Start) result.1 requests.now (output_of W.contents W.failed out.old) (output_of W.contents W.failed out.new) result.0 }
+    ensures { AnswersRequests ⟦<FileFrom<S> as Disk>⟧ (image_at S.Start) result.1 requests.now (output_of W.contents W.failed out.old) (output_of W.contents W.failed out.new) result.0 }
 {
     let mut office = match open_office(rt, path, start) {
         Ok(office) => office,
@@ -248,22 +249,12 @@ fn listen<S: Start, N: Network, W: Write, E: Write>(
         return Err(Failure::Device);
     }
     let alloc = rt.alloc();
-    let mut desk = Desk::new(copies, seconds_now(rt));
+    // The start counts as moment 0 where the clock can't be read.
+    let mut desk = Desk::new(copies, seconds_now(rt).unwrap_or(0));
     let Serving { count, moment, .. } = *serving;
     match serve_connections(alloc, office, network, &mut desk, count, moment, err) {
         Ending::Served => Ok(()),
         Ending::Shut => Err(Failure::Shut),
-    }
-}
-
-// The clock's time, in whole seconds since 1970-01-01 00:00 UTC, and 0 where it failed.
-fn seconds_now(rt: &HostRuntime) -> u64 {
-    let Ok(now) = SystemTime::now(rt) else {
-        return 0;
-    };
-    match now.duration_since(UNIX_EPOCH) {
-        Ok(since) => since.as_secs(),
-        Err(_) => 0,
     }
 }
 
@@ -285,7 +276,7 @@ pub(crate) fn open_office<S: Start>(
     start: S,
 ) -> Result<Office<FileStore<FileFrom<S>>>, Unopened<S>>
     ensures open { IfOk result (IsOpen (image_at S.Start)) }
-    ensures kept { IfErr result (λ e. Stays ⟦<FileFrom<S> as Disk>⟧ (image_at S.Start) e.files) }
+    ensures kept { IfErr result (λ e. FilesStay ⟦<FileFrom<S> as Disk>⟧ (image_at S.Start) e.files) }
 {
     let register = open_register(rt, path, start)?;
     match Office::new(rt.alloc(), register) {

@@ -1,6 +1,6 @@
 //! Requests in files.
 ghost use Rattle.std.specs.Prelude.{IfErr, IfOk, length};
-ghost use Rattle.wgr_prog.specs.Answering.{AreAsked, IsNoField};
+ghost use Rattle.wgr_prog.specs.Answering.{AreAskedAt, IsNoField};
 
 use std::fs::File;
 use wgr_io::{Device, ReadFault, read_to_end};
@@ -13,7 +13,7 @@ pub(crate) fn read_requests(
     now: u64,
     files: &[&str],
 ) -> Result<Vec<Event>, WordFault>
-    ensures ok { IfOk result (λ events. AreAsked now (length files.now) events.items) }
+    ensures ok { IfOk result (λ events. AreAskedAt now (length files.now) events.items) }
     ensures err { IfErr result IsNoField }
 {
     let mut requests = Vec::with_capacity(rt.alloc(), files.len())?;

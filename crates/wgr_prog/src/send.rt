@@ -9,7 +9,7 @@ ghost use Rattle.wgr_prog.specs.declared.send.SendFault.{SendFault as Failed};
 ghost use Rattle.wgr_words.specs.Line.{is_line, line_text};
 ghost use Rattle.wgr_words.specs.Order.{input_of};
 ghost use Rattle.wgr_words.specs.Sent.{asks_token, line_words, option_words};
-ghost use Rattle.wgr_words.specs.Words.{line_of};
+ghost use Rattle.wgr_words.specs.Words.{without_newline};
 
 use crate::messages::{self, FAULT, REFUSED, device, no_memory, refusal};
 use crate::reply::{Reply, read_reply};
@@ -230,8 +230,8 @@ fn send_token<N: Network>(
 
 // The text without a newline at its end, if that makes a word of a line.
 fn token_word(typed: &[u8]) -> Option<&str>
-    ensures some { IfSome result (λ token. (token.now ≡ line_of typed.now) × (is_line (token.now ∷ []) ≡ true)) }
-    ensures none { IfNone result (IsNoWord (line_of typed.now)) }
+    ensures some { IfSome result (λ token. (token.now ≡ without_newline typed.now) × (is_line (token.now ∷ []) ≡ true)) }
+    ensures none { IfNone result (IsNoWord (without_newline typed.now)) }
 {
     let line = match typed.strip_suffix(b"\n".as_slice()) {
         Some(line) => line,

@@ -5,10 +5,10 @@ ghost use Rattle.sqlite.specs.Held.{state};
 ghost use Rattle.sqlite.specs.State.{HasCleanDisk};
 ghost use Rattle.sqlite.specs.WalFiles.{image_at};
 ghost use Rattle.wgr_columns.specs.Decode.{tables_of};
-ghost use Rattle.wgr_file.specs.OnFiles.{Stays};
+ghost use Rattle.wgr_file.specs.OnFiles.{FilesStay};
 ghost use Rattle.wgr_model.specs.Steps.{Event};
 ghost use Rattle.wgr_register.specs.Standing.{StandsAt};
-ghost use Rattle.wgr_prog.specs.Showing.{IsNameFault, MayEnd, SaysOf, Shows, ShowsText, has_form};
+ghost use Rattle.wgr_prog.specs.Showing.{IsNameFault, MayEndShow, SaysOfFiles, ShowsFiles, ShowsText, may_be_tenant};
 ghost use Rattle.wgr_prog.specs.Status.{ReportsShown, RunsShow};
 
 use crate::messages;
@@ -61,8 +61,8 @@ fn show<S: Start>(
     tenant: Option<&str>,
     is_json: bool,
 ) -> (Result<Vec<u8>, Failure>, Closed<S>)
-    ensures kept { Stays ⟦<FileFrom<S> as Disk>⟧ (image_at S.Start) result.1 }
-    ensures shown { Shows ⟦<FileFrom<S> as Disk>⟧ (image_at S.Start) result.1 (option_map (λ name. name.now) tenant.entry) is_json result.0 }
+    ensures kept { FilesStay ⟦<FileFrom<S> as Disk>⟧ (image_at S.Start) result.1 }
+    ensures shown { ShowsFiles ⟦<FileFrom<S> as Disk>⟧ (image_at S.Start) result.1 (option_map (λ name. name.now) tenant.entry) is_json result.0 }
 {
     match test_name(rt.alloc(), tenant) {
         Ok(()) => show_register(rt, path, start, tenant, is_json),
@@ -72,7 +72,7 @@ fn show<S: Start>(
 
 // Tests whether a tenant may have this name, if one is given.
 fn test_name(alloc: Global, tenant: Option<&str>) -> Result<(), WordFault>
-    ensures ok { OnOk result (has_form (option_map (λ name. name.now) tenant.entry) ≡ true) }
+    ensures ok { OnOk result (may_be_tenant (option_map (λ name. name.now) tenant.entry) ≡ true) }
     ensures err { IfErr result (IsNameFault (option_map (λ name. name.now) tenant.entry)) }
 {
     let Some(name) = tenant else {
@@ -93,7 +93,7 @@ fn show_register<S: Start>(
     tenant: Option<&str>,
     is_json: bool,
 ) -> (Result<Vec<u8>, Failure>, Closed<S>)
-    ensures kept { Stays ⟦<FileFrom<S> as Disk>⟧ (image_at S.Start) result.1 }
+    ensures kept { FilesStay ⟦<FileFrom<S> as Disk>⟧ (image_at S.Start) result.1 }
     ensures shown { ShowsText ⟦<FileFrom<S> as Disk>⟧ (image_at S.Start) result.1 (option_map (λ name. name.now) tenant.entry) is_json result.0 }
 {
     let mut register = match open_register(rt, path, start) {
@@ -113,8 +113,8 @@ fn text_of<S: Alter>(
 ) -> Result<Vec<u8>, Failure>
     ensures clean { HasCleanDisk (state S.Store register.new) → HasCleanDisk (state S.Store register.old) }
     ensures stands { (db : Database) (late : List Event) → StandsAt S.Store register.old db late → StandsAt S.Store register.new db late }
-    ensures says { (db : Database) (late : List Event) → StandsAt S.Store register.old db late → HasCleanDisk (state S.Store register.new) → SaysOf (option_map (λ name. name.now) tenant.entry) is_json result (tables_of db) }
-    ensures ends { MayEnd result }
+    ensures says { (db : Database) (late : List Event) → StandsAt S.Store register.old db late → HasCleanDisk (state S.Store register.new) → SaysOfFiles (option_map (λ name. name.now) tenant.entry) is_json result (tables_of db) }
+    ensures ends { MayEndShow result }
 {
     let census = match register.census(alloc) {
         Ok(census) => census,

@@ -1,7 +1,7 @@
 -- The list of networks, and the digests of requests.
 use Rattle.std.proofs.Common.{◌≡◌, ℕ, List, ◌⊎◌, inl, inr, Option, Some, None, Result, Ok, Err, refl, ap, ◌∙◌}
 use Rattle.wgr_http.specs.Message.{MessageView}
-use Rattle.wgr_request.specs.Bodies.{Outcome}
+use Rattle.wgr_request.specs.Bodies.{ReadCommand}
 use Rattle.wgr_request.specs.Laws.{OnePathListsNetworks, TokensAreKept, digest_of_request}
 use Rattle.wgr_request.specs.Request.{RequestView, Asks, Follows, digest_given, networks, on_network}
 use Rattle.wgr_request.specs.Target.{TargetValue, resolved}
@@ -11,7 +11,7 @@ use Rattle.wgr_request.proofs.Places.{by_its_method, is_get}
 
 -- what is asked is the list of networks, or comes of an outcome on a network
 some_outcome : (t : TargetValue) (m : MessageView) (d : List ℕ) (r : RequestView) → Asks d t m r
-    → ((t ≡ target.networks) × (r ≡ networks d)) ⊎ ((name : List ℕ) × (o : Outcome) × (r ≡ on_network d name o))
+    → ((t ≡ target.networks) × (r ≡ networks d)) ⊎ ((name : List ℕ) × (o : ReadCommand) × (r ≡ on_network d name o))
 some_outcome target.networks m d r is = inl (refl, is)
 some_outcome (target.peers n) m d r on = inr (n, on.0, on.2)
 some_outcome (target.peer n number) m d r on = inr (n, on.0, on.2)
@@ -26,7 +26,7 @@ some_outcome (target.server_file n form) m d r on = inr (n, on.0, on.2)
 
 -- ---- the list of networks
 
-not_listed : (digest d name : List ℕ) (o : Outcome) → networks digest ≡ on_network d name o → ⊥
+not_listed : (digest d name : List ℕ) (o : ReadCommand) → networks digest ≡ on_network d name o → ⊥
 not_listed digest d name (Ok c) e = cc e
 not_listed digest d name (Err why) e = cc e
 
@@ -50,7 +50,7 @@ path_lists m digest asks =
 
 -- ---- digests
 
-kept_on : (d name : List ℕ) (o : Outcome) → digest_of_request (on_network d name o) ≡ Some d
+kept_on : (d name : List ℕ) (o : ReadCommand) → digest_of_request (on_network d name o) ≡ Some d
 kept_on d name (Ok c) = refl
 kept_on d name (Err why) = refl
 

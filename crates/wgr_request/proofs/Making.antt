@@ -11,7 +11,7 @@ use Rattle.wgr_core.specs.declared.command.Command.{Command}
 use Rattle.wgr_core.specs.declared.command.Command.TheVariants as command
 use Rattle.wgr_http.specs.Message.{MessageView}
 use Rattle.wgr_request.specs.Adopting.{adoption_asked}
-use Rattle.wgr_request.specs.Bodies.{Outcome, IsBody, OrBody, or_bad, AddFields, MoveFields, RouteFields, UnrouteFields, RenewFields, IsAdd, IsMove, IsRoute, IsUnroute, IsRenew}
+use Rattle.wgr_request.specs.Bodies.{ReadCommand, IsBody, OrBody, or_bad, AddFields, MoveFields, RouteFields, UnrouteFields, RenewFields, IsAdd, IsMove, IsRouteBody, IsUnroute, IsRenew}
 use Rattle.wgr_request.specs.Commands.{IsAdoption, IsCommand, IsOwner, IsPeers}
 use Rattle.wgr_request.specs.Fields.{end_value, field_value, keepalive_value}
 use Rattle.wgr_request.specs.Laws.{IsAddition, Makes, PathsMakeCommands, network_of}
@@ -27,20 +27,20 @@ use Rattle.wgr_request.proofs.Places.{by_its_method, is_delete, is_get, is_get_o
 
 -- ---- what an outcome without a fault says
 
-abbrev done : Command → Outcome
+abbrev done : Command → ReadCommand
 done c = Ok c
 
 made : (asked c : Command) → done c ≡ done asked → c ≡ asked
 made asked c e = cc e
 
-fields_made : (Fields : Data → Outcome → Type 0) (d : Option Data) (c : Command) → OrBody Fields d (Ok c) → (x : Data) × Fields x (Ok c)
+fields_made : (Fields : Data → ReadCommand → Type 0) (d : Option Data) (c : Command) → OrBody Fields d (Ok c) → (x : Data) × Fields x (Ok c)
 fields_made Fields None c e = cc e
 fields_made Fields (Some d) c is = (d, is)
 
-body_made : (listed : List (List ℕ)) (Fields : Data → Outcome → Type 0) (body : List ℕ) (c : Command) → IsBody listed Fields body (Ok c) → (d : Data) × Fields d (Ok c)
+body_made : (listed : List (List ℕ)) (Fields : Data → ReadCommand → Type 0) (body : List ℕ) (c : Command) → IsBody listed Fields body (Ok c) → (d : Data) × Fields d (Ok c)
 body_made listed Fields body c is = fields_made Fields is.0 c is.2
 
-good : (field : RequestField) (o : Option ℕ) (next : ℕ → Outcome) (c : Command) → done c ≡ or_bad field o next → (n : ℕ) × (done c ≡ next n)
+good : (field : RequestField) (o : Option ℕ) (next : ℕ → ReadCommand) (c : Command) → done c ≡ or_bad field o next → (n : ℕ) × (done c ≡ next n)
 good field None next c e = cc e
 good field (Some n) next c e = (n, e)
 
@@ -68,7 +68,7 @@ led_fields : (number : ℕ) (d : Data) (c : Command) → RouteFields number d (O
 led_fields number d c (inl a) = let e = a.1 in cc e
 led_fields number d c (inr (prefix, p, e)) = (prefix, made (command.Route number prefix) c e)
 
-led : (number : ℕ) (body : List ℕ) (c : Command) → IsRoute number body (Ok c) → (prefix : PrefixValue) × (c ≡ command.Route number prefix)
+led : (number : ℕ) (body : List ℕ) (c : Command) → IsRouteBody number body (Ok c) → (prefix : PrefixValue) × (c ≡ command.Route number prefix)
 led number body c is = let fields = body_made (codes "prefix" ∷ []) (RouteFields number) body c is in led_fields number fields.0 c fields.1
 
 taken_fields : (d : Data) (c : Command) → UnrouteFields d (Ok c) → (prefix : PrefixValue) × (c ≡ command.Unroute prefix)
@@ -98,7 +98,7 @@ listed_or_added false body c is = inl (refl, made command.List c is)
 
 -- ---- requests
 
-said : (digest name d n : List ℕ) (Is : Outcome → Type 0) (c : Command) → On d n Is (ask digest name c) → (d ≡ digest) × (Some n ≡ Some name) × Is (Ok c)
+said : (digest name d n : List ℕ) (Is : ReadCommand → Type 0) (c : Command) → On d n Is (ask digest name c) → (d ≡ digest) × (Some n ≡ Some name) × Is (Ok c)
 said digest name d n Is c (Ok asked, is, e) =
     let same : c ≡ asked = cc e in
     let same_digest : d ≡ digest = cc e in
@@ -126,7 +126,7 @@ asked_made (target.peer n number) m digest name d c by on =
 asked_made (target.address n number) m digest name d c by on =
     let s = said digest name d n (IsMove number m.body) c on in let is = moved number m.body c s.2 in (s.0, s.1, (is_post m.method by, is.0, is.1))
 asked_made (target.routes n number) m digest name d c by on =
-    let s = said digest name d n (IsRoute number m.body) c on in let is = led number m.body c s.2 in (s.0, s.1, (is_post m.method by, is.0, is.1))
+    let s = said digest name d n (IsRouteBody number m.body) c on in let is = led number m.body c s.2 in (s.0, s.1, (is_post m.method by, is.0, is.1))
 asked_made (target.lease n number) m digest name d c by on =
     let s = said digest name d n (IsRenew number m.body) c on in let is = renewed number m.body c s.2 in (s.0, s.1, (is_post m.method by, is.0, is.1))
 asked_made (target.peer_file n number form) m digest name d c by on =

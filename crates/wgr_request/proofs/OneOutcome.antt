@@ -15,15 +15,15 @@ use Rattle.wgr_text.proofs.RoundTrips.{Spells_unique}
 use Rattle.wgr_text.proofs.Spelled.{SpellsAddr_unique}
 use Rattle.wgr_dump.specs.Fields.{SpellsKey, SpellsMasked}
 use Rattle.wgr_request.specs.Adopting.{adoption_asked, seen_peer}
-use Rattle.wgr_request.specs.Bodies.{Outcome, With, IsJson, IsObject, OrBody, IsBody, has_only, AddFields, MoveFields, RouteFields, UnrouteFields, RenewFields, IsAdd, IsMove, IsRoute, IsUnroute, IsRenew}
+use Rattle.wgr_request.specs.Bodies.{ReadCommand, With, IsJson, IsObject, OrBody, IsBody, has_only, AddFields, MoveFields, RouteFields, UnrouteFields, RenewFields, IsAdd, IsMove, IsRouteBody, IsUnroute, IsRenew}
 use Rattle.wgr_request.specs.Commands.{IsCommand, IsPeers, IsAdoption, IsOwner}
-use Rattle.wgr_request.specs.Fields.{IsField, IsText, SpellsFull, SpellsLabel, SpellsNamed, KeyField, LabelField, NamedField, PrefixField}
+use Rattle.wgr_request.specs.Fields.{IsFieldValue, IsText, SpellsFull, SpellsLabel, SpellsNamed, KeyField, LabelField, NamedField, PrefixField}
 use Rattle.wgr_request.specs.Laws.{IsOne, OneOutcome}
 use Rattle.wgr_request.specs.declared.fault.RequestFault.TheVariants.{BadDump}
 use Rattle.wgr_request.specs.declared.fault.RequestField.{RequestField}
 use Rattle.wgr_request.specs.declared.fault.RequestField.TheVariants.{Key, Label, Address, Prefix}
 
-one_with : {A : Type 0} (IsValue : Option A → Type 0) (field : RequestField) (Next : A → Outcome → Type 0)
+one_with : {A : Type 0} (IsValue : Option A → Type 0) (field : RequestField) (Next : A → ReadCommand → Type 0)
     → IsOne IsValue → ((a : A) → IsOne (Next a)) → IsOne (With IsValue field Next)
 one_with IsValue field Next one next r s (inl a) (inl b) = a.1 ∙ sym b.1
 one_with IsValue field Next one next r s (inl a) (inr b) = let e = one None (Some b.0) a.0 b.1 in cc e
@@ -42,7 +42,7 @@ one_text Form one (Some text) None (Some y) a b = absurd (a y b)
 one_text Form one (Some text) (Some x) None a b = absurd (b x a)
 one_text Form one (Some text) (Some x) (Some y) a b = ap (λ z. Some z) (one text x y a b)
 
-one_field : {A : Type 0} (Form : List ℕ → A → Type 0) → ((text : List ℕ) → IsOne (Form text)) → (absent : Option A) (d : Option Data) → IsOne (IsField (IsText Form) absent d)
+one_field : {A : Type 0} (Form : List ℕ → A → Type 0) → ((text : List ℕ) → IsOne (Form text)) → (absent : Option A) (d : Option Data) → IsOne (IsFieldValue (IsText Form) absent d)
 one_field Form one absent None r s a b = a ∙ sym b
 one_field Form one absent (Some d) r s a b = one_text Form one (as_str d) r s a b
 
@@ -70,11 +70,11 @@ one_object listed body r s a b =
     let same : b.0 ≡ a.0 = one_json body b.0 a.0 b.1 a.1 in
     a.2 ∙ sym (b.2 ∙ ap (λ (d : Option Data). option_and_then (λ x. cond (has_only listed x) (Some x) None) d) same)
 
-one_or_body : (Fields : Data → Outcome → Type 0) → ((d : Data) → IsOne (Fields d)) → (d : Option Data) → IsOne (OrBody Fields d)
+one_or_body : (Fields : Data → ReadCommand → Type 0) → ((d : Data) → IsOne (Fields d)) → (d : Option Data) → IsOne (OrBody Fields d)
 one_or_body Fields one None r s a b = a ∙ sym b
 one_or_body Fields one (Some d) r s a b = one d r s a b
 
-one_body : (listed : List (List ℕ)) (Fields : Data → Outcome → Type 0) → ((d : Data) → IsOne (Fields d)) → (body : List ℕ) → IsOne (IsBody listed Fields body)
+one_body : (listed : List (List ℕ)) (Fields : Data → ReadCommand → Type 0) → ((d : Data) → IsOne (Fields d)) → (body : List ℕ) → IsOne (IsBody listed Fields body)
 one_body listed Fields one body r s a b =
     let same : b.0 ≡ a.0 = one_object listed body b.0 a.0 b.1 a.1 in
     one_or_body Fields one a.0 r s a.2 (subst (λ d. OrBody Fields d s) same b.2)
@@ -89,7 +89,7 @@ pub one_move : (number : ℕ) (body : List ℕ) → IsOne (IsMove number body)
 one_move number body = one_body (codes "address" ∷ []) (MoveFields number) (λ d.
     one_with (NamedField d) Address _ (one_field SpellsNamed one_named (Some None) (get (codes "address") d)) λ address r s a b. a ∙ sym b) body
 
-pub one_route : (number : ℕ) (body : List ℕ) → IsOne (IsRoute number body)
+pub one_route : (number : ℕ) (body : List ℕ) → IsOne (IsRouteBody number body)
 one_route number body = one_body (codes "prefix" ∷ []) (RouteFields number) (λ d.
     one_with (PrefixField d) Prefix _ (one_field SpellsMasked one_masked None (get (codes "prefix") d)) λ prefix r s a b. a ∙ sym b) body
 

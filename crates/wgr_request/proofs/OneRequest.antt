@@ -5,7 +5,7 @@ use Rattle.wgr_core.specs.declared.command.Command.TheVariants as command
 use Rattle.wgr_http.specs.Message.{MessageView}
 use Rattle.wgr_http.specs.declared.message.MessageFault.{MessageFault}
 use Rattle.wgr_http.proofs.Growing.{answers_unique}
-use Rattle.wgr_request.specs.Bodies.{Outcome}
+use Rattle.wgr_request.specs.Bodies.{ReadCommand}
 use Rattle.wgr_request.specs.Laws.{BeginningsAsk, IsOne, OneRequest}
 use Rattle.wgr_request.specs.Request.{On, Asks, Follows, Judged, digest_given, on_network}
 use Rattle.wgr_request.specs.Target.{TargetValue, resolved}
@@ -13,7 +13,7 @@ use Rattle.wgr_request.specs.Target as target
 use Rattle.wgr_request.specs.declared.fault.RequestFault.{RequestFault}
 use Rattle.wgr_request.proofs.OneOutcome.{one_move, one_route, one_unroute, one_renew, one_command, one_peers, one_adoption, one_owner}
 
-one_on : (digest name : List ℕ) (Is : Outcome → Type 0) → IsOne Is → IsOne (On digest name Is)
+one_on : (digest name : List ℕ) (Is : ReadCommand → Type 0) → IsOne Is → IsOne (On digest name Is)
 one_on digest name Is one r s a b = a.2 ∙ ap (on_network digest name) (one a.0 b.0 a.1 b.1) ∙ sym b.2
 
 one_asked : (digest : List ℕ) (t : TargetValue) (m : MessageView) → IsOne (Asks digest t m)

@@ -3,17 +3,17 @@ use Rattle.std.proofs.Common.{◌↔◌, ℕ, List, Option, Some, None, Ok, inl,
 use Rattle.wgr_dump.specs.Laws.{DifferInSecrets}
 use Rattle.wgr_dump.proofs.LawLemmas.{secrets_unread, secrets_no_fault}
 use Rattle.wgr_http.specs.Message.{MessageView}
-use Rattle.wgr_request.specs.Bodies.{Outcome}
+use Rattle.wgr_request.specs.Bodies.{ReadCommand}
 use Rattle.wgr_request.specs.Commands.{IsAdoption}
 use Rattle.wgr_request.specs.Laws.{SecretsAreUnasked}
 use Rattle.wgr_request.specs.Request.{RequestView, Follows, digest_given}
 use Rattle.wgr_request.specs.Target.{dump}
 
-adopts_there : (text other : List ℕ) → DifferInSecrets text other → (o : Outcome) → IsAdoption text o → IsAdoption other o
+adopts_there : (text other : List ℕ) → DifferInSecrets text other → (o : ReadCommand) → IsAdoption text o → IsAdoption other o
 adopts_there text other differ o (inl a) = inl (a.0, (secrets_unread text other differ a.0.interface a.0.lines).0 a.1, a.2)
 adopts_there text other differ o (inr a) = inr (a.0, a.1, (secrets_no_fault text other differ a.0 a.1).0 a.2, a.3)
 
-adopts_here : (text other : List ℕ) → DifferInSecrets text other → (o : Outcome) → IsAdoption other o → IsAdoption text o
+adopts_here : (text other : List ℕ) → DifferInSecrets text other → (o : ReadCommand) → IsAdoption other o → IsAdoption text o
 adopts_here text other differ o (inl a) = inl (a.0, (secrets_unread text other differ a.0.interface a.0.lines).1 a.1, a.2)
 adopts_here text other differ o (inr a) = inr (a.0, a.1, (secrets_no_fault text other differ a.0 a.1).1 a.2, a.3)
 

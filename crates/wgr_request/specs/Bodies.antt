@@ -16,11 +16,11 @@ use Rattle.wgr_request.specs.declared.fault.RequestField.{RequestField}
 use Rattle.wgr_request.specs.declared.fault.RequestField.TheVariants.{Body, Key, Label, Address, End, Keepalive, Prefix}
 
 -- a command, or why there is none
-abbrev pub Outcome : Type 0
-Outcome = Result Command RequestFault
+abbrev pub ReadCommand : Type 0
+ReadCommand = Result Command RequestFault
 
 -- this is the outcome, unless memory ran out
-abbrev pub ReadsAs : (Outcome → Type 0) → Result Command BodyFault → Type 0
+abbrev pub ReadsAs : (ReadCommand → Type 0) → Result Command BodyFault → Type 0
 ReadsAs Is (Ok command) = Is (Ok command)
 ReadsAs Is (Err (body_fault.Refused why)) = Is (Err why)
 ReadsAs Is (Err body_fault.NoMemory) = Unit {0}
@@ -46,52 +46,52 @@ abbrev pub IsObject : List (List ℕ) → List ℕ → Option Data → Type 0
 IsObject listed body r = (d : Option Data) × IsJson body d × (r ≡ option_and_then (λ x. cond (has_only listed x) (Some x) None) d)
 
 -- the fields of such an object, or the body is refused
-abbrev pub OrBody : (Data → Outcome → Type 0) → Option Data → Outcome → Type 0
+abbrev pub OrBody : (Data → ReadCommand → Type 0) → Option Data → ReadCommand → Type 0
 OrBody Fields None r = r ≡ Err (BadField Body)
 OrBody Fields (Some d) r = Fields d r
 
-abbrev pub IsBody : List (List ℕ) → (Data → Outcome → Type 0) → List ℕ → Outcome → Type 0
+abbrev pub IsBody : List (List ℕ) → (Data → ReadCommand → Type 0) → List ℕ → ReadCommand → Type 0
 IsBody listed Fields body r = (d : Option Data) × IsObject listed body d × OrBody Fields d r
 
 -- a field that isn't of its form is refused; else what follows for its value
-abbrev pub With : {A : Type 0} → (Option A → Type 0) → RequestField → (A → Outcome → Type 0) → Outcome → Type 0
+abbrev pub With : {A : Type 0} → (Option A → Type 0) → RequestField → (A → ReadCommand → Type 0) → ReadCommand → Type 0
 With {A} IsValue field Next r = (IsValue None × (r ≡ Err (BadField field))) ⊎ ((a : A) × IsValue (Some a) × Next a r)
 
-abbrev pub or_bad : RequestField → Option ℕ → (ℕ → Outcome) → Outcome
+abbrev pub or_bad : RequestField → Option ℕ → (ℕ → ReadCommand) → ReadCommand
 or_bad field None next = Err (BadField field)
 or_bad field (Some n) next = next n
 
-abbrev pub AddFields : Data → Outcome → Type 0
+abbrev pub AddFields : Data → ReadCommand → Type 0
 AddFields d r =
     With (KeyField d) Key (λ key r. With (LabelField d) Label (λ label r. With (NamedField d) Address (λ address r.
     r ≡ or_bad End (field_value end_value (Some 0) (get (codes "end") d)) (λ until.
     or_bad Keepalive (field_value keepalive_value (Some 0) (get (codes "keepalive") d)) (λ keepalive.
     Ok (Add key label address until keepalive)))) r) r) r
 
-abbrev pub MoveFields : ℕ → Data → Outcome → Type 0
+abbrev pub MoveFields : ℕ → Data → ReadCommand → Type 0
 MoveFields number d r = With (NamedField d) Address (λ address r. r ≡ Ok (Move number address)) r
 
-abbrev pub RouteFields : ℕ → Data → Outcome → Type 0
+abbrev pub RouteFields : ℕ → Data → ReadCommand → Type 0
 RouteFields number d r = With (PrefixField d) Prefix (λ prefix r. r ≡ Ok (Route number prefix)) r
 
-abbrev pub UnrouteFields : Data → Outcome → Type 0
+abbrev pub UnrouteFields : Data → ReadCommand → Type 0
 UnrouteFields d r = With (PrefixField d) Prefix (λ prefix r. r ≡ Ok (Unroute prefix)) r
 
-abbrev pub RenewFields : ℕ → Data → Outcome → Type 0
+abbrev pub RenewFields : ℕ → Data → ReadCommand → Type 0
 RenewFields number d r = r ≡ or_bad End (field_value end_value None (get (codes "end") d)) (λ until. Ok (Renew number until))
 
 -- what each path's body asks
-abbrev pub IsAdd : List ℕ → Outcome → Type 0
+abbrev pub IsAdd : List ℕ → ReadCommand → Type 0
 IsAdd body r = IsBody (codes "key" ∷ codes "label" ∷ codes "address" ∷ codes "end" ∷ codes "keepalive" ∷ []) AddFields body r
 
-abbrev pub IsMove : ℕ → List ℕ → Outcome → Type 0
+abbrev pub IsMove : ℕ → List ℕ → ReadCommand → Type 0
 IsMove number body r = IsBody (codes "address" ∷ []) (MoveFields number) body r
 
-abbrev pub IsRoute : ℕ → List ℕ → Outcome → Type 0
-IsRoute number body r = IsBody (codes "prefix" ∷ []) (RouteFields number) body r
+abbrev pub IsRouteBody : ℕ → List ℕ → ReadCommand → Type 0
+IsRouteBody number body r = IsBody (codes "prefix" ∷ []) (RouteFields number) body r
 
-abbrev pub IsUnroute : List ℕ → Outcome → Type 0
+abbrev pub IsUnroute : List ℕ → ReadCommand → Type 0
 IsUnroute body r = IsBody (codes "prefix" ∷ []) UnrouteFields body r
 
-abbrev pub IsRenew : ℕ → List ℕ → Outcome → Type 0
+abbrev pub IsRenew : ℕ → List ℕ → ReadCommand → Type 0
 IsRenew number body r = IsBody (codes "end" ∷ []) (RenewFields number) body r

@@ -9,9 +9,9 @@ use Rattle.wgr_dump.specs.Fields.{SpellsKey, SpellsMasked}
 use Rattle.wgr_peers.specs.Label.{IsLabel}
 
 -- a field that may be absent: the value that is used then, or none
-abbrev pub IsField : {A : Type 0} → (Option (List ℕ) → Option A → Type 0) → Option A → Option Data → Option A → Type 0
-IsField Form absent None r = r ≡ absent
-IsField Form absent (Some d) r = Form (as_str d) r
+abbrev pub IsFieldValue : {A : Type 0} → (Option (List ℕ) → Option A → Type 0) → Option A → Option Data → Option A → Type 0
+IsFieldValue Form absent None r = r ≡ absent
+IsFieldValue Form absent (Some d) r = Form (as_str d) r
 
 -- the value that a text spells; none where it spells none, or where there is no text
 abbrev pub IsText : {A : Type 0} → (List ℕ → A → Type 0) → Option (List ℕ) → Option A → Type 0
@@ -32,18 +32,18 @@ SpellsNamed text None = ⊥
 SpellsNamed text (Some a) = SpellsFull text a
 
 abbrev pub KeyField : Data → Option Key → Type 0
-KeyField d r = IsField (IsText SpellsKey) None (get (codes "key") d) r
+KeyField d r = IsFieldValue (IsText SpellsKey) None (get (codes "key") d) r
 
 -- without a label, the empty one
 abbrev pub LabelField : Data → Option (List ℕ) → Type 0
-LabelField d r = IsField (IsText SpellsLabel) (Some []) (get (codes "label") d) r
+LabelField d r = IsFieldValue (IsText SpellsLabel) (Some []) (get (codes "label") d) r
 
 -- without an address, none is named
 abbrev pub NamedField : Data → Option (Option AddrValue) → Type 0
-NamedField d r = IsField (IsText SpellsNamed) (Some None) (get (codes "address") d) r
+NamedField d r = IsFieldValue (IsText SpellsNamed) (Some None) (get (codes "address") d) r
 
 abbrev pub PrefixField : Data → Option PrefixValue → Type 0
-PrefixField d r = IsField (IsText SpellsMasked) None (get (codes "prefix") d) r
+PrefixField d r = IsFieldValue (IsText SpellsMasked) None (get (codes "prefix") d) r
 
 -- a whole number, at most this
 abbrev pub up_to : ℕ → ℕ → Option ℕ

@@ -10,7 +10,7 @@ use Rattle.wgr_text.specs.declared.key.Key.{Key}
 use Rattle.wgr_text.specs.Prefix.{AddrValue, PrefixValue}
 use Rattle.wgr_text.specs.PrefixText.{SpellsAddr}
 use Rattle.wgr_request.specs.Adopting.{adoption_asked}
-use Rattle.wgr_request.specs.Bodies.{IsAdd, IsMove, IsRenew, IsRoute, IsUnroute}
+use Rattle.wgr_request.specs.Bodies.{IsAdd, IsMove, IsRenew, IsRouteBody, IsUnroute}
 use Rattle.wgr_request.specs.Commands.{IsAdoption, IsOwner}
 use Rattle.wgr_request.specs.Request.{MessageAsks, RequestView, Requests, ask, digest_given, networks, refused}
 use Rattle.wgr_request.specs.Target.{TargetValue, resolved}
@@ -26,7 +26,7 @@ OneRequest = (bytes : List ℕ) → IsOne (Requests bytes)
 
 -- and each body, dump or address has one outcome at most
 abbrev pub OneOutcome : Type 0
-OneOutcome = (text : List ℕ) (number : ℕ) → IsOne (IsAdd text) × IsOne (IsMove number text) × IsOne (IsRoute number text) × IsOne (IsUnroute text)
+OneOutcome = (text : List ℕ) (number : ℕ) → IsOne (IsAdd text) × IsOne (IsMove number text) × IsOne (IsRouteBody number text) × IsOne (IsUnroute text)
     × IsOne (IsRenew number text) × IsOne (IsAdoption text) × IsOne (IsOwner text)
 
 -- a beginning asks what all bytes of a reader ask, where they are known

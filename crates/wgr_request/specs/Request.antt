@@ -6,7 +6,7 @@ use Rattle.wgr_core.specs.declared.command.Command.TheVariants as command
 use Rattle.wgr_http.specs.Message.{Answers, MessageView}
 use Rattle.wgr_http.specs.declared.message.Message.{Message}
 use Rattle.wgr_http.specs.declared.message.MessageFault.{MessageFault}
-use Rattle.wgr_request.specs.Bodies.{Outcome, IsMove, IsRenew, IsRoute, IsUnroute}
+use Rattle.wgr_request.specs.Bodies.{ReadCommand, IsMove, IsRenew, IsRouteBody, IsUnroute}
 use Rattle.wgr_request.specs.Commands.{IsAdoption, IsCommand, IsOwner, IsPeers}
 use Rattle.wgr_request.specs.Digest.{digest_of}
 use Rattle.wgr_request.specs.Target.{TargetValue, resolved}
@@ -34,13 +34,13 @@ abbrev pub message_view : Message → MessageView
 message_view m = record { method = m.method.now; target = m.target.now; token = option_map (λ t. t.now) m.token; body = m.body.now }
 
 -- a command, or why there is none, as a request
-abbrev pub on_network : List ℕ → List ℕ → Outcome → RequestView
+abbrev pub on_network : List ℕ → List ℕ → ReadCommand → RequestView
 on_network digest name (Ok asked) = ask digest name asked
 on_network digest name (Err why) = refused why (Some digest)
 
 -- this is the outcome, and the request is that of it
-abbrev pub On : List ℕ → List ℕ → (Outcome → Type 0) → RequestView → Type 0
-On digest name Is r = (outcome : Outcome) × Is outcome × (r ≡ on_network digest name outcome)
+abbrev pub On : List ℕ → List ℕ → (ReadCommand → Type 0) → RequestView → Type 0
+On digest name Is r = (outcome : ReadCommand) × Is outcome × (r ≡ on_network digest name outcome)
 
 -- what each path asks; bodies are those of POST
 abbrev pub Asks : List ℕ → TargetValue → MessageView → RequestView → Type 0
@@ -48,7 +48,7 @@ Asks digest target.networks m r = r ≡ networks digest
 Asks digest (target.peers name) m r = On digest name (IsPeers (bytes_eq m.method (codes "POST")) m.body) r
 Asks digest (target.peer name number) m r = On digest name (IsCommand (command.Revoke number)) r
 Asks digest (target.address name number) m r = On digest name (IsMove number m.body) r
-Asks digest (target.routes name number) m r = On digest name (IsRoute number m.body) r
+Asks digest (target.routes name number) m r = On digest name (IsRouteBody number m.body) r
 Asks digest (target.lease name number) m r = On digest name (IsRenew number m.body) r
 Asks digest (target.peer_file name number form) m r = On digest name (IsCommand (command.PeerFile number form)) r
 Asks digest (target.unroute name) m r = On digest name (IsUnroute m.body) r

@@ -5,7 +5,7 @@ ghost use Rattle.std.specs.List.{list_all, list_any};
 ghost use Rattle.serde_json.specs.View.{view};
 ghost use Rattle.wgr_request.specs.declared.bodies.BodyFault.TheVariants as body_fault;
 ghost use Rattle.wgr_request.specs.declared.fault.RequestFault.TheVariants as fault;
-ghost use Rattle.wgr_request.specs.Bodies.{AddFields, IsAdd, IsMove, IsObject, IsRenew, IsRoute, IsUnroute, MoveFields, ReadsAs, has_only};
+ghost use Rattle.wgr_request.specs.Bodies.{AddFields, IsAdd, IsMove, IsObject, IsRenew, IsRouteBody, IsUnroute, MoveFields, ReadsAs, has_only};
 
 use crate::fault::{RequestFault, RequestField};
 use crate::fields::{
@@ -89,7 +89,7 @@ pub fn read_move(alloc: Global, number: u32, body: &[u8]) -> Result<Command, Bod
 
 /// The command that routes a prefix to the peer of this number: `prefix`.
 pub fn read_route(alloc: Global, number: u32, body: &[u8]) -> Result<Command, BodyFault>
-    ensures { ReadsAs (IsRoute number body.now) result }
+    ensures { ReadsAs (IsRouteBody number body.now) result }
 {
     let Some(fields) = object_of(alloc, body, &["prefix"])? else {
         return bad(RequestField::Body);

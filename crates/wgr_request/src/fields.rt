@@ -1,5 +1,5 @@
 //! The fields of JSON bodies, each by its form.
-ghost use Rattle.std.specs.Prelude.{◌≡◌, ◌<◌, ℕ, codes, slice_index, Some, option_map, IfOk};
+ghost use Rattle.std.specs.Prelude.{◌≡◌, codes, Some, option_map, IfOk};
 ghost use Rattle.serde_json.specs.Find.{as_str, get};
 ghost use Rattle.serde_json.specs.View.{view};
 ghost use Rattle.wgr_dump.specs.Fields.{SpellsKey, SpellsMasked};
@@ -8,7 +8,7 @@ ghost use Rattle.wgr_request.specs.Fields.{IsText, KeyField, LabelField, NamedFi
 use serde_json::Value;
 use std::alloc::{AllocError, Global};
 use wgr_core::{Label, LeaseEnd};
-use wgr_text::{Addr, Key, Prefix, read_loose};
+use wgr_text::{Addr, Key, Prefix, are_bytes, read_loose};
 
 // The key that a peer has to have.
 pub(crate) fn key_field(body: &Value) -> Option<Key>
@@ -97,11 +97,6 @@ fn read_key(text: &[u8]) -> Option<Key>
         None => None,
     }
 }
-
-// States that each item of a slice of bytes is a byte.
-fn are_bytes(bytes: &[u8])
-    ensures { (i : ℕ) → slice_index bytes.now i < 256 }
-{}
 
 // An address, with full length where it has one.
 fn read_full(text: &[u8]) -> Option<Addr>

@@ -11,13 +11,13 @@ use Rattle.std.proofs.lemmas.List.{append_cancel_right}
 use Rattle.std.proofs.lemmas.List.Elements.{All-head, All-tail, All-from_get_or}
 use Rattle.std.proofs.lemmas.Str.{IsUtf8-from_ascii}
 use Rattle.std.proofs.lemmas.Str.Parse.{digit_at}
-use Rattle.wgr_words.specs.Words.{SpellsEndpoint, SpellsListener, SpellsPort}
+use Rattle.wgr_words.specs.Words.{SpellsEndpoint, SpellsListener, SpellsPortNumber}
 
 -- no byte of the text is a colon
 abbrev pub HasNoColon : List ℕ → Type 0
 HasNoColon text = All (λ c. c ≢ 58) text
 
-port_without : (digits : List ℕ) (n : ℕ) → SpellsPort digits n → HasNoColon digits
+port_without : (digits : List ℕ) (n : ℕ) → SpellsPortNumber digits n → HasNoColon digits
 port_without digits n is =
     All-from_get_or (λ c. c ≢ 58) digits 0 λ i h. let digit = digit_at digits i is.0.0.0.1 h in λ colon. omega (arith, digit.0)
 
@@ -51,7 +51,7 @@ no_listener text inner no_four split no_six (V4 a) is = no_four a is
 no_listener text inner no_four split no_six (V6 a) is = no_six a (subst (λ t. IsIpv6Text t a) (same_inside is.0 inner (sym is.1 ∙ split)) is.2)
 
 -- digits are ASCII
-pub port_is_text : (digits : List ℕ) (n : ℕ) → SpellsPort digits n → IsUtf8 digits
+pub port_is_text : (digits : List ℕ) (n : ℕ) → SpellsPortNumber digits n → IsUtf8 digits
 port_is_text digits n is = IsUtf8-from_ascii digits (IsAscii-from_digits digits is.0.0.0.1)
 
 module _ (text : List ℕ) (endpoint : IpAddr × ℕ) (is : SpellsEndpoint text endpoint) where
@@ -68,5 +68,5 @@ module _ (text : List ℕ) (endpoint : IpAddr × ℕ) (is : SpellsEndpoint text 
   pub host_is : (host digits : List ℕ) → text ≡ host ++ codes ":" ++ digits → HasNoColon digits → SpellsListener host endpoint.0
   host_is host digits split free = subst (λ t. SpellsListener t endpoint.0) (parts host digits split free).0 is.address
 
-  pub port_is : (host digits : List ℕ) → text ≡ host ++ codes ":" ++ digits → HasNoColon digits → SpellsPort digits endpoint.1
-  port_is host digits split free = subst (λ t. SpellsPort t endpoint.1) (parts host digits split free).1 is.port
+  pub port_is : (host digits : List ℕ) → text ≡ host ++ codes ":" ++ digits → HasNoColon digits → SpellsPortNumber digits endpoint.1
+  port_is host digits split free = subst (λ t. SpellsPortNumber t endpoint.1) (parts host digits split free).1 is.port

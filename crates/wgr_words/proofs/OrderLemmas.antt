@@ -8,8 +8,8 @@ use Rattle.wgr_words.specs.declared.field.WordField.TheVariants as of
 use Rattle.wgr_words.specs.declared.field.WordFault.{WordFault}
 use Rattle.wgr_words.specs.declared.field.WordFault.TheVariants as fault
 use Rattle.wgr_words.specs.declared.order.OrderDraft.TheVariants as draft
-use Rattle.wgr_words.specs.Words.{IsOf, IsRead}
-use Rattle.wgr_words.specs.Order.{Input, IsDraftFault, IsDraftOf, IsFaultIn, OrdersBy, TakesDigest, fields_of}
+use Rattle.wgr_words.specs.Words.{HasFieldForm, IsRead}
+use Rattle.wgr_words.specs.Order.{Input, IsDraftFault, IsDraftOf, IsFaultIn, OrdersBy, TakesDigest, order_fields}
 
 -- what `?` hands on is what it was given
 pub passed : {T E : Type 0} (r : Result T E) (why : E) (P : E → Type 0) → IsErrAnd r (λ (e : E). e ≡ why) → P why → IfErr r P
@@ -18,14 +18,14 @@ passed (Err e) why P is p = subst P (sym is) p
 
 -- it is this one
 pub here : {A : Type 0} (P : A → Type 0) (field : WordField) (text : List ℕ) (more : List (WordField × List ℕ)) (why : WordFault)
-    → (IsOf field text → (a : A) × P a) → IsRead P field (Err why) → IsFaultIn ((field, text) ∷ more) why
+    → (HasFieldForm field text → (a : A) × P a) → IsRead P field (Err why) → IsFaultIn ((field, text) ∷ more) why
 here P field text more (fault.Field f) is told = inl (told.0, λ of. let value = is of in told.1 value.0 value.1)
 here P field text more fault.NoMemory is told = tt
 here P field text more fault.Device is told = told
 
 -- this one is of its form
 pub later : (field : WordField) (text : List ℕ) (more : List (WordField × List ℕ)) (why : WordFault)
-    → IsOf field text → IsFaultIn more why → IsFaultIn ((field, text) ∷ more) why
+    → HasFieldForm field text → IsFaultIn more why → IsFaultIn ((field, text) ∷ more) why
 later field text more (fault.Field f) is told = inr (is, told)
 later field text more fault.NoMemory is told = tt
 later field text more fault.Device is told = told
@@ -49,7 +49,7 @@ from_pool w = (of.Pool, w.pool) ∷ from_host w
 abbrev pub from_name : NetworkAsked → List (WordField × List ℕ)
 from_name w = (of.Name, w.name) ∷ from_pool w
 
-pub draft_fault : (asked : OrderAsked) (why : WordFault) → ((token : List ℕ) → IsFaultIn (fields_of asked token) why) → IsDraftFault asked why
+pub draft_fault : (asked : OrderAsked) (why : WordFault) → ((token : List ℕ) → IsFaultIn (order_fields asked token) why) → IsDraftFault asked why
 draft_fault asked (fault.Field f) told = told
 draft_fault asked fault.NoMemory told = tt
 draft_fault asked fault.Device told = told []

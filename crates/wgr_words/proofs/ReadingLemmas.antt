@@ -1,9 +1,9 @@
 -- A line that spells a reading spells no order.
-use Rattle.std.proofs.Common.{◌≡◌, ◌≢◌, ◌&&◌, ℕ, Bool, true, false, cond, List, [], ◌∷◌, Option, Some, None, codes, refl, ap, subst, sym, ◌∙◌}
+use Rattle.std.proofs.Common.{◌≡◌, ◌≢◌, ℕ, Bool, true, false, cond, List, [], ◌∷◌, None, codes, refl, sym}
 use Rattle.std.specs.Str.{bytes_eq, is_utf8}
 use Rattle.std.proofs.lemmas.Slice.Eq.{bytes_eq-Decides}
-use Rattle.wgr_words.specs.Line.{LineAsked, line_in, one_field, two_fields, words_in}
-use Rattle.wgr_words.specs.Reading.{ReadingAsked, ReadingsAreNoOrders, Backup, Show, read_of_one, read_of_two, reading_in, show_by}
+use Rattle.wgr_words.specs.Line.{line_in, one_field, two_fields, words_in}
+use Rattle.wgr_words.specs.Reading.{ReadingsAreNoOrders, read_of_one, read_of_two, reading_in}
 
 -- the words of a reading of one field are no order's
 one_apart : (word a : List ℕ) → read_of_one word a ≢ None → one_field word a ≡ None

@@ -3,11 +3,11 @@ use Rattle.std.proofs.Common.{◌≡◌, ℕ, Bool, true, false, List, [], ◌�
 use Rattle.std.specs.Str.{bytes_eq}
 use Rattle.std.proofs.lemmas.Slice.Eq.{bytes_eq-Decides}
 use Rattle.wgr_words.specs.Reading.{Show}
-use Rattle.wgr_words.specs.Sent.{IsReadAs, SentAsAsked, sent_asked, sent_line}
+use Rattle.wgr_words.specs.Sent.{IsLineReadAs, SentAsAsked, sent_asked, sent_line}
 
 -- that of these words and options, and this token
 abbrev ReadAsAsked : List (List ℕ) → Option (List ℕ) → Bool → List ℕ → Type 0
-ReadAsAsked words digest is_json token = IfSome (sent_asked words digest is_json) (λ asked. IsReadAs asked token (sent_line words digest is_json token))
+ReadAsAsked words digest is_json token = IfSome (sent_asked words digest is_json) (λ asked. IsLineReadAs asked token (sent_line words digest is_json token))
 
 is_named : (word text : List ℕ) → true ≡ bytes_eq word text → word ≡ text
 is_named word text same = (bytes_eq-Decides word text).0 (sym same)

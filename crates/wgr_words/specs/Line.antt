@@ -4,7 +4,7 @@ use Rattle.std.specs.List.{join_with_byte, list_all, slice_split}
 use Rattle.std.specs.Str.{bytes_eq}
 use Rattle.wgr_orders.specs.declared.order.Order.{Order}
 use Rattle.wgr_words.specs.Asked.{NetworkAsked, OrderAsked, DigestEnd, NetworkAdd, NetworkEnd, TenantAdd, TokenEnd, TokenGrant, order_asked}
-use Rattle.wgr_words.specs.Order.{IsFirst, MakesOrder, fields_of}
+use Rattle.wgr_words.specs.Order.{IsFirstFault, MakesOrder, order_fields}
 use Rattle.wgr_words.specs.declared.line.LineFault.{LineFault}
 use Rattle.wgr_words.specs.declared.line.LineFault.TheVariants as fault
 use Rattle.wgr_words.specs.declared.line.OrderLine.{OrderLine}
@@ -61,7 +61,7 @@ SpellsOrder line order = (l : LineAsked) × (line_in (words_in line) ≡ Some l)
 -- why a line spells no order; on lack of memory nothing is known
 abbrev pub IsUnspelled : List ℕ → LineFault → Type 0
 IsUnspelled line fault.NoOrder = (¬ (IsUtf8 line)) ⊎ (line_in (words_in line) ≡ None)
-IsUnspelled line (fault.Field field) = (l : LineAsked) × (line_in (words_in line) ≡ Some l) × IsFirst field (fields_of l.asked l.token)
+IsUnspelled line (fault.Field field) = (l : LineAsked) × (line_in (words_in line) ≡ Some l) × IsFirstFault field (order_fields l.asked l.token)
 IsUnspelled line fault.NoMemory = Unit {0}
 
 -- ---- the first line

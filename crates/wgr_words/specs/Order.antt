@@ -14,7 +14,7 @@ use Rattle.wgr_words.specs.declared.field.WordFault.{WordFault}
 use Rattle.wgr_words.specs.declared.field.WordFault.TheVariants as fault
 use Rattle.wgr_words.specs.declared.order.OrderDraft.{OrderDraft}
 use Rattle.wgr_words.specs.declared.order.OrderDraft.TheVariants as draft
-use Rattle.wgr_words.specs.Words.{IsOf, SpellsCapacity, SpellsDigest, SpellsName, SpellsPort, SpellsToken}
+use Rattle.wgr_words.specs.Words.{HasFieldForm, SpellsCapacity, SpellsDigest, SpellsName, SpellsPortNumber, SpellsToken}
 
 -- ---- the order
 
@@ -24,7 +24,7 @@ pub record SpellsNetwork (w : NetworkAsked) (tenant name : List ℕ) (settings :
   pub name_is : SpellsName w.name name
   pub pool_is : Spells w.pool settings.pool.address settings.pool.length
   pub host_is : IsHostText w.host settings.host
-  pub port_is : SpellsPort w.port settings.port
+  pub port_is : SpellsPortNumber w.port settings.port
   pub key_is : SpellsKey w.key settings.server
   pub capacity_is : SpellsCapacity w.capacity settings.capacity
 
@@ -41,23 +41,23 @@ MakesOrder asked token other = ⊥
 -- ---- the first malformed field
 
 -- the fields and their texts, in the order of the words, and the token after them
-abbrev pub fields_of : OrderAsked → List ℕ → List (WordField × List ℕ)
-fields_of (TenantAdd name) token = (of.Name, name) ∷ []
-fields_of (TokenGrant tenant) token = (of.Tenant, tenant) ∷ (of.Token, token) ∷ []
-fields_of TokenEnd token = (of.Token, token) ∷ []
-fields_of (DigestEnd digest) token = (of.Digest, digest) ∷ []
-fields_of (NetworkAdd w) token =
+abbrev pub order_fields : OrderAsked → List ℕ → List (WordField × List ℕ)
+order_fields (TenantAdd name) token = (of.Name, name) ∷ []
+order_fields (TokenGrant tenant) token = (of.Tenant, tenant) ∷ (of.Token, token) ∷ []
+order_fields TokenEnd token = (of.Token, token) ∷ []
+order_fields (DigestEnd digest) token = (of.Digest, digest) ∷ []
+order_fields (NetworkAdd w) token =
     (of.Tenant, w.tenant) ∷ (of.Name, w.name) ∷ (of.Pool, w.pool) ∷ (of.Host, w.host) ∷ (of.Port, w.port) ∷ (of.Key, w.key) ∷ (of.Capacity, w.capacity) ∷ []
-fields_of (NetworkEnd tenant name) token = (of.Tenant, tenant) ∷ (of.Name, name) ∷ []
+order_fields (NetworkEnd tenant name) token = (of.Tenant, tenant) ∷ (of.Name, name) ∷ []
 
 -- all fields before this one have their forms, and this one is malformed
-abbrev pub IsFirst : WordField → List (WordField × List ℕ) → Type 0
-IsFirst field [] = ⊥
-IsFirst field ((first, text) ∷ more) = ((field ≡ first) × ¬ (IsOf first text)) ⊎ (IsOf first text × IsFirst field more)
+abbrev pub IsFirstFault : WordField → List (WordField × List ℕ) → Type 0
+IsFirstFault field [] = ⊥
+IsFirstFault field ((first, text) ∷ more) = ((field ≡ first) × ¬ (HasFieldForm first text)) ⊎ (HasFieldForm first text × IsFirstFault field more)
 
 -- the error is the first of these fields that is malformed, or lack of memory
 abbrev pub IsFaultIn : List (WordField × List ℕ) → WordFault → Type 0
-IsFaultIn fields (fault.Field field) = IsFirst field fields
+IsFaultIn fields (fault.Field field) = IsFirstFault field fields
 IsFaultIn fields fault.NoMemory = Unit {0}
 IsFaultIn fields fault.Device = ⊥
 
@@ -77,7 +77,7 @@ IsDraftOf asked other = ⊥
 
 -- a field of the words is malformed, whatever the token; on lack of memory nothing is known
 abbrev pub IsDraftFault : OrderAsked → WordFault → Type 0
-IsDraftFault asked (fault.Field field) = (token : List ℕ) → IsFirst field (fields_of asked token)
+IsDraftFault asked (fault.Field field) = (token : List ℕ) → IsFirstFault field (order_fields asked token)
 IsDraftFault asked fault.NoMemory = Unit {0}
 IsDraftFault asked fault.Device = ⊥
 
@@ -92,27 +92,27 @@ abbrev pub input_of : {R : Type 0} → (R → Option (List ℕ)) → (R → Bool
 input_of remaining failed input = record { remaining = remaining input; failed = failed input }
 
 -- the text is all of the input
-pub record IsTaken (old new : Input) (text : List ℕ) : Type 0 where
+pub record TakesInput (old new : Input) (text : List ℕ) : Type 0 where
   pub taken : Consumes old.remaining new.remaining text
   pub ended : IsAtEnd new.remaining
   pub sound : new.failed ≡ old.failed
 
 -- the digest of the token that is all of the input, or why it has none
 abbrev pub TakesDigest : Input → Input → Result (List ℕ) WordFault → Type 0
-TakesDigest old new (Ok digest) = (text : List ℕ) × IsTaken old new text × SpellsToken text digest
-TakesDigest old new (Err (fault.Field field)) = (text : List ℕ) × IsTaken old new text × (field ≡ of.Token) × ¬ (IsOf of.Token text)
+TakesDigest old new (Ok digest) = (text : List ℕ) × TakesInput old new text × SpellsToken text digest
+TakesDigest old new (Err (fault.Field field)) = (text : List ℕ) × TakesInput old new text × (field ≡ of.Token) × ¬ (HasFieldForm of.Token text)
 TakesDigest old new (Err fault.NoMemory) = new.failed ≡ old.failed
 TakesDigest old new (Err fault.Device) = new.failed ≡ true
 
 -- all of the input is the token's text; where the order has no token, nothing is read
 abbrev pub TakesToken : OrderAsked → Input → Input → List ℕ → Type 0
-TakesToken asked old new token = MatchBool (wants_token asked) (IsTaken old new token) (new ≡ old)
+TakesToken asked old new token = MatchBool (wants_token asked) (TakesInput old new token) (new ≡ old)
 
 -- a field of the words is malformed, and nothing is read; or the token is read, and it or another field is malformed
 abbrev pub ReportsField : OrderAsked → Input → Input → WordField → Type 0
 ReportsField asked old new field =
-    ((new ≡ old) × ((token : List ℕ) → IsFirst field (fields_of asked token)))
-    ⊎ ((token : List ℕ) × TakesToken asked old new token × IsFirst field (fields_of asked token))
+    ((new ≡ old) × ((token : List ℕ) → IsFirstFault field (order_fields asked token)))
+    ⊎ ((token : List ℕ) × TakesToken asked old new token × IsFirstFault field (order_fields asked token))
 
 -- the order that the words and the input spell, or why they spell none
 abbrev pub OrdersBy : OrderAsked → Input → Input → Result Order WordFault → Type 0

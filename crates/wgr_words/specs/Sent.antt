@@ -89,11 +89,11 @@ sent_line words digest is_json token = if asks_token words digest then words ++ 
 -- ---- a law
 
 -- these words of a line are read as what was asked for, with the token where it has one
-abbrev pub IsReadAs : SentAsked → List ℕ → List (List ℕ) → Type 0
-IsReadAs (SentOrder order) token line = line_in line ≡ Some (record { asked = order; token = if wants_token order then token else [] })
-IsReadAs (SentReading reading) token line = reading_in line ≡ Some reading
+abbrev pub IsLineReadAs : SentAsked → List ℕ → List (List ℕ) → Type 0
+IsLineReadAs (SentOrder order) token line = line_in line ≡ Some (record { asked = order; token = if wants_token order then token else [] })
+IsLineReadAs (SentReading reading) token line = reading_in line ≡ Some reading
 
 -- a service reads what is sent as what its words and options ask for
 abbrev pub SentAsAsked : Type 0
 SentAsAsked = (words : List (List ℕ)) (digest : Option (List ℕ)) (is_json : Bool) (token : List ℕ)
-    → IfSome (sent_asked words digest is_json) (λ asked. IsReadAs asked token (sent_line words digest is_json token))
+    → IfSome (sent_asked words digest is_json) (λ asked. IsLineReadAs asked token (sent_line words digest is_json token))

@@ -30,8 +30,8 @@ SpellsPlace text place = Spells text place.0 place.1
 abbrev pub SpellsWhole : List ℕ → ℕ → Type 0
 SpellsWhole text n = SpellsNumber 19 text n × IsCount n
 
-abbrev pub SpellsPort : List ℕ → ℕ → Type 0
-SpellsPort text n = SpellsWhole text n × IsPort n
+abbrev pub SpellsPortNumber : List ℕ → ℕ → Type 0
+SpellsPortNumber text n = SpellsWhole text n × IsPort n
 
 abbrev pub SpellsCapacity : List ℕ → ℕ → Type 0
 SpellsCapacity text n = SpellsWhole text n × IsCapacity n
@@ -47,49 +47,49 @@ pub record SpellsEndpoint (text : List ℕ) (endpoint : IpAddr × ℕ) : Type 0 
   pub digits : List ℕ
   pub parted : text ≡ host ++ codes ":" ++ digits
   pub address : SpellsListener host endpoint.0
-  pub port : SpellsPort digits endpoint.1
+  pub port : SpellsPortNumber digits endpoint.1
 
 -- the text without its last byte if that is a newline
-abbrev pub line_of : List ℕ → List ℕ
-line_of text = cond (pointwise nat_eq (drop (length text - 1) text) (codes "\n")) (take (length text - 1) text) text
+abbrev pub without_newline : List ℕ → List ℕ
+without_newline text = cond (pointwise nat_eq (drop (length text - 1) text) (codes "\n")) (take (length text - 1) text) text
 
 -- the digest of a token on one line, whose newline may be missing
 abbrev pub SpellsToken : List ℕ → List ℕ → Type 0
-SpellsToken text digest = digest_of (line_of text) ≡ Some digest
+SpellsToken text digest = digest_of (without_newline text) ≡ Some digest
 
 -- 64 hexadecimal digits, in either case, and their 32 bytes
 abbrev pub SpellsDigest : List ℕ → List ℕ → Type 0
 SpellsDigest text digest = decode_sized text 32 ≡ Ok digest
 
 -- the field's name, as messages have it
-abbrev pub field_name : WordField → List ℕ
-field_name of.Tenant = codes "tenant"
-field_name of.Name = codes "name"
-field_name of.Pool = codes "pool"
-field_name of.Host = codes "host"
-field_name of.Port = codes "port"
-field_name of.Key = codes "key"
-field_name of.Capacity = codes "capacity"
-field_name of.HostPort = codes "host:port"
-field_name of.Count = codes "count"
-field_name of.Now = codes "now"
-field_name of.Digest = codes "digest"
-field_name of.Token = codes "token"
+abbrev pub word_field_name : WordField → List ℕ
+word_field_name of.Tenant = codes "tenant"
+word_field_name of.Name = codes "name"
+word_field_name of.Pool = codes "pool"
+word_field_name of.Host = codes "host"
+word_field_name of.Port = codes "port"
+word_field_name of.Key = codes "key"
+word_field_name of.Capacity = codes "capacity"
+word_field_name of.HostPort = codes "host:port"
+word_field_name of.Count = codes "count"
+word_field_name of.Now = codes "now"
+word_field_name of.Digest = codes "digest"
+word_field_name of.Token = codes "token"
 
 -- the text has the field's form
-abbrev pub IsOf : WordField → List ℕ → Type 0
-IsOf of.Tenant text = (name : List ℕ) × SpellsName text name
-IsOf of.Name text = (name : List ℕ) × SpellsName text name
-IsOf of.Pool text = (place : AddrValue × ℕ) × SpellsPlace text place
-IsOf of.Host text = (host : List ℕ) × IsHostText text host
-IsOf of.Port text = (n : ℕ) × SpellsPort text n
-IsOf of.Key text = (key : Key) × SpellsKey text key
-IsOf of.Capacity text = (n : ℕ) × SpellsCapacity text n
-IsOf of.HostPort text = (endpoint : IpAddr × ℕ) × SpellsEndpoint text endpoint
-IsOf of.Count text = (n : ℕ) × SpellsWhole text n
-IsOf of.Now text = (n : ℕ) × SpellsWhole text n
-IsOf of.Digest text = (digest : List ℕ) × SpellsDigest text digest
-IsOf of.Token text = (digest : List ℕ) × SpellsToken text digest
+abbrev pub HasFieldForm : WordField → List ℕ → Type 0
+HasFieldForm of.Tenant text = (name : List ℕ) × SpellsName text name
+HasFieldForm of.Name text = (name : List ℕ) × SpellsName text name
+HasFieldForm of.Pool text = (place : AddrValue × ℕ) × SpellsPlace text place
+HasFieldForm of.Host text = (host : List ℕ) × IsHostText text host
+HasFieldForm of.Port text = (n : ℕ) × SpellsPortNumber text n
+HasFieldForm of.Key text = (key : Key) × SpellsKey text key
+HasFieldForm of.Capacity text = (n : ℕ) × SpellsCapacity text n
+HasFieldForm of.HostPort text = (endpoint : IpAddr × ℕ) × SpellsEndpoint text endpoint
+HasFieldForm of.Count text = (n : ℕ) × SpellsWhole text n
+HasFieldForm of.Now text = (n : ℕ) × SpellsWhole text n
+HasFieldForm of.Digest text = (digest : List ℕ) × SpellsDigest text digest
+HasFieldForm of.Token text = (digest : List ℕ) × SpellsToken text digest
 
 -- the value that a field's text spells, or the field if it spells none; on lack of memory nothing is known
 abbrev pub IsRead : {A : Type 0} → (A → Type 0) → WordField → Result A WordFault → Type 0

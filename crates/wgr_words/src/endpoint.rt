@@ -1,7 +1,7 @@
 //! The address and the port at which to listen.
 ghost use Rattle.std.specs.Prelude.{◌≡◌, ◌≢◌, ◌++◌, ℕ, All, List, IfNone, IfSome, codes};
 ghost use Rattle.std.specs.declared.net.ip_addr.IpAddr.{IpAddr};
-ghost use Rattle.wgr_words.specs.Words.{SpellsEndpoint, SpellsListener, SpellsPort};
+ghost use Rattle.wgr_words.specs.Words.{SpellsEndpoint, SpellsListener, SpellsPortNumber};
 
 use crate::numbers::read_port;
 use std::net::{IpAddr, Ipv4Addr, Ipv6Addr};
@@ -55,8 +55,8 @@ fn unbracketed(text: &[u8]) -> Option<&[u8]>
 }
 
 fn read_port_bytes(digits: &[u8]) -> Option<Port>
-    ensures spelled { IfSome result (SpellsPort digits.now) }
-    ensures none { IfNone result ((n : ℕ) → ¬ (SpellsPort digits.now n)) }
+    ensures spelled { IfSome result (SpellsPortNumber digits.now) }
+    ensures none { IfNone result ((n : ℕ) → ¬ (SpellsPortNumber digits.now n)) }
 {
     match str::from_utf8(digits) {
         Ok(text) => read_port(text),

@@ -1,8 +1,8 @@
 //! The fields of the words, each parsed by its form.
-ghost use Rattle.std.specs.Prelude.{◌≡◌, ℕ, ◌<◌, slice_index};
+ghost use Rattle.std.specs.Prelude.{◌≡◌};
 ghost use Rattle.wgr_dump.specs.Fields.{SpellsKey};
 ghost use Rattle.wgr_peers.specs.Host.{IsHostText};
-ghost use Rattle.wgr_words.specs.Words.{IsRead, SpellsCapacity, SpellsDigest, SpellsEndpoint, SpellsName, SpellsPlace, SpellsPort, SpellsToken, SpellsWhole, field_name};
+ghost use Rattle.wgr_words.specs.Words.{IsRead, SpellsCapacity, SpellsDigest, SpellsEndpoint, SpellsName, SpellsPlace, SpellsPortNumber, SpellsToken, SpellsWhole, word_field_name};
 ghost use Rattle.wgr_words.specs.declared.field.WordField.TheVariants as of;
 
 use crate::endpoint::read_endpoint;
@@ -13,7 +13,7 @@ use std::fmt;
 use std::net::IpAddr;
 use wgr_core::{Capacity, Host, Name, Port};
 use wgr_request::token_digest;
-use wgr_text::{Addr, Key, read_loose};
+use wgr_text::{Addr, Key, are_bytes, read_loose};
 
 /// A field of the words.
 #[derive(Clone, Copy, Debug, PartialEq, Eq)]
@@ -35,7 +35,7 @@ pub enum WordField {
 impl WordField {
     /// The field's name in lower case.
     pub fn name(self) -> &'static str
-        ensures { result.now ≡ field_name self }
+        ensures { result.now ≡ word_field_name self }
     {
         match self {
             WordField::Tenant => "tenant",
@@ -112,7 +112,7 @@ pub(crate) fn read_host(alloc: Global, text: &str) -> Result<Host, WordFault>
 }
 
 pub(crate) fn read_port_field(text: &str) -> Result<Port, WordFault>
-    ensures { IsRead (SpellsPort text.now) of.Port result }
+    ensures { IsRead (SpellsPortNumber text.now) of.Port result }
 {
     match read_port(text) {
         Some(port) => Ok(port),
@@ -131,11 +131,6 @@ pub(crate) fn read_key(text: &str) -> Result<Key, WordFault>
         None => Err(WordFault::Field(WordField::Key)),
     }
 }
-
-// The items of a byte slice are known to be bytes.
-fn are_bytes(bytes: &[u8])
-    ensures { (i : ℕ) → slice_index bytes.now i < 256 }
-{}
 
 pub(crate) fn read_capacity_field(text: &str) -> Result<Capacity, WordFault>
     ensures { IsRead (SpellsCapacity text.now) of.Capacity result }

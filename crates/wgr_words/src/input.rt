@@ -1,5 +1,5 @@
 //! The first line of an input.
-ghost use Rattle.std.specs.Prelude.{◌≡◌, ◌==◌, IfOk, IfSome, List, OnOk, Vec, option_map, position, true, ℕ};
+ghost use Rattle.std.specs.Prelude.{◌≡◌, IfOk, IfSome, List, OnOk, Vec, option_map, true, ℕ};
 ghost use Rattle.std.specs.List.{concat};
 ghost use Rattle.wgr_io.specs.Device.{AddsPieces};
 ghost use Rattle.wgr_words.specs.Line.{EndAtNewline, before_newline, first_line};
@@ -7,6 +7,7 @@ ghost use Rattle.wgr_words.specs.Line.{EndAtNewline, before_newline, first_line}
 use crate::line::LINE_MOST;
 use std::alloc::Global;
 use wgr_io::{Read, ReadFault};
+use wgr_text::newline;
 
 /// The first line without its newline, if the first 4,096 bytes have one.
 ///
@@ -47,11 +48,4 @@ fn before_newline(text: &[u8]) -> Option<&[u8]>
         Some(end) => Some(&text[..end]),
         None => None,
     }
-}
-
-// The place of the first newline.
-fn newline(text: &[u8]) -> Option<usize>
-    ensures { result ≡ position (λ byte. byte == 10) text.now }
-{
-    text.iter().position(|byte| *byte == b'\n')
 }

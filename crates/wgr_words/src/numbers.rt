@@ -2,7 +2,7 @@
 ghost use Rattle.std.specs.Prelude.{◌≡◌, ◌<◌, ℕ, IfNone, IfSome};
 ghost use Rattle.std.specs.Char.{is_ascii_digit};
 ghost use Rattle.std.specs.List.{list_all};
-ghost use Rattle.wgr_words.specs.Words.{SpellsCapacity, SpellsPort, SpellsWhole};
+ghost use Rattle.wgr_words.specs.Words.{SpellsCapacity, SpellsPortNumber, SpellsWhole};
 
 use wgr_core::{Capacity, Port};
 
@@ -50,8 +50,8 @@ pub(crate) fn read_whole(text: &str) -> Option<u64>
 }
 
 pub(crate) fn read_port(text: &str) -> Option<Port>
-    ensures spelled { IfSome result (SpellsPort text.now) }
-    ensures none { IfNone result ((n : ℕ) → ¬ (SpellsPort text.now n)) }
+    ensures spelled { IfSome result (SpellsPortNumber text.now) }
+    ensures none { IfNone result ((n : ℕ) → ¬ (SpellsPortNumber text.now n)) }
 {
     Port::new(read_short(text)?)
 }

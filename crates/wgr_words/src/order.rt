@@ -2,7 +2,7 @@
 ghost use Rattle.std.specs.Prelude.{◌≡◌, ℕ, List, IfErr, IfOk, false};
 ghost use Rattle.wgr_words.specs.Asked.{NetworkAdd, network_asked, order_asked};
 ghost use Rattle.wgr_words.specs.Line.{line_asked};
-ghost use Rattle.wgr_words.specs.Order.{IsDraftFault, IsDraftOf, IsFaultIn, MakesOrder, OrdersBy, TakesDigest, fields_of, input_of, wants_token};
+ghost use Rattle.wgr_words.specs.Order.{IsDraftFault, IsDraftOf, IsFaultIn, MakesOrder, OrdersBy, TakesDigest, order_fields, input_of, wants_token};
 
 use crate::field::{
     WordFault, WordField, read_capacity_field, read_digest, read_host, read_key, read_name,
@@ -51,7 +51,7 @@ pub fn order_of<R: Read>(
 /// The order that a line's words spell. A fault names the first malformed field, with the token last.
 pub(crate) fn order_of_line(alloc: Global, line: &OrderLine<'_>) -> Result<Order, WordFault>
     ensures ok { IfOk result (MakesOrder (line_asked line.now).asked (line_asked line.now).token) }
-    ensures err { IfErr result (IsFaultIn (fields_of (line_asked line.now).asked (line_asked line.now).token)) }
+    ensures err { IfErr result (IsFaultIn (order_fields (line_asked line.now).asked (line_asked line.now).token)) }
 {
     match draft_of(alloc, &line.words)? {
         OrderDraft::Whole(order) => Ok(order),

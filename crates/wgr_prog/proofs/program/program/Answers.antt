@@ -11,7 +11,7 @@ use Rattle.sqlite_disk.specs.declared.Files.{Files}
 use Rattle.wgr_command_line.specs.Words.{Asked, asked_by}
 use Rattle.wgr_plan.specs.PlanFault.{Streams}
 use Rattle.wgr_service.specs.Network.{Log}
-use Rattle.wgr_prog.specs.Status.{ReadsNothing, Runs, Serves, ServesAsked, ReportsError, kind_status, streams}
+use Rattle.wgr_prog.specs.Status.{ReadsNothing, Runs, ServesWords, ServesAsked, ReportsError, kind_status, streams}
 use Rattle.wgr_prog.proofs.program.program.Goals as goal
 
 -- how the status of an error goes with its kind
@@ -80,7 +80,7 @@ returns-in-Err g c =
 
 -- what is asked for is run
 serves : {D : Type 0} (g : disk.Ghosts D) (start : Image) (closed : Option (Files D)) (words : List Text) (asked : Asked) (before after : Log) (old new : Streams) (status : ℕ) → asked_by words ≡ Some asked
-    → Runs g start closed asked before after old new status → Serves g start closed words before after old new status
+    → Runs g start closed asked before after old new status → ServesWords g start closed words before after old new status
 serves g start closed words asked before after old new status is runs = record { served = rw is (inr runs); reported = rw is tt }
 
 pub returns-in-Ok-Init : goal.returns-in-Ok-Init

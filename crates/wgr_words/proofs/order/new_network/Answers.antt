@@ -4,7 +4,7 @@ use Rattle.wgr_dump.specs.Fields.{SpellsKey}
 use Rattle.wgr_peers.specs.Host.{IsHostText}
 use Rattle.wgr_words.specs.declared.field.WordField.TheVariants as of
 use Rattle.wgr_words.specs.Order.{IsDraftFault}
-use Rattle.wgr_words.specs.Words.{SpellsCapacity, SpellsPlace, SpellsPort}
+use Rattle.wgr_words.specs.Words.{SpellsCapacity, SpellsPlace, SpellsPortNumber}
 use Rattle.wgr_words.proofs.OrderLemmas.{draft_fault, from_capacity, from_host, from_key, from_name, from_pool, from_port, here, later, passed}
 use Rattle.wgr_words.proofs.order.new_network.Goals as goal
 
@@ -33,7 +33,7 @@ returns-in_err-port-clause-err c =
     later of.Name words.name (from_pool words) _ (c.in_ok-name.name, c.in_ok-name.ensures) (
     later of.Pool words.pool (from_host words) _ ((c.in_ok-address.address, c.in_ok-address.length), c.in_ok-address.ensures) (
     later of.Host words.host (from_port words) _ (c.in_ok-host.host, c.in_ok-host.ensures) (
-    here (SpellsPort words.port) of.Port words.port (from_key words) _ (λ is. is) c.in_err-port.ensures))))))
+    here (SpellsPortNumber words.port) of.Port words.port (from_key words) _ (λ is. is) c.in_err-port.ensures))))))
 
 pub returns-in_err-server-clause-err : goal.returns-in_err-server-clause-err
 returns-in_err-server-clause-err c =
