@@ -9,58 +9,12 @@ CRATES = Path(__file__).resolve().parent.parent / "crates"
 DEFINITION = re.compile(r"(?m)^(?:abbrev |unfoldable )?pub (?:record |data )?(?!mod |record |data )([^\s:]+)")
 
 # Each name with the crates whose definitions have it, without `wgr_`; one crate twice where two of its files do.
-# It should become shorter: give a new definition a name of its own.
+# Each is one idea: `wgr_tables` has for the register's database what `wgr_sql` has for any. Give a new definition
+# a name of its own.
 SHARED = """
-AllowedGoes: entries tables
-AllowedStays: entries tables
-AreApart: columns peers
-AreNetworksApart: checks opening
-AreOf: dump entries
-Each: dump sql
-EndsAt: checks peers
-Fits: core model
-HasSettings: checks model
-IsFormed: core model
-IsGiven: laws sql
-IsGood: opening rows
-IsHead: rows schema
-IsIn: entries text
-IsPlace: orders peers
-IsRefused: http tables
-IsStill: checks rows
-Lists: checks sql
-Makes: request sql
-Outcome: core model
-PeersGo: entries tables
-Refuses: plan sql
-SpellsKey: dump plan
-SpellsNumber: dump text
 Stands: sql tables
 StepsFrom: sql tables
 StepsOn: sql tables
-Takes: dump pool
-after: laws plan
-allowed_key: conf model
-allowed_values: checks tables
-asked: model show
-begun: core http
-family_of: columns dump
-is_own: model peers
-joined: core request
-kept_count: dump peers
-lines_of: core text
-network_at: columns model
-network_of: core request
-number_of: columns request
-parts_at: dump request
-peer_text: columns conf
-place: core office
-rows_of: conf model
-same_family: dump pool
-to_come: pool rows
-token_in: columns http
-values_of: checks conf
-view_of: core model
 """
 
 

@@ -21,12 +21,16 @@ CRATES = ["wgr_tables", "wgr_entries", ROWS]
 WHOLE_TABLES = "all.rt"
 
 
+# A query of networks, without what follows the table's name: the argument of the macro.
+NETWORKS = re.search(r'macro_rules! select_networks \{.*?"(SELECT [^"]*)"', (SOURCES / "wgr_columns/src/columns.rt").read_text(), re.S)[1]
+
+
 def statements():
     """The statements that requests and orders run, with the crate and the file that each is in."""
     for crate in CRATES:
         for file in sorted((SOURCES / crate / "src").glob("*.rt")):
-            for found in re.finditer(r'"((?:SELECT|INSERT|UPDATE|DELETE) [^"]*)"', file.read_text()):
-                yield crate, file.name, found[1]
+            for found in re.finditer(r'"((?:SELECT|INSERT|UPDATE|DELETE) [^"]*)"|select_networks!\((?:"([^"]*)")?\)', file.read_text()):
+                yield crate, file.name, found[1] or NETWORKS + (found[2] or "")
 
 
 def plan_of(link, statement):

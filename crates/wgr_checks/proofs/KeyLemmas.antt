@@ -10,7 +10,7 @@ use Rattle.sqlite.specs.Order.{Row}
 use Rattle.sqlite_value.specs.Order.{column, value_cmp}
 use Rattle.sqlite_trees.proofs.ListLemmas.{all-permutation, all-map, all_from_map}
 use Rattle.wgr_sql.proofs.Answers.{map-both}
-use Rattle.wgr_checks.specs.TenantRows.{Lists}
+use Rattle.wgr_checks.specs.TenantRows.{ListsSorted}
 use Rattle.wgr_checks.proofs.ListLemmas.{at_place}
 
 all_alike : {X : Type 0} (P Q : X → Type 0) → ((x : X) → P x → Q x) → (xs : List X) → AllByRecursion P xs → AllByRecursion Q xs
@@ -21,7 +21,7 @@ all_alike P Q f (x ∷ xs) all = (f x all.0, all_alike P Q f xs all.1)
 -- the values at the place is that of the keys.
 module _ {K : Type 0} (values : Row → Row) (at : ℕ) (P : Row → Type 0) (key : Row → K) (cmp : K → K → Ordering) (clash : K → K → Bool) (flips : (x y : K) → clash x y ≡ clash y x)
     (told : (r : Row) → P (values r) → P r) (tells : (r : Row) → P r → P (values r)) (shows : (r : Row) → key (values r) ≡ key r) (order : (a b : Row) → P a → P b → value_cmp (column a at) (column b at) ≡ cmp (key a) (key b))
-    (table rows : List Row) (l : Lists values at table rows) where
+    (table rows : List Row) (l : ListsSorted values at table rows) where
   all_chosen : AllByRecursion P rows → AllByRecursion P l.chosen
   all_chosen all = all_alike (λ r. P (values r)) P told l.chosen (all_from_map P values l.chosen (subst (AllByRecursion P) l.shown all))
 

@@ -18,7 +18,7 @@ use Rattle.wgr_columns.specs.Layout.{Others, schema_with}
 use Rattle.wgr_columns.proofs.Statements.{never_refused}
 use Rattle.wgr_columns.proofs.Statements.{Asks, rising}
 use Rattle.wgr_columns.specs.LaidOut.{IsLaidOut}
-use Rattle.wgr_checks.specs.TenantRows.{Lists}
+use Rattle.wgr_checks.specs.TenantRows.{ListsSorted}
 use Rattle.wgr_checks.proofs.CauseLemmas.{is_answered}
 use Rattle.wgr_checks.proofs.Queries.{lists, is_plain}
 use Rattle.wgr_checks.specs.declared.table.Table.{Table}
@@ -81,9 +81,9 @@ shows : (t : Table) (row : Row) → eval_all (places_of t) ([] ∷ row ∷ []) �
 shows Peers row = refl
 shows Allowed row = refl
 
-pub listed : (t : Table) (old new : State) → IsLaidOut old.now.schema → (rows : List Row) → Shown (text_of t) [] old new rows → Lists (values_of t) 0 (old.now.trees (tree_of t)) rows
+pub listed : (t : Table) (old new : State) → IsLaidOut old.now.schema → (rows : List Row) → Shown (text_of t) [] old new rows → ListsSorted (values_of t) 0 (old.now.trees (tree_of t)) rows
 listed t old new laid rows h =
-    subst (λ (f : Row → Row). Lists f 0 (old.now.trees (tree_of t)) rows) (λ k row. shows t row k)
+    subst (λ (f : Row → Row). ListsSorted f 0 (old.now.trees (tree_of t)) rows) (λ k row. shows t row k)
     (lists (tree_of t) 0 (places_of t) (names_of t) (text_of t) (table_asks t) old new laid rows h)
 
 pub plain : (t : Table) (s : Schema) → IsLaidOut s → IsPlain (understood s (text_of t))

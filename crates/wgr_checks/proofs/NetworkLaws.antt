@@ -14,12 +14,12 @@ use Rattle.wgr_model.specs.Rows.{NetworkRow, family_number}
 use Rattle.wgr_sql.proofs.Answers.{map-both}
 use Rattle.wgr_sql.proofs.TextLemmas.{text_at}
 use Rattle.wgr_sql.proofs.Values.{blob_at}
-use Rattle.wgr_columns.specs.Layout.{schema_with, network_at}
+use Rattle.wgr_columns.specs.Layout.{schema_with, network_table_at}
 use Rattle.wgr_columns.specs.Decode.{number_at, bytes_at, bytes_of, number_of, family_of, network_in, tenant_in, network_numbers}
 use Rattle.wgr_columns.specs.LaidOut.{IsLaidOut}
 use Rattle.wgr_checks.specs.TenantRows.{AreGoodTenants, AreIdsOf}
 use Rattle.wgr_checks.specs.NetworkRows.{AreGoodNetworks, IsNetworkRow}
-use Rattle.wgr_checks.specs.Laws.{AreConsistentNetworks, IsSettled}
+use Rattle.wgr_checks.specs.Laws.{AreConsistentNetworks, HasGoodValues}
 use Rattle.wgr_checks.proofs.TenantLaws.{keyed_by_ids, sound}
 use Rattle.wgr_columns.proofs.HostLemmas.{kept_again}
 use Rattle.wgr_checks.proofs.TokenLaws.{among_is, is_id}
@@ -45,7 +45,7 @@ module _ (tenants : List Row) (ids : List ℕ) (are : AreIdsOf tenants ids) (row
           addresses_are = λ r here p place. all_has (λ x. column r x ≡ Blob (bytes_of (number_of (bytes_at r x)))) (5 ∷ []) p ((row r here).pool.address, tt) place;
           families_are = λ r here p place. all_has (λ x. number_at r x ≡ family_number (family_of (number_at r x))) (4 ∷ []) p ((row r here).pool.family.1, tt) place;
         };
-        each = all-map IsSettled network_in rows (all_from (λ r. IsSettled (network_in r)) rows (λ r here.
+        each = all-map HasGoodValues network_in rows (all_from (λ r. HasGoodValues (network_in r)) rows (λ r here.
             let is = row r here in
             record { id = is.id.1; name = is.name.1; pool = is.pool.pool; host = (bytes_at r 7, is.host.1); port = is.port.1; server = is.server.1; capacity = is.capacity.1; next = is.next.1 }));
         ids = subst (IsDistinct nat_eq) (sym (map-both network_in (λ (w : NetworkRow). w.id) rows)) good.ids;
@@ -57,8 +57,8 @@ module _ (tenants : List Row) (ids : List ℕ) (are : AreIdsOf tenants ids) (row
       }
 
   module _ (good : AreGoodTenants tenants) (typed : AreTyped rows) (consistent : AreConsistentNetworks tenants rows) where
-    settled : (r : Row) → Has rows r → IsSettled (network_in r)
-    settled r here = all_has (λ x. IsSettled (network_in x)) rows r (all_from_map IsSettled network_in rows consistent.each) here
+    settled : (r : Row) → Has rows r → HasGoodValues (network_in r)
+    settled r here = all_has (λ x. HasGoodValues (network_in x)) rows r (all_from_map HasGoodValues network_in rows consistent.each) here
 
     owner : (r : Row) → Has rows r → has_tenant (map tenant_in tenants) (Owner r) ≡ true
     owner r here = all_has (λ x. has_tenant (map tenant_in tenants) (Owner x) ≡ true) rows r (all_from_map (λ w. has_tenant (map tenant_in tenants) w.tenant ≡ true) network_in rows consistent.owners) here
@@ -98,9 +98,9 @@ module _ (tenants : List Row) (ids : List ℕ) (are : AreIdsOf tenants ids) (row
 module _ (db : Database) (laid : IsLaidOut db.schema) (database : IsDatabase db) where
   typed_rows : AreTyped (db.trees 5)
   typed_rows = record {
-    names = λ r here. text_at (schema_with laid.others) db.trees (sound db laid database) (network_at 5) (inr (inr (inr (inl refl)))) r here 2 _ refl refl refl refl refl;
-    hosts = λ r here. text_at (schema_with laid.others) db.trees (sound db laid database) (network_at 5) (inr (inr (inr (inl refl)))) r here 6 _ refl refl refl refl refl;
-    keys = λ r here. blob_at (schema_with laid.others) db.trees (sound db laid database) (network_at 5) (inr (inr (inr (inl refl)))) r here 8 _ refl refl refl refl refl;
+    names = λ r here. text_at (schema_with laid.others) db.trees (sound db laid database) (network_table_at 5) (inr (inr (inr (inl refl)))) r here 2 _ refl refl refl refl refl;
+    hosts = λ r here. text_at (schema_with laid.others) db.trees (sound db laid database) (network_table_at 5) (inr (inr (inr (inl refl)))) r here 6 _ refl refl refl refl refl;
+    keys = λ r here. blob_at (schema_with laid.others) db.trees (sound db laid database) (network_table_at 5) (inr (inr (inr (inl refl)))) r here 8 _ refl refl refl refl refl;
   }
 
   pub good_networks_are : AreGoodTenants (db.trees 1) → (ids : List ℕ) → AreIdsOf (db.trees 1) ids → AreGoodNetworks ids (db.trees 5) ↔ AreConsistentNetworks (db.trees 1) (db.trees 5)

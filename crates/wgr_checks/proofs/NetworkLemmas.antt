@@ -20,8 +20,8 @@ use Rattle.wgr_sql.proofs.Answers.{map-both}
 use Rattle.wgr_columns.specs.Decode.{number_at, prefix_at}
 use Rattle.wgr_checks.specs.Sorted.{AreAmong, pool_cmp}
 use Rattle.wgr_columns.specs.Fields.{IsIdAt, IsPoolAt}
-use Rattle.wgr_checks.specs.TenantRows.{AreIdsOf, Lists}
-use Rattle.wgr_checks.specs.NetworkRows.{AreFit, AreGoodNetworks, HasSettings, IsEndpointRow, IsNetworkRow, IsSlotRow, endpoint_at, network_values, slot_at}
+use Rattle.wgr_checks.specs.TenantRows.{AreIdsOf, ListsSorted}
+use Rattle.wgr_checks.specs.NetworkRows.{AreFit, AreGoodNetworks, HasSettingColumns, IsEndpointRow, IsNetworkRow, IsSlotRow, endpoint_at, network_values, slot_at}
 use Rattle.wgr_checks.proofs.KeyLemmas.{each_there, each_back, keys_sorted}
 use Rattle.wgr_checks.proofs.TenantLemmas.{as_naturals}
 use Rattle.wgr_checks.proofs.TokenLemmas.{as_many}
@@ -66,7 +66,7 @@ module _ (tenants : List ℕ) (rows : List Row) where
     each = all_from IsNetworkRow rows (λ r here.
         let slot = all_has IsSlotRow rows r fit.apart.0.each here in
         let endpoint = all_has IsEndpointRow rows r fit.apart.1.each here in
-        let settings = all_has HasSettings rows r fit.settings here in
+        let settings = all_has HasSettingColumns rows r fit.settings here in
         record {
           id = all_has (λ x. IsIdAt x 0) rows r ids here;
           tenant = slot.0;
@@ -95,7 +95,7 @@ module _ (tenants : List ℕ) (rows : List Row) where
     pub fit_of : AreFit tenants rows
     fit_of = record {
       few = good.few;
-      settings = of_each HasSettings (λ r is. (is.server, is.capacity, is.next));
+      settings = of_each HasSettingColumns (λ r is. (is.server, is.capacity, is.next));
       apart = (
         record { each = of_each IsSlotRow (λ r is. (is.tenant, is.name)); slots = good.slots },
         record { each = of_each IsEndpointRow (λ r is. (is.host, is.port)); endpoints = good.endpoints },
@@ -135,7 +135,7 @@ tells r is = record {
 order : (a b : Row) → IsNetworkRow a → IsNetworkRow b → value_cmp (column a 0) (column b 0) ≡ nat_cmp (Id a) (Id b)
 order a b p q = ap₂ value_cmp p.id.0 q.id.0 ∙ value_cmp-Int (pos (Id a)) (pos (Id b)) ∙ as_naturals (Id a) (Id b)
 
-module _ (table rows : List Row) (l : Lists network_values 0 table rows) where
+module _ (table rows : List Row) (l : ListsSorted network_values 0 table rows) where
   moved : {K : Type 0} (key : Row → K) → ((r : Row) → key (network_values r) ≡ key r) → IsPermutation (map key table) (map key rows)
   moved key shows = subst (IsPermutation (map key table)) (sym (ap (map key) l.shown ∙ map-both network_values key l.chosen ∙ (λ k. map (λ r. shows r k) l.chosen))) (IsPermutation-map key table l.chosen l.same)
 

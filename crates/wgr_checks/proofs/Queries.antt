@@ -18,7 +18,7 @@ use Rattle.wgr_columns.specs.Layout.{Others, schema_with}
 use Rattle.wgr_columns.proofs.Statements.{never_refused}
 use Rattle.wgr_columns.proofs.Statements.{Asks, rising}
 use Rattle.wgr_columns.specs.LaidOut.{IsLaidOut}
-use Rattle.wgr_checks.specs.TenantRows.{Lists, tenant_values, name_values}
+use Rattle.wgr_checks.specs.TenantRows.{ListsSorted, tenant_values, name_values}
 
 all_kept : {X : Type 0} (xs : List X) → xs ≡ filter (λ x. true) xs
 all_kept [] = refl
@@ -26,7 +26,7 @@ all_kept (x ∷ xs) = ap (λ l. x ∷ l) (all_kept xs)
 
 -- SELECT places FROM the table ORDER BY one place
 module _ (tree at : ℕ) (places : List Term) (names : List (List ℕ)) (text : List ℕ) (asks : (others : Others) → Asks others text (Select (record { lets = []; body = plain_query tree [] places (rising at ∷ []) }) names)) where
-  pub lists : (old new : State) → IsLaidOut old.now.schema → (rows : List Row) → Shown text [] old new rows → Lists (λ r. eval_all places ([] ∷ r ∷ [])) at (old.now.trees tree) rows
+  pub lists : (old new : State) → IsLaidOut old.now.schema → (rows : List Row) → Shown text [] old new rows → ListsSorted (λ r. eval_all places ([] ∷ r ∷ [])) at (old.now.trees tree) rows
   lists old new laid rows h =
       let asked = asks laid.others in
       let read = reads_as text [] old new (schema_with laid.others) laid.schema_is _ asked.means.command_is asked.means.plain asked.unlisted rows h in
@@ -71,8 +71,8 @@ pub names_answered : (others : Others) → IsAnswered (schema_with others) names
 unfolding understood everything
 names_answered others = record { given = (refl, refl, omega arith, refl); unlisted = refl; plain = λ limit trees e refused. never_refused _ refl limit (trees 1) refused }
 
-pub ids_listed : (old new : State) → IsLaidOut old.now.schema → (rows : List Row) → Shown ids_text [] old new rows → Lists tenant_values 0 (old.now.trees 1) rows
+pub ids_listed : (old new : State) → IsLaidOut old.now.schema → (rows : List Row) → Shown ids_text [] old new rows → ListsSorted tenant_values 0 (old.now.trees 1) rows
 ids_listed old new laid rows h = lists 1 0 id_places _ ids_text ids_ask old new laid rows h
 
-pub names_listed : (old new : State) → IsLaidOut old.now.schema → (rows : List Row) → Shown names_text [] old new rows → Lists name_values 2 (old.now.trees 1) rows
+pub names_listed : (old new : State) → IsLaidOut old.now.schema → (rows : List Row) → Shown names_text [] old new rows → ListsSorted name_values 2 (old.now.trees 1) rows
 names_listed old new laid rows h = lists 1 2 name_places _ names_text names_ask old new laid rows h

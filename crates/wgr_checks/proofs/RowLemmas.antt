@@ -12,7 +12,7 @@ use Rattle.sqlite_rules.specs.Edit.{id_in}
 use Rattle.sqlite_rules.proofs.ListLemmas.{all_has, all_from}
 use Rattle.wgr_columns.specs.Decode.{IsNumberAt, number_at}
 use Rattle.wgr_columns.specs.Fields.{IsIntegerAt}
-use Rattle.wgr_checks.specs.TenantRows.{Lists}
+use Rattle.wgr_checks.specs.TenantRows.{ListsSorted}
 use Rattle.wgr_checks.specs.TokenRows.{HaveOwnRowids}
 use Rattle.wgr_checks.proofs.KeyLemmas.{each_there, each_back, apart_there, apart_back, keys_sorted}
 use Rattle.wgr_checks.proofs.TokenLemmas.{int_flips}
@@ -29,7 +29,7 @@ by_rowid a b p q = ap₂ value_cmp p q ∙ value_cmp-Int (Rowid a) (Rowid b)
 
 -- The values that are listed, in the order of the rowids, tell whether a row is as it should be (P).
 module _ (values : Row → Row) (P : Row → Type 0) (told : (r : Row) → P (values r) → P r) (tells : (r : Row) → P r → P (values r)) (shows : (r : Row) → column (values r) 0 ≡ column r 0)
-    (table rows : List Row) (l : Lists values 0 table rows) where
+    (table rows : List Row) (l : ListsSorted values 0 table rows) where
   has : (r : Row) → HasRowid (values r) → HasRowid r
   has r h = subst (λ v. v ≡ Int (id_in v)) (shows r) h
 

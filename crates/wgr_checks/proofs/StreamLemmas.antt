@@ -25,7 +25,7 @@ use Rattle.wgr_checks.proofs.TokenLemmas.{int_tells}
 use Rattle.wgr_checks.specs.declared.table.Table.{Table}
 use Rattle.wgr_checks.specs.OwnRows.{AreOwnRows}
 use Rattle.wgr_checks.specs.TableRows.{IsRowOf, text_of, tree_of}
-use Rattle.wgr_checks.specs.Walked.{EndsAt, IsStill, IsWalked, from_on, still_to_come}
+use Rattle.wgr_checks.specs.Walked.{EndsAtRow, IsStill, IsWalked, from_on, still_to_come}
 use Rattle.wgr_checks.proofs.RowLemmas.{Rowid}
 use Rattle.wgr_checks.proofs.MemberQueries.{listed, plain, query_ends}
 use Rattle.wgr_checks.proofs.TableLemmas.{table_there, table_back, table_sorted}
@@ -112,7 +112,7 @@ module _ (P : Row → Type 0) where
     }
 
     module _ (tail : List Row) (own : AreOwnRows P ((rows ++ row ∷ []) ++ tail)) (up : IsSorted int_cmp (map Rowid ((rows ++ row ∷ []) ++ tail))) where
-      rises : (before : Option ℤ) → IfSome before (EndsAt rows) → IfSome before (λ y. int_cmp y (Rowid row) ≡ Less)
+      rises : (before : Option ℤ) → IfSome before (EndsAtRow rows) → IfSome before (λ y. int_cmp y (Rowid row) ≡ Less)
       rises None none = tt
       rises (Some y) e =
           let front = e.0 in

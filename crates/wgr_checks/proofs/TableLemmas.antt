@@ -4,7 +4,7 @@ use Rattle.std.specs.List.Sorted.{IsSorted}
 use Rattle.std.specs.Ordering.{int_cmp}
 use Rattle.sqlite.specs.Order.{Row}
 use Rattle.sqlite_value.specs.Order.{column}
-use Rattle.wgr_checks.specs.TenantRows.{Lists}
+use Rattle.wgr_checks.specs.TenantRows.{ListsSorted}
 use Rattle.wgr_checks.specs.declared.table.Table.{Table}
 use Rattle.wgr_checks.specs.declared.table.Table.TheVariants.{Peers, Allowed}
 use Rattle.wgr_checks.specs.OwnRows.{AreOwnRows}
@@ -24,7 +24,7 @@ shows_rowid : (t : Table) (r : Row) → column (values_of t r) 0 ≡ column r 0
 shows_rowid Peers r = refl
 shows_rowid Allowed r = refl
 
-module _ (t : Table) (networks : List ℕ) (table rows : List Row) (l : Lists (values_of t) 0 table rows) where
+module _ (t : Table) (networks : List ℕ) (table rows : List Row) (l : ListsSorted (values_of t) 0 table rows) where
   pub table_there : AreOwnRows (IsRowOf t networks) rows → AreOwnRows (IsRowOf t networks) table
   table_there own = own_there (values_of t) (IsRowOf t networks) (told t networks) (tells t networks) (shows_rowid t) table rows l own
 

@@ -18,7 +18,7 @@ use Rattle.wgr_model.proofs.SameLemmas.{eqb_sym}
 use Rattle.wgr_sql.specs.Keyed.{IsKeyed}
 use Rattle.wgr_sql.proofs.Answers.{map-both}
 use Rattle.wgr_sql.proofs.TextLemmas.{text_at}
-use Rattle.wgr_columns.specs.Layout.{schema_with, tenant_at}
+use Rattle.wgr_columns.specs.Layout.{schema_with, tenant_table_at}
 use Rattle.wgr_columns.specs.Decode.{number_at, tenant_in}
 use Rattle.wgr_columns.specs.LaidOut.{IsLaidOut}
 use Rattle.wgr_columns.specs.Fields.{IsNameAt}
@@ -62,7 +62,7 @@ module _ (db : Database) (laid : IsLaidOut db.schema) (database : IsDatabase db)
 
   named : AreConsistentTenants (db.trees 1) → (r : Row) → Has (db.trees 1) r → IsNameAt r 2
   named good r here = (
-    text_at (schema_with laid.others) db.trees sound (tenant_at 1) (inr (inl refl)) r here 1 _ refl refl refl refl refl,
+    text_at (schema_with laid.others) db.trees sound (tenant_table_at 1) (inr (inl refl)) r here 1 _ refl refl refl refl refl,
     (all_has (λ x. IsTenant (tenant_in x)) (db.trees 1) r (all_from_map IsTenant tenant_in (db.trees 1) good.each) here).name,
   )
 

@@ -12,13 +12,13 @@ use Rattle.wgr_model.proofs.LookLemmas.{is_same_sym}
 use Rattle.wgr_model.proofs.SameLemmas.{eqb_sym}
 use Rattle.wgr_columns.specs.Decode.{number_at, bytes_at}
 use Rattle.wgr_columns.specs.Fields.{IsNameAt}
-use Rattle.wgr_checks.specs.TenantRows.{AreIdsOf, HaveOwnIds, HaveOwnNames, IsTenantRow, Lists, tenant_values, name_values}
+use Rattle.wgr_checks.specs.TenantRows.{AreIdsOf, HaveOwnIds, HaveOwnNames, IsTenantRow, ListsSorted, tenant_values, name_values}
 use Rattle.wgr_checks.proofs.KeyLemmas.{each_there, each_back, keys_same, apart_there, apart_back, keys_sorted}
 
 pub as_naturals : (m n : ℕ) → int_cmp (pos m) (pos n) ≡ nat_cmp m n
 as_naturals m n = grind (arith)
 
-module _ (table rows : List Row) (l : Lists tenant_values 0 table rows) where
+module _ (table rows : List Row) (l : ListsSorted tenant_values 0 table rows) where
   abbrev Id : Row → ℕ
   Id r = number_at r 0
 
@@ -43,7 +43,7 @@ module _ (table rows : List Row) (l : Lists tenant_values 0 table rows) where
   pub ids_apart : (ids : List ℕ) → ids ≡ map Id rows → HaveOwnIds table → IsDistinct nat_eq ids
   ids_apart ids are own = apart_back tenant_values 0 IsTenantRow Id nat_cmp nat_eq eqb_sym (λ r h. h) (λ r h. h) (λ r. refl) order table rows l ids are own.ids
 
-module _ (table rows : List Row) (l : Lists name_values 2 table rows) where
+module _ (table rows : List Row) (l : ListsSorted name_values 2 table rows) where
   abbrev IsNamed : Row → Type 0
   IsNamed r = IsNameAt r 2
 

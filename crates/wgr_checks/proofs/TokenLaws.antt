@@ -21,7 +21,7 @@ use Rattle.wgr_model.proofs.LookLemmas.{is_same_refl}
 use Rattle.wgr_sql.specs.Keyed.{IsKeyed}
 use Rattle.wgr_sql.proofs.Answers.{map-both}
 use Rattle.wgr_sql.proofs.Values.{blob_at}
-use Rattle.wgr_columns.specs.Layout.{schema_with, token_at}
+use Rattle.wgr_columns.specs.Layout.{schema_with, token_table_at}
 use Rattle.wgr_columns.specs.Decode.{number_at, bytes_at, tenant_in, token_in}
 use Rattle.wgr_columns.specs.LaidOut.{IsLaidOut}
 use Rattle.wgr_columns.specs.Fields.{IsDigestAt, IsIdAt, IsIntegerAt}
@@ -118,5 +118,5 @@ module _ (tenants : List Row) (ids : List ℕ) (are : AreIdsOf tenants ids) wher
 pub good_tokens_are : (db : Database) → IsLaidOut db.schema → IsDatabase db → AreGoodTenants (db.trees 1) → (ids : List ℕ) → AreIdsOf (db.trees 1) ids → AreGoodTokens ids (db.trees 3) ↔ AreConsistentTokens (db.trees 1) (db.trees 3)
 good_tokens_are db laid database good ids are = (
   there (db.trees 1) ids are (db.trees 3),
-  back (db.trees 1) ids are good (db.trees 3) (λ r here. blob_at (schema_with laid.others) db.trees (sound db laid database) (token_at 3) (inr (inr (inl refl))) r here 0 _ refl refl refl refl refl),
+  back (db.trees 1) ids are good (db.trees 3) (λ r here. blob_at (schema_with laid.others) db.trees (sound db laid database) (token_table_at 3) (inr (inr (inl refl))) r here 0 _ refl refl refl refl refl),
 )

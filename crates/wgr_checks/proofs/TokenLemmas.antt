@@ -16,7 +16,7 @@ use Rattle.wgr_model.proofs.LookLemmas.{is_same_sym}
 use Rattle.wgr_model.proofs.SameLemmas.{eqb_sym}
 use Rattle.wgr_columns.specs.Decode.{number_at, bytes_at}
 use Rattle.wgr_columns.specs.Fields.{IsDigestAt, IsIdAt, IsIntegerAt}
-use Rattle.wgr_checks.specs.TenantRows.{Lists}
+use Rattle.wgr_checks.specs.TenantRows.{ListsSorted}
 use Rattle.wgr_checks.specs.TokenRows.{HaveOwnRowids, HaveOwnDigests, HaveOwners, rowid_values, digest_values, owner_values}
 use Rattle.wgr_checks.proofs.TenantLemmas.{as_naturals}
 use Rattle.wgr_checks.proofs.KeyLemmas.{each_there, each_back, keys_same, apart_there, apart_back, keys_sorted}
@@ -33,10 +33,10 @@ int_itself a = grind (arith)
 pub int_is : (a b : ℤ) → int_eq a b ≡ true → a ≡ b
 int_is a b h = grind (arith)
 
-pub as_many : (values : Row → Row) (at : ℕ) (table rows : List Row) → Lists values at table rows → length table ≡ length rows
+pub as_many : (values : Row → Row) (at : ℕ) (table rows : List Row) → ListsSorted values at table rows → length table ≡ length rows
 as_many values at table rows l = sym (length_permutation table l.chosen l.same) ∙ sym (length-map l.chosen values) ∙ (λ k. length (sym l.shown k))
 
-module _ (table rows : List Row) (l : Lists rowid_values 0 table rows) where
+module _ (table rows : List Row) (l : ListsSorted rowid_values 0 table rows) where
   abbrev IsThere : Row → Type 0
   IsThere r = IsIntegerAt r 0
 
@@ -61,7 +61,7 @@ module _ (table rows : List Row) (l : Lists rowid_values 0 table rows) where
   pub rowids_sorted : HaveOwnRowids rows → IsSorted int_cmp (map Rowid rows)
   rowids_sorted own = keys_sorted rowid_values 0 IsThere Rowid int_cmp int_eq int_flips (λ r h. h) (λ r h. h) (λ r. refl) by_rowid table rows l (map Rowid rows) refl own.each
 
-module _ (table rows : List Row) (l : Lists digest_values 1 table rows) where
+module _ (table rows : List Row) (l : ListsSorted digest_values 1 table rows) where
   abbrev HasDigest : Row → Type 0
   HasDigest r = IsDigestAt r 1
 
@@ -88,7 +88,7 @@ module _ (table rows : List Row) (l : Lists digest_values 1 table rows) where
   pub digests_sorted : HaveOwnDigests rows → IsSorted (slice_cmp nat_cmp) (map Digest rows)
   digests_sorted own = keys_sorted digest_values 1 HasDigest Digest (slice_cmp nat_cmp) is_same is_same_sym (λ r h. h) (λ r h. h) (λ r. refl) by_digest table rows l (map Digest rows) refl own.each
 
-module _ (table rows : List Row) (l : Lists owner_values 2 table rows) where
+module _ (table rows : List Row) (l : ListsSorted owner_values 2 table rows) where
   abbrev IsOwned : Row → Type 0
   IsOwned r = IsIdAt r 2
 

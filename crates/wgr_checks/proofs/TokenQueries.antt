@@ -13,7 +13,7 @@ use Rattle.wgr_columns.specs.Layout.{Others, schema_with}
 use Rattle.wgr_columns.proofs.Statements.{never_refused}
 use Rattle.wgr_columns.proofs.Statements.{Asks, rising}
 use Rattle.wgr_columns.specs.LaidOut.{IsLaidOut}
-use Rattle.wgr_checks.specs.TenantRows.{Lists}
+use Rattle.wgr_checks.specs.TenantRows.{ListsSorted}
 use Rattle.wgr_checks.specs.TokenRows.{rowid_values, digest_values, owner_values}
 use Rattle.wgr_checks.proofs.Queries.{lists}
 
@@ -31,7 +31,7 @@ pub rowids_answered : (others : Others) → IsAnswered (schema_with others) rowi
 unfolding understood everything
 rowids_answered others = record { given = (refl, refl, omega arith, refl); unlisted = refl; plain = λ limit trees e refused. never_refused _ refl limit (trees 3) refused }
 
-pub rowids_listed : (old new : State) → IsLaidOut old.now.schema → (rows : List Row) → Shown rowids_text [] old new rows → Lists rowid_values 0 (old.now.trees 3) rows
+pub rowids_listed : (old new : State) → IsLaidOut old.now.schema → (rows : List Row) → Shown rowids_text [] old new rows → ListsSorted rowid_values 0 (old.now.trees 3) rows
 rowids_listed old new laid rows h = lists 3 0 rowid_places _ rowids_text rowids_ask old new laid rows h
 
 abbrev pub digests_text : List ℕ
@@ -48,7 +48,7 @@ pub digests_answered : (others : Others) → IsAnswered (schema_with others) dig
 unfolding understood everything
 digests_answered others = record { given = (refl, refl, omega arith, refl); unlisted = refl; plain = λ limit trees e refused. never_refused _ refl limit (trees 3) refused }
 
-pub digests_listed : (old new : State) → IsLaidOut old.now.schema → (rows : List Row) → Shown digests_text [] old new rows → Lists digest_values 1 (old.now.trees 3) rows
+pub digests_listed : (old new : State) → IsLaidOut old.now.schema → (rows : List Row) → Shown digests_text [] old new rows → ListsSorted digest_values 1 (old.now.trees 3) rows
 digests_listed old new laid rows h = lists 3 1 digest_places _ digests_text digests_ask old new laid rows h
 
 abbrev pub owners_text : List ℕ
@@ -65,5 +65,5 @@ pub owners_answered : (others : Others) → IsAnswered (schema_with others) owne
 unfolding understood everything
 owners_answered others = record { given = (refl, refl, omega arith, refl); unlisted = refl; plain = λ limit trees e refused. never_refused _ refl limit (trees 3) refused }
 
-pub owners_listed : (old new : State) → IsLaidOut old.now.schema → (rows : List Row) → Shown owners_text [] old new rows → Lists owner_values 2 (old.now.trees 3) rows
+pub owners_listed : (old new : State) → IsLaidOut old.now.schema → (rows : List Row) → Shown owners_text [] old new rows → ListsSorted owner_values 2 (old.now.trees 3) rows
 owners_listed old new laid rows h = lists 3 2 owner_places _ owners_text owners_ask old new laid rows h

@@ -36,7 +36,7 @@ pub record AreConsistentTokens (tenants rows : List Row) : Type 0 where
   pub few : length (map token_in rows) ≤ max_entries
 
 -- each value in a network's row is of its form
-pub record IsSettled (w : NetworkRow) : Type 0 where
+pub record HasGoodValues (w : NetworkRow) : Type 0 where
   pub id : IsId w.id
   pub name : IsName w.name
   pub pool : IsPool w.pool
@@ -49,7 +49,7 @@ pub record IsSettled (w : NetworkRow) : Type 0 where
 -- the same for the rows of networks, and the networks in them, except for their peers
 pub record AreConsistentNetworks (tenants rows : List Row) : Type 0 where
   pub written : AreNetworks rows
-  pub each : AllByRecursion IsSettled (map network_in rows)
+  pub each : AllByRecursion HasGoodValues (map network_in rows)
   pub ids : IsDistinct nat_eq (map (λ w. w.id) (map network_in rows))
   pub slots : IsDistinct same_slot (map (λ w. (w.tenant, w.name)) (map network_in rows))
   pub endpoints : IsDistinct same_endpoint (map (λ w. (w.host, w.port)) (map network_in rows))

@@ -50,8 +50,8 @@ IsSlotRow row = IsIdAt row network.TENANT × IsNameAt row network.NAME
 abbrev pub IsEndpointRow : Row → Type 0
 IsEndpointRow row = IsHostAt row network.HOST × IsPortAt row network.PORT
 
-abbrev pub HasSettings : Row → Type 0
-HasSettings row = IsKeyAt row network.SERVER × IsCapacityAt row network.CAPACITY × IsWordAt row network.NEXT
+abbrev pub HasSettingColumns : Row → Type 0
+HasSettingColumns row = IsKeyAt row network.SERVER × IsCapacityAt row network.CAPACITY × IsWordAt row network.NEXT
 
 pub record HaveOwnSlots (rows : List Row) : Type 0 where
   pub each : AllByRecursion IsSlotRow rows
@@ -65,14 +65,14 @@ pub record HaveOwnPools (rows : List Row) : Type 0 where
   pub each : AllByRecursion (λ r. IsPoolAt r network.FAMILY) rows
   pub pools : IsDistinct overlaps (map (λ r. prefix_at r network.FAMILY) rows)
 
-abbrev pub AreNetworksApart : List Row → Type 0
-AreNetworksApart rows = HaveOwnSlots rows × HaveOwnEndpoints rows × HaveOwnPools rows
+abbrev pub AreNetworkRowsApart : List Row → Type 0
+AreNetworkRowsApart rows = HaveOwnSlots rows × HaveOwnEndpoints rows × HaveOwnPools rows
 
 -- what `AreGoodNetworks` requires, except for ids
 pub record AreFit (tenants : List ℕ) (rows : List Row) : Type 0 where
   pub few : length rows ≤ max_entries
-  pub settings : AllByRecursion HasSettings rows
-  pub apart : AreNetworksApart rows
+  pub settings : AllByRecursion HasSettingColumns rows
+  pub apart : AreNetworkRowsApart rows
   pub owned : HaveOwners tenants rows
 
 -- ---- what the query returns

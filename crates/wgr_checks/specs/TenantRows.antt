@@ -41,7 +41,7 @@ abbrev pub name_values : Row → Row
 name_values row = Null ∷ Null ∷ column row tenant.NAME ∷ []
 
 -- values of all rows of a table, sorted by those at this place
-pub record Lists (values : Row → Row) (at : ℕ) (table rows : List Row) : Type 0 where
+pub record ListsSorted (values : Row → Row) (at : ℕ) (table rows : List Row) : Type 0 where
   pub chosen : List Row
   pub same : IsPermutation table chosen
   pub shown : rows ≡ map values chosen

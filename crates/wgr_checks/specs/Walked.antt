@@ -9,13 +9,13 @@ use Rattle.sqlite.specs.State.{State}
 use Rattle.wgr_columns.specs.declared.columns.TheConstants.{ROWID}
 use Rattle.wgr_checks.specs.OwnRows.{AreOwnRows}
 
-abbrev pub EndsAt : List Row → ℤ → Type 0
-EndsAt rows rowid = (front : List Row) × (row : Row) × (rows ≡ front ++ row ∷ []) × (id_in (column row ROWID) ≡ rowid)
+abbrev pub EndsAtRow : List Row → ℤ → Type 0
+EndsAtRow rows rowid = (front : List Row) × (row : Row) × (rows ≡ front ++ row ∷ []) × (id_in (column row ROWID) ≡ rowid)
 
 -- the rows are as they should be, and none has a rowid that comes after the last
 pub record IsWalked (IsRow : Row → Type 0) (rows : List Row) (last : Option ℤ) : Type 0 where
   pub own : AreOwnRows IsRow rows
-  pub ends : IfSome last (EndsAt rows)
+  pub ends : IfSome last (EndsAtRow rows)
   pub unused : (z : ℤ) → IfSome last (λ y. int_cmp y z ≡ Less) → AllByRecursion (λ r. int_eq (id_in (column r ROWID)) z ≡ false) rows
 
 -- if the connection is open, it was open before, and what it shows and what was committed are unchanged

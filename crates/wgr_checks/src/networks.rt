@@ -13,9 +13,9 @@ ghost use Rattle.wgr_columns.specs.Decode.{number_at, bytes_at, prefix_at};
 ghost use Rattle.wgr_columns.specs.Fields.{IsIdAt, IsPoolAt};
 ghost use Rattle.wgr_columns.specs.LaidOut.{Laid};
 ghost use Rattle.wgr_columns.specs.declared.columns.network.TheConstants as network;
-ghost use Rattle.wgr_checks.specs.TenantRows.{AreIdsOf, Lists};
+ghost use Rattle.wgr_checks.specs.TenantRows.{AreIdsOf, ListsSorted};
 ghost use Rattle.wgr_checks.specs.TokenRows.{HaveOwners};
-ghost use Rattle.wgr_checks.specs.NetworkRows.{AreNetworksApart, AreFit, AreGoodNetworks, HaveOwnEndpoints, HaveOwnPools, HaveOwnSlots, HasSettings, IsEndpointRow, IsSlotRow, endpoint_at, network_values, slot_at};
+ghost use Rattle.wgr_checks.specs.NetworkRows.{AreNetworkRowsApart, AreFit, AreGoodNetworks, HaveOwnEndpoints, HaveOwnPools, HaveOwnSlots, HasSettingColumns, IsEndpointRow, IsSlotRow, endpoint_at, network_values, slot_at};
 
 use crate::keys::{endpoints_differ, ids_differ, slots_differ};
 use crate::owners::are_among;
@@ -24,7 +24,8 @@ use crate::sorted::{sort_endpoints, sort_ids, sort_pools, sort_slots};
 use sqlite::{Alter, Connection, Row};
 use std::alloc::Global;
 use wgr_columns::{
-    capacity_at, host_at, id_at, key_at, name_at, network, pool_in, port_at, word_at,
+    capacity_at, host_at, id_at, key_at, name_at, network, pool_in, port_at, select_networks,
+    word_at,
 };
 use wgr_model::MAX_ENTRIES;
 use wgr_peers::{Host, Name, Port};
@@ -135,7 +136,7 @@ fn pools_of(alloc: Global, rows: &[Row]) -> Result<Option<Vec<Pool>>, Fault>
 
 // Whether this row has a key, a capacity and a next number.
 fn has_settings(row: &Row) -> bool
-    ensures { IsTrue result ↔ HasSettings row.now }
+    ensures { IsTrue result ↔ HasSettingColumns row.now }
 {
     key_at(row, network::SERVER).is_some()
         && capacity_at(row, network::CAPACITY).is_some()
@@ -144,7 +145,7 @@ fn has_settings(row: &Row) -> bool
 
 // Whether these rows have keys, capacities and next numbers.
 fn have_settings(rows: &[Row]) -> bool
-    ensures { IsTrue result ↔ AllByRecursion HasSettings rows.now }
+    ensures { IsTrue result ↔ AllByRecursion HasSettingColumns rows.now }
 {
     for row in rows {
         if !has_settings(row) {
@@ -205,7 +206,7 @@ fn are_owned(alloc: Global, rows: &[Row], tenants: &[u32]) -> Result<bool, Fault
 
 // Whether no two of these rows share a slot, an endpoint or an address of their pools.
 fn are_apart(alloc: Global, rows: &[Row]) -> Result<bool, Fault>
-    ensures answer { IfOk result (λ is. IsTrue is ↔ AreNetworksApart rows.now) }
+    ensures answer { IfOk result (λ is. IsTrue is ↔ AreNetworkRowsApart rows.now) }
     ensures memory { IfErr result (λ why. why ≡ NoMemory) }
 {
     if !are_own_slots(alloc, rows)? {
@@ -254,16 +255,12 @@ fn good_ids(alloc: Global, rows: &[Row], tenants: &[u32]) -> Result<Option<Vec<u
 fn rows_by_id<S: Alter>(conn: &mut Connection<S>) -> Result<Vec<Row>, Fault>
     requires idle { conn.old.in_transaction ≡ false }
     ensures idle { conn.new.in_transaction ≡ false }
-    ensures listed { HasCleanDisk (state S.Store conn.new) → Laid (state S.Store conn.old) → IfOk result (λ rows. IsTrue (state S.Store conn.old).is_open × Lists network_values network.ID ((state S.Store conn.old).now.trees network_tree) rows.items) }
+    ensures listed { HasCleanDisk (state S.Store conn.new) → Laid (state S.Store conn.old) → IfOk result (λ rows. IsTrue (state S.Store conn.old).is_open × ListsSorted network_values network.ID ((state S.Store conn.old).now.trees network_tree) rows.items) }
     ensures kept { (HasCleanDisk (state S.Store conn.new) → Laid (state S.Store conn.old)) → IsKept (state S.Store conn.old) (state S.Store conn.new) }
     ensures survives { Survives (state S.Store conn.old) (state S.Store conn.new) (λ _. ⊥) }
     ensures cause { (HasCleanDisk (state S.Store conn.new) → Laid (state S.Store conn.old)) → IfErr result (HasCause (state S.Store conn.old) (state S.Store conn.new)) }
 {
-    query(
-        conn,
-        "SELECT id, NULL, tenant, name, family, lo, length, host, port, server, capacity, next FROM network ORDER BY id",
-        &[],
-    )
+    query(conn, select_networks!(" ORDER BY id"), &[])
 }
 
 /// The ids of the networks, ascending, or `None` if their rows aren't good: one is not a network's or

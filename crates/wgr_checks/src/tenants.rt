@@ -14,7 +14,7 @@ ghost use Rattle.wgr_columns.specs.Decode.{number_at, bytes_at};
 ghost use Rattle.wgr_columns.specs.Fields.{IsNameAt};
 ghost use Rattle.wgr_columns.specs.LaidOut.{Laid};
 ghost use Rattle.wgr_columns.specs.declared.columns.tenant.TheConstants as tenant;
-ghost use Rattle.wgr_checks.specs.TenantRows.{AreGoodTenants, HaveOwnIds, HaveOwnNames, IsTenantRow, AreIdsOf, Lists, tenant_values, name_values};
+ghost use Rattle.wgr_checks.specs.TenantRows.{AreGoodTenants, HaveOwnIds, HaveOwnNames, IsTenantRow, AreIdsOf, ListsSorted, tenant_values, name_values};
 
 use crate::keys::{ids_differ, names_differ};
 use sqlite::{Alter, Connection, Row};
@@ -78,7 +78,7 @@ fn names_of(alloc: Global, rows: &[Row]) -> Result<Option<Vec<Name>>, Fault>
 fn rows_by_id<S: Alter>(conn: &mut Connection<S>) -> Result<Vec<Row>, Fault>
     requires idle { conn.old.in_transaction ≡ false }
     ensures idle { conn.new.in_transaction ≡ false }
-    ensures listed { HasCleanDisk (state S.Store conn.new) → Laid (state S.Store conn.old) → IfOk result (λ rows. IsTrue (state S.Store conn.old).is_open × Lists tenant_values tenant.ID ((state S.Store conn.old).now.trees tenant_tree) rows.items) }
+    ensures listed { HasCleanDisk (state S.Store conn.new) → Laid (state S.Store conn.old) → IfOk result (λ rows. IsTrue (state S.Store conn.old).is_open × ListsSorted tenant_values tenant.ID ((state S.Store conn.old).now.trees tenant_tree) rows.items) }
     ensures kept { (HasCleanDisk (state S.Store conn.new) → Laid (state S.Store conn.old)) → IsKept (state S.Store conn.old) (state S.Store conn.new) }
     ensures survives { Survives (state S.Store conn.old) (state S.Store conn.new) (λ _. ⊥) }
     ensures cause { (HasCleanDisk (state S.Store conn.new) → Laid (state S.Store conn.old)) → IfErr result (HasCause (state S.Store conn.old) (state S.Store conn.new)) }
@@ -90,7 +90,7 @@ fn rows_by_id<S: Alter>(conn: &mut Connection<S>) -> Result<Vec<Row>, Fault>
 fn rows_by_name<S: Alter>(conn: &mut Connection<S>) -> Result<Vec<Row>, Fault>
     requires idle { conn.old.in_transaction ≡ false }
     ensures idle { conn.new.in_transaction ≡ false }
-    ensures listed { HasCleanDisk (state S.Store conn.new) → Laid (state S.Store conn.old) → IfOk result (λ rows. IsTrue (state S.Store conn.old).is_open × Lists name_values tenant.NAME ((state S.Store conn.old).now.trees tenant_tree) rows.items) }
+    ensures listed { HasCleanDisk (state S.Store conn.new) → Laid (state S.Store conn.old) → IfOk result (λ rows. IsTrue (state S.Store conn.old).is_open × ListsSorted name_values tenant.NAME ((state S.Store conn.old).now.trees tenant_tree) rows.items) }
     ensures kept { (HasCleanDisk (state S.Store conn.new) → Laid (state S.Store conn.old)) → IsKept (state S.Store conn.old) (state S.Store conn.new) }
     ensures survives { Survives (state S.Store conn.old) (state S.Store conn.new) (λ _. ⊥) }
     ensures cause { (HasCleanDisk (state S.Store conn.new) → Laid (state S.Store conn.old)) → IfErr result (HasCause (state S.Store conn.old) (state S.Store conn.new)) }

@@ -17,7 +17,7 @@ ghost use Rattle.wgr_columns.specs.Decode.{number_at, bytes_at};
 ghost use Rattle.wgr_columns.specs.Fields.{IsDigestAt, IsIdAt, IsIntegerAt};
 ghost use Rattle.wgr_columns.specs.LaidOut.{Laid};
 ghost use Rattle.wgr_columns.specs.declared.columns.token.TheConstants as token;
-ghost use Rattle.wgr_checks.specs.TenantRows.{Lists};
+ghost use Rattle.wgr_checks.specs.TenantRows.{ListsSorted};
 ghost use Rattle.wgr_checks.specs.TokenRows.{AreGoodTokens, HaveOwnRowids, HaveOwnDigests, HaveOwnKeys, HaveOwners, rowid_values, digest_values, owner_values};
 
 use crate::keys::digests_differ;
@@ -106,7 +106,7 @@ fn rowids_differ(rowids: &[i64]) -> bool
 fn rows_by_rowid<S: Alter>(conn: &mut Connection<S>) -> Result<Vec<Row>, Fault>
     requires idle { conn.old.in_transaction ≡ false }
     ensures idle { conn.new.in_transaction ≡ false }
-    ensures listed { HasCleanDisk (state S.Store conn.new) → Laid (state S.Store conn.old) → IfOk result (λ rows. IsTrue (state S.Store conn.old).is_open × Lists rowid_values ROWID ((state S.Store conn.old).now.trees token_tree) rows.items) }
+    ensures listed { HasCleanDisk (state S.Store conn.new) → Laid (state S.Store conn.old) → IfOk result (λ rows. IsTrue (state S.Store conn.old).is_open × ListsSorted rowid_values ROWID ((state S.Store conn.old).now.trees token_tree) rows.items) }
     ensures kept { (HasCleanDisk (state S.Store conn.new) → Laid (state S.Store conn.old)) → IsKept (state S.Store conn.old) (state S.Store conn.new) }
     ensures survives { Survives (state S.Store conn.old) (state S.Store conn.new) (λ _. ⊥) }
     ensures cause { (HasCleanDisk (state S.Store conn.new) → Laid (state S.Store conn.old)) → IfErr result (HasCause (state S.Store conn.old) (state S.Store conn.new)) }
@@ -122,7 +122,7 @@ fn rows_by_rowid<S: Alter>(conn: &mut Connection<S>) -> Result<Vec<Row>, Fault>
 fn rows_by_digest<S: Alter>(conn: &mut Connection<S>) -> Result<Vec<Row>, Fault>
     requires idle { conn.old.in_transaction ≡ false }
     ensures idle { conn.new.in_transaction ≡ false }
-    ensures listed { HasCleanDisk (state S.Store conn.new) → Laid (state S.Store conn.old) → IfOk result (λ rows. IsTrue (state S.Store conn.old).is_open × Lists digest_values token.DIGEST ((state S.Store conn.old).now.trees token_tree) rows.items) }
+    ensures listed { HasCleanDisk (state S.Store conn.new) → Laid (state S.Store conn.old) → IfOk result (λ rows. IsTrue (state S.Store conn.old).is_open × ListsSorted digest_values token.DIGEST ((state S.Store conn.old).now.trees token_tree) rows.items) }
     ensures kept { (HasCleanDisk (state S.Store conn.new) → Laid (state S.Store conn.old)) → IsKept (state S.Store conn.old) (state S.Store conn.new) }
     ensures survives { Survives (state S.Store conn.old) (state S.Store conn.new) (λ _. ⊥) }
     ensures cause { (HasCleanDisk (state S.Store conn.new) → Laid (state S.Store conn.old)) → IfErr result (HasCause (state S.Store conn.old) (state S.Store conn.new)) }
@@ -138,7 +138,7 @@ fn rows_by_digest<S: Alter>(conn: &mut Connection<S>) -> Result<Vec<Row>, Fault>
 fn rows_by_owner<S: Alter>(conn: &mut Connection<S>) -> Result<Vec<Row>, Fault>
     requires idle { conn.old.in_transaction ≡ false }
     ensures idle { conn.new.in_transaction ≡ false }
-    ensures listed { HasCleanDisk (state S.Store conn.new) → Laid (state S.Store conn.old) → IfOk result (λ rows. IsTrue (state S.Store conn.old).is_open × Lists owner_values token.TENANT ((state S.Store conn.old).now.trees token_tree) rows.items) }
+    ensures listed { HasCleanDisk (state S.Store conn.new) → Laid (state S.Store conn.old) → IfOk result (λ rows. IsTrue (state S.Store conn.old).is_open × ListsSorted owner_values token.TENANT ((state S.Store conn.old).now.trees token_tree) rows.items) }
     ensures kept { (HasCleanDisk (state S.Store conn.new) → Laid (state S.Store conn.old)) → IsKept (state S.Store conn.old) (state S.Store conn.new) }
     ensures survives { Survives (state S.Store conn.old) (state S.Store conn.new) (λ _. ⊥) }
     ensures cause { (HasCleanDisk (state S.Store conn.new) → Laid (state S.Store conn.old)) → IfErr result (HasCause (state S.Store conn.old) (state S.Store conn.new)) }

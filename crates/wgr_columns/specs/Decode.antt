@@ -23,7 +23,7 @@ use Rattle.wgr_columns.specs.declared.columns.network.TheConstants as network
 use Rattle.wgr_columns.specs.declared.columns.peer.TheConstants as peer
 use Rattle.wgr_columns.specs.declared.columns.tenant.TheConstants as tenant
 use Rattle.wgr_columns.specs.declared.columns.token.TheConstants as token
-use Rattle.wgr_columns.specs.Layout.{Others, schema_with, AreApart, allowed_tree, meta_tree, network_tree, peer_tree, tenant_tree, token_tree}
+use Rattle.wgr_columns.specs.Layout.{Others, schema_with, AreOthersApart, allowed_tree, meta_tree, network_tree, peer_tree, tenant_tree, token_tree}
 
 abbrev pub number_at : Row → ℕ → ℕ
 number_at row at = unsigned_abs (id_in (column row at))
@@ -208,6 +208,6 @@ pub record AreTrees (trees : Trees) : Type 0 where
 pub record IsRegister (db : Database) : Type 0 where
   pub others : Others
   pub schema_is : db.schema ≡ schema_with others
-  pub apart : AreApart others
+  pub apart : AreOthersApart others
   pub sound : IsDatabase db
   pub written : AreTrees db.trees

@@ -3,13 +3,13 @@ use Rattle.std.specs.Prelude.{◌≡◌, IsTrue, true, take, drop}
 use Rattle.std.specs.List.{list_all}
 use Rattle.sqlite.specs.Schema.{Schema}
 use Rattle.sqlite.specs.State.{State}
-use Rattle.wgr_columns.specs.Layout.{Others, AreApart, schema_with, register_tables, register_indexes, is_apart, is_past}
+use Rattle.wgr_columns.specs.Layout.{Others, AreOthersApart, schema_with, register_tables, register_indexes, is_apart, is_past}
 
 -- the register's tables and indexes are first, and the others are separate
 pub record IsLaidOut (schema : Schema) : Type 0 where
   pub others : Others
   pub schema_is : schema ≡ schema_with others
-  pub apart : AreApart others
+  pub apart : AreOthersApart others
 
 -- the same, stated of the schema's own lists
 pub record BeginsWithRegister (schema : Schema) : Type 0 where

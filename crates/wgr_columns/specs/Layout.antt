@@ -41,31 +41,31 @@ table_of name tree key primary uniques columns = record {
   is_counted = false;
 }
 
-abbrev pub meta_at : ℕ → Table
-meta_at tree = table_of (codes "meta") tree (Some 0) (meta.VERSION ∷ []) [] (column_of (codes "version") Integer false ∷ [])
+abbrev pub meta_table_at : ℕ → Table
+meta_table_at tree = table_of (codes "meta") tree (Some 0) (meta.VERSION ∷ []) [] (column_of (codes "version") Integer false ∷ [])
 
-abbrev pub tenant_at : ℕ → Table
-tenant_at tree = table_of (codes "tenant") tree (Some 0) (tenant.ID ∷ []) ((tenant.NAME ∷ []) ∷ []) (column_of (codes "id") Integer false ∷ column_of (codes "name") Text true ∷ [])
+abbrev pub tenant_table_at : ℕ → Table
+tenant_table_at tree = table_of (codes "tenant") tree (Some 0) (tenant.ID ∷ []) ((tenant.NAME ∷ []) ∷ []) (column_of (codes "id") Integer false ∷ column_of (codes "name") Text true ∷ [])
 
-abbrev pub token_at : ℕ → Table
-token_at tree = table_of (codes "token") tree None (token.DIGEST ∷ []) ((token.DIGEST ∷ []) ∷ []) (column_of (codes "digest") Blob true ∷ column_of (codes "tenant") Integer true ∷ [])
+abbrev pub token_table_at : ℕ → Table
+token_table_at tree = table_of (codes "token") tree None (token.DIGEST ∷ []) ((token.DIGEST ∷ []) ∷ []) (column_of (codes "digest") Blob true ∷ column_of (codes "tenant") Integer true ∷ [])
 
-abbrev pub network_at : ℕ → Table
-network_at tree = table_of (codes "network") tree (Some 0) (network.ID ∷ []) ((network.TENANT ∷ network.NAME ∷ []) ∷ (network.HOST ∷ network.PORT ∷ []) ∷ [])
+abbrev pub network_table_at : ℕ → Table
+network_table_at tree = table_of (codes "network") tree (Some 0) (network.ID ∷ []) ((network.TENANT ∷ network.NAME ∷ []) ∷ (network.HOST ∷ network.PORT ∷ []) ∷ [])
     (column_of (codes "id") Integer false ∷ column_of (codes "tenant") Integer true ∷ column_of (codes "name") Text true ∷ column_of (codes "family") Integer true ∷ column_of (codes "lo") Blob true
     ∷ column_of (codes "length") Integer true ∷ column_of (codes "host") Text true ∷ column_of (codes "port") Integer true ∷ column_of (codes "server") Blob true
     ∷ column_of (codes "capacity") Integer true ∷ column_of (codes "next") Integer true ∷ [])
 
-abbrev pub peer_at : ℕ → Table
-peer_at tree = table_of (codes "peer") tree (Some 0) (peer.ID ∷ []) ((peer.NETWORK ∷ peer.KEY ∷ []) ∷ [])
+abbrev pub peer_table_at : ℕ → Table
+peer_table_at tree = table_of (codes "peer") tree (Some 0) (peer.ID ∷ []) ((peer.NETWORK ∷ peer.KEY ∷ []) ∷ [])
     (column_of (codes "id") Integer false ∷ column_of (codes "network") Integer true ∷ column_of (codes "key") Blob true ∷ column_of (codes "label") Text true ∷ column_of (codes "until") Integer true
     ∷ column_of (codes "keepalive") Integer true ∷ column_of (codes "handshake") Integer false ∷ column_of (codes "received") Integer false ∷ column_of (codes "sent") Integer false ∷ [])
 
 abbrev pub allowed_key_places : List ℕ
 allowed_key_places = allowed.NETWORK ∷ allowed.FAMILY ∷ allowed.LO ∷ allowed.LENGTH ∷ []
 
-abbrev pub allowed_at : ℕ → Table
-allowed_at tree = table_of (codes "allowed") tree None allowed_key_places (allowed_key_places ∷ [])
+abbrev pub allowed_table_at : ℕ → Table
+allowed_table_at tree = table_of (codes "allowed") tree None allowed_key_places (allowed_key_places ∷ [])
     (column_of (codes "network") Integer true ∷ column_of (codes "family") Integer true ∷ column_of (codes "lo") Blob true ∷ column_of (codes "length") Integer true ∷ column_of (codes "hi") Blob true
     ∷ column_of (codes "peer") Integer true ∷ column_of (codes "kind") Text true ∷ [])
 
@@ -93,7 +93,7 @@ abbrev pub first_free_tree : ℕ
 first_free_tree = 13
 
 abbrev pub register_tables : List Table
-register_tables = meta_at meta_tree ∷ tenant_at tenant_tree ∷ token_at token_tree ∷ network_at network_tree ∷ peer_at peer_tree ∷ allowed_at allowed_tree ∷ []
+register_tables = meta_table_at meta_tree ∷ tenant_table_at tenant_tree ∷ token_table_at token_tree ∷ network_table_at network_tree ∷ peer_table_at peer_tree ∷ allowed_table_at allowed_tree ∷ []
 
 abbrev pub index_of : List ℕ → ℕ → ℕ → List ℕ → Bool → Index
 index_of name tree table columns is_unique = record { name = name; tree = tree; table = table; columns = columns; order = plain; is_unique = is_unique }
@@ -124,6 +124,6 @@ abbrev pub is_past : Index → Bool
 is_past index = nat_le first_free_tree index.tree
 
 -- Each further table is separate, and each further index is in a tree after the register's. Views are free.
-pub record AreApart (others : Others) : Type 0 where
+pub record AreOthersApart (others : Others) : Type 0 where
   pub tables : list_all (is_apart register_tables) others.tables ≡ true
   pub indexes : list_all is_past others.indexes ≡ true

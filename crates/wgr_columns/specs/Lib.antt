@@ -5,3 +5,4 @@ pub mod Decode
 pub mod Stored
 pub mod Fields
 pub mod Parameters
+pub mod Settings

@@ -10,7 +10,7 @@ use Rattle.wgr_peers.specs.declared.peer.Peer.{Peer}
 use Rattle.wgr_peers.specs.declared.peer.Status.{Status}
 use Rattle.wgr_peers.specs.Host.{IsHost}
 use Rattle.wgr_peers.specs.Limits.{IsCapacity, IsPort}
-use Rattle.wgr_core.specs.Forms.{IsFormed, IsKey}
+use Rattle.wgr_core.specs.Forms.{IsPeerFormed, IsKey}
 use Rattle.wgr_model.specs.Consistent.{IsName}
 use Rattle.wgr_model.specs.Register.{Tenant}
 use Rattle.wgr_model.specs.Rows.{AllowedRow, NetworkRow, PeerRow, family_number}
@@ -63,7 +63,7 @@ AreRising key read rows = IsSorted nat_cmp (map key (map read rows))
 
 pub record IsKeptPeer (p : Peer) : Type 0 where
   pub number : p.number < 4294967296
-  pub forms : IsFormed p
+  pub forms : IsPeerFormed p
   pub address : IsAddr p.address
 
 pub record IsKeptRoute (r : PrefixValue × ℕ) : Type 0 where

@@ -1,5 +1,5 @@
--- The statements that create the tables and the index.
-use Rattle.std.specs.Prelude.{ℕ, List, codes}
+-- The statements that create the tables and the index, and queries of whole rows of `network`.
+use Rattle.std.specs.Prelude.{ℕ, List, codes, ◌++◌}
 
 abbrev pub meta_text : List ℕ
 meta_text = codes "CREATE TABLE meta (version INTEGER PRIMARY KEY) STRICT"
@@ -21,3 +21,11 @@ allowed_text = codes "CREATE TABLE allowed (network INTEGER NOT NULL, family INT
 
 abbrev pub allowed_peer_text : List ℕ
 allowed_peer_text = codes "CREATE INDEX allowed_peer ON allowed (network, peer)"
+
+-- the columns of `network`, each at its place
+abbrev pub network_columns : List ℕ
+network_columns = codes "id, NULL, tenant, name, family, lo, length, host, port, server, capacity, next"
+
+-- a query of networks; the argument is what stands behind the table's name
+abbrev pub select_networks : List ℕ → List ℕ
+select_networks rest = codes "SELECT " ++ network_columns ++ codes " FROM network" ++ rest

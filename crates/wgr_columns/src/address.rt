@@ -4,6 +4,8 @@ ghost use Rattle.sqlite.specs.declared.types.Value.TheVariants.{Blob};
 ghost use Rattle.wgr_text.specs.Prefix.{IsAddr, IsPrefix};
 ghost use Rattle.wgr_pool.specs.Pool.{IsPool};
 ghost use Rattle.wgr_columns.specs.Decode.{address_at, bytes_at, bytes_of, family_of, number_at, number_of, prefix_at};
+ghost use Rattle.wgr_columns.specs.declared.columns.allowed.TheConstants as allowed;
+ghost use Rattle.wgr_columns.specs.declared.columns.network.TheConstants as network;
 ghost use Rattle.wgr_columns.specs.Fields.{IsAddressAt, IsFamilyAt, IsPoolAt, IsPrefixAt, IsSpelledAt};
 
 use crate::columns::{allowed, network};
@@ -83,8 +85,8 @@ fn prefix_of(address: Addr, length: u64) -> Option<Prefix>
 
 /// The prefix of a row of `allowed`.
 pub fn prefix_in(row: &Row) -> Option<Prefix>
-    ensures some { IfSome result (λ prefix. IsPrefixAt row.now 2 × (prefix ≡ prefix_at row.now 2)) }
-    ensures none { IfNone result (IsPrefixAt row.now 2 → ⊥) }
+    ensures some { IfSome result (λ prefix. IsPrefixAt row.now allowed.FAMILY × (prefix ≡ prefix_at row.now allowed.FAMILY)) }
+    ensures none { IfNone result (IsPrefixAt row.now allowed.FAMILY → ⊥) }
 {
     let address = address_at(row, allowed::FAMILY, allowed::LO)?;
     prefix_of(address, number_at(row, allowed::LENGTH)?)
@@ -107,8 +109,8 @@ fn pool_of(family: Family, number: u128, length: u64) -> Option<Pool>
 
 /// The pool of a row of `network`.
 pub fn pool_in(row: &Row) -> Option<Pool>
-    ensures some { IfSome result (λ pool. IsPoolAt row.now 4 × (pool ≡ prefix_at row.now 4)) }
-    ensures none { IfNone result (IsPoolAt row.now 4 → ⊥) }
+    ensures some { IfSome result (λ pool. IsPoolAt row.now network.FAMILY × (pool ≡ prefix_at row.now network.FAMILY)) }
+    ensures none { IfNone result (IsPoolAt row.now network.FAMILY → ⊥) }
 {
     let family = family_at(row, network::FAMILY)?;
     let number = address_number_at(row, network::LO)?;

@@ -53,6 +53,18 @@ pub mod network {
     pub const NEXT: usize = 11;
 }
 
+/// The text of a query of networks, with each column at its place. What stands behind the table's name is
+/// the argument, a literal that begins with a space, or there is none.
+#[macro_export]
+macro_rules! select_networks {
+    ($($rest:literal)?) => {
+        concat!(
+            "SELECT id, NULL, tenant, name, family, lo, length, host, port, server, capacity, next FROM network"
+            $(, $rest)?
+        )
+    };
+}
+
 /// Columns of `peer`.
 pub mod peer {
     /// The peer's id, which is the rowid.

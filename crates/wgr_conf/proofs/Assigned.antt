@@ -22,7 +22,7 @@ use Rattle.wgr_peers.proofs.TableLemmas.{peer_present}
 use Rattle.wgr_core.specs.Network.{NetworkValue, IsNetwork}
 use Rattle.wgr_core.specs.Owner.{allowed, own_prefixes}
 use Rattle.wgr_core.proofs.AllowedLemmas.{Differ, all_differ}
-use Rattle.wgr_conf.specs.Laws.{allowed_key}
+use Rattle.wgr_conf.specs.Laws.{allowed_peer_key}
 use Rattle.wgr_conf.specs.Routing.{AreRows, IsRow, Text, key_of, later_or}
 use Rattle.wgr_conf.proofs.Reading.{section_rows}
 
@@ -169,29 +169,29 @@ all_assigned m = flat_map (λ p. assigned_to p (routes_to m.routes p.number)) m.
 abbrev Found : NetworkValue → PrefixValue × ℕ → Type 0
 Found m r = route_of (allowed m) r.0 ≡ Some r.1
 
-says_at : (m : NetworkValue) (q p : PrefixValue) (i : ℕ) (e : Peer) → Found m (p, i) → peer_of m.peers i ≡ Some e → Says q (allowed_key m q) (p, e.key)
+says_at : (m : NetworkValue) (q p : PrefixValue) (i : ℕ) (e : Peer) → Found m (p, i) → peer_of m.peers i ≡ Some e → Says q (allowed_peer_key m q) (p, e.key)
 says_at m q p i e found stands same =
     let there : route_of (allowed m) q ≡ Some i = ap (route_of (allowed m)) (sym (same_prefix_is p q same)) ∙ found in
     sym (ap (option_and_then (λ number. option_map (λ (peer : Peer). peer.key) (peer_of m.peers number))) there ∙ ap (option_map (λ (peer : Peer). peer.key)) stands)
 
 peer_says : (m : NetworkValue) (q : PrefixValue) (e : Peer) → Found m (full e.address, e.number) → peer_of m.peers e.number ≡ Some e → All (Found m) m.routes
-    → All (Says q (allowed_key m q)) (assigned_to e (routes_to m.routes e.number))
+    → All (Says q (allowed_peer_key m q)) (assigned_to e (routes_to m.routes e.number))
 peer_says m q e own stands routes =
-    All-cons (Says q (allowed_key m q)) (full e.address, e.key) (map (λ p. (p, e.key)) (routes_to m.routes e.number)) (says_at m q (full e.address) e.number e own stands)
-    (All-map (Says q (allowed_key m q)) (λ (p : PrefixValue). (p, e.key)) (routes_to m.routes e.number)
-    (to_peer (λ p. Says q (allowed_key m q) (p, e.key)) m.routes e.number
+    All-cons (Says q (allowed_peer_key m q)) (full e.address, e.key) (map (λ p. (p, e.key)) (routes_to m.routes e.number)) (says_at m q (full e.address) e.number e own stands)
+    (All-map (Says q (allowed_peer_key m q)) (λ (p : PrefixValue). (p, e.key)) (routes_to m.routes e.number)
+    (to_peer (λ p. Says q (allowed_peer_key m q) (p, e.key)) m.routes e.number
     (λ k d h here. says_at m q (get_or m.routes k d).0 e.number e (routes k d h ∙ ap (λ (i : ℕ). Some i) (nat_eq_is (get_or m.routes k d).1 e.number here)) stands)))
 
-all_say : (m : NetworkValue) → IsNetwork m → (q : PrefixValue) → All (Says q (allowed_key m q)) (all_assigned m)
+all_say : (m : NetworkValue) → IsNetwork m → (q : PrefixValue) → All (Says q (allowed_peer_key m q)) (all_assigned m)
 all_say m is q =
     let found = distinct_found (allowed m) (all_differ m is) in
     let own = mapped (Found m) (λ (e : Peer). (full e.address, e.number)) m.peers (left_of (Found m) (own_prefixes m.peers) m.routes found) in
     let routes = right_of (Found m) (own_prefixes m.peers) m.routes found in
-    flat_all (Says q (allowed_key m q)) (λ e. assigned_to e (routes_to m.routes e.number)) m.peers
+    flat_all (Says q (allowed_peer_key m q)) (λ e. assigned_to e (routes_to m.routes e.number)) m.peers
     (λ k d h. peer_says m q (get_or m.peers k d) (own k d h) (peer_present m.peers (get_or m.peers k d).number k d is.numbered h refl) routes)
 
 -- what is assigned to nobody is no allowed prefix
-nobody : (m : NetworkValue) → IsNetwork m → (q : PrefixValue) → All (Apart q) (all_assigned m) → allowed_key m q ≡ None
+nobody : (m : NetworkValue) → IsNetwork m → (q : PrefixValue) → All (Apart q) (all_assigned m) → allowed_peer_key m q ≡ None
 nobody m is q none =
     ap (option_and_then (λ number. option_map (λ (peer : Peer). peer.key) (peer_of m.peers number)))
     (absent q (allowed m) (All-append apart (own_prefixes m.peers) m.routes (All-map apart (λ (e : Peer). (full e.address, e.number)) m.peers (λ k d h. All-head (Apart q) _ _ (parts k d h))) (λ k d h. route (get_or m.routes k d) k d h refl)))
@@ -221,8 +221,8 @@ nobody m is q none =
         let routes = mapped (Apart q) (λ (p : PrefixValue). (p, peer.0.key)) (routes_to m.routes peer.0.number) rest in
         from_peer (λ p. same_prefix p q ≡ false) m.routes peer.0.number routes k d h (number_is number peer.0.number told.1)
 
-pub last_assigned : (m : NetworkValue) → IsNetwork m → (q : PrefixValue) → allowed_key m q ≡ key_of (all_assigned m) q
-last_assigned m is q = elim (key_said q (allowed_key m q) (all_assigned m) (all_say m is q)) [
+pub last_assigned : (m : NetworkValue) → IsNetwork m → (q : PrefixValue) → allowed_peer_key m q ≡ key_of (all_assigned m) q
+last_assigned m is q = elim (key_said q (allowed_peer_key m q) (all_assigned m) (all_say m is q)) [
   | inl same ↦ sym same
   | inr none ↦ nobody m is q none.0 ∙ sym none.1
 ]

@@ -11,7 +11,7 @@ use Rattle.wgr_peers.specs.declared.peer.Peer.{Peer}
 use Rattle.wgr_core.specs.declared.form.Form.TheVariants.{Wg, Quick}
 use Rattle.wgr_core.specs.Network.{NetworkValue}
 use Rattle.wgr_conf.specs.Files.{address_line, allowed_line, endpoint_line, keepalive_line, key_line, line, peer_config, port_line, section_head, server_address_line, server_config}
-use Rattle.wgr_conf.specs.Routing.{key_of, rows_of}
+use Rattle.wgr_conf.specs.Routing.{key_of, file_rows}
 
 abbrev v4 : ℕ → ℕ → ℕ → ℕ → AddrValue
 v4 a b c d = record { family = V4; number = a * 2 ^ 24 + b * 2 ^ 16 + c * 2 ^ 8 + d }
@@ -67,7 +67,7 @@ ended : peer_config (office (peer 1 (v4 10 8 0 2) 0 0 ∷ peer 2 (v4 10 8 0 3) 1
 ended = refl
 
 -- a prefix that two sections name leads to the later key
-rows : rows_of (codes "[Interface]\nListenPort = 1\n\n[Peer]\nPublicKey = k\nAllowedIPs = a, b\n\n[Peer]\nPublicKey = l\nAllowedIPs = a\nAllowedIPs = c\n")
+rows : file_rows (codes "[Interface]\nListenPort = 1\n\n[Peer]\nPublicKey = k\nAllowedIPs = a, b\n\n[Peer]\nPublicKey = l\nAllowedIPs = a\nAllowedIPs = c\n")
     ≡ (codes "a", codes "k") ∷ (codes "b", codes "k") ∷ (codes "a", codes "l") ∷ (codes "c", codes "l") ∷ []
 rows = refl
 

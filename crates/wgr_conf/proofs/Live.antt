@@ -8,7 +8,7 @@ use Rattle.wgr_peers.specs.declared.peer.Peer.{Peer}
 use Rattle.wgr_peers.specs.Peers.{is_live, peer_of, AreNumbered}
 use Rattle.wgr_peers.specs.Routes.{Routes, routes_to}
 use Rattle.wgr_core.specs.Network.{NetworkValue, IsNetwork, live_at}
-use Rattle.wgr_core.specs.Outcome.{view_of}
+use Rattle.wgr_core.specs.Outcome.{peer_view}
 use Rattle.wgr_pool.proofs.Bools.{decide}
 use Rattle.wgr_pool.proofs.Lists.{filter_agree_on, filter_twice}
 use Rattle.wgr_pool.proofs.PrefixLemmas.{nat_eq_is}
@@ -75,18 +75,18 @@ flat_map_kept keeps f (x ∷ xs) =
     ]
 
 pub sections_live : (n : NetworkValue) (now : ℕ) → IsNetwork n
-    → flat_map (live_section now) (map (view_of n.routes) n.peers) ≡ flat_map (λ p. peer_section p (routes_to (live_at n now).routes p.number)) (live_at n now).peers
+    → flat_map (live_section now) (map (peer_view n.routes) n.peers) ≡ flat_map (λ p. peer_section p (routes_to (live_at n now).routes p.number)) (live_at n now).peers
 sections_live n now is =
     let live = (live_at n now).peers in
     let stands : ℕ → Bool = λ i. is_some (peer_of live i) in
     let by_number = live_by_number now n.peers is.numbered in
     let section : Peer → List ℕ = λ p. peer_section p (routes_to (live_at n now).routes p.number) in
-    flat_map-map (live_section now) (view_of n.routes) n.peers
-    ∙ flat_map_agree (λ (p : Peer). live_section now (view_of n.routes p)) (λ p. cond (is_live now p) (section p) []) n.peers (λ k d h. one (get_or n.peers k d) (by_number k d h))
+    flat_map-map (live_section now) (peer_view n.routes) n.peers
+    ∙ flat_map_agree (λ (p : Peer). live_section now (peer_view n.routes p)) (λ p. cond (is_live now p) (section p) []) n.peers (λ k d h. one (get_or n.peers k d) (by_number k d h))
     ∙ flat_map_kept (is_live now) section n.peers
   where
     one : (p : Peer) → is_some (peer_of (live_at n now).peers p.number) ≡ is_live now p
-        → live_section now (view_of n.routes p) ≡ cond (is_live now p) (peer_section p (routes_to (live_at n now).routes p.number)) []
+        → live_section now (peer_view n.routes p) ≡ cond (is_live now p) (peer_section p (routes_to (live_at n now).routes p.number)) []
     one p same = elim (decide (is_live now p)) [
       | inl here ↦ ap (λ routes. cond (is_live now p) (peer_section p routes) []) (sym (own_routes (λ i. is_some (peer_of (live_at n now).peers i)) n.routes p.number (same ∙ here)))
       | inr over ↦ ap (λ b. cond b (peer_section p (routes_to n.routes p.number)) []) over ∙ sym (ap (λ b. cond b (peer_section p (routes_to (live_at n now).routes p.number)) []) over)

@@ -13,7 +13,7 @@ use Rattle.wgr_core.specs.declared.form.Form.{Form}
 use Rattle.wgr_core.specs.declared.form.Form.TheVariants.{Wg, Quick}
 use Rattle.wgr_core.specs.Network.{NetworkValue, server_address}
 use Rattle.wgr_conf.specs.Files.{address_line, allowed_line, further, keepalive_line, key_line, line, peer_section, port_line, section_head, server_address_line, server_interface}
-use Rattle.wgr_conf.specs.Routing.{Text, before_first, key_after, rows_from, split, values_of, without_blank}
+use Rattle.wgr_conf.specs.Routing.{Text, before_first, key_after, rows_from, split, line_values, without_blank}
 use Rattle.wgr_conf.proofs.Lacking.{IsShort, Lacks, from_decimal, from_prefix, lacks, lacks_key, literal}
 
 -- ---- parts of a text
@@ -36,7 +36,7 @@ split_whole at (b ∷ x) none =
     rw (first, later) refl
 
 pub read_line : (key x rest : Text) → Lacks 10 x
-    → rows_from key (split 10 (line x ++ rest)) ≡ map (λ value. (value, key)) (values_of x) ++ rows_from (key_after key x) (split 10 rest)
+    → rows_from key (split 10 (line x ++ rest)) ≡ map (λ value. (value, key)) (line_values x) ++ rows_from (key_after key x) (split 10 rest)
 unfolding line
 read_line key x rest none = ap (rows_from key) (ap (split 10) (append_assoc x (10 ∷ []) rest) ∙ split_line 10 x rest none)
 
@@ -57,7 +57,7 @@ no_blank : (x : Text) → Lacks 32 x → without_blank x ≡ x
 no_blank [] none = refl
 no_blank (b ∷ x) none = ap (λ v. cond v x (b ∷ x)) (All-head (λ b. (b == 32) ≡ false) b x none)
 
-values : (p : PrefixValue) (more : List PrefixValue) → IsShort p → All IsShort more → values_of (codes "AllowedIPs = " ++ canonical_text p ++ further more) ≡ canonical_text p ∷ map canonical_text more
+values : (p : PrefixValue) (more : List PrefixValue) → IsShort p → All IsShort more → line_values (codes "AllowedIPs = " ++ canonical_text p ++ further more) ≡ canonical_text p ∷ map canonical_text more
 values p more short all =
     let text = canonical_text p in
     let from = from_prefix p short in

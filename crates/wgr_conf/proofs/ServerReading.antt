@@ -17,8 +17,8 @@ use Rattle.wgr_core.specs.Network.{NetworkValue, IsNetwork, live_at}
 use Rattle.wgr_core.proofs.LiveLemmas.{live_is_network}
 use Rattle.wgr_core.proofs.AllowedLemmas.{full_is_prefix}
 use Rattle.wgr_conf.specs.Files.{peer_section, server_config}
-use Rattle.wgr_conf.specs.Laws.{IsInRanges, allowed_key}
-use Rattle.wgr_conf.specs.Routing.{AreRows, IsRow, Text, cryptokey_routing, key_of, rows_of}
+use Rattle.wgr_conf.specs.Laws.{IsInRanges, allowed_peer_key}
+use Rattle.wgr_conf.specs.Routing.{AreRows, IsRow, Text, cryptokey_routing, key_of, file_rows}
 use Rattle.wgr_conf.proofs.Lacking.{IsShort}
 use Rattle.wgr_conf.proofs.Reading.{read_interface, read_sections, section_rows}
 use Rattle.wgr_conf.proofs.Assigned.{Assigned, IsMasked, all_assigned, last_assigned, sections_rows, to_peer}
@@ -30,14 +30,14 @@ short_length V6 k h = omega (arith, h)
 short : (p : PrefixValue) → IsPrefix p → IsShort p
 short p is = short_length p.address.family p.length is.0
 
-pub server_file_routes : (n : NetworkValue) (now : ℕ) (form : Form) → IsNetwork n → All IsInRanges n.peers → cryptokey_routing (server_config n now form) (allowed_key (live_at n now))
+pub server_file_routes : (n : NetworkValue) (now : ℕ) (form : Form) → IsNetwork n → All IsInRanges n.peers → cryptokey_routing (server_config n now form) (allowed_peer_key (live_at n now))
 server_file_routes n now form is ranges =
     let m = live_at n now in
     let live = live_is_network n now is in
     let filled : All IsInRanges m.peers = All-filter (is_live now) IsInRanges n.peers ranges in
     let routes : Peer → List PrefixValue = λ p. routes_to m.routes p.number in
     let masked : All (λ p. All IsMasked (routes p)) m.peers = λ k d h. to_peer IsMasked m.routes (get_or m.peers k d).number (λ j e l same. (live.routes j e l).masked) in
-    let rows : rows_of (server_config n now form) ≡ flat_map (λ p. section_rows p (routes p)) m.peers =
+    let rows : file_rows (server_config n now form) ≡ flat_map (λ p. section_rows p (routes p)) m.peers =
     read_interface n form (flat_map (λ p. peer_section p (routes p)) m.peers) (omega (arith, is.port.1)) (short n.pool is.pool.1)
     ∙ read_sections [] routes m.peers (λ k d h. omega (arith, (filled k d h).keepalive)) (λ k d h. short (full (get_or m.peers k d).address) (full_is_prefix (get_or m.peers k d).address))
     (λ k d h. All-weaker IsMasked IsShort (λ p is. short p is.1) (routes (get_or m.peers k d)) (masked k d h)) in
@@ -68,4 +68,4 @@ one_list (r ∷ rows) (x ∷ xs) [] h k = absurd k
 one_list (r ∷ rows) (x ∷ xs) (y ∷ ys) h k = ap₂ (λ (z : PrefixValue × Key) (zs : Assigned). z ∷ zs) (one_row r x y h.0 k.0) (one_list rows xs ys h.1 k.1)
 
 pub routing_is_one : (file : Text) (one other : PrefixValue → Option Key) → cryptokey_routing file one → cryptokey_routing file other → (p : PrefixValue) → one p ≡ other p
-routing_is_one file one other s t p = s.last p ∙ ap (λ (xs : Assigned). key_of xs p) (one_list (rows_of file) s.assigned t.assigned s.rows t.rows) ∙ sym (t.last p)
+routing_is_one file one other s t p = s.last p ∙ ap (λ (xs : Assigned). key_of xs p) (one_list (file_rows file) s.assigned t.assigned s.rows t.rows) ∙ sym (t.last p)

@@ -1,12 +1,13 @@
 -- The files of wg(8) and wg-quick(8) for a network, without private keys.
-use Rattle.std.specs.Prelude.{ℕ, Bool, not, ◌&&◌, ◌==◌, cond, nat_eq, List, [], ◌++◌, map, flat_map, codes, decimal, Option, option_map}
-use Rattle.std.specs.List.{filter, list_any}
+use Rattle.std.specs.Prelude.{ℕ, Bool, not, ◌&&◌, cond, nat_eq, List, [], ◌++◌, map, flat_map, codes, decimal, Option, option_map}
+use Rattle.std.specs.List.{filter}
 use Rattle.wgr_text.specs.declared.key.Key.{Key}
 use Rattle.wgr_text.specs.Prefix.{PrefixValue}
 use Rattle.wgr_text.specs.PrefixText.{canonical_text}
 use Rattle.wgr_text.specs.KeyText.{key_text}
 use Rattle.wgr_pool.specs.PrefixTests.{covers, full}
 use Rattle.wgr_peers.specs.declared.peer.Peer.{Peer}
+use Rattle.wgr_peers.specs.Endpoint.{endpoint_text}
 use Rattle.wgr_peers.specs.Peers.{is_live, peer_of}
 use Rattle.wgr_peers.specs.Routes.{routes_to}
 use Rattle.wgr_core.specs.declared.form.Form.{Form}
@@ -81,16 +82,12 @@ is_beside n number r = not (nat_eq r.1 number) && not (covers n.pool r.0)
 abbrev pub routes_beside : NetworkValue → ℕ → List PrefixValue
 routes_beside n number = map (λ r. r.0) (filter (is_beside n number) n.routes)
 
--- a host with a colon (58) is an IPv6 address, and is in brackets
-abbrev pub host_text : List ℕ → List ℕ
-host_text host = cond (list_any (λ b. b == 58) host) (codes "[" ++ host ++ codes "]") host
-
 unfoldable pub endpoint_line : List ℕ → ℕ → List ℕ
-endpoint_line host port = line (codes "Endpoint = " ++ host_text host ++ codes ":" ++ decimal port)
+endpoint_line host port = line (codes "Endpoint = " ++ endpoint_text host port)
 
 -- the peer's interface, and the server as its one peer
-abbrev pub peer_text : NetworkValue → Form → Peer → List ℕ
-peer_text n form p =
+abbrev pub peer_config_text : NetworkValue → Form → Peer → List ℕ
+peer_config_text n form p =
     line (codes "[Interface]")
     ++ address_line form (full p.address)
     ++ section_head n.server
@@ -100,4 +97,4 @@ peer_text n form p =
 
 -- the file of the live peer with the number
 abbrev pub peer_config : NetworkValue → ℕ → ℕ → Form → Option (List ℕ)
-peer_config n now number form = let live = live_at n now in option_map (peer_text live form) (peer_of live.peers number)
+peer_config n now number form = let live = live_at n now in option_map (peer_config_text live form) (peer_of live.peers number)

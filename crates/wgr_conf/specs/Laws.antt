@@ -13,8 +13,8 @@ use Rattle.wgr_conf.specs.Files.{server_config}
 use Rattle.wgr_conf.specs.Routing.{Text, cryptokey_routing}
 
 -- the key of the peer to which an allowed prefix leads
-abbrev pub allowed_key : NetworkValue → PrefixValue → Option Key
-allowed_key n p = option_and_then (λ number. option_map (λ peer. peer.key) (peer_of n.peers number)) (route_of (allowed n) p)
+abbrev pub allowed_peer_key : NetworkValue → PrefixValue → Option Key
+allowed_peer_key n p = option_and_then (λ number. option_map (λ peer. peer.key) (peer_of n.peers number)) (route_of (allowed n) p)
 
 -- the fields of a peer are in the ranges of their types
 pub record IsInRanges (p : Peer) : Type 0 where
@@ -24,7 +24,7 @@ pub record IsInRanges (p : Peer) : Type 0 where
 
 -- the server's file leads each allowed prefix of the live network to its peer's key, and no other prefix to any
 abbrev pub ServerFileRoutes : Type 0
-ServerFileRoutes = (n : NetworkValue) (now : ℕ) (form : Form) → IsNetwork n → All IsInRanges n.peers → cryptokey_routing (server_config n now form) (allowed_key (live_at n now))
+ServerFileRoutes = (n : NetworkValue) (now : ℕ) (form : Form) → IsNetwork n → All IsInRanges n.peers → cryptokey_routing (server_config n now form) (allowed_peer_key (live_at n now))
 
 -- a file leads a prefix to one key at most
 abbrev pub RoutingIsOne : Type 0

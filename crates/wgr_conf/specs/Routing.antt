@@ -37,8 +37,8 @@ list_or_none None = []
 list_or_none (Some texts) = texts
 
 -- the values of a line `AllowedIPs = ..`, between commas; any other line has none
-abbrev pub values_of : Text → List Text
-values_of line = list_or_none (option_map (λ list. map without_blank (split 44 list)) (rest_after (codes "AllowedIPs = ") line))
+abbrev pub line_values : Text → List Text
+line_values line = list_or_none (option_map (λ list. map without_blank (split 44 list)) (rest_after (codes "AllowedIPs = ") line))
 
 abbrev pub key_or : Text → Option Text → Text
 key_or key None = key
@@ -51,11 +51,11 @@ key_after key line = key_or (cond (bytes_eq line (codes "[Peer]")) [] key) (rest
 -- the values in some lines, each with the key of its section, from a section with this key on
 abbrev pub rows_from : Text → List Text → List (Text × Text)
 rows_from key [] = []
-rows_from key (line ∷ lines) = map (λ value. (value, key)) (values_of line) ++ rows_from (key_after key line) lines
+rows_from key (line ∷ lines) = map (λ value. (value, key)) (line_values line) ++ rows_from (key_after key line) lines
 
 -- the same for a whole file
-abbrev pub rows_of : Text → List (Text × Text)
-rows_of file = rows_from [] (split 10 file)
+abbrev pub file_rows : Text → List (Text × Text)
+file_rows file = rows_from [] (split 10 file)
 
 -- the value spells the prefix, whose host bits count for nothing, and the key's text is that of the key
 pub record IsRow (row : Text × Text) (p : PrefixValue) (key : Key) : Type 0 where
@@ -84,5 +84,5 @@ key_of (a ∷ assigned) p = later_or (key_of assigned p) (cond (same_prefix a.0 
 -- the file leads each prefix to the key that this map gives
 pub record cryptokey_routing (file : Text) (leads : PrefixValue → Option Key) : Type 0 where
   pub assigned : List (PrefixValue × Key)
-  pub rows : AreRows (rows_of file) assigned
+  pub rows : AreRows (file_rows file) assigned
   pub last : (p : PrefixValue) → leads p ≡ key_of assigned p

@@ -1,15 +1,13 @@
 //! The file of one peer.
-ghost use Rattle.std.specs.Prelude.{◌≡◌, ◌++◌, ℕ, List, IfOk, OnOk, is_some, map, nat_eq, not, ◌&&◌, ◌==◌, option_map, string_bytes};
-ghost use Rattle.std.specs.List.{filter, list_any};
+ghost use Rattle.std.specs.Prelude.{◌≡◌, ◌++◌, ℕ, List, IfOk, OnOk, is_some, map, nat_eq, not, ◌&&◌, option_map};
+ghost use Rattle.std.specs.List.{filter};
 ghost use Rattle.std.specs.Option.{option_copied};
 ghost use Rattle.wgr_pool.specs.PrefixTests.{covers};
 ghost use Rattle.wgr_peers.specs.Peers.{peer_of};
 ghost use Rattle.wgr_core.specs.Network.{live_at};
-ghost use Rattle.wgr_conf.specs.Files.{endpoint_line, host_text, peer_config, peer_text, routes_beside};
+ghost use Rattle.wgr_conf.specs.Files.{endpoint_line, peer_config, peer_config_text, routes_beside};
 
-use crate::lines::{
-    write_address, write_allowed, write_keepalive, write_line, write_number, write_section_head,
-};
+use crate::lines::{write_address, write_allowed, write_keepalive, write_line, write_section_head};
 use std::alloc::{AllocError, Global};
 use wgr_core::{Form, Host, Network, Peer, Port};
 use wgr_pool::covers;
@@ -42,7 +40,7 @@ fn text_of(
     peer: &Peer,
     form: Form,
 ) -> Result<Vec<u8>, AllocError>
-    ensures { IfOk result (λ file. file.items ≡ peer_text (live_at network.now now) form peer.now) }
+    ensures { IfOk result (λ file. file.items ≡ peer_config_text (live_at network.now now) form peer.now) }
 {
     let mut out = Vec::new(alloc);
     write_line(b"[Interface]", &mut out)?;
@@ -106,28 +104,8 @@ fn is_beside(pool: &Prefix, number: u32, route: &(Prefix, u32)) -> bool
 fn write_endpoint(host: &Host, port: Port, out: &mut Vec<u8>) -> Result<(), AllocError>
     ensures { OnOk result (out.new.items ≡ out.old.items ++ endpoint_line host.now port) }
 {
+    let endpoint = host.endpoint(*out.allocator(), port)?;
     out.extend_from_slice(b"Endpoint = ")?;
-    write_host(host.as_str().as_bytes(), out)?;
-    out.extend_from_slice(b":")?;
-    write_number(port.number(), out)?;
+    out.extend_from_slice(endpoint.as_bytes())?;
     out.extend_from_slice(b"\n")
-}
-
-// Appends a host, an IPv6 address in brackets.
-fn write_host(host: &[u8], out: &mut Vec<u8>) -> Result<(), AllocError>
-    ensures { OnOk result (out.new.items ≡ out.old.items ++ host_text host.now) }
-{
-    if !has_colon(host) {
-        return out.extend_from_slice(host);
-    }
-    out.extend_from_slice(b"[")?;
-    out.extend_from_slice(host)?;
-    out.extend_from_slice(b"]")
-}
-
-// Whether the host is an IPv6 address: a name has no colon.
-fn has_colon(host: &[u8]) -> bool
-    ensures { result ≡ list_any (λ b. b == 58) host.now }
-{
-    host.iter().any(|&byte| byte == b':')
 }

@@ -9,12 +9,13 @@ use Rattle.wgr_peers.specs.declared.peer.Peer.{Peer}
 use Rattle.wgr_pool.specs.PrefixTests.{full, same_prefix}
 use Rattle.wgr_peers.specs.Peers.{peer_of}
 use Rattle.wgr_peers.specs.Routes.{assign_route}
-use Rattle.wgr_core.specs.declared.refusal.LineRefusal.{LineRefusal}
+use Rattle.wgr_core.specs.declared.refusal.Refusal.{Refusal}
 use Rattle.wgr_core.specs.declared.reply.Reply.{Reply}
 use Rattle.wgr_core.specs.declared.reply.Reply.TheVariants as reply
 use Rattle.wgr_core.specs.declared.seen_peer.SeenPeer.{SeenPeer}
 use Rattle.wgr_core.specs.Network.{NetworkValue, IsNetwork}
-use Rattle.wgr_core.specs.Adoption.{Adoption, and_then, unless_refused, names_address, line_refusal, named_address, line_place, peer_of_line, with_line, give_refusal, give_all, other_prefixes, keyed_peer, add_line, note_status, adopt_line_of, adopt_line, in_line, adopt_lines, numbered_from, adoption_order, adoption_of}
+use Rattle.wgr_core.specs.Adoption.{Adoption, and_then, names_address, named_address, peer_of_line, with_line, give_all, other_prefixes, keyed_peer, add_line, note_status, adopt_line_of, adopt_line, in_line, adopt_lines, numbered_from, adoption_order, adoption_of}
+use Rattle.wgr_core.specs.Refusals.{join_refusal, place, route_refusal, unless_refused}
 use Rattle.wgr_core.specs.Outcome.{server_refusal, adopted, adopt}
 use Rattle.wgr_core.proofs.JoinLemmas.{MayJoin, joined_is_network}
 use Rattle.wgr_core.proofs.LineLemmas.{IsKeyed, MayLead, keyed_is, line_may_join, may_lead}
@@ -92,15 +93,15 @@ module _ (Given : PrefixValue → Type 0) (P : Adoption → Type 0) (leads : Kep
   pub give_keeps : (s : Adoption) (number : ℕ) (prefixes : List PrefixValue) → Kept s → All Given prefixes → is_some (peer_of s.network.peers number) ≡ true → IfOk (give_all s.network number prefixes) (λ after. Kept (record s { network = after }))
   give_keeps s number [] kept given stands = kept
   give_keeps s number (p ∷ more) kept given stands =
-      allowed_if (λ after. Kept (record s { network = after })) (give_refusal s.network p) (record s.network { routes = assign_route s.network.routes p number }) (λ next. give_all next number more) (λ allowed.
+      allowed_if (λ after. Kept (record s { network = after })) (route_refusal s.network p) (record s.network { routes = assign_route s.network.routes p number }) (λ next. give_all next number more) (λ allowed.
       give_keeps (led s p number) number more (kept.0, leads s p number kept.1 (All-head Given p more given) (may_lead s.network p number stands allowed)) (All-tail Given p more given) stands)
 
   pub add_line_gives : (s : Adoption) (line : SeenPeer) → IsPeopled s.network → All Given line.allowed → keyed_peer s.network.peers line.key ≡ None
       → ((a : AddrValue) → MayJoin s.network (peer_of_line s.network line a) → P (joined_by s line a)) → IfOk (add_line s line) Kept
   add_line_gives s line people given none joins =
-      allowed_if Kept (line_refusal s.network line.key) s.network _ (λ allowed.
-      then_if (λ a. Unit {0}) Kept (line_place s.network (named_address s.network.pool line.allowed)) _ (any_ok _) (λ a placed first.
-      let may = line_may_join s.network line a people.pool none allowed placed in
+      allowed_if Kept (join_refusal s.network 0 line.key 0) s.network _ (λ allowed.
+      then_if (λ a. Unit {0}) Kept (place s.network s.network.pool (named_address s.network.pool line.allowed)) _ (any_ok _) (λ a placed first.
+      let may = line_may_join s.network line a people.pool allowed placed in
       let people' = joined_is_network (record s.network { routes = [] }) (peer_of_line s.network line a) people (record {
         next = may.next;
         number_left = may.number_left;
@@ -130,7 +131,7 @@ pub record AreSteps (Line : SeenPeer → Type 0) (Given : PrefixValue → Type 0
   pub notes : (s : Adoption) (line : SeenPeer) (p : Peer) → IsPeopled s.network → P s → Line line → IsKeyed s.network.peers line.key p → P (note_status s line p)
   pub leads : KeptByRoutes Given P
 
-pub numbered_if : (P : Adoption → Type 0) (number : ℕ) (r : Result Adoption LineRefusal) → IfOk r P → IfOk (in_line number r) P
+pub numbered_if : (P : Adoption → Type 0) (number : ℕ) (r : Result Adoption Refusal) → IfOk r P → IfOk (in_line number r) P
 numbered_if P number (Err e) holds = tt
 numbered_if P number (Ok s) holds = holds
 
@@ -153,6 +154,6 @@ module _ (Line : SeenPeer → Type 0) (Given : PrefixValue → Type 0) (P : Adop
 pub adopt_if : (Q : Reply × NetworkValue → Type 0) (n : NetworkValue) (server : Option Key) (lines : List SeenPeer) → IfOk (adoption_of n lines) (λ s. Q (reply.Adopted s.added s.known, s.network)) → IfOk (adopt n server lines) Q
 adopt_if Q n server lines holds = unless_if Q (server_refusal n server) _ (λ allowed. by_result (adoption_of n lines) holds)
   where
-    by_result : (r : Result Adoption (ℕ × LineRefusal)) → IfOk r (λ s. Q (reply.Adopted s.added s.known, s.network)) → IfOk (adopted r) Q
+    by_result : (r : Result Adoption (ℕ × Refusal)) → IfOk r (λ s. Q (reply.Adopted s.added s.known, s.network)) → IfOk (adopted r) Q
     by_result (Err e) holds = tt
     by_result (Ok s) holds = holds

@@ -96,7 +96,7 @@ one_given gone x pool peers routes given = by (is_routed pool routes x) refl
 
 -- where all that are over have given theirs up, the live network is left
 pub all_given : (n : NetworkValue) (now : ℕ) (given_up : List AddrValue) → IsNetwork n → given_up ≡ expired_addresses now n.peers
-    → lowest_where n.pool (held_but given_up n.pool n.peers (live_at n now).routes) ≡ lowest_free (live_at n now)
+    → lowest_where n.pool (held_but given_up n.pool n.peers (live_at n now).routes) ≡ lowest_free (live_at n now) n.pool
 all_given n now given_up is same =
     first_agrees n.pool.address.family _ _ n.pool.address.number (block n.pool.address.family n.pool.length)
     (λ a. ap (λ b. is_assignable n.pool a && not (b || is_routed n.pool (live_at n now).routes a)) (ap (λ ys. is_own n.peers a && not (list_any (λ b. same_address b a) ys)) same ∙ sym (own_live now n.peers a is.apart)))
@@ -126,8 +126,8 @@ begin_with n now over is same =
     ∙ none_given n.pool n.peers (live_at n now).routes
 
 -- where each route counts, what is held is what the whole network holds
-pub none_over : (n : NetworkValue) (over : ℕ → Bool) → ((i : ℕ) → over i ≡ false) → lowest_where n.pool (λ a. is_own n.peers a || is_routed n.pool (standing over n.routes) a) ≡ lowest_free n
-none_over n over none = ap (λ (rs : Routes). lowest_where n.pool (λ a. is_own n.peers a || is_routed n.pool rs a)) (all n.routes)
+pub none_over : (n : NetworkValue) (pool : PrefixValue) (over : ℕ → Bool) → ((i : ℕ) → over i ≡ false) → lowest_where pool (λ a. is_own n.peers a || is_routed pool (standing over n.routes) a) ≡ lowest_free n pool
+none_over n pool over none = ap (λ (rs : Routes). lowest_where pool (λ a. is_own n.peers a || is_routed pool rs a)) (all n.routes)
   where
     all : (routes : Routes) → standing over routes ≡ routes
     all [] = refl
@@ -135,9 +135,9 @@ none_over n over none = ap (λ (rs : Routes). lowest_where n.pool (λ a. is_own 
 
 -- a peer that moves gives its address up
 pub mover_given : (n : NetworkValue) (p : Peer) → IsNetwork n → peer_of n.peers p.number ≡ Some p
-    → cond (is_routed n.pool n.routes p.address) (lowest_free n) (Some (lower (lowest_free n) p.address)) ≡ lowest_free (vacated n (Some p.number))
+    → cond (is_routed n.pool n.routes p.address) (lowest_free n n.pool) (Some (lower (lowest_free n n.pool) p.address)) ≡ lowest_free (vacated n (Some p.number)) n.pool
 mover_given n p is stands = by (is_routed n.pool n.routes p.address) refl
   where
-    by : (b : Bool) → is_routed n.pool n.routes p.address ≡ b → cond b (lowest_free n) (Some (lower (lowest_free n) p.address)) ≡ lowest_free (vacated n (Some p.number))
+    by : (b : Bool) → is_routed n.pool n.routes p.address ≡ b → cond b (lowest_free n n.pool) (Some (lower (lowest_free n n.pool) p.address)) ≡ lowest_free (vacated n (Some p.number)) n.pool
     by true r = sym (lowest_where_routed n p.number p is stands r)
     by false r = sym (lowest_where_unrouted n p.number p is stands r)

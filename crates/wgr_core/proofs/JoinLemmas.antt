@@ -2,6 +2,7 @@
 use Rattle.std.proofs.Common.{◌≡◌, ℕ, zero, suc, ◌+◌, ◌<◌, ◌≤◌, inl, inr, Bool, true, false, not, ◌&&◌, ◌||◌, cond, nat_eq, nat_lt, List, [], ◌∷◌, ◌++◌, length, get_or, Option, Some, None, is_some, refl, sym, ap, ◌∙◌, subst, arith}
 use Rattle.std.specs.List.{All, list_any}
 use Rattle.std.specs.Prelude.{Ok}
+use Rattle.std.proofs.lemmas.Bool.Decides.{nat_tests}
 use Rattle.std.proofs.lemmas.List.{length-append}
 use Rattle.std.proofs.lemmas.List.Elements.{All-cons, All-push}
 use Rattle.std.proofs.lemmas.List.Quantifiers.{all_pairs_push}
@@ -9,15 +10,17 @@ use Rattle.wgr_text.specs.declared.addr.Family.{Family}
 use Rattle.wgr_text.specs.declared.key.Key.{Key}
 use Rattle.wgr_text.specs.Prefix.{AddrValue, PrefixValue, block, width}
 use Rattle.wgr_peers.specs.declared.peer.Peer.{Peer}
+use Rattle.wgr_core.specs.declared.joining.Joining.{Joining}
 use Rattle.wgr_core.specs.declared.refusal.Refusal.{Refusal}
-use Rattle.wgr_core.specs.declared.refusal.Refusal.TheVariants.{AddressHeld, OutsidePool}
+use Rattle.wgr_core.specs.declared.refusal.Refusal.TheVariants.{AddressHeld, CapacityReached, LeaseOver, NumbersSpent, OutsidePool, ServerKey}
 use Rattle.wgr_pool.specs.PrefixTests.{same_address, same_prefix, has, covers, full}
 use Rattle.wgr_pool.specs.Pool.{IsPool}
 use Rattle.wgr_pool.specs.Allot.{is_assignable, first_from}
+use Rattle.wgr_peers.specs.Limits.{is_expired, max_number}
 use Rattle.wgr_peers.specs.Peers.{is_own, key_holder, peer_of, same_key, IsNumberedBelow, IsApart}
 use Rattle.wgr_peers.specs.Routes.{Routes, route_of}
 use Rattle.wgr_core.specs.Network.{NetworkValue, IsNetwork, IsMember, is_held, lowest_free, server_address}
-use Rattle.wgr_core.specs.Outcome.{address_refusal, address_unless, or_full, place}
+use Rattle.wgr_core.specs.Refusals.{address_refusal, held_or, is_address_taken, joining_refusal, or_full, place, unless_refused}
 use Rattle.wgr_pool.proofs.Lists.{list_any-none}
 use Rattle.wgr_pool.proofs.Bools.{decide, and_true, or_false, not_true}
 use Rattle.wgr_pool.proofs.PrefixLemmas.{same_prefix_is, full_has, covers_full, same_family_is}
@@ -50,13 +53,13 @@ first_passes f passes start (suc count) a h = step (passes (record { family = f;
     step true is h later = let e : record { family = f; number = start } ≡ a = cc in subst (λ x. passes x ≡ true) e is
     step false is h later = later h
 
-pub lowest_is_free : (n : NetworkValue) (a : AddrValue) → lowest_free n ≡ Some a → (is_assignable n.pool a ≡ true) × (is_held n a ≡ false)
+pub lowest_is_free : (n : NetworkValue) (a : AddrValue) → lowest_free n n.pool ≡ Some a → (is_assignable n.pool a ≡ true) × (is_held n n.pool a ≡ false)
 lowest_is_free n a h =
-    let both = and_true (is_assignable n.pool a) (not (is_held n a)) (first_passes n.pool.address.family (λ a. is_assignable n.pool a && not (is_held n a)) n.pool.address.number (block n.pool.address.family n.pool.length) a h) in
-    (both.0, not_true (is_held n a) both.1)
+    let both = and_true (is_assignable n.pool a) (not (is_held n n.pool a)) (first_passes n.pool.address.family (λ a. is_assignable n.pool a && not (is_held n n.pool a)) n.pool.address.number (block n.pool.address.family n.pool.length) a h) in
+    (both.0, not_true (is_held n n.pool a) both.1)
 
 -- an address that nobody holds is no route at full length
-pub unheld_no_route : (n : NetworkValue) (a : AddrValue) → IsPool n.pool → is_assignable n.pool a ≡ true → is_held n a ≡ false → All (λ r. same_prefix r.0 (full a) ≡ false) n.routes
+pub unheld_no_route : (n : NetworkValue) (a : AddrValue) → IsPool n.pool → is_assignable n.pool a ≡ true → is_held n n.pool a ≡ false → All (λ r. same_prefix r.0 (full a) ≡ false) n.routes
 unheld_no_route n a pool given unheld =
     let rs = list_any-none (λ (r : PrefixValue × ℕ). covers n.pool r.0 && has r.0 a) n.routes (or_false (is_own n.peers a) (list_any (λ (r : PrefixValue × ℕ). covers n.pool r.0 && has r.0 a) n.routes) unheld).1 in
     let in_pool : has n.pool a ≡ true = (and_true (has n.pool a) (not (nat_lt a.number (n.pool.address.number + 2))) (and_true (has n.pool a && not (nat_lt a.number (n.pool.address.number + 2))) (nat_lt a.number _) given).0).0 in
@@ -79,37 +82,68 @@ pub record IsOpen (n : NetworkValue) (a : AddrValue) : Type 0 where
   pub unowned : is_own n.peers a ≡ false
   pub no_route : All (λ r. same_prefix r.0 (full a) ≡ false) n.routes
 
-pub lowest_is_open : (n : NetworkValue) (a : AddrValue) → IsPool n.pool → lowest_free n ≡ Some a → IsOpen n a
+pub lowest_is_open : (n : NetworkValue) (a : AddrValue) → IsPool n.pool → lowest_free n n.pool ≡ Some a → IsOpen n a
 lowest_is_open n a pool h =
     let free = lowest_is_free n a h in
     record { assignable = free.0; unowned = (or_false (is_own n.peers a) _ free.1).0; no_route = unheld_no_route n a pool free.0 free.1 }
 
-no_refusal : {X : Type 0} (given own route : Bool) (x y z : X) → cond (not given) (Some x) (cond own (Some y) (cond route (Some z) None)) ≡ None → (given ≡ true) × (own ≡ false) × (route ≡ false)
-no_refusal true true route x y z h = cc
-no_refusal true false true x y z h = cc
-no_refusal true false false x y z h = (refl, refl, refl)
-no_refusal false own route x y z h = cc
+no_refusal : {X : Type 0} (given taken : Bool) (x y : X) → cond (not given) (Some x) (cond taken (Some y) None) ≡ None → (given ≡ true) × (taken ≡ false)
+no_refusal true true x y h = cc
+no_refusal true false x y h = (refl, refl)
+no_refusal false taken x y h = cc
 
 pub none_from : {X : Type 0} (o : Option X) → is_some o ≡ false → o ≡ None
 none_from None h = refl
 none_from (Some x) h = cc
 
-pub named_is_open : (n : NetworkValue) (a : AddrValue) → address_refusal n a ≡ None → IsOpen n a
+pub named_is_open : (n : NetworkValue) (a : AddrValue) → address_refusal n n.pool a ≡ None → IsOpen n a
 named_is_open n a h =
-    let parts = no_refusal (is_assignable n.pool a) (is_own n.peers a) (is_some (route_of n.routes (full a))) OutsidePool AddressHeld AddressHeld h in
-    record { assignable = parts.0; unowned = parts.1; no_route = route_free n.routes (full a) (none_from (route_of n.routes (full a)) parts.2) }
+    let parts = no_refusal (is_assignable n.pool a) (is_address_taken n a) OutsidePool AddressHeld h in
+    let free = or_false (is_own n.peers a) (is_some (route_of n.routes (full a))) parts.1 in
+    record { assignable = parts.0; unowned = free.0; no_route = route_free n.routes (full a) (none_from (route_of n.routes (full a)) free.1) }
 
-pub place_is_open : (n : NetworkValue) (wanted : Option AddrValue) (a : AddrValue) → IsPool n.pool → place n wanted ≡ Ok a → IsOpen n a
-place_is_open n (Some b) a pool h = named (address_refusal n b) refl h
+pub place_is_open : (n : NetworkValue) (wanted : Option AddrValue) (a : AddrValue) → IsPool n.pool → place n n.pool wanted ≡ Ok a → IsOpen n a
+place_is_open n (Some b) a pool h = named (address_refusal n n.pool b) refl h
   where
-    named : (r : Option Refusal) → address_refusal n b ≡ r → address_unless b r ≡ Ok a → IsOpen n a
+    named : (r : Option Refusal) → address_refusal n n.pool b ≡ r → unless_refused r b ≡ Ok a → IsOpen n a
     named None is h = let e : b ≡ a = cc in subst (IsOpen n) e (named_is_open n b is)
     named (Some why) is h = cc
-place_is_open n None a pool h = lowest (lowest_free n) refl h
+place_is_open n None a pool h = lowest (lowest_free n n.pool) refl h
   where
-    lowest : (r : Option AddrValue) → lowest_free n ≡ r → or_full r ≡ Ok a → IsOpen n a
+    lowest : (r : Option AddrValue) → lowest_free n n.pool ≡ r → or_full r ≡ Ok a → IsOpen n a
     lowest None is h = cc
     lowest (Some b) is h = let e : b ≡ a = cc in subst (IsOpen n) e (lowest_is_open n b pool is)
+
+-- ---- whether a peer may join
+
+-- what is known where a peer may join
+pub record IsAdmitted (j : Joining) (now : ℕ) (key : Key) (until : ℕ) : Type 0 where
+  pub not_server : same_key key j.server ≡ false
+  pub unheld : j.key_holder ≡ None
+  pub runs : is_expired now until ≡ false
+  pub room : j.has_room ≡ true
+  pub left : j.next ≤ max_number
+
+none_holds : (server over room spent : Bool) (w x y z : Refusal) (holder : Option ℕ)
+    → cond server (Some w) (held_or holder (cond over (Some x) (cond (not room) (Some y) (cond spent (Some z) None)))) ≡ None
+    → (server ≡ false) × (holder ≡ None) × (over ≡ false) × (room ≡ true) × (spent ≡ false)
+none_holds true over room spent w x y z holder h = cc
+none_holds false over room spent w x y z (Some number) h = cc
+none_holds false true room spent w x y z None h = cc
+none_holds false false false spent w x y z None h = cc
+none_holds false false true true w x y z None h = cc
+none_holds false false true false w x y z None h = (refl, refl, refl, refl, refl)
+
+pub is_admitted : (j : Joining) (now : ℕ) (key : Key) (until : ℕ) → joining_refusal j now key until ≡ None → IsAdmitted j now key until
+is_admitted j now key until h =
+    let parts = none_holds (same_key key j.server) (is_expired now until) j.has_room (nat_lt max_number j.next) ServerKey LeaseOver CapacityReached NumbersSpent j.key_holder h in
+    record { not_server = parts.0; unheld = parts.1; runs = parts.2; room = parts.3; left = has_number j.next parts.4 }
+  where
+    has_number : (m : ℕ) → nat_lt max_number m ≡ false → m ≤ max_number
+    has_number m h = grind (arith, nat_tests)
+
+pub has_room : (m c : ℕ) → nat_lt m c ≡ true → m < c
+has_room m c h = grind (arith, nat_tests)
 
 -- ---- the network with the new peer
 

@@ -13,7 +13,8 @@ use Rattle.wgr_peers.specs.Peers.{key_holder, peer_of, put_peer, same_key, IsNum
 use Rattle.wgr_peers.specs.Routes.{assign_route}
 use Rattle.wgr_core.specs.declared.seen_peer.SeenPeer.{SeenPeer}
 use Rattle.wgr_core.specs.Network.{NetworkValue, IsNetwork}
-use Rattle.wgr_core.specs.Adoption.{and_then, unless_refused, named_address, line_refusal, line_place, peer_of_line, keyed_peer, give_refusal}
+use Rattle.wgr_core.specs.Adoption.{and_then, named_address, peer_of_line, keyed_peer}
+use Rattle.wgr_core.specs.Refusals.{join_refusal, place, route_refusal, unless_refused}
 use Rattle.wgr_core.specs.Draft.{line_address}
 use Rattle.wgr_pool.proofs.Bools.{decide, not_true}
 use Rattle.wgr_pool.proofs.Lists.{AllPairs-head, AllPairs-tail}
@@ -80,11 +81,11 @@ not_refused : {T E U : Type 0} (r : Option E) (x : T) (next : T → Result U E) 
 not_refused None x next y h = (refl, h)
 not_refused (Some e) x next y h = cc
 
--- a line whose key nobody has, and which gets an address, may join
-pub placed_may_join : (n : NetworkValue) (line : SeenPeer) (a : AddrValue) → IsNetwork n → keyed_peer n.peers line.key ≡ None → line_address n line ≡ Ok a → MayJoin n (peer_of_line n line a)
-placed_may_join n line a is unheld h =
-    let parts = not_refused (line_refusal n line.key) n (λ n. line_place n (named_address n.pool line.allowed)) a h in
-    line_may_join n line a is.pool unheld parts.0 parts.1
+-- a line that gets an address may join
+pub placed_may_join : (n : NetworkValue) (line : SeenPeer) (a : AddrValue) → IsNetwork n → line_address n line ≡ Ok a → MayJoin n (peer_of_line n line a)
+placed_may_join n line a is h =
+    let parts = not_refused (join_refusal n 0 line.key 0) n (λ n. place n n.pool (named_address n.pool line.allowed)) a h in
+    line_may_join n line a is.pool parts.0 parts.1
 
 -- ---- another status of a peer
 
@@ -95,7 +96,7 @@ noted_is_network n at d status is within =
 
 -- ---- a prefix that can be a route
 
-pub given_is_network : (n : NetworkValue) (p : PrefixValue) (number : ℕ) → IsNetwork n → IsAddr p.address × IsPrefix p → is_some (peer_of n.peers number) ≡ true → give_refusal n p ≡ None
+pub given_is_network : (n : NetworkValue) (p : PrefixValue) (number : ℕ) → IsNetwork n → IsAddr p.address × IsPrefix p → is_some (peer_of n.peers number) ≡ true → route_refusal n p ≡ None
     → IsNetwork (record n { routes = assign_route n.routes p number })
 given_is_network n p number is masked stands allowed =
     let may = may_lead n p number stands allowed in

@@ -13,14 +13,15 @@ use Rattle.wgr_pool.specs.Allot.{is_assignable, first_from, lower}
 use Rattle.wgr_peers.specs.Peers.{is_own, peer_of}
 use Rattle.wgr_pool.specs.HeldSpans.{is_routed}
 use Rattle.wgr_core.specs.Network.{NetworkValue, IsNetwork, IsMember, is_held, lowest_free}
-use Rattle.wgr_core.specs.Outcome.{at_place, if_stands, move, place, replaced, vacated}
+use Rattle.wgr_core.specs.Outcome.{at_place, if_stands, move, replaced, vacated}
+use Rattle.wgr_core.specs.Refusals.{place}
 use Rattle.wgr_pool.proofs.Bools.{decide, and_true, or_left, or_right}
 use Rattle.wgr_peers.proofs.PeerLemmas.{own_without, peer_is, peer_number}
 use Rattle.wgr_pool.proofs.PrefixLemmas.{same_address_is, same_address_self, same_family_is}
 
 -- an address is held without the peer: by a route where it is the peer's own, and else as before
 pub held_without : (n : NetworkValue) (number : ℕ) (p : Peer) (a : AddrValue) → IsNetwork n → peer_of n.peers number ≡ Some p
-    → is_held (vacated n (Some number)) a ≡ cond (same_address p.address a) (is_routed n.pool n.routes a) (is_held n a)
+    → is_held (vacated n (Some number)) n.pool a ≡ cond (same_address p.address a) (is_routed n.pool n.routes a) (is_held n n.pool a)
 held_without n number p a is h =
     ap (λ b. b || is_routed n.pool n.routes a) (own_without n.peers number p a is.numbered is.apart h) ∙ split (same_address p.address a)
   where
@@ -29,11 +30,11 @@ held_without n number p a is h =
     split false = refl
 
 -- the outcome of a move, from the peer and the place that it takes
-pub move_by : (n : NetworkValue) (number : ℕ) (p : Peer) (wanted : Option AddrValue) (at : Result AddrValue Refusal) → peer_of n.peers number ≡ Some p → place (vacated n (Some p.number)) wanted ≡ at
+pub move_by : (n : NetworkValue) (number : ℕ) (p : Peer) (wanted : Option AddrValue) (at : Result AddrValue Refusal) → peer_of n.peers number ≡ Some p → place (vacated n (Some p.number)) n.pool wanted ≡ at
     → move n number wanted ≡ at_place at (λ a. replaced n (record p { address = a }))
 move_by n number p wanted at found placed =
-    ap (λ o. if_stands o (λ q. at_place (place (vacated n (Some number)) wanted) (λ a. replaced n (record q { address = a })))) found
-    ∙ ap (λ m. at_place (place (vacated n (Some m)) wanted) (λ a. replaced n (record p { address = a }))) (sym (peer_number n.peers number p found))
+    ap (λ o. if_stands o (λ q. at_place (place (vacated n (Some number)) n.pool wanted) (λ a. replaced n (record q { address = a })))) found
+    ∙ ap (λ m. at_place (place (vacated n (Some m)) n.pool wanted) (λ a. replaced n (record p { address = a }))) (sym (peer_number n.peers number p found))
     ∙ ap (λ r. at_place r (λ a. replaced n (record p { address = a }))) placed
 
 -- ---- the search with one more address that passes
@@ -152,27 +153,27 @@ own_in_pool n p is h = (and_true (has n.pool p.address) _ (and_true _ _ (peer_is
 
 -- where a route has the peer's address too, it stays held
 pub lowest_where_routed : (n : NetworkValue) (number : ℕ) (p : Peer) → IsNetwork n → peer_of n.peers number ≡ Some p → is_routed n.pool n.routes p.address ≡ true
-    → lowest_free (vacated n (Some number)) ≡ lowest_free n
+    → lowest_free (vacated n (Some number)) n.pool ≡ lowest_free n n.pool
 lowest_where_routed n number p is h routed =
     first_agrees n.pool.address.family _ _ n.pool.address.number (block n.pool.address.family n.pool.length) (λ a. ap (λ b. is_assignable n.pool a && not b) (held_without n number p a is h ∙ alike a (same_address p.address a) refl))
   where
-    alike : (a : AddrValue) (b : Bool) → same_address p.address a ≡ b → cond (same_address p.address a) (is_routed n.pool n.routes a) (is_held n a) ≡ is_held n a
+    alike : (a : AddrValue) (b : Bool) → same_address p.address a ≡ b → cond (same_address p.address a) (is_routed n.pool n.routes a) (is_held n n.pool a) ≡ is_held n n.pool a
     alike a true s =
         let here : is_routed n.pool n.routes a ≡ true = subst (λ x. is_routed n.pool n.routes x ≡ true) (same_address_is p.address a s) routed in
-        ap (λ b. cond b (is_routed n.pool n.routes a) (is_held n a)) s ∙ here ∙ sym (or_right (is_own n.peers a) (is_routed n.pool n.routes a) here)
-    alike a false s = ap (λ b. cond b (is_routed n.pool n.routes a) (is_held n a)) s
+        ap (λ b. cond b (is_routed n.pool n.routes a) (is_held n n.pool a)) s ∙ here ∙ sym (or_right (is_own n.peers a) (is_routed n.pool n.routes a) here)
+    alike a false s = ap (λ b. cond b (is_routed n.pool n.routes a) (is_held n n.pool a)) s
 
 -- else it is free for the peer, which takes it where none below it is
 pub lowest_where_unrouted : (n : NetworkValue) (number : ℕ) (p : Peer) → IsNetwork n → peer_of n.peers number ≡ Some p → is_routed n.pool n.routes p.address ≡ false
-    → lowest_free (vacated n (Some number)) ≡ Some (lower (lowest_free n) p.address)
+    → lowest_free (vacated n (Some number)) n.pool ≡ Some (lower (lowest_free n n.pool) p.address)
 lowest_where_unrouted n number p is h unrouted =
-    first_with n.pool.address.family (λ a. is_assignable n.pool a && not (is_held n a)) (λ a. is_assignable n.pool a && not (is_held (vacated n (Some number)) a)) p.address n.pool.address.number (block n.pool.address.family n.pool.length)
+    first_with n.pool.address.family (λ a. is_assignable n.pool a && not (is_held n n.pool a)) (λ a. is_assignable n.pool a && not (is_held (vacated n (Some number)) n.pool a)) p.address n.pool.address.number (block n.pool.address.family n.pool.length)
     (same_family_is n.pool.address.family p.address.family (and_true _ _ both.0).0)
     (within_from p.address.number n.pool.address.number (and_true (has n.pool p.address) _ parts.0).1)
     (within_to p.address.number n.pool.address.number (block n.pool.address.family n.pool.length) (reserved n.pool.address.family) parts.1)
-    (ap (λ b. b && not (is_held (vacated n (Some number)) p.address)) given ∙ ap not freed)
-    (ap (λ b. b && not (is_held n p.address)) given ∙ ap not held)
-    (λ a apart. ap (λ b. is_assignable n.pool a && not b) (held_without n number p a is h ∙ ap (λ b. cond b (is_routed n.pool n.routes a) (is_held n a)) apart))
+    (ap (λ b. b && not (is_held (vacated n (Some number)) n.pool p.address)) given ∙ ap not freed)
+    (ap (λ b. b && not (is_held n n.pool p.address)) given ∙ ap not held)
+    (λ a apart. ap (λ b. is_assignable n.pool a && not b) (held_without n number p a is h ∙ ap (λ b. cond b (is_routed n.pool n.routes a) (is_held n n.pool a)) apart))
   where
     given : is_assignable n.pool p.address ≡ true
     given = (peer_is (IsMember n) n.peers number p is.members h).0.assignable
@@ -183,10 +184,10 @@ lowest_where_unrouted n number p is h unrouted =
     both : (has n.pool p.address ≡ true) × (not (nat_lt p.address.number (n.pool.address.number + 2)) ≡ true)
     both = and_true _ _ parts.0
 
-    freed : is_held (vacated n (Some number)) p.address ≡ false
-    freed = held_without n number p p.address is h ∙ ap (λ b. cond b (is_routed n.pool n.routes p.address) (is_held n p.address)) (same_address_self p.address) ∙ unrouted
+    freed : is_held (vacated n (Some number)) n.pool p.address ≡ false
+    freed = held_without n number p p.address is h ∙ ap (λ b. cond b (is_routed n.pool n.routes p.address) (is_held n n.pool p.address)) (same_address_self p.address) ∙ unrouted
 
-    held : is_held n p.address ≡ true
+    held : is_held n n.pool p.address ≡ true
     held = or_left (is_own n.peers p.address) (is_routed n.pool n.routes p.address) (own_of n.peers number p h)
 
     within_from : (a s : ℕ) → not (nat_lt a (s + 2)) ≡ true → s ≤ a

@@ -19,12 +19,13 @@ use Rattle.wgr_peers.specs.Peers.{is_own, key_holder, peer_of, same_key, without
 use Rattle.wgr_peers.specs.Routes.{route_of}
 use Rattle.wgr_core.specs.Network.{NetworkValue, IsNetwork, IsMember, is_address, live_at}
 use Rattle.wgr_core.specs.Owner.{owner_of}
-use Rattle.wgr_core.specs.Outcome.{Outcome, held_or, join_refusal, place, add, vacated, move, revoke, lease_refusal, renew, route_refusal, route, unroute, live_outcome, is_reading, outcome_of, IsAsked}
+use Rattle.wgr_core.specs.Outcome.{Outcome, add, vacated, move, revoke, lease_refusal, renew, route, unroute, live_outcome, is_reading, outcome_of, IsAsked}
+use Rattle.wgr_core.specs.Refusals.{join_refusal, joining_of, place, route_refusal}
 use Rattle.wgr_pool.proofs.Bools.{decide, or_false}
 use Rattle.wgr_core.proofs.KeptLemmas.{without_is_network, unrouted_is_network}
 use Rattle.wgr_core.proofs.OutcomeCases.{unless_if, place_if, stands_if, routed_if, owner_if, kept_if_reading}
 use Rattle.wgr_core.proofs.LiveLemmas.{live_is_network}
-use Rattle.wgr_core.proofs.JoinLemmas.{place_is_open, joined_is_network}
+use Rattle.wgr_core.proofs.JoinLemmas.{has_room, is_admitted, place_is_open, joined_is_network}
 use Rattle.wgr_peers.proofs.PeerLemmas.{peer_is}
 use Rattle.wgr_core.proofs.ReplaceLemmas.{amended_is_network, replaced_is_network}
 use Rattle.wgr_core.proofs.RoutedKeeps.{MayRoute, no_route_refusal, routed_is_network}
@@ -37,42 +38,13 @@ Keeps o = IfOk o (λ done. IsNetwork done.1)
 abbrev After : Reply × NetworkValue → Type 0
 After done = IsNetwork done.1
 
--- what a peer that may join has
-pub record IsAdmitted (n : NetworkValue) (now : ℕ) (key : Key) (until : ℕ) : Type 0 where
-  pub not_server : same_key key n.server ≡ false
-  pub unheld : key_holder n.peers key ≡ None
-  pub runs : is_expired now until ≡ false
-  pub room : length n.peers < n.capacity
-  pub left : n.next ≤ 1000000
-
-none_holds : (server over full spent : Bool) (w x y z : Refusal) (holder : Option ℕ)
-    → cond server (Some w) (held_or holder (cond over (Some x) (cond full (Some y) (cond spent (Some z) None)))) ≡ None
-    → (server ≡ false) × (holder ≡ None) × (over ≡ false) × (full ≡ false) × (spent ≡ false)
-none_holds true over full spent w x y z holder h = cc
-none_holds false over full spent w x y z (Some number) h = cc
-none_holds false true full spent w x y z None h = cc
-none_holds false false true spent w x y z None h = cc
-none_holds false false false true w x y z None h = cc
-none_holds false false false false w x y z None h = (refl, refl, refl, refl, refl)
-
-pub is_admitted : (n : NetworkValue) (now : ℕ) (key : Key) (until : ℕ) → join_refusal n now key until ≡ None → IsAdmitted n now key until
-is_admitted n now key until h =
-    let parts = none_holds (same_key key n.server) (is_expired now until) (not (nat_lt (length n.peers) n.capacity)) (nat_lt 1000000 n.next) ServerKey LeaseOver CapacityReached NumbersSpent (key_holder n.peers key) h in
-    record { not_server = parts.0; unheld = parts.1; runs = parts.2; room = has_room (length n.peers) n.capacity parts.3; left = has_number n.next parts.4 }
-  where
-    has_room : (m c : ℕ) → not (nat_lt m c) ≡ false → m < c
-    has_room m c h = grind (arith, nat_tests)
-
-    has_number : (m : ℕ) → nat_lt 1000000 m ≡ false → m ≤ 1000000
-    has_number m h = grind (arith, nat_tests)
-
 pub add_keeps : (n : NetworkValue) (now : ℕ) (key : Key) (label : List ℕ) (wanted : Option AddrValue) (until keepalive : ℕ) → IsNetwork n → Keeps (add n now key label wanted until keepalive)
 add_keeps n now key label wanted until keepalive is =
     unless_if After (join_refusal n now key until) _ (λ admitted.
-    place_if After (place n wanted) _ (λ a placed.
-    let may = is_admitted n now key until admitted in
+    place_if After (place n n.pool wanted) _ (λ a placed.
+    let may = is_admitted (joining_of n key) now key until admitted in
     joined_is_network n (record { number = n.next; key = key; label = label; address = a; until = until; keepalive = keepalive; status = None }) is
-    (record { next = refl; number_left = may.left; key_unheld = may.unheld; not_server = may.not_server; room = may.room; address = place_is_open n wanted a is.pool placed })))
+    (record { next = refl; number_left = may.left; key_unheld = may.unheld; not_server = may.not_server; room = has_room (length n.peers) n.capacity may.room; address = place_is_open n wanted a is.pool placed })))
 
 -- ---- a peer that moves, leaves, or has another lease
 
@@ -93,7 +65,7 @@ unowned_but (p ∷ peers) number a unowned =
 pub move_keeps : (n : NetworkValue) (number : ℕ) (wanted : Option AddrValue) → IsNetwork n → Keeps (move n number wanted)
 move_keeps n number wanted is =
     stands_if After (peer_of n.peers number) _ (λ p found.
-    place_if After (place (vacated n (Some number)) wanted) _ (λ a placed.
+    place_if After (place (vacated n (Some number)) n.pool wanted) _ (λ a placed.
     let may = place_is_open (vacated n (Some number)) wanted a is.pool placed in
     let at : p.number ≡ number = (peer_is (IsMember n) n.peers number p is.members found).1 in
     replaced_is_network n p (record p { address = a }) is

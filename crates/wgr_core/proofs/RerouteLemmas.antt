@@ -12,7 +12,8 @@ use Rattle.wgr_peers.specs.Peers.{peer_of}
 use Rattle.wgr_peers.specs.Routes.{Routes, AreOrdered, ComesBefore, HasAddr, assign_route, route_of, routes_to, without_route}
 use Rattle.wgr_core.specs.Network.{NetworkValue, IsNetwork}
 use Rattle.wgr_core.specs.Change.{MeetsLive, changed}
-use Rattle.wgr_core.specs.Outcome.{if_routed, if_stands, rerouted, route, route_refusal, unless, unroute}
+use Rattle.wgr_core.specs.Outcome.{if_routed, if_stands, rerouted, route, unless, unroute}
+use Rattle.wgr_core.specs.Refusals.{route_refusal}
 use Rattle.wgr_pool.proofs.Lists.{AllPairs-filter}
 use Rattle.wgr_peers.proofs.PeerLemmas.{peer_number}
 use Rattle.wgr_peers.proofs.RouteLemmas.{filter_assign, filter_without}

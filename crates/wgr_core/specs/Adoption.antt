@@ -1,28 +1,22 @@
 -- Adoption: a network takes over the peers that a running interface shows (wg(8), `show dump`).
-use Rattle.std.specs.Prelude.{ℕ, ◌+◌, Bool, not, ◌&&◌, ◌||◌, cond, nat_eq, nat_lt, List, [], ◌∷◌, ◌++◌, length, Option, Some, None, Result, Ok, Err, is_some}
+use Rattle.std.specs.Prelude.{ℕ, ◌+◌, Bool, not, ◌&&◌, cond, nat_eq, List, [], ◌∷◌, ◌++◌, Option, Some, None, Result, Ok, Err, is_some}
 use Rattle.std.specs.List.{filter}
 use Rattle.wgr_text.specs.declared.key.Key.{Key}
 use Rattle.wgr_text.specs.Prefix.{AddrValue, PrefixValue, width}
 use Rattle.wgr_pool.specs.PrefixTests.{full, same_prefix}
 use Rattle.wgr_pool.specs.Allot.{is_assignable}
 use Rattle.wgr_peers.specs.declared.peer.Peer.{Peer}
-use Rattle.wgr_peers.specs.Peers.{is_own, put_peer, same_key}
-use Rattle.wgr_peers.specs.Routes.{assign_route, route_of}
-use Rattle.wgr_peers.specs.Limits.{max_number, max_routes}
-use Rattle.wgr_core.specs.declared.refusal.LineRefusal.{LineRefusal}
-use Rattle.wgr_core.specs.declared.refusal.LineRefusal.TheVariants as why
+use Rattle.wgr_peers.specs.Peers.{put_peer, same_key}
+use Rattle.wgr_peers.specs.Routes.{assign_route}
+use Rattle.wgr_core.specs.declared.refusal.Refusal.{Refusal}
 use Rattle.wgr_core.specs.declared.seen_peer.SeenPeer.{SeenPeer}
-use Rattle.wgr_core.specs.Network.{NetworkValue, is_address, lowest_free}
+use Rattle.wgr_core.specs.Network.{NetworkValue}
+use Rattle.wgr_core.specs.Refusals.{join_refusal, place, route_refusal, unless_refused}
 
 -- what follows from a value, if there is one
 abbrev pub and_then : {T U E : Type 0} → Result T E → (T → Result U E) → Result U E
 and_then (Err e) next = Err e
 and_then (Ok x) next = next x
-
--- the value, where there is no refusal
-abbrev pub unless_refused : {T E : Type 0} → Option E → T → Result T E
-unless_refused None x = Ok x
-unless_refused (Some e) x = Err e
 
 -- ---- the address that a line names
 
@@ -39,22 +33,6 @@ names_address pool line = is_some (named_address pool line.allowed)
 
 -- ---- a line whose key nobody has
 
--- why no peer with the key may join
-abbrev pub line_refusal : NetworkValue → Key → Option LineRefusal
-line_refusal n key =
-    cond (same_key key n.server) (Some why.ServerKey)
-    (cond (not (nat_lt (length n.peers) n.capacity)) (Some why.CapacityReached)
-    (cond (nat_lt max_number n.next) (Some why.NumbersSpent) None))
-
-abbrev pub or_pool_full : Option AddrValue → Result AddrValue LineRefusal
-or_pool_full None = Err why.PoolFull
-or_pool_full (Some a) = Ok a
-
--- the address that the line names, or the lowest that is free
-abbrev pub line_place : NetworkValue → Option AddrValue → Result AddrValue LineRefusal
-line_place n (Some a) = unless_refused (cond (is_own n.peers a || is_some (route_of n.routes (full a))) (Some why.AddressHeld) None) a
-line_place n None = or_pool_full (lowest_free n)
-
 -- the peer of a line, and the network with it
 abbrev pub peer_of_line : NetworkValue → SeenPeer → AddrValue → Peer
 peer_of_line n line a = record { number = n.next; key = line.key; label = []; address = a; until = 0; keepalive = line.keepalive; status = Some line.status }
@@ -62,16 +40,10 @@ peer_of_line n line a = record { number = n.next; key = line.key; label = []; ad
 abbrev pub with_line : NetworkValue → SeenPeer → AddrValue → NetworkValue
 with_line n line a = record n { next = n.next + 1; peers = n.peers ++ peer_of_line n line a ∷ [] }
 
--- why a prefix can't be a route; one that is already a route takes no more room
-abbrev pub give_refusal : NetworkValue → PrefixValue → Option LineRefusal
-give_refusal n p =
-    cond (is_address n p) (Some why.IsAddress)
-    (cond (not (is_some (route_of n.routes p)) && not (nat_lt (length n.routes) max_routes)) (Some why.RoutesFull) None)
-
 -- the prefixes lead to the peer with the number, one after the other
-abbrev pub give_all : NetworkValue → ℕ → List PrefixValue → Result NetworkValue LineRefusal
+abbrev pub give_all : NetworkValue → ℕ → List PrefixValue → Result NetworkValue Refusal
 give_all n number [] = Ok n
-give_all n number (p ∷ more) = and_then (unless_refused (give_refusal n p) (record n { routes = assign_route n.routes p number })) (λ next. give_all next number more)
+give_all n number (p ∷ more) = and_then (unless_refused (route_refusal n p) (record n { routes = assign_route n.routes p number })) (λ next. give_all next number more)
 
 -- the prefixes except the peer's own address
 abbrev pub other_prefixes : AddrValue → List PrefixValue → List PrefixValue
@@ -91,10 +63,10 @@ keyed_peer [] key = None
 keyed_peer (p ∷ peers) key = cond (same_key p.key key) (Some p) (keyed_peer peers key)
 
 -- the peer joins with its prefixes
-abbrev pub add_line : Adoption → SeenPeer → Result Adoption LineRefusal
+abbrev pub add_line : Adoption → SeenPeer → Result Adoption Refusal
 add_line s line =
-    and_then (unless_refused (line_refusal s.network line.key) s.network) (λ n.
-    and_then (line_place n (named_address n.pool line.allowed)) (λ a.
+    and_then (unless_refused (join_refusal s.network 0 line.key 0) s.network) (λ n.
+    and_then (place n n.pool (named_address n.pool line.allowed)) (λ a.
     and_then (give_all (with_line n line a) n.next (other_prefixes a line.allowed)) (λ after.
     Ok (record { network = after; added = s.added ++ n.next ∷ []; known = s.known }))))
 
@@ -102,19 +74,19 @@ add_line s line =
 abbrev pub note_status : Adoption → SeenPeer → Peer → Adoption
 note_status s line p = record s { network = record s.network { peers = put_peer s.network.peers (record p { status = Some line.status }) }; known = s.known + 1 }
 
-abbrev pub adopt_line_of : Adoption → SeenPeer → Option Peer → Result Adoption LineRefusal
+abbrev pub adopt_line_of : Adoption → SeenPeer → Option Peer → Result Adoption Refusal
 adopt_line_of s line (Some p) = Ok (note_status s line p)
 adopt_line_of s line None = add_line s line
 
-abbrev pub adopt_line : Adoption → SeenPeer → Result Adoption LineRefusal
+abbrev pub adopt_line : Adoption → SeenPeer → Result Adoption Refusal
 adopt_line s line = adopt_line_of s line (keyed_peer s.network.peers line.key)
 
 -- a refusal reports the line's number
-abbrev pub in_line : ℕ → Result Adoption LineRefusal → Result Adoption (ℕ × LineRefusal)
+abbrev pub in_line : ℕ → Result Adoption Refusal → Result Adoption (ℕ × Refusal)
 in_line number (Ok s) = Ok s
 in_line number (Err e) = Err (number, e)
 
-abbrev pub adopt_lines : Adoption → List (ℕ × SeenPeer) → Result Adoption (ℕ × LineRefusal)
+abbrev pub adopt_lines : Adoption → List (ℕ × SeenPeer) → Result Adoption (ℕ × Refusal)
 adopt_lines s [] = Ok s
 adopt_lines s (l ∷ more) = and_then (in_line l.0 (adopt_line s l.1)) (λ next. adopt_lines next more)
 
@@ -129,5 +101,5 @@ numbered_from number (line ∷ more) = (number, line) ∷ numbered_from (number 
 abbrev pub adoption_order : PrefixValue → List SeenPeer → List (ℕ × SeenPeer)
 adoption_order pool lines = filter (λ l. names_address pool l.1) (numbered_from 2 lines) ++ filter (λ l. not (names_address pool l.1)) (numbered_from 2 lines)
 
-abbrev pub adoption_of : NetworkValue → List SeenPeer → Result Adoption (ℕ × LineRefusal)
+abbrev pub adoption_of : NetworkValue → List SeenPeer → Result Adoption (ℕ × Refusal)
 adoption_of n lines = adopt_lines (record { network = n; added = []; known = 0 }) (adoption_order n.pool lines)

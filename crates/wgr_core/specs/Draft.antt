@@ -7,14 +7,14 @@ use Rattle.wgr_peers.specs.declared.peer.Status.{Status}
 use Rattle.wgr_peers.specs.Routes.{Routes}
 use Rattle.wgr_core.specs.declared.fault.ActFault.{ActFault}
 use Rattle.wgr_core.specs.declared.fault.ActFault.TheVariants as fault
-use Rattle.wgr_core.specs.declared.fault.LineFault.{LineFault}
-use Rattle.wgr_core.specs.declared.fault.LineFault.TheVariants as line_fault
-use Rattle.wgr_core.specs.declared.refusal.Refusal.TheVariants.{InLine}
-use Rattle.wgr_core.specs.declared.refusal.LineRefusal.{LineRefusal}
+use Rattle.wgr_core.specs.declared.fault.AdoptFault.{AdoptFault}
+use Rattle.wgr_core.specs.declared.fault.AdoptFault.TheVariants as adopt_fault
+use Rattle.wgr_core.specs.declared.refusal.Refusal.{Refusal}
 use Rattle.wgr_core.specs.declared.seen_peer.SeenPeer.{SeenPeer}
 use Rattle.wgr_core.specs.Network.{NetworkValue, IsNetwork}
 use Rattle.wgr_core.specs.Change.{assign_routes}
-use Rattle.wgr_core.specs.Adoption.{Adoption, and_then, unless_refused, line_refusal, line_place, named_address, names_address, numbered_from}
+use Rattle.wgr_core.specs.Adoption.{Adoption, and_then, named_address, names_address, numbered_from}
+use Rattle.wgr_core.specs.Refusals.{join_refusal, of_line, place, unless_refused}
 
 -- the network as it was, and as it is now
 pub record DraftValue : Type 0 where
@@ -72,8 +72,8 @@ left_by (Ok done) after = Ok after
 left_by (Err why) after = Err why
 
 -- the address that a new peer of the line takes
-abbrev pub line_address : NetworkValue → SeenPeer → Result AddrValue LineRefusal
-line_address n line = and_then (unless_refused (line_refusal n line.key) n) (λ n. line_place n (named_address n.pool line.allowed))
+abbrev pub line_address : NetworkValue → SeenPeer → Result AddrValue Refusal
+line_address n line = and_then (unless_refused (join_refusal n 0 line.key 0) n) (λ n. place n n.pool (named_address n.pool line.allowed))
 
 -- whether a line is one of the requested ones: those that name an address, or the others
 abbrev pub is_asked_for : Bool → Bool → Bool
@@ -81,42 +81,42 @@ is_asked_for true names = names
 is_asked_for false names = not names
 
 -- these lines with their numbers
-abbrev pub lines_of : PrefixValue → Bool → ℕ → List SeenPeer → List (ℕ × SeenPeer)
-lines_of pool naming number lines = filter (λ l. is_asked_for naming (names_address pool l.1)) (numbered_from number lines)
+abbrev pub numbered_lines : PrefixValue → Bool → ℕ → List SeenPeer → List (ℕ × SeenPeer)
+numbered_lines pool naming number lines = filter (λ l. is_asked_for naming (names_address pool l.1)) (numbered_from number lines)
 
 -- the answer is the definition's address or refusal, or memory ran out
-abbrev pub MeetsAddress : Result AddrValue LineFault → Result AddrValue LineRefusal → Type 0
-MeetsAddress (Err line_fault.NoMemory) place = Unit {0}
-MeetsAddress (Err (line_fault.Refused why)) (Err is) = why ≡ is
-MeetsAddress (Err (line_fault.Refused why)) (Ok a) = ⊥
+abbrev pub MeetsAddress : Result AddrValue AdoptFault → Result AddrValue Refusal → Type 0
+MeetsAddress (Err adopt_fault.NoMemory) place = Unit {0}
+MeetsAddress (Err (adopt_fault.Refused why)) (Err is) = why ≡ is
+MeetsAddress (Err (adopt_fault.Refused why)) (Ok a) = ⊥
 MeetsAddress (Ok given) (Err is) = ⊥
 MeetsAddress (Ok given) (Ok a) = given ≡ a
 
 -- the answer of a step is the definition's network or refusal, or memory ran out
-abbrev pub MeetsGiven : DraftValue → Result DraftValue LineFault → Result NetworkValue LineRefusal → Type 0
-MeetsGiven d (Err line_fault.NoMemory) outcome = Unit {0}
-MeetsGiven d (Err (line_fault.Refused why)) (Err is) = why ≡ is
-MeetsGiven d (Err (line_fault.Refused why)) (Ok n) = ⊥
+abbrev pub MeetsGiven : DraftValue → Result DraftValue AdoptFault → Result NetworkValue Refusal → Type 0
+MeetsGiven d (Err adopt_fault.NoMemory) outcome = Unit {0}
+MeetsGiven d (Err (adopt_fault.Refused why)) (Err is) = why ≡ is
+MeetsGiven d (Err (adopt_fault.Refused why)) (Ok n) = ⊥
 MeetsGiven d (Ok after) (Err is) = ⊥
 MeetsGiven d (Ok after) (Ok n) = after ≡ record d { network = n }
 
 -- the same for a line
-abbrev pub MeetsLine : AdoptingValue → Result AdoptingValue LineFault → Result Adoption LineRefusal → Type 0
-MeetsLine a (Err line_fault.NoMemory) outcome = Unit {0}
-MeetsLine a (Err (line_fault.Refused why)) (Err is) = why ≡ is
-MeetsLine a (Err (line_fault.Refused why)) (Ok s) = ⊥
+abbrev pub MeetsLine : AdoptingValue → Result AdoptingValue AdoptFault → Result Adoption Refusal → Type 0
+MeetsLine a (Err adopt_fault.NoMemory) outcome = Unit {0}
+MeetsLine a (Err (adopt_fault.Refused why)) (Err is) = why ≡ is
+MeetsLine a (Err (adopt_fault.Refused why)) (Ok s) = ⊥
 MeetsLine a (Ok after) (Err is) = ⊥
 MeetsLine a (Ok after) (Ok s) = after ≡ record a { so_far = s }
 
 -- the same for several lines
-abbrev pub MeetsLines : AdoptingValue → Result AdoptingValue ActFault → Result Adoption (ℕ × LineRefusal) → Type 0
+abbrev pub MeetsLines : AdoptingValue → Result AdoptingValue ActFault → Result Adoption (ℕ × Refusal) → Type 0
 MeetsLines a (Err fault.NoMemory) outcome = Unit {0}
-MeetsLines a (Err (fault.Refused why)) (Err is) = why ≡ InLine is.0 is.1
+MeetsLines a (Err (fault.Refused why)) (Err is) = why ≡ of_line is.0 is.1
 MeetsLines a (Err (fault.Refused why)) (Ok s) = ⊥
 MeetsLines a (Ok after) (Err is) = ⊥
 MeetsLines a (Ok after) (Ok s) = after ≡ record a { so_far = s }
 
 -- why a command failed, of which the line with this number was not adopted
-abbrev pub fault_in_line : ℕ → LineFault → ActFault
-fault_in_line number (line_fault.Refused why) = fault.Refused (InLine number why)
-fault_in_line number line_fault.NoMemory = fault.NoMemory
+abbrev pub fault_in_line : ℕ → AdoptFault → ActFault
+fault_in_line number (adopt_fault.Refused why) = fault.Refused (of_line number why)
+fault_in_line number adopt_fault.NoMemory = fault.NoMemory

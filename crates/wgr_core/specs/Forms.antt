@@ -24,7 +24,7 @@ pub record IsStatus (s : Status) : Type 0 where
   pub sent : IsCount s.sent
 
 -- the fields of a peer that no rule of its network mentions are of their forms
-pub record IsFormed (p : Peer) : Type 0 where
+pub record IsPeerFormed (p : Peer) : Type 0 where
   pub key : IsKey p.key
   pub label : IsLabel p.label
   pub until : IsLeaseEnd p.until
@@ -33,7 +33,7 @@ pub record IsFormed (p : Peer) : Type 0 where
 
 -- so are those of a network and of each of its peers
 abbrev pub HasForms : NetworkValue → Type 0
-HasForms n = IsKey n.server × All IsFormed n.peers
+HasForms n = IsKey n.server × All IsPeerFormed n.peers
 
 -- what a line of a dump reports is of its form
 pub record IsFormedLine (line : SeenPeer) : Type 0 where

@@ -1,6 +1,7 @@
 pub mod Network
 pub mod Live
 pub mod Owner
+pub mod Refusals
 pub mod Adoption
 pub mod Outcome
 pub mod Change

@@ -44,12 +44,12 @@ without_peers n removed = record n {
 }
 
 -- whether the address is a peer's own, or lies in a route that lies wholly in the pool
-abbrev pub is_held : NetworkValue → AddrValue → Bool
-is_held n a = is_own n.peers a || list_any (λ r. covers n.pool r.0 && has r.0 a) n.routes
+abbrev pub is_held : NetworkValue → PrefixValue → AddrValue → Bool
+is_held n pool a = is_own n.peers a || list_any (λ r. covers pool r.0 && has r.0 a) n.routes
 
--- the lowest address that may be given and isn't held
-abbrev pub lowest_free : NetworkValue → Option AddrValue
-lowest_free n = lowest_where n.pool (is_held n)
+-- the lowest address that the pool may give and that isn't held
+abbrev pub lowest_free : NetworkValue → PrefixValue → Option AddrValue
+lowest_free n pool = lowest_where pool (is_held n pool)
 
 -- ---- the rules that each network keeps
 

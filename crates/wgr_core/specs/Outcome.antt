@@ -1,100 +1,64 @@
 -- What a command does to a network: a refusal, or a reply and the network after it.
-use Rattle.std.specs.Prelude.{ℕ, ◌+◌, Bool, true, false, not, ◌&&◌, cond, nat_lt, List, [], ◌∷◌, ◌++◌, length, map, Option, Some, None, Result, Ok, Err, is_some, All}
+use Rattle.std.specs.Prelude.{ℕ, ◌+◌, Bool, true, false, cond, List, [], ◌∷◌, ◌++◌, map, Option, Some, None, Result, Ok, Err, All}
 use Rattle.wgr_text.specs.declared.key.Key.{Key}
 use Rattle.wgr_text.specs.Prefix.{AddrValue, PrefixValue, IsAddr, IsPrefix}
 use Rattle.wgr_peers.specs.declared.peer.Peer.{Peer}
 use Rattle.wgr_core.specs.declared.command.Command.{Command}
 use Rattle.wgr_core.specs.declared.command.Command.TheVariants as command
 use Rattle.wgr_core.specs.declared.refusal.Refusal.{Refusal}
-use Rattle.wgr_core.specs.declared.refusal.Refusal.TheVariants.{NoSuchPeer, KeyHeld, AddressHeld, OutsidePool, PoolFull, CapacityReached, NumbersSpent, IsAddress, NoSuchRoute, RoutesFull, NobodysAddress, LeaseOver, ServerKey, WrongServer, InLine}
-use Rattle.wgr_core.specs.declared.refusal.LineRefusal.{LineRefusal}
+use Rattle.wgr_core.specs.declared.refusal.Refusal.TheVariants.{NoSuchPeer, NoSuchRoute, NobodysAddress, LeaseOver, WrongServer}
+use Rattle.wgr_core.specs.declared.refusal.CommandRefusal.{CommandRefusal}
 use Rattle.wgr_core.specs.declared.seen_peer.SeenPeer.{SeenPeer}
 use Rattle.wgr_core.specs.declared.reply.Reply.{Reply}
 use Rattle.wgr_core.specs.declared.reply.Reply.TheVariants as reply
 use Rattle.wgr_core.specs.declared.reply.PeerView.{PeerView}
-use Rattle.wgr_pool.specs.PrefixTests.{full}
-use Rattle.wgr_pool.specs.Allot.{is_assignable}
-use Rattle.wgr_peers.specs.Limits.{is_expired, max_number, max_routes}
-use Rattle.wgr_peers.specs.Peers.{is_own, key_holder, peer_of, put_peer, same_key, without_peer}
+use Rattle.wgr_peers.specs.Limits.{is_expired}
+use Rattle.wgr_peers.specs.Peers.{peer_of, put_peer, same_key, without_peer}
 use Rattle.wgr_peers.specs.Routes.{Routes, assign_route, route_of, routes_to, without_route}
-use Rattle.wgr_core.specs.Network.{NetworkValue, is_address, live_at, lowest_free, without_peers}
+use Rattle.wgr_core.specs.Network.{NetworkValue, live_at, without_peers}
 use Rattle.wgr_core.specs.Owner.{owner_of}
+use Rattle.wgr_core.specs.Refusals.{join_refusal, of_command, of_line, place, route_refusal}
 use Rattle.wgr_core.specs.Adoption.{Adoption, adoption_of}
 
 abbrev pub Outcome : Type 0
-Outcome = Result (Reply × NetworkValue) Refusal
+Outcome = Result (Reply × NetworkValue) CommandRefusal
 
 -- the refusal where there is one, and else what follows
 abbrev pub unless : Option Refusal → Outcome → Outcome
 unless None next = next
-unless (Some why) next = Err why
+unless (Some why) next = Err (of_command why)
 
 -- a peer with the routes to it
-abbrev pub view_of : Routes → Peer → PeerView
-view_of routes p = record { peer = p; routes = routes_to routes p.number }
-
--- ---- the address that a peer takes
-
--- why a named address can't be taken
-abbrev pub address_refusal : NetworkValue → AddrValue → Option Refusal
-address_refusal n a =
-    cond (not (is_assignable n.pool a)) (Some OutsidePool)
-    (cond (is_own n.peers a) (Some AddressHeld)
-    (cond (is_some (route_of n.routes (full a))) (Some AddressHeld) None))
-
-abbrev pub address_unless : AddrValue → Option Refusal → Result AddrValue Refusal
-address_unless a None = Ok a
-address_unless a (Some why) = Err why
-
-abbrev pub or_full : Option AddrValue → Result AddrValue Refusal
-or_full None = Err PoolFull
-or_full (Some a) = Ok a
-
--- the named address, or the lowest that is free
-abbrev pub place : NetworkValue → Option AddrValue → Result AddrValue Refusal
-place n (Some a) = address_unless a (address_refusal n a)
-place n None = or_full (lowest_free n)
+abbrev pub peer_view : Routes → Peer → PeerView
+peer_view routes p = record { peer = p; routes = routes_to routes p.number }
 
 -- ---- a new peer
 
 -- the peer at its address, and the network with it
 abbrev pub joined : NetworkValue → Peer → Outcome
-joined n p = Ok (reply.Peer (view_of n.routes p), record n { next = n.next + 1; peers = n.peers ++ p ∷ [] })
-
-abbrev pub held_or : Option ℕ → Option Refusal → Option Refusal
-held_or (Some number) next = Some (KeyHeld number)
-held_or None next = next
-
--- why no peer with this key and this end of its lease may join
-abbrev pub join_refusal : NetworkValue → ℕ → Key → ℕ → Option Refusal
-join_refusal n now key until =
-    cond (same_key key n.server) (Some ServerKey)
-    (held_or (key_holder n.peers key)
-    (cond (is_expired now until) (Some LeaseOver)
-    (cond (not (nat_lt (length n.peers) n.capacity)) (Some CapacityReached)
-    (cond (nat_lt max_number n.next) (Some NumbersSpent) None))))
+joined n p = Ok (reply.Peer (peer_view n.routes p), record n { next = n.next + 1; peers = n.peers ++ p ∷ [] })
 
 abbrev pub at_place : Result AddrValue Refusal → (AddrValue → Outcome) → Outcome
-at_place (Err why) next = Err why
+at_place (Err why) next = Err (of_command why)
 at_place (Ok a) next = next a
 
 -- the key, the lease and the room are tested first, then the address
 abbrev pub add : NetworkValue → ℕ → Key → List ℕ → Option AddrValue → ℕ → ℕ → Outcome
 add n now key label wanted until keepalive =
     unless (join_refusal n now key until)
-    (at_place (place n wanted)
+    (at_place (place n n.pool wanted)
     (λ a. joined n (record { number = n.next; key = key; label = label; address = a; until = until; keepalive = keepalive; status = None })))
 
 -- ---- a peer that moves, leaves, or has another lease
 
 -- what follows for the peer, if there is one
 abbrev pub if_stands : Option Peer → (Peer → Outcome) → Outcome
-if_stands None next = Err NoSuchPeer
+if_stands None next = Err (of_command NoSuchPeer)
 if_stands (Some p) next = next p
 
 -- the peer in place of the one with its number
 abbrev pub replaced : NetworkValue → Peer → Outcome
-replaced n p = Ok (reply.Peer (view_of n.routes p), record n { peers = put_peer n.peers p })
+replaced n p = Ok (reply.Peer (peer_view n.routes p), record n { peers = put_peer n.peers p })
 
 -- the network in which the peer that moves, if one does, holds no address; its routes stay
 abbrev pub vacated : NetworkValue → Option ℕ → NetworkValue
@@ -104,7 +68,7 @@ vacated n (Some number) = record n { peers = without_peer n.peers number }
 abbrev pub move : NetworkValue → ℕ → Option AddrValue → Outcome
 move n number wanted =
     if_stands (peer_of n.peers number)
-    (λ p. at_place (place (vacated n (Some number)) wanted) (λ a. replaced n (record p { address = a })))
+    (λ p. at_place (place (vacated n (Some number)) n.pool wanted) (λ a. replaced n (record p { address = a })))
 
 abbrev pub revoke : NetworkValue → ℕ → Outcome
 revoke n number = if_stands (peer_of n.peers number) (λ p. Ok (reply.Revoked number, without_peers n (number ∷ [])))
@@ -121,13 +85,7 @@ renew n now number until =
 
 -- the peer with the routes to it, and the network with these routes
 abbrev pub rerouted : NetworkValue → Peer → Routes → Outcome
-rerouted n p routes = Ok (reply.Peer (view_of routes p), record n { routes = routes })
-
--- why the prefix can't be a route; one that is already a route takes no more room
-abbrev pub route_refusal : NetworkValue → PrefixValue → Option Refusal
-route_refusal n prefix =
-    cond (is_address n prefix) (Some IsAddress)
-    (cond (not (is_some (route_of n.routes prefix)) && not (nat_lt (length n.routes) max_routes)) (Some RoutesFull) None)
+rerouted n p routes = Ok (reply.Peer (peer_view routes p), record n { routes = routes })
 
 abbrev pub route : NetworkValue → ℕ → PrefixValue → Outcome
 route n number prefix =
@@ -136,14 +94,14 @@ route n number prefix =
 
 -- what follows for the peer to which the prefix leads
 abbrev pub if_routed : NetworkValue → Option ℕ → (Peer → Outcome) → Outcome
-if_routed n None next = Err NoSuchRoute
+if_routed n None next = Err (of_command NoSuchRoute)
 if_routed n (Some number) next = if_stands (peer_of n.peers number) next
 
 abbrev pub unroute : NetworkValue → PrefixValue → Outcome
 unroute n prefix = if_routed n (route_of n.routes prefix) (λ p. rerouted n p (without_route n.routes prefix))
 
 abbrev pub or_nobodys : NetworkValue → Option ℕ → Outcome
-or_nobodys n None = Err NobodysAddress
+or_nobodys n None = Err (of_command NobodysAddress)
 or_nobodys n (Some number) = Ok (reply.Owner number, n)
 
 -- ---- the peers of a running interface
@@ -153,8 +111,8 @@ abbrev pub server_refusal : NetworkValue → Option Key → Option Refusal
 server_refusal n None = None
 server_refusal n (Some key) = cond (same_key key n.server) None (Some WrongServer)
 
-abbrev pub adopted : Result Adoption (ℕ × LineRefusal) → Outcome
-adopted (Err e) = Err (InLine e.0 e.1)
+abbrev pub adopted : Result Adoption (ℕ × Refusal) → Outcome
+adopted (Err e) = Err (of_line e.0 e.1)
 adopted (Ok s) = Ok (reply.Adopted s.added s.known, s.network)
 
 abbrev pub adopt : NetworkValue → Option Key → List SeenPeer → Outcome
@@ -170,7 +128,7 @@ live_outcome n now (command.Route number prefix) = route n number prefix
 live_outcome n now (command.Unroute prefix) = unroute n prefix
 live_outcome n now (command.Renew number until) = renew n now number until
 live_outcome n now (command.Adopt server lines) = adopt n server lines
-live_outcome n now command.List = Ok (reply.List (map (view_of n.routes) n.peers), n)
+live_outcome n now command.List = Ok (reply.List (map (peer_view n.routes) n.peers), n)
 live_outcome n now (command.Owner address) = or_nobodys n (owner_of n address)
 live_outcome n now (command.ServerFile form) = Ok (reply.Server form, n)
 live_outcome n now (command.PeerFile number form) = if_stands (peer_of n.peers number) (λ p. Ok (reply.File number form, n))

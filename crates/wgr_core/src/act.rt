@@ -56,12 +56,9 @@ impl Live<'_> {
                 keepalive,
             } => {
                 if let Some(why) = self.join_refusal(now, key, *until) {
-                    return Err(ActFault::Refused(why));
+                    return Err(ActFault::from(why));
                 }
-                let address = match self.place(None, *address) {
-                    Ok(address) => address,
-                    Err(why) => return Err(ActFault::Refused(why)),
-                };
+                let address = self.place(None, &self.pool(), *address)?;
                 let peer = Peer {
                     number: self.next(),
                     key: *key,
@@ -85,7 +82,7 @@ impl Live<'_> {
             Command::List => Ok((Reply::List(self.views(alloc)?), None)),
             Command::Owner { address } => match self.owner(address) {
                 Some(number) => Ok((Reply::Owner(number), None)),
-                None => Err(ActFault::Refused(Refusal::NobodysAddress)),
+                None => Err(ActFault::from(Refusal::NobodysAddress)),
             },
             Command::ServerFile { form } => Ok((Reply::Server(*form), None)),
             Command::PeerFile { number, form } => match self.peer(*number) {
@@ -96,7 +93,7 @@ impl Live<'_> {
                     },
                     None,
                 )),
-                None => Err(ActFault::Refused(Refusal::NoSuchPeer)),
+                None => Err(ActFault::from(Refusal::NoSuchPeer)),
             },
         }
     }

@@ -1,18 +1,18 @@
 //! The command Adopt: the peers of a running interface are taken over.
 ghost use Rattle.std.specs.Prelude.{◌≡◌, ◌<◌, false, length, slice_index_or, None, IfOk};
 ghost use Rattle.wgr_core.specs.declared.reply.Reply.TheVariants as reply;
-ghost use Rattle.wgr_core.specs.Adoption.{add_line, adopt_line, adopt_lines, adoption_of, adoption_order, keyed_peer, note_status};
+ghost use Rattle.wgr_core.specs.Adoption.{add_line, adopt_line, adopt_lines, adoption_of, adoption_order, note_status};
 ghost use Rattle.wgr_core.specs.Change.{GivesChange, MeetsLive};
-ghost use Rattle.wgr_core.specs.Draft.{AdoptingValue, MeetsLine, MeetsLines, begun, fault_in_line, left_by, lines_of};
+ghost use Rattle.wgr_core.specs.Draft.{AdoptingValue, MeetsLine, MeetsLines, begun, fault_in_line, left_by, numbered_lines};
 ghost use Rattle.wgr_core.specs.Outcome.{adopt, server_refusal};
 ghost use Rattle.wgr_peers.specs.declared.peer.Peer.{Peer};
 
 use crate::change::Change;
 use crate::draft::Draft;
-use crate::fault::{ActFault, LineFault};
+use crate::fault::{ActFault, AdoptFault};
 use crate::line::{expected_routes, is_asked_for, keyed_place};
 use crate::network::Network;
-use crate::refusal::Refusal;
+use crate::refusal::{CommandRefusal, Refusal};
 use crate::reply::Reply;
 use crate::seen_peer::SeenPeer;
 use std::alloc::{AllocError, Global};
@@ -33,7 +33,7 @@ impl Network {
         ensures { MeetsLive false None self.now removed result (adopt self.now server lines.now) }
     {
         if let Some(why) = self.server_refusal(server) {
-            return Err(ActFault::Refused(why));
+            return Err(ActFault::from(why));
         }
         let done = self.adopt(alloc, lines)?;
         Ok(done.answer(alloc, removed)?)
@@ -111,7 +111,7 @@ impl<'a> Adopting<'a> {
         lines: &[SeenPeer],
         naming: bool,
     ) -> Result<(), ActFault>
-        ensures { MeetsLines self.old (left_by result self.new) (adopt_lines self.old.so_far (lines_of pool.now naming 2 lines.now)) }
+        ensures { MeetsLines self.old (left_by result self.new) (adopt_lines self.old.so_far (numbered_lines pool.now naming 2 lines.now)) }
     {
         for (index, line) in lines.iter().enumerate() {
             if !is_asked_for(pool, line, naming) {
@@ -126,7 +126,7 @@ impl<'a> Adopting<'a> {
     }
 
     // The peer that has the line's key gets its status, or a new peer joins.
-    fn adopt_line(&mut self, alloc: Global, line: &SeenPeer) -> Result<(), LineFault>
+    fn adopt_line(&mut self, alloc: Global, line: &SeenPeer) -> Result<(), AdoptFault>
         ensures { MeetsLine self.old (left_by result self.new) (adopt_line self.old.so_far line.now) }
     {
         match keyed_place(self.draft.peers(), &line.key) {
@@ -136,13 +136,13 @@ impl<'a> Adopting<'a> {
     }
 
     // The peer at the place gets the line's status, and nothing else.
-    fn note_status(&mut self, place: usize, line: &SeenPeer) -> Result<(), LineFault>
+    fn note_status(&mut self, place: usize, line: &SeenPeer) -> Result<(), AdoptFault>
         requires { place < length self.old.so_far.network.peers }
         ensures { (d : Peer) → MeetsLine self.old (left_by result self.new) (Ok (note_status self.old.so_far line.now (slice_index_or self.old.so_far.network.peers place d))) }
     {
         // The number of known lines has to fit 32 bits.
         let Some(known) = self.known.checked_add(1) else {
-            return Err(LineFault::NoMemory);
+            return Err(AdoptFault::NoMemory);
         };
         self.draft.note(place, line.status)?;
         self.known = known;
@@ -150,8 +150,7 @@ impl<'a> Adopting<'a> {
     }
 
     // A peer with the line's key joins with its prefixes.
-    fn add_line(&mut self, alloc: Global, line: &SeenPeer) -> Result<(), LineFault>
-        requires { keyed_peer self.old.so_far.network.peers line.now.key ≡ None }
+    fn add_line(&mut self, alloc: Global, line: &SeenPeer) -> Result<(), AdoptFault>
         ensures { MeetsLine self.old (left_by result self.new) (add_line self.old.so_far line.now) }
     {
         let number = self.draft.next();
@@ -192,11 +191,14 @@ impl<'a> Adopting<'a> {
 }
 
 // Why a command failed, of which the line with this number was not adopted.
-fn in_line(line: usize, why: LineFault) -> ActFault
+fn in_line(line: usize, why: AdoptFault) -> ActFault
     ensures { result ≡ fault_in_line line why }
 {
     match why {
-        LineFault::Refused(why) => ActFault::Refused(Refusal::InLine { line, why }),
-        LineFault::NoMemory => ActFault::NoMemory,
+        AdoptFault::Refused(why) => ActFault::Refused(CommandRefusal {
+            why,
+            line: Some(line),
+        }),
+        AdoptFault::NoMemory => ActFault::NoMemory,
     }
 }

@@ -3,14 +3,15 @@ ghost use Rattle.std.specs.Prelude.{◌≡◌, ◌<◌, ◌≤◌, ◌+◌, ◌+
 ghost use Rattle.wgr_peers.specs.Peers.{AreNumbered, peer_of, put_peer};
 ghost use Rattle.wgr_peers.specs.declared.peer.Peer.{Peer};
 ghost use Rattle.wgr_peers.specs.Routes.{AreOrdered, assign_route};
-ghost use Rattle.wgr_core.specs.Adoption.{give_all, give_refusal, other_prefixes, unless_refused};
+ghost use Rattle.wgr_core.specs.Adoption.{give_all, other_prefixes};
+ghost use Rattle.wgr_core.specs.Refusals.{route_refusal, unless_refused};
 ghost use Rattle.wgr_core.specs.Change.{assign_routes, changed};
 ghost use Rattle.wgr_core.specs.Draft.{DraftValue, IsGrown, MeetsGiven, altered, drafted, left_by, same_status, was_there};
 ghost use Rattle.wgr_core.specs.Network.{IsNetwork};
 ghost use Rattle.wgr_peers.specs.Limits.{max_number};
 
 use crate::change::Change;
-use crate::fault::LineFault;
+use crate::fault::AdoptFault;
 use crate::forms::prefix_has_form;
 use crate::network::Network;
 use std::alloc::{AllocError, Global};
@@ -123,13 +124,13 @@ impl<'a> Draft<'a> {
     }
 
     // Leads a prefix to the peer with this number, where it can be a route.
-    fn give(&mut self, prefix: Prefix, number: u32) -> Result<(), LineFault>
+    fn give(&mut self, prefix: Prefix, number: u32) -> Result<(), AdoptFault>
         requires { is_some (peer_of self.old.network.peers number) ≡ true }
-        ensures { MeetsGiven self.old (left_by result self.new) (unless_refused (give_refusal self.old.network prefix) (record self.old.network { routes = assign_route self.old.network.routes prefix number })) }
+        ensures { MeetsGiven self.old (left_by result self.new) (unless_refused (route_refusal self.old.network prefix) (record self.old.network { routes = assign_route self.old.network.routes prefix number })) }
     {
         self.rules_hold();
-        if let Some(why) = self.give_refusal(&prefix) {
-            return Err(LineFault::Refused(why));
+        if let Some(why) = self.route_refusal(&prefix) {
+            return Err(AdoptFault::Refused(why));
         }
         prefix_has_form(&prefix);
         self.assign_route(prefix, number)?;
@@ -142,7 +143,7 @@ impl<'a> Draft<'a> {
         number: u32,
         address: Addr,
         allowed: &[Prefix],
-    ) -> Result<(), LineFault>
+    ) -> Result<(), AdoptFault>
         requires { is_some (peer_of self.old.network.peers number) ≡ true }
         ensures { MeetsGiven self.old (left_by result self.new) (give_all self.old.network number (other_prefixes address allowed.now)) }
     {

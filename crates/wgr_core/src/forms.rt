@@ -1,7 +1,7 @@
 //! What the types of a command and of a network guarantee, stated for a proof. Each function only reads a value's
 //! parts, whose contracts say of what form they are.
 ghost use Rattle.std.specs.Prelude.{All, IfSome};
-ghost use Rattle.wgr_core.specs.Forms.{HasForms, IsFormed, IsFormedCommand, IsFormedLine, IsKeepalive, IsKey, IsStatus};
+ghost use Rattle.wgr_core.specs.Forms.{HasForms, IsPeerFormed, IsFormedCommand, IsFormedLine, IsKeepalive, IsKey, IsStatus};
 ghost use Rattle.wgr_core.specs.Outcome.{AreLinesAsked, IsAsked, IsPrefixAsked};
 ghost use Rattle.wgr_peers.specs.Host.{IsHost};
 
@@ -59,7 +59,7 @@ impl Network {
 
 // Each field of a peer is of its form.
 fn peer_has_form(peer: &Peer)
-    ensures { IsFormed peer.now }
+    ensures { IsPeerFormed peer.now }
 {
     key_has_form(&peer.key);
     let _label = peer.label.as_str();
@@ -70,7 +70,7 @@ fn peer_has_form(peer: &Peer)
 
 // The same for all peers.
 fn peers_have_forms(peers: &[Peer])
-    ensures { All IsFormed peers.now }
+    ensures { All IsPeerFormed peers.now }
 {
     for peer in peers {
         peer_has_form(peer);

@@ -1,17 +1,19 @@
 //! What a line of a dump requests from a network.
 ghost use Rattle.std.specs.Prelude.{◌≡◌, ◌<◌, length, slice_index_or, option_map, IfSome};
-ghost use Rattle.wgr_core.specs.Adoption.{give_refusal, keyed_peer, line_place, line_refusal, named_address, names_address};
+ghost use Rattle.wgr_core.specs.Adoption.{keyed_peer, named_address, names_address};
 ghost use Rattle.wgr_core.specs.Draft.{MeetsAddress, is_asked_for, line_address};
+ghost use Rattle.wgr_core.specs.Refusals.{join_refusal, place, route_refusal};
 ghost use Rattle.wgr_peers.specs.declared.peer.Peer.{Peer};
 
 use crate::draft::Draft;
-use crate::fault::LineFault;
-use crate::refusal::LineRefusal;
+use crate::fault::AdoptFault;
+use crate::joining::{Joining, address_refusal, route_refusal};
+use crate::refusal::Refusal;
 use crate::routes::is_address;
 use crate::seen_peer::SeenPeer;
 use std::alloc::{AllocError, Global};
 use wgr_peers::order::peer_place;
-use wgr_peers::{MAX_NUMBER, MAX_ROUTES, PeerDraft};
+use wgr_peers::{LeaseEnd, MAX_ROUTES, PeerDraft};
 use wgr_pool::Pool;
 use wgr_text::{Addr, Key, Prefix};
 
@@ -71,61 +73,59 @@ pub(crate) fn keyed_place(peers: &PeerDraft, key: &Key) -> Option<usize>
 
 impl Draft<'_> {
     // The address that a new peer of the line takes.
-    pub(crate) fn line_address(&mut self, alloc: Global, line: &SeenPeer) -> Result<Addr, LineFault>
+    pub(crate) fn line_address(
+        &mut self,
+        alloc: Global,
+        line: &SeenPeer,
+    ) -> Result<Addr, AdoptFault>
         ensures place { MeetsAddress result (line_address self.old.network line.now) }
         ensures same { self.new ≡ self.old }
     {
-        if let Some(why) = self.line_refusal(&line.key) {
-            return Err(LineFault::Refused(why));
+        if let Some(why) = self.join_refusal(&line.key) {
+            return Err(AdoptFault::Refused(why));
         }
-        let named = named_address(&self.start.pool(), line.allowed.as_slice());
-        self.line_place(alloc, named)
+        let pool = self.start.pool();
+        let named = named_address(&pool, line.allowed.as_slice());
+        self.place(alloc, &pool, named)
     }
 
-    // Why no peer with this key may join.
-    fn line_refusal(&self, key: &Key) -> Option<LineRefusal>
-        ensures { result ≡ line_refusal self.now.network key.now }
+    // Why no peer with this key, whose lease has no end, may join.
+    fn join_refusal(&self, key: &Key) -> Option<Refusal>
+        ensures { result ≡ join_refusal self.now.network 0 key.now 0 }
     {
-        if *key == self.start.server_key() {
-            return Some(LineRefusal::ServerKey);
-        }
-        if self.peers.len() >= usize::from(self.start.capacity().peers()) {
-            return Some(LineRefusal::CapacityReached);
-        }
-        if self.next() > MAX_NUMBER {
-            return Some(LineRefusal::NumbersSpent);
-        }
-        None
+        let joining = Joining {
+            server: self.start.server_key(),
+            key_holder: self.peers.key_holder(key),
+            has_room: self.peers.len() < usize::from(self.start.capacity().peers()),
+            next: self.next(),
+        };
+        joining.refusal(0, key, LeaseEnd::never())
     }
 
-    // The address that a line names, or the lowest that is free.
-    fn line_place(&mut self, alloc: Global, named: Option<Addr>) -> Result<Addr, LineFault>
-        ensures place { MeetsAddress result (line_place self.old.network named) }
+    // The named address of the pool, or the lowest that is free.
+    fn place(&mut self, alloc: Global, pool: &Pool, named: Option<Addr>) -> Result<Addr, AdoptFault>
+        ensures place { MeetsAddress result (place self.old.network pool.now named) }
         ensures same { self.new ≡ self.old }
     {
         let Some(address) = named else {
-            let lowest = self
-                .peers
-                .lowest_free(alloc, &self.start.pool(), &self.routes)?;
-            return lowest.ok_or(LineFault::Refused(LineRefusal::PoolFull));
+            let lowest = self.peers.lowest_free(alloc, pool, &self.routes)?;
+            return lowest.ok_or(AdoptFault::Refused(Refusal::PoolFull));
         };
-        if self.peers.owns(&address) || self.routes.route(&Prefix::full(address)).is_some() {
-            return Err(LineFault::Refused(LineRefusal::AddressHeld));
+        let is_route = self.routes.route(&Prefix::full(address)).is_some();
+        let is_taken = self.peers.owns(&address) || is_route;
+        match address_refusal(pool, &address, is_taken) {
+            Some(why) => Err(AdoptFault::Refused(why)),
+            None => Ok(address),
         }
-        Ok(address)
     }
 
     // Why the prefix can't be a route.
-    pub(crate) fn give_refusal(&self, prefix: &Prefix) -> Option<LineRefusal>
-        ensures { result ≡ give_refusal self.now.network prefix.now }
+    pub(crate) fn route_refusal(&self, prefix: &Prefix) -> Option<Refusal>
+        ensures { result ≡ route_refusal self.now.network prefix.now }
     {
         let is_owned = self.peers.owns(&prefix.address());
-        if is_address(&self.start.pool(), prefix, is_owned) {
-            return Some(LineRefusal::IsAddress);
-        }
-        if self.routes.route(prefix).is_none() && self.routes.len() >= MAX_ROUTES {
-            return Some(LineRefusal::RoutesFull);
-        }
-        None
+        let is_address = is_address(&self.start.pool(), prefix, is_owned);
+        let is_full = self.routes.len() >= MAX_ROUTES;
+        route_refusal(is_address, self.routes.route(prefix), is_full)
     }
 }

@@ -7,19 +7,21 @@ ghost use Rattle.wgr_pool.specs.PrefixTests.{has};
 ghost use Rattle.wgr_core.specs.Change.{MeetsLive};
 ghost use Rattle.wgr_core.specs.Network.{IsNetwork, lowest_free};
 ghost use Rattle.wgr_peers.specs.Peers.{is_own, peer_of};
-ghost use Rattle.wgr_core.specs.Outcome.{address_refusal, join_refusal, joined, move, place, renew, replaced, revoke, vacated};
+ghost use Rattle.wgr_core.specs.Outcome.{joined, move, renew, replaced, revoke, vacated};
+ghost use Rattle.wgr_core.specs.Refusals.{address_refusal, join_refusal, place};
 ghost use Rattle.wgr_peers.specs.Limits.{max_number};
 
 use crate::change::Change;
 use crate::fault::ActFault;
+use crate::joining::{Joining, address_refusal};
 use crate::live::{Live, one_item};
 use crate::network::Network;
 use crate::refusal::Refusal;
 use crate::reply::{PeerView, Reply};
 use std::alloc::{AllocError, Global};
 use std::collections::HashSet;
-use wgr_peers::{Items, LeaseEnd, MAX_NUMBER, Peer};
-use wgr_pool::lowest_address;
+use wgr_peers::{Items, LeaseEnd, Peer};
+use wgr_pool::{Pool, lowest_address};
 use wgr_text::{Addr, Key};
 
 impl Live<'_> {
@@ -27,22 +29,13 @@ impl Live<'_> {
     pub(crate) fn join_refusal(&self, now: u64, key: &Key, until: LeaseEnd) -> Option<Refusal>
         ensures { result ≡ join_refusal self.now now key.now until }
     {
-        if *key == self.server_key() {
-            return Some(Refusal::ServerKey);
-        }
-        if let Some(number) = self.key_holder(key) {
-            return Some(Refusal::KeyHeld { number });
-        }
-        if until.is_expired(now) {
-            return Some(Refusal::LeaseOver);
-        }
-        if self.len() >= usize::from(self.capacity().peers()) {
-            return Some(Refusal::CapacityReached);
-        }
-        if self.next() > MAX_NUMBER {
-            return Some(Refusal::NumbersSpent);
-        }
-        None
+        let joining = Joining {
+            server: self.server_key(),
+            key_holder: self.key_holder(key),
+            has_room: self.len() < usize::from(self.capacity().peers()),
+            next: self.next(),
+        };
+        joining.refusal(now, key, until)
     }
 
     // Whether a peer other than `mover` has the address.
@@ -57,26 +50,22 @@ impl Live<'_> {
         !peer.is_at(address) && self.owns(address)
     }
 
-    // Why the named address can't be taken by a new peer or by `mover`.
-    fn address_refusal(&self, mover: Option<&Peer>, address: &Addr) -> Option<Refusal>
+    // Why the named address of the pool can't be taken by a new peer or by `mover`.
+    fn address_refusal(&self, mover: Option<&Peer>, pool: &Pool, address: &Addr) -> Option<Refusal>
         requires { IfSome mover (λ p. peer_of self.now.peers p.now.number ≡ Some p.now) }
-        ensures { result ≡ address_refusal (vacated self.now (option_map (λ p. p.now.number) mover.entry)) address.now }
+        ensures { result ≡ address_refusal (vacated self.now (option_map (λ p. p.now.number) mover.entry)) pool.now address.now }
     {
-        if !self.pool().gives(address) {
-            return Some(Refusal::OutsidePool);
-        }
-        if self.is_others(mover, address) || self.is_route_at(address) {
-            return Some(Refusal::AddressHeld);
-        }
-        None
+        let is_taken = self.is_others(mover, address) || self.is_route_at(address);
+        address_refusal(pool, address, is_taken)
     }
 
-    // The lowest address that nobody holds.
-    pub(crate) fn lowest_free(&self) -> Option<Addr>
-        ensures value { result ≡ lowest_free self.now }
+    // The lowest address of the pool, which is the network's, that nobody holds.
+    pub(crate) fn lowest_free(&self, pool: &Pool) -> Option<Addr>
+        requires { pool.now ≡ self.now.pool }
+        ensures value { result ≡ lowest_free self.now pool.now }
         ensures rules { IsNetwork self.now }
     {
-        let mut lowest = lowest_beside(self.network, &self.expired);
+        let mut lowest = lowest_beside(self.network, pool, &self.expired);
         for address in self.addresses.as_slice() {
             lowest = self.or_freed(lowest, address);
         }
@@ -98,30 +87,37 @@ impl Live<'_> {
         Some(*address)
     }
 
-    // The lowest address that nobody holds, or that only `mover` holds. Its own address may also lie in a
-    // route that lies in the pool, and then isn't free for it.
-    fn lowest_for(&self, mover: Option<&Peer>) -> Option<Addr>
-        requires { IfSome mover (λ p. peer_of self.now.peers p.now.number ≡ Some p.now) }
-        ensures { result ≡ lowest_free (vacated self.now (option_map (λ p. p.now.number) mover.entry)) }
+    // The lowest address of the pool that nobody holds, or that only `mover` holds. Its own address may also
+    // lie in a route that lies in the pool, and then isn't free for it.
+    fn lowest_for(&self, mover: Option<&Peer>, pool: &Pool) -> Option<Addr>
+        requires stands { IfSome mover (λ p. peer_of self.now.peers p.now.number ≡ Some p.now) }
+        requires own { pool.now ≡ self.now.pool }
+        ensures { result ≡ lowest_free (vacated self.now (option_map (λ p. p.now.number) mover.entry)) pool.now }
     {
-        let lowest = self.lowest_free();
+        let lowest = self.lowest_free(pool);
         let Some(peer) = mover else {
             return lowest;
         };
         self.or_freed(lowest, &peer.address)
     }
 
-    // The address that a new peer or `mover` takes: the named one, or the lowest that is free.
-    pub(crate) fn place(&self, mover: Option<&Peer>, wanted: Option<Addr>) -> Result<Addr, Refusal>
-        requires { IfSome mover (λ p. peer_of self.now.peers p.now.number ≡ Some p.now) }
-        ensures { result ≡ place (vacated self.now (option_map (λ p. p.now.number) mover.entry)) wanted }
+    // The address of the pool that a new peer or `mover` takes: the named one, or the lowest that is free.
+    pub(crate) fn place(
+        &self,
+        mover: Option<&Peer>,
+        pool: &Pool,
+        wanted: Option<Addr>,
+    ) -> Result<Addr, Refusal>
+        requires stands { IfSome mover (λ p. peer_of self.now.peers p.now.number ≡ Some p.now) }
+        requires own { pool.now ≡ self.now.pool }
+        ensures { result ≡ place (vacated self.now (option_map (λ p. p.now.number) mover.entry)) pool.now wanted }
     {
         match wanted {
-            Some(address) => match self.address_refusal(mover, &address) {
+            Some(address) => match self.address_refusal(mover, pool, &address) {
                 Some(why) => Err(why),
                 None => Ok(address),
             },
-            None => self.lowest_for(mover).ok_or(Refusal::PoolFull),
+            None => self.lowest_for(mover, pool).ok_or(Refusal::PoolFull),
         }
     }
 
@@ -181,12 +177,9 @@ impl Live<'_> {
         ensures { MeetsLive false None self.now removed result (move self.now number wanted) }
     {
         let Some(peer) = self.peer(number) else {
-            return Err(ActFault::Refused(Refusal::NoSuchPeer));
+            return Err(ActFault::from(Refusal::NoSuchPeer));
         };
-        let address = match self.place(Some(peer), wanted) {
-            Ok(address) => address,
-            Err(why) => return Err(ActFault::Refused(why)),
-        };
+        let address = self.place(Some(peer), &self.pool(), wanted)?;
         let mut moved = peer.copy()?;
         moved.address = address;
         self.replaced(alloc, moved, removed)
@@ -202,7 +195,7 @@ impl Live<'_> {
         ensures { MeetsLive false (Some number) self.now removed result (revoke self.now number) }
     {
         if self.peer(number).is_none() {
-            return Err(ActFault::Refused(Refusal::NoSuchPeer));
+            return Err(ActFault::from(Refusal::NoSuchPeer));
         }
         removed.push(number)?;
         let change = self.removal(alloc, removed);
@@ -221,10 +214,10 @@ impl Live<'_> {
         ensures { MeetsLive false None self.now removed result (renew self.now now number until) }
     {
         let Some(peer) = self.peer(number) else {
-            return Err(ActFault::Refused(Refusal::NoSuchPeer));
+            return Err(ActFault::from(Refusal::NoSuchPeer));
         };
         if until.is_expired(now) {
-            return Err(ActFault::Refused(Refusal::LeaseOver));
+            return Err(ActFault::from(Refusal::LeaseOver));
         }
         let mut renewed = peer.copy()?;
         renewed.until = until;
@@ -233,21 +226,21 @@ impl Live<'_> {
 }
 
 impl Network {
-    /// The lowest address that may be given and that nobody holds, whether or not a lease is over.
-    pub fn lowest_free(&self, alloc: Global) -> Option<Addr>
-        ensures { result ≡ lowest_free self.now }
+    /// The lowest address that the pool may give and that nobody holds, whether or not a lease is over.
+    pub fn lowest_free(&self, alloc: Global, pool: &Pool) -> Option<Addr>
+        ensures { result ≡ lowest_free self.now pool.now }
     {
-        lowest_beside(self, &HashSet::new(alloc))
+        lowest_beside(self, pool, &HashSet::new(alloc))
     }
 }
 
-// The lowest address that no peer has, live or expired, and no route except those to the peers with these
-// numbers.
-fn lowest_beside(network: &Network, expired: &HashSet<u32>) -> Option<Addr>
-    ensures { result ≡ lowest_where network.now.pool (λ a. is_own network.now.peers a || is_routed network.now.pool (standing (contains nat_eq expired.now) network.now.routes) a) }
+// The lowest address of the pool that no peer has, live or expired, and no route except those to the peers
+// with these numbers.
+fn lowest_beside(network: &Network, pool: &Pool, expired: &HashSet<u32>) -> Option<Addr>
+    ensures { result ≡ lowest_where pool.now (λ a. is_own network.now.peers a || is_routed pool.now (standing (contains nat_eq expired.now) network.now.routes) a) }
 {
     let addresses = network.table().addresses();
-    lowest_address(&network.pool(), addresses, network.routes(), expired)
+    lowest_address(pool, addresses, network.routes(), expired)
 }
 
 // Whether there is an address and it is below the other, which is of its family.

@@ -1,10 +1,10 @@
 //! Why a command is refused.
 ghost use Rattle.std.specs.Prelude.{◌≡◌};
-ghost use Rattle.wgr_core.specs.RefusalNames.{line_refusal_name, refusal_name};
+ghost use Rattle.wgr_core.specs.RefusalNames.{refusal_name};
 
 use std::fmt;
 
-/// Why a command is refused, with the fact that decides it.
+/// Why a command, or a line of a dump, is refused, with the fact that decides it.
 #[derive(Clone, Copy, Debug, Drop, PartialEq, Eq)]
 pub enum Refusal {
     /// No live peer has the number.
@@ -35,48 +35,38 @@ pub enum Refusal {
     ServerKey,
     /// The running interface has another public key than the server.
     WrongServer,
-    /// A line of a dump can't be adopted: the one of this number, the interface's line being 1.
-    InLine { line: usize, why: LineRefusal },
 }
 
-/// Why a line of a dump can't be adopted.
+/// Why a command is refused: of Adopt, it may be a line of the dump that is refused.
 #[derive(Clone, Copy, Debug, Drop, PartialEq, Eq)]
-pub enum LineRefusal {
-    /// The key is the server's own.
-    ServerKey,
-    /// There are as many peers as the capacity allows.
-    CapacityReached,
-    /// The next number would be above 1,000,000.
-    NumbersSpent,
-    /// The address that the line names is a peer's, or a route at full length.
-    AddressHeld,
-    /// No address is free.
-    PoolFull,
-    /// A prefix is a peer's or the server's address at full length.
-    IsAddress,
-    /// There are as many routes as a network may have.
-    RoutesFull,
+pub struct CommandRefusal {
+    pub why: Refusal,
+    /// The number of the refused line, the interface's line being 1.
+    pub line: Option<usize>,
 }
 
-impl LineRefusal {
-    /// The refusal's name: letters and underscores.
+impl CommandRefusal {
+    /// The name of the refusal, without its fact.
     pub fn name(&self) -> &'static str
-        ensures { result.now ≡ line_refusal_name self.now }
+        ensures { result.now ≡ refusal_name self.now.why }
     {
-        match self {
-            LineRefusal::ServerKey => "server_key",
-            LineRefusal::CapacityReached => "capacity_reached",
-            LineRefusal::NumbersSpent => "numbers_spent",
-            LineRefusal::AddressHeld => "address_held",
-            LineRefusal::PoolFull => "pool_full",
-            LineRefusal::IsAddress => "is_address",
-            LineRefusal::RoutesFull => "routes_full",
-        }
+        self.why.name()
+    }
+}
+
+impl From<Refusal> for CommandRefusal {
+    ghost use Rattle.std.specs.Prelude.{◌≡◌};
+    ghost use Rattle.wgr_core.specs.Refusals.{of_command};
+
+    ghost from_gives = { λ why r. r ≡ of_command why };
+
+    fn from(why: Refusal) -> CommandRefusal {
+        CommandRefusal { why, line: None }
     }
 }
 
 impl Refusal {
-    /// The refusal's name, without its fact: letters and underscores. That of a line is the line's.
+    /// The refusal's name, without its fact: letters and underscores.
     pub fn name(&self) -> &'static str
         ensures { result.now ≡ refusal_name self.now }
     {
@@ -95,14 +85,7 @@ impl Refusal {
             Refusal::LeaseOver => "lease_over",
             Refusal::ServerKey => "server_key",
             Refusal::WrongServer => "wrong_server",
-            Refusal::InLine { why, .. } => why.name(),
         }
-    }
-}
-
-impl fmt::Display for LineRefusal {
-    fn fmt<W: fmt::Write>(&self, f: &mut fmt::Formatter<W>) -> fmt::Result {
-        f.write_str(self.name())
     }
 }
 
@@ -114,5 +97,12 @@ impl fmt::Display for Refusal {
             Refusal::KeyHeld { number } => write!(f, " {number}"),
             _ => Ok(()),
         }
+    }
+}
+
+impl fmt::Display for CommandRefusal {
+    /// The text of the refusal, without the line's number.
+    fn fmt<W: fmt::Write>(&self, f: &mut fmt::Formatter<W>) -> fmt::Result {
+        self.why.fmt(f)
     }
 }

@@ -3,12 +3,14 @@ ghost use Rattle.std.specs.Prelude.{◌≡◌, ℕ, false, List, map, nat_eq, So
 ghost use Rattle.std.specs.List.{filter};
 ghost use Rattle.wgr_core.specs.Change.{MeetsLive};
 ghost use Rattle.wgr_core.specs.Network.{NetworkValue, is_address};
-ghost use Rattle.wgr_core.specs.Outcome.{route, route_refusal, unroute};
+ghost use Rattle.wgr_core.specs.Outcome.{route, unroute};
+ghost use Rattle.wgr_core.specs.Refusals.{route_refusal};
 ghost use Rattle.wgr_peers.specs.Peers.{is_own, peer_of};
 ghost use Rattle.wgr_peers.specs.Routes.{assign_route, route_of, routes_to, without_route};
 
 use crate::change::Change;
 use crate::fault::ActFault;
+use crate::joining::route_refusal;
 use crate::live::{Live, one_item};
 use crate::network::Network;
 use crate::refusal::Refusal;
@@ -49,10 +51,10 @@ impl Live<'_> {
         ensures err { IfErr result (λ why. (gone : List ℕ) → MeetsLive false None self.now gone (Err why) (route self.now number prefix)) }
     {
         let Some(peer) = self.peer(number) else {
-            return Err(ActFault::Refused(Refusal::NoSuchPeer));
+            return Err(ActFault::from(Refusal::NoSuchPeer));
         };
         if let Some(why) = self.route_refusal(&prefix) {
-            return Err(ActFault::Refused(why));
+            return Err(ActFault::from(why));
         }
         self.rules_hold();
         let mut own = self.own_routes(alloc, number)?;
@@ -88,10 +90,10 @@ impl Live<'_> {
         ensures err { IfErr result (λ why. (gone : List ℕ) → MeetsLive false None self.now gone (Err why) (unroute self.now prefix.now)) }
     {
         let Some(number) = self.route(prefix) else {
-            return Err(ActFault::Refused(Refusal::NoSuchRoute));
+            return Err(ActFault::from(Refusal::NoSuchRoute));
         };
         let Some(peer) = self.peer(number) else {
-            return Err(ActFault::Refused(Refusal::NoSuchPeer));
+            return Err(ActFault::from(Refusal::NoSuchPeer));
         };
         self.rules_hold();
         let mut own = self.own_routes(alloc, number)?;
@@ -103,13 +105,7 @@ impl Live<'_> {
     fn route_refusal(&self, prefix: &Prefix) -> Option<Refusal>
         ensures { result ≡ route_refusal self.now prefix.now }
     {
-        if self.is_address(prefix) {
-            return Some(Refusal::IsAddress);
-        }
-        if self.route(prefix).is_none() && self.is_full() {
-            return Some(Refusal::RoutesFull);
-        }
-        None
+        route_refusal(self.is_address(prefix), self.route(prefix), self.is_full())
     }
 
     // Whether the prefix is the address of a live peer, or the server's.

@@ -1,6 +1,6 @@
 //! Peers with the prefixes that lead to them.
 ghost use Rattle.std.specs.Prelude.{◌≡◌, List, ℕ, [], ◌∷◌, ◌++◌, map, nat_eq, nat_lt, IfOk, OnOk};
-ghost use Rattle.wgr_core.specs.Outcome.{view_of};
+ghost use Rattle.wgr_core.specs.Outcome.{peer_view};
 ghost use Rattle.wgr_peers.specs.Ordered.{EndsAt};
 ghost use Rattle.wgr_peers.specs.Peers.{AreNumbered};
 ghost use Rattle.wgr_peers.specs.Routes.{Routes};
@@ -17,7 +17,7 @@ use wgr_text::Prefix;
 impl Live<'_> {
     // Each live peer with the routes to it: one pass over the peers and one over the routes.
     pub(crate) fn views(&self, alloc: Global) -> Result<Items<PeerView>, AllocError>
-        ensures { IfOk result (λ views. views ≡ map (view_of self.now.routes) self.now.peers) }
+        ensures { IfOk result (λ views. views ≡ map (peer_view self.now.routes) self.now.peers) }
     {
         let mut views = self.bare_views(alloc)?;
         for route in self.network.routes() {
@@ -28,7 +28,7 @@ impl Live<'_> {
 
     // Each live peer without routes.
     fn bare_views(&self, alloc: Global) -> Result<Vec<PeerView>, AllocError>
-        ensures { IfOk result (λ views. views.items ≡ map (view_of []) self.now.peers) }
+        ensures { IfOk result (λ views. views.items ≡ map (peer_view []) self.now.peers) }
     {
         let mut views = Vec::new(alloc);
         for peer in self.network.peers() {
@@ -47,7 +47,7 @@ impl Network {
     /// Each peer with the routes to it, including those whose lease is over: one pass over the
     /// peers and one over the routes.
     pub fn views(&self, alloc: Global) -> Result<Items<PeerView>, AllocError>
-        ensures { IfOk result (λ views. views ≡ map (view_of self.now.routes) self.now.peers) }
+        ensures { IfOk result (λ views. views ≡ map (peer_view self.now.routes) self.now.peers) }
     {
         // At the moment 0 no lease is over.
         let (whole, _over) = Live::at(self, alloc, 0)?;
@@ -71,7 +71,7 @@ fn view_place(views: &[PeerView], number: u32) -> Result<usize, usize>
 // Puts one more route into the view of its peer, if there is one.
 fn show_route(views: &mut Vec<PeerView>, route: &(Prefix, u32)) -> Result<(), AllocError>
     requires { AreNumbered (map (λ v. v.peer) views.old.items) }
-    ensures { OnOk result ((shown : Routes) (peers : List Peer) → views.old.items ≡ map (view_of shown) peers → views.new.items ≡ map (view_of (shown ++ route.now ∷ [])) peers) }
+    ensures { OnOk result ((shown : Routes) (peers : List Peer) → views.old.items ≡ map (peer_view shown) peers → views.new.items ≡ map (peer_view (shown ++ route.now ∷ [])) peers) }
 {
     if let Ok(place) = view_place(views, route.1) {
         views[place].routes.push(route.0)?;

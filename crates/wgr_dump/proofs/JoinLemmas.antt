@@ -5,7 +5,7 @@ use Rattle.std.specs.List.{AllByRecursion, join_with_byte, onto_first}
 use Rattle.std.proofs.lemmas.Bool.{eq-eqb, eqb-true, false≢true}
 use Rattle.std.proofs.lemmas.List.Splits.{join_with_byte-slice_split}
 use Rattle.wgr_text.specs.Lines.{before_lines, lines_of, lines_or_one}
-use Rattle.wgr_dump.specs.Fields.{parts_at, fields_of}
+use Rattle.wgr_dump.specs.Fields.{parts_between, fields_of}
 use Rattle.wgr_dump.proofs.LawLemmas.{some_first}
 
 differs : (b c : ℕ) → (b == c) ≡ false → b ≢ c
@@ -20,9 +20,9 @@ without_parts c b true parts other all = (tt, all)
 without_parts c b false [] other all = ((other refl, tt), tt)
 without_parts c b false (part ∷ parts) other all = ((other refl, all.0), all.1)
 
-no_separator : (c : ℕ) (text : List ℕ) → AllByRecursion (Without c) (parts_at c text)
+no_separator : (c : ℕ) (text : List ℕ) → AllByRecursion (Without c) (parts_between c text)
 no_separator c [] = (tt, tt)
-no_separator c (b ∷ text) = without_parts c b (b == c) (parts_at c text) (λ is. differs b c is) (no_separator c text)
+no_separator c (b ∷ text) = without_parts c b (b == c) (parts_between c text) (λ is. differs b c is) (no_separator c text)
 
 pub fields_joined : (line : List ℕ) → (join_with_byte 9 (fields_of line) ≡ line) × AllByRecursion (λ field. AllByRecursion (λ b. b ≢ 9) field) (fields_of line)
 fields_joined line = (join_with_byte-slice_split 9 line, no_separator 9 line)

@@ -2,20 +2,20 @@
 use Rattle.std.proofs.Common.{◌≡◌, ◌==◌, ◌+◌, ℕ, suc, zero, Bool, true, false, cond, List, [], ◌∷◌, refl, sym, ap, subst, ◌∙◌, arith, ◌↔◌}
 use Rattle.wgr_dump.specs.Dump.{InterfaceValue, LineValue, IsInterfaceLine, IsPeerLine, IsDump}
 use Rattle.wgr_text.specs.Lines.{before_lines, lines_of, lines_or_one}
-use Rattle.wgr_dump.specs.Fault.{AreOf, IsBadField, IsBadPeer, IsBadLine, IsFirstBad}
-use Rattle.wgr_dump.specs.Fields.{Form, Each, IsOf, a_key, a_key_or_none, a_port, a_word, prefixes, a_count, a_keepalive, fields_of, interface_forms, peer_forms}
+use Rattle.wgr_dump.specs.Fault.{AreOfForms, IsBadField, IsBadPeer, IsBadLine, IsFirstBad}
+use Rattle.wgr_dump.specs.Fields.{Form, OneByOne, IsOf, a_key, a_key_or_none, a_port, a_word, prefixes, a_count, a_keepalive, fields_of, interface_forms, peer_forms}
 use Rattle.wgr_dump.specs.Laws.{DifferInPrivateKey, DifferInPresharedKey, DifferInSecrets}
 use Rattle.wgr_dump.proofs.LineLemmas.{good_not_bad, one_bad_field, interface_is_good, peer_is_good}
 
 -- ---- one fault
 
-peer_not_both : (lines : List (List ℕ)) (vs : List LineValue) (line n : ℕ) → Each IsPeerLine lines vs → IsBadPeer lines line n → ⊥
+peer_not_both : (lines : List (List ℕ)) (vs : List LineValue) (line n : ℕ) → OneByOne IsPeerLine lines vs → IsBadPeer lines line n → ⊥
 peer_not_both [] vs line n each bad = bad
 peer_not_both (l ∷ ls) [] line n each bad = each
 peer_not_both (l ∷ ls) (v ∷ vs) zero n each bad = good_not_bad peer_forms (fields_of l) n (peer_is_good l v each.0) bad
 peer_not_both (l ∷ ls) (v ∷ vs) (suc line) n each bad = peer_not_both ls vs line n each.1 bad.1
 
-line_not_both : (first : List ℕ) (others : List (List ℕ)) (i : InterfaceValue) (vs : List LineValue) (line n : ℕ) → IsInterfaceLine first i → Each IsPeerLine others vs → IsBadLine (first ∷ others) line n → ⊥
+line_not_both : (first : List ℕ) (others : List (List ℕ)) (i : InterfaceValue) (vs : List LineValue) (line n : ℕ) → IsInterfaceLine first i → OneByOne IsPeerLine others vs → IsBadLine (first ∷ others) line n → ⊥
 line_not_both first others i vs zero n good each bad = good_not_bad interface_forms (fields_of first) n (interface_is_good first i good) bad
 line_not_both first others i vs (suc line) n good each bad = peer_not_both others vs line n each bad.1
 
@@ -43,7 +43,7 @@ one_fault text line field line' field' a b =
 
 -- ---- a dump or a fault
 
-good_or_bad : (forms : List Form) (fields : List (List ℕ)) → ¬ (AreOf forms fields) → ((n : ℕ) → ¬ (IsBadField forms fields n)) → ⊥
+good_or_bad : (forms : List Form) (fields : List (List ℕ)) → ¬ (AreOfForms forms fields) → ((n : ℕ) → ¬ (IsBadField forms fields n)) → ⊥
 good_or_bad [] [] good bad = good tt
 good_or_bad [] (field ∷ fields) good bad = bad 0 refl
 good_or_bad (form ∷ forms) [] good bad = bad 0 refl
@@ -51,7 +51,7 @@ good_or_bad (form ∷ forms) (field ∷ fields) good bad =
     bad 0 (λ of. good_or_bad forms fields (λ rest. good (of, rest)) (λ n later. bad (suc n) (of, later)))
 
 -- a line whose fields are of a peer's forms says something
-peer_says : (line : List ℕ) (fields : List (List ℕ)) → fields_of line ≡ fields → AreOf peer_forms fields → (v : LineValue) × IsPeerLine line v
+peer_says : (line : List ℕ) (fields : List (List ℕ)) → fields_of line ≡ fields → AreOfForms peer_forms fields → (v : LineValue) × IsPeerLine line v
 peer_says line [] is g = absurd g
 peer_says line (a ∷ []) is g = absurd g.1
 peer_says line (a ∷ b ∷ []) is g = absurd g.1.1
@@ -85,7 +85,7 @@ peer_says line (a ∷ b ∷ c ∷ d ∷ e ∷ f ∷ h ∷ k ∷ []) is g =
     )
 peer_says line (a ∷ b ∷ c ∷ d ∷ e ∷ f ∷ h ∷ k ∷ x ∷ xs) is g = absurd g.1.1.1.1.1.1.1.1
 
-interface_says : (line : List ℕ) (fields : List (List ℕ)) → fields_of line ≡ fields → AreOf interface_forms fields → (i : InterfaceValue) × IsInterfaceLine line i
+interface_says : (line : List ℕ) (fields : List (List ℕ)) → fields_of line ≡ fields → AreOfForms interface_forms fields → (i : InterfaceValue) × IsInterfaceLine line i
 interface_says line [] is g = absurd g
 interface_says line (a ∷ []) is g = absurd g.1
 interface_says line (a ∷ b ∷ []) is g = absurd g.1.1
@@ -96,7 +96,7 @@ interface_says line (a ∷ b ∷ c ∷ d ∷ []) is g = (
 )
 interface_says line (a ∷ b ∷ c ∷ d ∷ x ∷ xs) is g = absurd g.1.1.1.1
 
-peers_or_bad : (lines : List (List ℕ)) → ((vs : List LineValue) → ¬ (Each IsPeerLine lines vs)) → ((line n : ℕ) → ¬ (IsBadPeer lines line n)) → ⊥
+peers_or_bad : (lines : List (List ℕ)) → ((vs : List LineValue) → ¬ (OneByOne IsPeerLine lines vs)) → ((line n : ℕ) → ¬ (IsBadPeer lines line n)) → ⊥
 peers_or_bad [] each bad = each [] tt
 peers_or_bad (l ∷ ls) each bad =
     good_or_bad peer_forms (fields_of l)
@@ -130,7 +130,7 @@ other_private line other d = record { key = d.other_key; other_key = d.key; rest
 other_preshared : (line other : List ℕ) → DifferInPresharedKey line other → DifferInPresharedKey other line
 other_preshared line other d = record { peer = d.peer; key = d.other_key; other_key = d.key; rest = d.rest; fields = d.other_fields; other_fields = d.fields; is_key = d.is_other_key; is_other_key = d.is_key }
 
-other_lines : (lines others : List (List ℕ)) → Each DifferInPresharedKey lines others → Each DifferInPresharedKey others lines
+other_lines : (lines others : List (List ℕ)) → OneByOne DifferInPresharedKey lines others → OneByOne DifferInPresharedKey others lines
 other_lines [] [] d = tt
 other_lines [] (y ∷ ys) d = absurd d
 other_lines (x ∷ xs) [] d = absurd d
@@ -170,7 +170,7 @@ same_peer line other v d p =
       keepalive = p.keepalive;
     }
 
-same_peers : (lines others : List (List ℕ)) (vs : List LineValue) → Each DifferInPresharedKey lines others → Each IsPeerLine lines vs → Each IsPeerLine others vs
+same_peers : (lines others : List (List ℕ)) (vs : List LineValue) → OneByOne DifferInPresharedKey lines others → OneByOne IsPeerLine lines vs → OneByOne IsPeerLine others vs
 same_peers [] [] [] d p = tt
 same_peers [] [] (v ∷ vs) d p = absurd p
 same_peers [] (y ∷ ys) vs d p = absurd d
@@ -188,14 +188,14 @@ same_dump text other d i vs p =
       others = d.other_peers;
       split = d.other_split;
       interface = same_interface d.first d.other_first i d.interface (subst (λ line. IsInterfaceLine line i) first p.interface);
-      peers = same_peers d.peers d.other_peers vs d.lines (subst (λ lines. Each IsPeerLine lines vs) others p.peers);
+      peers = same_peers d.peers d.other_peers vs d.lines (subst (λ lines. OneByOne IsPeerLine lines vs) others p.peers);
     }
 
 pub secrets_unread : (text other : List ℕ) → DifferInSecrets text other → (i : InterfaceValue) (vs : List LineValue) → IsDump text i vs ↔ IsDump other i vs
 secrets_unread text other d i vs = (same_dump text other d i vs, same_dump other text (other_secrets text other d) i vs)
 
 -- fields that differ in one of its form
-same_good_first : (form : Form) (forms : List Form) (key other : List ℕ) (rest : List (List ℕ)) → IsOf form other → AreOf (form ∷ forms) (key ∷ rest) → AreOf (form ∷ forms) (other ∷ rest)
+same_good_first : (form : Form) (forms : List Form) (key other : List ℕ) (rest : List (List ℕ)) → IsOf form other → AreOfForms (form ∷ forms) (key ∷ rest) → AreOfForms (form ∷ forms) (other ∷ rest)
 same_good_first form forms key other rest of g = (of, g.1)
 
 same_bad_first : (form : Form) (forms : List Form) (key other : List ℕ) (rest : List (List ℕ)) (n : ℕ) → IsOf form key → IsOf form other → IsBadField (form ∷ forms) (key ∷ rest) n → IsBadField (form ∷ forms) (other ∷ rest) n
@@ -206,29 +206,29 @@ same_bad_second : (first form : Form) (forms : List Form) (peer key other : List
 same_bad_second first form forms peer key other rest zero is of b = b
 same_bad_second first form forms peer key other rest (suc n) is of b = (b.0, same_bad_first form forms key other rest n is of b.1)
 
-same_good_peer : (line other : List ℕ) → DifferInPresharedKey line other → AreOf peer_forms (fields_of line) → AreOf peer_forms (fields_of other)
+same_good_peer : (line other : List ℕ) → DifferInPresharedKey line other → AreOfForms peer_forms (fields_of line) → AreOfForms peer_forms (fields_of other)
 same_good_peer line other d g =
-    let here = subst (λ fields. AreOf peer_forms fields) d.fields g in
-    subst (λ fields. AreOf peer_forms fields) (sym d.other_fields) (here.0, (d.is_other_key, here.1.1))
+    let here = subst (λ fields. AreOfForms peer_forms fields) d.fields g in
+    subst (λ fields. AreOfForms peer_forms fields) (sym d.other_fields) (here.0, (d.is_other_key, here.1.1))
 
 same_bad_field : (line other : List ℕ) (n : ℕ) → DifferInPresharedKey line other → IsBadField peer_forms (fields_of line) n → IsBadField peer_forms (fields_of other) n
 same_bad_field line other n d b =
     let here = subst (λ fields. IsBadField peer_forms fields n) d.fields b in
     subst (λ fields. IsBadField peer_forms fields n) (sym d.other_fields) (same_bad_second a_key a_key_or_none (a_word ∷ prefixes ∷ a_count ∷ a_count ∷ a_count ∷ a_keepalive ∷ []) d.peer d.key d.other_key d.rest n d.is_key d.is_other_key here)
 
-same_bad_peer : (lines others : List (List ℕ)) (line n : ℕ) → Each DifferInPresharedKey lines others → IsBadPeer lines line n → IsBadPeer others line n
+same_bad_peer : (lines others : List (List ℕ)) (line n : ℕ) → OneByOne DifferInPresharedKey lines others → IsBadPeer lines line n → IsBadPeer others line n
 same_bad_peer [] others line n d b = absurd b
 same_bad_peer (x ∷ xs) [] line n d b = absurd d
 same_bad_peer (x ∷ xs) (y ∷ ys) zero n d b = same_bad_field x y n d.0 b
 same_bad_peer (x ∷ xs) (y ∷ ys) (suc line) n d b = (same_good_peer x y d.0 b.0, same_bad_peer xs ys line n d.1 b.1)
 
-same_bad_line : (first other : List ℕ) (lines others : List (List ℕ)) (line n : ℕ) → DifferInPrivateKey first other → Each DifferInPresharedKey lines others → IsBadLine (first ∷ lines) line n → IsBadLine (other ∷ others) line n
+same_bad_line : (first other : List ℕ) (lines others : List (List ℕ)) (line n : ℕ) → DifferInPrivateKey first other → OneByOne DifferInPresharedKey lines others → IsBadLine (first ∷ lines) line n → IsBadLine (other ∷ others) line n
 same_bad_line first other lines others zero n d each b =
     let here = subst (λ fields. IsBadField interface_forms fields n) d.fields b in
     subst (λ fields. IsBadField interface_forms fields n) (sym d.other_fields) (same_bad_first a_key_or_none (a_key_or_none ∷ a_port ∷ a_word ∷ []) d.key d.other_key d.rest n d.is_key d.is_other_key here)
 same_bad_line first other lines others (suc line) n d each b =
-    let here = subst (λ fields. AreOf interface_forms fields) d.fields b.0 in
-    (subst (λ fields. AreOf interface_forms fields) (sym d.other_fields) (d.is_other_key, here.1), same_bad_peer lines others line n each b.1)
+    let here = subst (λ fields. AreOfForms interface_forms fields) d.fields b.0 in
+    (subst (λ fields. AreOfForms interface_forms fields) (sym d.other_fields) (d.is_other_key, here.1), same_bad_peer lines others line n each b.1)
 
 same_fault : (text other : List ℕ) → DifferInSecrets text other → (line field : ℕ) → IsFirstBad text line field → IsFirstBad other line field
 same_fault text other d line field b =

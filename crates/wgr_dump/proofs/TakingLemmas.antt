@@ -5,10 +5,10 @@ use Rattle.std.specs.Option.{is_some}
 use Rattle.std.proofs.lemmas.Bool.{false≢true}
 use Rattle.wgr_dump.specs.Fields.{Form, IsOf}
 use Rattle.wgr_dump.specs.Fault.{IsBadField}
-use Rattle.wgr_dump.specs.Taking.{IsBadHead, Takes}
+use Rattle.wgr_dump.specs.Taking.{IsBadHead, TakesField}
 
 pub taken : {B : Type 0} (form : Form) (R : List ℕ → B → Type 0) → ((field : List ℕ) → IsOf form field → (v : B) × R field v) → (field : List ℕ) (old new : List (List ℕ)) → old ≡ field ∷ new
-    → (r : Option B) → IfSome r (R field) → IfNone r ((v : B) → ¬ (R field v)) → MatchOption r (IsBadHead form old) (λ v. Takes (λ f. R f v) old new)
+    → (r : Option B) → IfSome r (R field) → IfNone r ((v : B) → ¬ (R field v)) → MatchOption r (IsBadHead form old) (λ v. TakesField (λ f. R f v) old new)
 taken form R says field old new is None some none = subst (λ fields. IsBadHead form fields) (sym is) (λ of. let v = says field of in none v.0 v.1)
 taken form R says field old new is (Some v) some none = (field, is, some)
 

@@ -4,7 +4,8 @@ use Rattle.std.specs.Prelude.{ℕ, ◌≡◌, List, [], ◌∷◌, Option}
 use Rattle.wgr_text.specs.declared.key.Key.{Key}
 use Rattle.wgr_text.specs.Lines.{lines_or_one}
 use Rattle.wgr_text.specs.Prefix.{PrefixValue}
-use Rattle.wgr_dump.specs.Fields.{Each, IsOf, a_key_or_none, a_word, fields_of, SpellsKey, SpellsOptionalKey, SpellsPort, SpellsAllowed, CountValue, SpellsCount, SpellsKeepalive}
+use Rattle.wgr_text.specs.KeyText.{SpellsKey}
+use Rattle.wgr_dump.specs.Fields.{OneByOne, IsOf, a_key_or_none, a_word, fields_of, SpellsOptionalKey, SpellsPort, SpellsAllowed, CountValue, SpellsCount, SpellsKeepalive}
 
 -- what is read from the interface's line
 pub record InterfaceValue : Type 0 where
@@ -61,4 +62,4 @@ pub record IsDump (text : List ℕ) (i : InterfaceValue) (lines : List LineValue
   pub others : List (List ℕ)
   pub split : lines_or_one text ≡ first ∷ others
   pub interface : IsInterfaceLine first i
-  pub peers : Each IsPeerLine others lines
+  pub peers : OneByOne IsPeerLine others lines

@@ -4,11 +4,11 @@ use Rattle.wgr_dump.specs.Fields.{Form, IsOf, fields_of, interface_forms, peer_f
 use Rattle.wgr_text.specs.Lines.{lines_or_one}
 
 -- the fields are of these forms, one by one
-abbrev pub AreOf : List Form → List (List ℕ) → Type 0
-AreOf [] [] = Unit {0}
-AreOf [] (field ∷ fields) = ⊥
-AreOf (form ∷ forms) [] = ⊥
-AreOf (form ∷ forms) (field ∷ fields) = IsOf form field × AreOf forms fields
+abbrev pub AreOfForms : List Form → List (List ℕ) → Type 0
+AreOfForms [] [] = Unit {0}
+AreOfForms [] (field ∷ fields) = ⊥
+AreOfForms (form ∷ forms) [] = ⊥
+AreOfForms (form ∷ forms) (field ∷ fields) = IsOf form field × AreOfForms forms fields
 
 -- `n` fields are of their forms, and the next is absent, not of its form, or one too many
 abbrev pub IsBadField : List Form → List (List ℕ) → ℕ → Type 0
@@ -22,13 +22,13 @@ IsBadField (form ∷ forms) (field ∷ fields) (suc n) = IsOf form field × IsBa
 abbrev pub IsBadPeer : List (List ℕ) → ℕ → ℕ → Type 0
 IsBadPeer [] line n = ⊥
 IsBadPeer (first ∷ others) zero n = IsBadField peer_forms (fields_of first) n
-IsBadPeer (first ∷ others) (suc line) n = AreOf peer_forms (fields_of first) × IsBadPeer others line n
+IsBadPeer (first ∷ others) (suc line) n = AreOfForms peer_forms (fields_of first) × IsBadPeer others line n
 
 -- the same for the interface's line and those of the peers
 abbrev pub IsBadLine : List (List ℕ) → ℕ → ℕ → Type 0
 IsBadLine [] line n = ⊥
 IsBadLine (first ∷ others) zero n = IsBadField interface_forms (fields_of first) n
-IsBadLine (first ∷ others) (suc line) n = AreOf interface_forms (fields_of first) × IsBadPeer others line n
+IsBadLine (first ∷ others) (suc line) n = AreOfForms interface_forms (fields_of first) × IsBadPeer others line n
 
 -- the first bad line and the least bad field in it, both counted from 1
 abbrev pub IsFirstBad : List ℕ → ℕ → ℕ → Type 0

@@ -1,34 +1,31 @@
 -- The fields of `wg show <interface> dump` (wg(8)): where they end, and what they say.
-use Rattle.std.specs.Prelude.{ℕ, ◌≡◌, ◌≢◌, ◌<◌, ◌≤◌, ◌⊎◌, ◌==◌, cond, nat_lt, List, [], ◌∷◌, length, slice_index, codes, All, Option, Some, None}
+use Rattle.std.specs.Prelude.{ℕ, ◌≡◌, ◌≢◌, ◌<◌, ◌≤◌, ◌⊎◌, ◌==◌, List, [], ◌∷◌, length, codes, All, Option, Some, None}
 use Rattle.std.specs.List.{slice_split}
 use Rattle.std.specs.Str.Parse.{IsNumeral, digits_value}
 use Rattle.wgr_text.specs.declared.key.Key.{Key}
-use Rattle.wgr_text.specs.KeyText.{key_text}
+use Rattle.wgr_text.specs.KeyText.{SpellsKey}
 use Rattle.wgr_text.specs.Prefix.{AddrValue, PrefixValue, mask}
 use Rattle.wgr_text.specs.PrefixText.{Spells}
+use Rattle.wgr_peers.specs.Limits.{kept_count}
 
 -- the parts of a text between the bytes `c`
-abbrev pub parts_at : ℕ → List ℕ → List (List ℕ)
-parts_at c text = slice_split (λ b. b == c) text
+abbrev pub parts_between : ℕ → List ℕ → List (List ℕ)
+parts_between c text = slice_split (λ b. b == c) text
 
 -- the fields of a line: its parts between tabs
 abbrev pub fields_of : List ℕ → List (List ℕ)
-fields_of line = parts_at 9 line
+fields_of line = parts_between 9 line
 
 -- the items are related one by one to those of another list
-abbrev pub Each : {A B : Type 0} → (A → B → Type 0) → List A → List B → Type 0
-Each R [] [] = Unit {0}
-Each R [] (y ∷ ys) = ⊥
-Each R (x ∷ xs) [] = ⊥
-Each R (x ∷ xs) (y ∷ ys) = R x y × Each R xs ys
+abbrev pub OneByOne : {A B : Type 0} → (A → B → Type 0) → List A → List B → Type 0
+OneByOne R [] [] = Unit {0}
+OneByOne R [] (y ∷ ys) = ⊥
+OneByOne R (x ∷ xs) [] = ⊥
+OneByOne R (x ∷ xs) (y ∷ ys) = R x y × OneByOne R xs ys
 
 -- what is written in place of a key or of addresses if there are none
 abbrev pub none_text : List ℕ
 none_text = codes "(none)"
-
--- the text of a key: 32 bytes
-abbrev pub SpellsKey : List ℕ → Key → Type 0
-SpellsKey field key = (length key.0 ≡ 32) × ((i : ℕ) → slice_index key.0 i < 256) × (field ≡ key_text key.0)
 
 -- a key or `(none)`
 abbrev pub SpellsOptionalKey : List ℕ → Option Key → Type 0
@@ -36,20 +33,16 @@ SpellsOptionalKey field None = field ≡ none_text
 SpellsOptionalKey field (Some key) = SpellsKey field key
 
 -- 1 to `most` decimal digits, and their number
-abbrev pub SpellsNumber : ℕ → List ℕ → ℕ → Type 0
-SpellsNumber most field n = IsNumeral 10 field × (length field ≤ most) × (n ≡ digits_value 10 field)
+abbrev pub SpellsDecimal : ℕ → List ℕ → ℕ → Type 0
+SpellsDecimal most field n = IsNumeral 10 field × (length field ≤ most) × (n ≡ digits_value 10 field)
 
 -- a UDP port or 0
 abbrev pub SpellsPort : List ℕ → ℕ → Type 0
-SpellsPort field n = SpellsNumber 5 field n × (n ≤ 65535)
+SpellsPort field n = SpellsDecimal 5 field n × (n ≤ 65535)
 
 -- seconds, or `off` for 0
 abbrev pub SpellsKeepalive : List ℕ → ℕ → Type 0
 SpellsKeepalive field n = ((field ≡ codes "off") × (n ≡ 0)) ⊎ SpellsPort field n
-
--- a number above 2 ^ 63 - 1 is kept as that
-abbrev pub kept_count : ℕ → ℕ
-kept_count n = cond (nat_lt 9223372036854775807 n) 9223372036854775807 n
 
 -- a count of bytes or seconds: its digits as they are in the field, and the number as it is kept
 pub record CountValue : Type 0 where
@@ -57,7 +50,7 @@ pub record CountValue : Type 0 where
   pub value : ℕ
 
 abbrev pub SpellsCount : List ℕ → CountValue → Type 0
-SpellsCount field count = (count.digits ≡ field) × (written : ℕ) × SpellsNumber 20 field written × (count.value ≡ kept_count written)
+SpellsCount field count = (count.digits ≡ field) × (written : ℕ) × SpellsDecimal 20 field written × (count.value ≡ kept_count written)
 
 -- an address with a length or alone, with its host bits zero
 abbrev pub SpellsMasked : List ℕ → PrefixValue → Type 0
@@ -65,7 +58,7 @@ SpellsMasked item p = (a : AddrValue) × (k : ℕ) × Spells item a k × (p ≡ 
 
 -- `(none)`, or such prefixes joined by commas
 abbrev pub SpellsAllowed : List ℕ → List PrefixValue → Type 0
-SpellsAllowed field ps = ((field ≡ none_text) × (ps ≡ [])) ⊎ ((field ≢ none_text) × Each SpellsMasked (parts_at 44 field) ps)
+SpellsAllowed field ps = ((field ≡ none_text) × (ps ≡ [])) ⊎ ((field ≢ none_text) × OneByOne SpellsMasked (parts_between 44 field) ps)
 
 -- 1 to 256 bytes without blanks and control characters
 abbrev pub IsWord : List ℕ → Type 0

@@ -4,7 +4,7 @@ use Rattle.std.specs.List.{AllByRecursion, join_with_byte}
 use Rattle.wgr_dump.specs.Dump.{InterfaceValue, LineValue, IsDump}
 use Rattle.wgr_text.specs.Lines.{lines_or_one}
 use Rattle.wgr_dump.specs.Fault.{IsFirstBad}
-use Rattle.wgr_dump.specs.Fields.{Each, IsOf, a_key_or_none, fields_of}
+use Rattle.wgr_dump.specs.Fields.{OneByOne, IsOf, a_key_or_none, fields_of}
 
 -- a text is a dump of at most one interface and one list of lines
 abbrev pub OneDump : Type 0
@@ -52,7 +52,7 @@ pub record DifferInSecrets (text other : List ℕ) : Type 0 where
   pub split : lines_or_one text ≡ first ∷ peers
   pub other_split : lines_or_one other ≡ other_first ∷ other_peers
   pub interface : DifferInPrivateKey first other_first
-  pub lines : Each DifferInPresharedKey peers other_peers
+  pub lines : OneByOne DifferInPresharedKey peers other_peers
 
 -- then the same is read from them
 abbrev pub SecretsAreUnread : Type 0

@@ -12,23 +12,23 @@ abbrev pub is_v4 : Family → Bool
 is_v4 V4 = true
 is_v4 V6 = false
 
-abbrev pub family_of : Bool → Family
-family_of true = V4
-family_of false = V6
+abbrev pub family_if_v4 : Bool → Family
+family_if_v4 true = V4
+family_if_v4 false = V6
 
-pub same_family : (f : Family) → family_of (is_v4 f) ≡ f
-same_family V4 = refl
-same_family V6 = refl
+pub same_family_of : (f : Family) → family_if_v4 (is_v4 f) ≡ f
+same_family_of V4 = refl
+same_family_of V6 = refl
 
 -- a prefix as numbers, and back
 abbrev pub code_of : PrefixValue → Bool × (ℕ × ℕ)
 code_of p = (is_v4 p.address.family, (p.address.number, p.length))
 
 abbrev pub prefix_of : Bool × (ℕ × ℕ) → PrefixValue
-prefix_of t = record { address = record { family = family_of t.0; number = t.1.0 }; length = t.1.1 }
+prefix_of t = record { address = record { family = family_if_v4 t.0; number = t.1.0 }; length = t.1.1 }
 
 pub kept : (p : PrefixValue) → prefix_of (code_of p) ≡ p
-kept p = λ i. record { address = record { family = same_family p.address.family i; number = p.address.number }; length = p.length }
+kept p = λ i. record { address = record { family = same_family_of p.address.family i; number = p.address.number }; length = p.length }
 
 abbrev pub coded_prefix : Coded PrefixValue
 coded_prefix = code_by (Bool × (ℕ × ℕ)) (coded× coded_bool (coded× coded_ℕ coded_ℕ)) code_of prefix_of kept

@@ -8,5 +8,5 @@ IsBadHead form [] = Unit {0}
 IsBadHead form (field ∷ fields) = ¬ (IsOf form field)
 
 -- the first field, of which this holds, is taken
-abbrev pub Takes : (List ℕ → Type 0) → List (List ℕ) → List (List ℕ) → Type 0
-Takes holds old new = (field : List ℕ) × (old ≡ field ∷ new) × holds field
+abbrev pub TakesField : (List ℕ → Type 0) → List (List ℕ) → List (List ℕ) → Type 0
+TakesField holds old new = (field : List ℕ) × (old ≡ field ∷ new) × holds field

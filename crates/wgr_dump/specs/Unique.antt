@@ -2,17 +2,13 @@
 use Rattle.std.proofs.Common.{◌≡◌, ℕ, List, [], ◌∷◌, length, Some, None, Option, refl, sym, ap, ap₂, subst, ◌∙◌, arith, inl, inr, codes}
 use Rattle.std.proofs.lemmas.Str.Parse.{digit_at}
 use Rattle.wgr_text.specs.declared.key.Key.{Key}
+use Rattle.wgr_text.specs.KeyText.{SpellsKey}
 use Rattle.wgr_text.specs.Prefix.{PrefixValue, mask}
-use Rattle.wgr_text.proofs.KeyLemmas.{length-key_text, key_text_injective}
+use Rattle.wgr_text.proofs.KeyLemmas.{length-key_text, one_key}
 use Rattle.wgr_text.proofs.RoundTrips.{Spells_unique}
+use Rattle.wgr_peers.specs.Limits.{kept_count}
 use Rattle.wgr_dump.specs.Dump.{InterfaceValue, LineValue, IsInterfaceLine, IsPeerLine, IsDump}
-use Rattle.wgr_dump.specs.Fields.{Each, none_text, SpellsKey, SpellsOptionalKey, SpellsNumber, SpellsPort, SpellsKeepalive, kept_count, CountValue, SpellsCount, SpellsMasked, SpellsAllowed}
-
-pub one_key : (field : List ℕ) (one other : Key) → SpellsKey field one → SpellsKey field other → one ≡ other
-one_key field one other s t =
-    let same : one.0 ≡ other.0 = key_text_injective one.0 other.0 s.1 t.1 (sym s.2 ∙ t.2) in
-    let key : List ℕ → Key = λ bytes. record { 0 = bytes } in
-    ap key same
+use Rattle.wgr_dump.specs.Fields.{OneByOne, none_text, SpellsOptionalKey, SpellsDecimal, SpellsPort, SpellsKeepalive, CountValue, SpellsCount, SpellsMasked, SpellsAllowed}
 
 no_key : (key : Key) → SpellsKey none_text key → ⊥
 no_key key s = let n : length key.0 ≡ 32 = s.0 in absurd (omega (arith, length-key_text key.0 n, ap length s.2))
@@ -23,7 +19,7 @@ one_optional_key field None (Some key) s t = absurd (no_key key (subst (λ f. Sp
 one_optional_key field (Some key) None s t = absurd (no_key key (subst (λ f. SpellsKey f key) t s))
 one_optional_key field (Some one) (Some other) s t = ap (λ k. Some k) (one_key field one other s t)
 
-pub one_number : (most : ℕ) (field : List ℕ) (m n : ℕ) → SpellsNumber most field m → SpellsNumber most field n → m ≡ n
+pub one_number : (most : ℕ) (field : List ℕ) (m n : ℕ) → SpellsDecimal most field m → SpellsDecimal most field n → m ≡ n
 one_number most field m n s t = s.2 ∙ sym t.2
 
 pub one_port : (field : List ℕ) (m n : ℕ) → SpellsPort field m → SpellsPort field n → m ≡ n
@@ -50,7 +46,7 @@ one_masked item p q s t =
     s.3 ∙ ap₂ mask same.0 same.1 ∙ sym t.3
 
 -- what holds of one thing each holds of one list of things
-pub one_each : {A B : Type 0} (R : A → B → Type 0) → ((x : A) (y z : B) → R x y → R x z → y ≡ z) → (xs : List A) (ys zs : List B) → Each R xs ys → Each R xs zs → ys ≡ zs
+pub one_each : {A B : Type 0} (R : A → B → Type 0) → ((x : A) (y z : B) → R x y → R x z → y ≡ z) → (xs : List A) (ys zs : List B) → OneByOne R xs ys → OneByOne R xs zs → ys ≡ zs
 one_each R one [] [] [] a b = refl
 one_each R one [] [] (z ∷ zs) a b = absurd b
 one_each R one [] (y ∷ ys) zs a b = absurd a
@@ -96,5 +92,5 @@ one_dump text i j ls ms a b =
     let first : b.first ≡ a.first = cc e in
     let others : b.others ≡ a.others = cc e in (
       one_interface_line a.first i j a.interface (subst (λ line. IsInterfaceLine line j) first b.interface),
-      one_each IsPeerLine one_peer_line a.others ls ms a.peers (subst (λ lines. Each IsPeerLine lines ms) others b.peers),
+      one_each IsPeerLine one_peer_line a.others ls ms a.peers (subst (λ lines. OneByOne IsPeerLine lines ms) others b.peers),
     )

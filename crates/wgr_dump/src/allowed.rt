@@ -3,7 +3,7 @@ ghost use Rattle.std.specs.Prelude.{◌≡◌, ℕ, [], ◌∷◌, List, IfSome,
 ghost use Rattle.std.specs.Bool.{MatchBool};
 ghost use Rattle.std.specs.Iterator.{YieldsFirst, item_count};
 ghost use Rattle.wgr_text.specs.Prefix.{PrefixValue};
-ghost use Rattle.wgr_dump.specs.Fields.{Each, SpellsMasked, SpellsAllowed};
+ghost use Rattle.wgr_dump.specs.Fields.{OneByOne, SpellsMasked, SpellsAllowed};
 ghost use Rattle.wgr_dump.specs.PartsLeft.{left};
 ghost use Rattle.wgr_dump.specs.MeantPrefixes.{MeantPrefixes, MeantPrefixes-prop};
 
@@ -54,7 +54,7 @@ fn read_masked(item: &[u8]) -> Option<Prefix>
 
 /// The items of the field, where it is `(none)` or prefixes.
 pub(crate) fn read_allowed<'a>(field: &'a [u8]) -> Option<RemainingParts<'a>>
-    ensures spelled { IfSome result (λ items. (ps : List PrefixValue) × SpellsAllowed field.entry.now ps × Each SpellsMasked (left items) ps) }
+    ensures spelled { IfSome result (λ items. (ps : List PrefixValue) × SpellsAllowed field.entry.now ps × OneByOne SpellsMasked (left items) ps) }
     ensures none { IfNone result ((ps : List PrefixValue) → ¬ (SpellsAllowed field.entry.now ps)) }
 {
     if field == b"(none)".as_slice() {
@@ -69,7 +69,7 @@ pub(crate) fn read_allowed<'a>(field: &'a [u8]) -> Option<RemainingParts<'a>>
 
 // Whether each item spells a prefix.
 fn are_prefixes(items: RemainingParts<'_>) -> bool
-    ensures { MatchBool result ((ps : List PrefixValue) × Each SpellsMasked (left items.entry) ps) ((ps : List PrefixValue) → ¬ (Each SpellsMasked (left items.entry) ps)) }
+    ensures { MatchBool result ((ps : List PrefixValue) × OneByOne SpellsMasked (left items.entry) ps) ((ps : List PrefixValue) → ¬ (OneByOne SpellsMasked (left items.entry) ps)) }
 {
     let mut rest = items;
     while let Some(item) = rest.next() {

@@ -1,6 +1,6 @@
 //! A dump as a whole.
 ghost use Rattle.std.specs.Prelude.{◌≡◌, ◌<◌, ◌+◌, ℕ, List, length, IfOk, IfErr, MatchOption};
-ghost use Rattle.wgr_dump.specs.Fields.{Each};
+ghost use Rattle.wgr_dump.specs.Fields.{OneByOne};
 ghost use Rattle.wgr_dump.specs.Dump.{LineValue, IsPeerLine, IsDump};
 ghost use Rattle.wgr_text.specs.Lines.{lines_of};
 ghost use Rattle.wgr_dump.specs.Fault.{IsBadPeer, IsFirstBad};
@@ -75,7 +75,7 @@ impl<'a> Dump<'a> {
 // The first bad line of peers, after the line of the interface, if there is one.
 fn first_bad_peer(peers: &[u8]) -> Option<BadDump>
     requires { length peers.now < usize.MAX }
-    ensures { MatchOption result ((lines : List LineValue) × Each IsPeerLine (lines_of peers.now) lines) (λ bad. (line : ℕ) × (n : ℕ) × (bad.line ≡ line + 2) × (bad.field ≡ n + 1) × IsBadPeer (lines_of peers.now) line n) }
+    ensures { MatchOption result ((lines : List LineValue) × OneByOne IsPeerLine (lines_of peers.now) lines) (λ bad. (line : ℕ) × (n : ℕ) × (bad.line ≡ line + 2) × (bad.field ≡ n + 1) × IsBadPeer (lines_of peers.now) line n) }
 {
     let mut rest = peers;
     let mut good: usize = 0;

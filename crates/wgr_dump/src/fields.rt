@@ -1,19 +1,9 @@
 //! Keys and words.
 ghost use Rattle.std.specs.Prelude.{◌≡◌, ◌↔◌, IsTrue, IfSome, IfNone, Option};
 ghost use Rattle.wgr_text.specs.declared.key.Key.{Key};
-ghost use Rattle.wgr_dump.specs.Fields.{SpellsKey, SpellsOptionalKey, IsWord};
+ghost use Rattle.wgr_dump.specs.Fields.{SpellsOptionalKey, IsWord};
 
-use wgr_text::{Key, are_bytes};
-
-/// The key that the field spells.
-pub(crate) fn read_key(field: &[u8]) -> Option<Key>
-    ensures spelled { IfSome result (SpellsKey field.now) }
-    ensures none { IfNone result ((key : Key) → ¬ (SpellsKey field.now key)) }
-{
-    let key = Key::read(field)?;
-    are_bytes(&key.0);
-    Some(key)
-}
+use wgr_text::Key;
 
 /// The key that the field spells, or that it is `(none)`.
 pub(crate) fn read_optional_key(field: &[u8]) -> Option<Option<Key>>
@@ -23,7 +13,7 @@ pub(crate) fn read_optional_key(field: &[u8]) -> Option<Option<Key>>
     if field == b"(none)".as_slice() {
         return Some(None);
     }
-    Some(Some(read_key(field)?))
+    Some(Some(Key::read(field)?))
 }
 
 /// Whether the field is a word, which is skipped: 1 to 256 bytes, none of them a blank or a control character.

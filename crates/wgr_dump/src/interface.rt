@@ -1,7 +1,8 @@
 //! The interface's line.
 ghost use Rattle.std.specs.Prelude.{◌≡◌, ◌+◌, ℕ, IfOk, IfErr, MatchOption, Some, None};
 ghost use Rattle.wgr_text.specs.declared.key.Key.{Key};
-ghost use Rattle.wgr_dump.specs.Fields.{SpellsKey, fields_of, interface_forms};
+ghost use Rattle.wgr_dump.specs.Fields.{fields_of, interface_forms};
+ghost use Rattle.wgr_text.specs.KeyText.{SpellsKey};
 ghost use Rattle.wgr_dump.specs.Dump.{IsInterfaceLine};
 ghost use Rattle.wgr_dump.specs.Fault.{IsBadField};
 

@@ -2,15 +2,15 @@
 ghost use Rattle.std.specs.Prelude.{◌≡◌, ℕ, ◌≤◌, IfSome, IfNone};
 ghost use Rattle.std.specs.Char.{is_ascii_digit};
 ghost use Rattle.std.specs.List.{list_all};
-ghost use Rattle.wgr_dump.specs.Fields.{SpellsNumber, SpellsPort, SpellsKeepalive};
+ghost use Rattle.wgr_dump.specs.Fields.{SpellsDecimal, SpellsPort, SpellsKeepalive};
 
 use std::str;
 
 /// The number of 1 to `most` decimal digits.
 pub(crate) fn read_number(field: &[u8], most: usize) -> Option<u128>
     requires { most ≤ 20 }
-    ensures spelled { IfSome result (SpellsNumber most field.now) }
-    ensures none { IfNone result ((n : ℕ) → ¬ (SpellsNumber most field.now n)) }
+    ensures spelled { IfSome result (SpellsDecimal most field.now) }
+    ensures none { IfNone result ((n : ℕ) → ¬ (SpellsDecimal most field.now n)) }
 {
     // `parse` reads a sign too.
     if field.is_empty() || field.len() > most || !are_digits(field) {

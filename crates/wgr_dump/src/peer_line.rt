@@ -1,7 +1,8 @@
 //! A peer's line.
 ghost use Rattle.std.specs.Prelude.{◌≡◌, ◌+◌, ℕ, List, IfOk, IfErr, IfSome, IfNone};
 ghost use Rattle.wgr_text.specs.Prefix.{PrefixValue};
-ghost use Rattle.wgr_dump.specs.Fields.{SpellsKey, fields_of, peer_forms};
+ghost use Rattle.wgr_dump.specs.Fields.{fields_of, peer_forms};
+ghost use Rattle.wgr_text.specs.KeyText.{SpellsKey};
 ghost use Rattle.wgr_dump.specs.Dump.{LineValue, IsPeerLine};
 ghost use Rattle.wgr_dump.specs.Fault.{IsBadField};
 ghost use Rattle.wgr_dump.specs.PartsLeft.{left};
@@ -30,7 +31,8 @@ pub struct PeerLine<'a> {
 }
 
 impl<'a> Model for PeerLine<'a> {
-    ghost use Rattle.wgr_dump.specs.Fields.{SpellsKey, SpellsMasked};
+    ghost use Rattle.wgr_dump.specs.Fields.{SpellsMasked};
+    ghost use Rattle.wgr_text.specs.KeyText.{SpellsKey};
     ghost use Rattle.wgr_dump.specs.Dump.{LineValue};
     ghost use Rattle.wgr_dump.specs.PartsLeft.{left};
     ghost use Rattle.wgr_dump.specs.Meant.{meant};

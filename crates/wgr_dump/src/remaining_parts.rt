@@ -1,6 +1,6 @@
 //! The parts of a text between two bytes of a kind.
 ghost use Rattle.std.specs.Prelude.{◌≡◌, ◌==◌, ℕ, [], ◌∷◌, position, List, MatchOption};
-ghost use Rattle.wgr_dump.specs.Fields.{parts_at};
+ghost use Rattle.wgr_dump.specs.Fields.{parts_between};
 ghost use Rattle.wgr_dump.specs.PartsLeft.{left};
 
 /// The remaining parts.
@@ -13,7 +13,7 @@ pub(crate) struct RemainingParts<'a> {
 impl<'a> RemainingParts<'a> {
     /// All parts of `text`: one more than it has separators.
     pub(crate) fn new(text: &'a [u8], separator: u8) -> RemainingParts<'a>
-        ensures { left result ≡ parts_at separator text.entry.now }
+        ensures { left result ≡ parts_between separator text.entry.now }
     {
         RemainingParts {
             rest: Some(text),

@@ -1,16 +1,18 @@
 //! Counts and moments.
-ghost use Rattle.std.specs.Prelude.{◌≡◌, ◌≤◌, IfSome, IfNone};
-ghost use Rattle.wgr_dump.specs.Fields.{CountValue, SpellsCount, kept_count};
+ghost use Rattle.std.specs.Prelude.{◌≡◌, IfSome, IfNone};
+ghost use Rattle.wgr_dump.specs.Fields.{CountValue, SpellsCount};
+ghost use Rattle.wgr_peers.specs.Limits.{IsCount, kept_count};
 
 use crate::numbers::read_number;
 use std::marker::Model;
+use wgr_peers::Count;
 
-/// A count of bytes, or a moment in seconds: at most 9,223,372,036,854,775,807. A greater one is
-/// kept as that.
+/// A count of bytes, or a moment in seconds, with its digits. One above the greatest [`Count`] is kept
+/// as that.
 #[derive(Drop)]
 pub struct WrittenCount<'a> {
     digits: &'a [u8],
-    value: u64,
+    value: Count,
 }
 
 impl<'a> Model for WrittenCount<'a> {
@@ -45,20 +47,17 @@ impl<'a> WrittenCount<'a> {
     }
 
     /// The number, or the greatest that is kept.
-    pub fn value(&self) -> u64
+    pub fn value(&self) -> Count
         ensures value { result ≡ self.now.value }
-        ensures kept { result ≤ 9223372036854775807 }
+        ensures kept { IsCount result }
     {
         self.value
     }
 }
 
 // The number, or the greatest that is kept.
-fn kept(number: u128) -> u64
+fn kept(number: u128) -> Count
     ensures { result ≡ kept_count number }
 {
-    if number > 9_223_372_036_854_775_807 {
-        return 9_223_372_036_854_775_807;
-    }
-    number as u64
+    Count::new(u64::try_from(number).unwrap_or(u64::MAX))
 }

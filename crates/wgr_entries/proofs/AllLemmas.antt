@@ -15,19 +15,18 @@ use Rattle.sqlite_tied.specs.Compute.{everything}
 use Rattle.wgr_sql.proofs.TextLemmas.{text_at}
 use Rattle.wgr_sql.proofs.Values.{blob_at}
 use Rattle.wgr_sql.specs.Effects.{plain_query}
-use Rattle.wgr_model.specs.Register.{Holding, Tenant, Token}
+use Rattle.wgr_model.specs.Register.{NetworkEntry, Tenant, Token}
 use Rattle.wgr_model.specs.Rows.{NetworkRow, Tables}
 use Rattle.wgr_model.proofs.GatherLemmas.{map_map}
 use Rattle.wgr_columns.specs.Decode.{IsRegister, bytes_at, network_in, number_at, tables_of, tenant_in, token_in}
 use Rattle.wgr_sql.specs.Causes.{IsAnswered}
-use Rattle.wgr_columns.specs.Layout.{Others, schema_with, tenant_at, token_at}
+use Rattle.wgr_columns.specs.Layout.{Others, schema_with, tenant_table_at, token_table_at}
 use Rattle.wgr_columns.specs.Stored.{AreStored, stored_network, stored_tenant}
-use Rattle.wgr_columns.proofs.Statements.{never_refused}
 use Rattle.wgr_tables.proofs.StoredLemmas.{network_is, stored_rows}
 use Rattle.wgr_tables.proofs.ListedLemmas.{listed}
-use Rattle.wgr_tables.proofs.Meanings.{network_places}
 use Rattle.wgr_entries.proofs.LookupTexts.{tenant_places, token_places}
-use Rattle.wgr_columns.proofs.Statements.{Asks}
+use Rattle.wgr_columns.specs.Texts.{select_networks}
+use Rattle.wgr_columns.proofs.Statements.{Asks, network_names, network_places, never_refused}
 use Rattle.wgr_entries.specs.Kept.{stored_token}
 use Rattle.wgr_entries.specs.Lookups.{settled}
 
@@ -38,7 +37,7 @@ abbrev pub tenants_text : List ℕ
 tenants_text = codes "SELECT id, NULL, name FROM tenant"
 
 abbrev pub networks_text : List ℕ
-networks_text = codes "SELECT id, NULL, tenant, name, family, lo, length, host, port, server, capacity, next FROM network"
+networks_text = select_networks []
 
 module _ (others : Others) where
   pub tokens_asks : Asks others tokens_text (Select (record { lets = []; body = plain_query 3 [] token_places [] }) (codes "NULL" ∷ codes "digest" ∷ codes "tenant" ∷ []))
@@ -49,7 +48,7 @@ module _ (others : Others) where
   unfolding understood everything
   tenants_asks = record { means = record { command_is = refl; plain = (refl, refl) }; unlisted = refl }
 
-  pub networks_asks : Asks others networks_text (Select (record { lets = []; body = plain_query 5 [] network_places [] }) (codes "id" ∷ codes "NULL" ∷ codes "tenant" ∷ codes "name" ∷ codes "family" ∷ codes "lo" ∷ codes "length" ∷ codes "host" ∷ codes "port" ∷ codes "server" ∷ codes "capacity" ∷ codes "next" ∷ []))
+  pub networks_asks : Asks others networks_text (Select (record { lets = []; body = plain_query 5 [] network_places [] }) network_names)
   unfolding understood everything
   networks_asks = record { means = record { command_is = refl; plain = (refl, refl) }; unlisted = refl }
 
@@ -101,13 +100,13 @@ module _ (old new : State) (register : IsRegister old.now) (rows : List Row) whe
   tenant_is : (r : Row) → Has (old.now.trees 1) r → eval_all tenant_places ([] ∷ r ∷ []) ≡ stored_tenant (tenant_in r)
   tenant_is r here =
       let id = register.written.tenants.numbers_are r here 0 (inl refl) in
-      let name : column r 2 ≡ Text (bytes_at r 2) = text_at (schema_with register.others) old.now.trees sound (tenant_at 1) (inr (inl refl)) r here 1 _ refl refl refl refl refl in
+      let name : column r 2 ≡ Text (bytes_at r 2) = text_at (schema_with register.others) old.now.trees sound (tenant_table_at 1) (inr (inl refl)) r here 1 _ refl refl refl refl refl in
       λ k. id k ∷ Null ∷ name k ∷ []
 
   token_is : (r : Row) → Has (old.now.trees 3) r → eval_all token_places ([] ∷ r ∷ []) ≡ stored_token (token_in r)
   token_is r here =
       let tenant = register.written.tokens.numbers_are r here 2 (inl refl) in
-      let digest : column r 1 ≡ Blob (bytes_at r 1) = blob_at (schema_with register.others) old.now.trees sound (token_at 3) (inr (inr (inl refl))) r here 0 _ refl refl refl refl refl in
+      let digest : column r 1 ≡ Blob (bytes_at r 1) = blob_at (schema_with register.others) old.now.trees sound (token_table_at 3) (inr (inr (inl refl))) r here 0 _ refl refl refl refl refl in
       λ k. Null ∷ digest k ∷ tenant k ∷ []
 
   pub tokens_stored : Shown tokens_text [] old new rows → AreStored stored_token token_in rows
@@ -131,6 +130,6 @@ tenants_read t rows tenants is same = subst (IsPermutation t.tenants) (sym same)
 pub tokens_read : (t : Tables) (rows : List Row) (tokens : List Token) → ShowTokens t rows → tokens ≡ map token_in rows → IsPermutation t.tokens tokens
 tokens_read t rows tokens is same = subst (IsPermutation t.tokens) (sym same) is
 
-pub networks_read : (t : Tables) (rows : List Row) (networks : List Holding) → ShowNetworks t rows → networks ≡ map (λ r. settled (network_in r)) rows
+pub networks_read : (t : Tables) (rows : List Row) (networks : List NetworkEntry) → ShowNetworks t rows → networks ≡ map (λ r. settled (network_in r)) rows
     → (read : List NetworkRow) × IsPermutation t.networks read × (networks ≡ map settled read)
 networks_read t rows networks is same = (map network_in rows, is, same ∙ sym (map_map network_in settled rows))

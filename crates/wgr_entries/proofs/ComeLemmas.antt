@@ -15,7 +15,7 @@ use Rattle.sqlite_trees.specs.Tree.{put_row}
 use Rattle.wgr_model.specs.Register.{Bytes}
 use Rattle.wgr_model.specs.Rows.{NetworkRow, family_number}
 use Rattle.wgr_sql.proofs.TableLemmas.{cast_null, cast_int, put_one}
-use Rattle.wgr_columns.specs.Layout.{tenant_at, token_at, network_at}
+use Rattle.wgr_columns.specs.Layout.{tenant_table_at, token_table_at, network_table_at}
 use Rattle.wgr_columns.specs.Decode.{IsRegister, tenant_in, token_in, network_in, network_numbers, number_at, bytes_at, bytes_of, number_of, family_of}
 use Rattle.wgr_tables.specs.Writes.{TenantComes, TokenComes, NetworkComes}
 use Rattle.wgr_columns.proofs.FieldLemmas.{family_back}
@@ -40,8 +40,8 @@ tenant_came old new register id name count ran =
     let rows = old.now.trees 1 in
     let params : Row = Int (pos id) ∷ Text name ∷ [] in
     let row : Row = Int (pos id) ∷ Null ∷ Text name ∷ [] in
-    let news : (edit_of old.now.trees (tenant_at 1) [] Chosen 0 (value_rows (stamped (tenant_at 1) params) 3 1 tenant_values)).news ≡ row ∷ [] = rw (cast_null, cast_int (pos id)) in
-    let done = row_inserted old new register insert_tenant_text params count ran 1 (tenant_at 1) refl refl tenant_values 3 (insert_tenant_means register.others) refl row news in
+    let news : (edit_of old.now.trees (tenant_table_at 1) [] Chosen 0 (value_rows (stamped (tenant_table_at 1) params) 3 1 tenant_values)).news ≡ row ∷ [] = rw (cast_null, cast_int (pos id)) in
+    let done = row_inserted old new register insert_tenant_text params count ran 1 (tenant_table_at 1) refl refl tenant_values 3 (insert_tenant_means register.others) refl row news in
     record {
       sound = register_tenants old.now new.now _ register done.0.sound done.0.edits (written_put (0 ∷ []) [] [] row rows refl done.1 (one_number 0 row refl) register.written.tenants);
       made = (map tenant_in (put_row row rows), IsPermutation-map tenant_in (row ∷ rows) (put_row row rows) (put_one row rows done.1), tenants_after old.now new.now _ register done.0.sound done.0.edits);
@@ -52,8 +52,8 @@ token_came old new register digest tenant count ran =
     let rows = old.now.trees 3 in
     let params : Row = Blob digest ∷ Int (pos tenant) ∷ [] in
     let row : Row = Int (next_rowid rows) ∷ Blob digest ∷ Int (pos tenant) ∷ [] in
-    let news : (edit_of old.now.trees (token_at 3) [] Chosen 0 (value_rows (stamped (token_at 3) params) 3 1 token_values)).news ≡ row ∷ [] = rw (cast_null, cast_int (pos tenant)) in
-    let done = row_inserted old new register insert_token_text params count ran 2 (token_at 3) refl refl token_values 3 (insert_token_means register.others) refl row news in
+    let news : (edit_of old.now.trees (token_table_at 3) [] Chosen 0 (value_rows (stamped (token_table_at 3) params) 3 1 token_values)).news ≡ row ∷ [] = rw (cast_null, cast_int (pos tenant)) in
+    let done = row_inserted old new register insert_token_text params count ran 2 (token_table_at 3) refl refl token_values 3 (insert_token_means register.others) refl row news in
     record {
       sound = register_tokens old.now new.now _ register done.0.sound done.0.edits (written_put (2 ∷ []) [] [] row rows refl done.1 (one_number 2 row refl) register.written.tokens);
       made = (map token_in (put_row row rows), IsPermutation-map token_in (row ∷ rows) (put_row row rows) (put_one row rows done.1), tokens_after old.now new.now _ register done.0.sound done.0.edits);
@@ -97,9 +97,9 @@ pub network_came : (old new : State) (register : IsRegister old.now) (w : Networ
 network_came old new register w count low ran =
     let rows = old.now.trees 5 in
     let row = stored_network w in
-    let news : (edit_of old.now.trees (network_at 5) [] Chosen 0 (value_rows (stamped (network_at 5) (network_params w)) 12 1 network_values)).news ≡ row ∷ [] =
+    let news : (edit_of old.now.trees (network_table_at 5) [] Chosen 0 (value_rows (stamped (network_table_at 5) (network_params w)) 12 1 network_values)).news ≡ row ∷ [] =
     rw (cast_null, cast_int (pos w.id), cast_int (pos w.tenant), cast_int (pos (family_number w.pool.address.family)), cast_int (pos w.pool.length), cast_int (pos w.port), cast_int (pos w.capacity), cast_int (pos 1)) in
-    let done = row_inserted old new register insert_network_text (network_params w) count ran 3 (network_at 5) refl refl network_values 12 (insert_network_means register.others) refl row news in
+    let done = row_inserted old new register insert_network_text (network_params w) count ran 3 (network_table_at 5) refl refl network_values 12 (insert_network_means register.others) refl row news in
     record {
       sound = register_networks old.now new.now _ register done.0.sound done.0.edits (written_put network_numbers (5 ∷ []) (4 ∷ []) row rows refl done.1 (stored_written w low) register.written.networks);
       made = (

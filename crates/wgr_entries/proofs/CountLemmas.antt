@@ -24,7 +24,7 @@ use Rattle.wgr_sql.proofs.RowLemmas.{equal_nats, map_filter}
 use Rattle.wgr_sql.proofs.TextLemmas.{equal_texts, text_at}
 use Rattle.wgr_sql.proofs.Values.{and_true}
 use Rattle.wgr_columns.specs.Decode.{IsRegister, allowed_in, bytes_at, number_at, peer_in, route_kind, tables_of}
-use Rattle.wgr_columns.specs.Layout.{Others, allowed_at, schema_with}
+use Rattle.wgr_columns.specs.Layout.{Others, allowed_table_at, schema_with}
 use Rattle.wgr_columns.proofs.Statements.{Asks, never_refused}
 use Rattle.wgr_tables.proofs.Meanings.{of_network, of_routes, route_place}
 use Rattle.wgr_entries.specs.Lookups.{peer_count, route_count}
@@ -88,7 +88,7 @@ module _ (old new : State) (register : IsRegister old.now) (n : ℕ) (rows : Lis
   route_passes r here =
       ap₂ (λ x y. x && y)
       (ap (λ v. is_true (binary (Compare Eq Binary) v (Int (pos n)))) (register.written.allowed.numbers_are r here 1 (inl refl)) ∙ equal_nats (number_at r 1) n)
-      (and_true _ ∙ ap (λ v. is_true (binary (Compare Eq Binary) v (Text route_kind))) (text_at (schema_with register.others) old.now.trees sound (allowed_at 10) (inr (inr (inr (inr (inr (inl refl)))))) r here 6 _ refl refl refl refl refl) ∙ equal_texts (bytes_at r 7) route_kind)
+      (and_true _ ∙ ap (λ v. is_true (binary (Compare Eq Binary) v (Text route_kind))) (text_at (schema_with register.others) old.now.trees sound (allowed_table_at 10) (inr (inr (inr (inr (inr (inl refl)))))) r here 6 _ refl refl refl refl refl) ∙ equal_texts (bytes_at r 7) route_kind)
       ∙ and_turns (nat_eq (number_at r 1) n) (bytes_eq (bytes_at r 7) route_kind)
 
   pub routes_counted : Shown routes_text params old new rows → length rows ≡ route_count (tables_of old.now) n

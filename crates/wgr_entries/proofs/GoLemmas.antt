@@ -21,7 +21,7 @@ use Rattle.wgr_model.proofs.LookLemmas.{is_same_sym}
 use Rattle.wgr_model.proofs.OrderLemmas.{from_filter}
 use Rattle.wgr_sql.proofs.RowLemmas.{equal_nats, map_filter}
 use Rattle.wgr_sql.proofs.Values.{and_true, blob_at}
-use Rattle.wgr_columns.specs.Layout.{schema_with, token_at, network_at, peer_at, allowed_at}
+use Rattle.wgr_columns.specs.Layout.{schema_with, token_table_at, network_table_at, peer_table_at, allowed_table_at}
 use Rattle.wgr_columns.specs.Decode.{IsKindAt, IsStatusRow, IsRegister, tables_of, token_in, network_in, peer_in, allowed_in, number_at, bytes_at, network_numbers, peer_numbers, allowed_numbers, allowed_addresses}
 use Rattle.wgr_tables.specs.Writes.{TokenGoes}
 use Rattle.wgr_tables.proofs.EditLemmas.{tokens_after, register_tokens, networks_after, register_networks, peers_after, register_peers, allowed_after, register_allowed}
@@ -30,7 +30,7 @@ use Rattle.wgr_tables.proofs.Made.{Made}
 use Rattle.wgr_tables.proofs.SameBytes.{same_blobs}
 use Rattle.wgr_tables.proofs.WriteLemmas.{rows_deleted}
 use Rattle.wgr_tables.proofs.WrittenLemmas.{each_filter, written_filter}
-use Rattle.wgr_entries.specs.OrderSteps.{AllowedGoes, NetworkGoes, NetworkRowGoes, PeersGo}
+use Rattle.wgr_entries.specs.OrderSteps.{NetworkAllowedGoes, NetworkGoes, NetworkRowGoes, NetworkPeersGo}
 use Rattle.wgr_entries.proofs.Meanings.{drop_token_text, drop_token_means, drop_allowed_text, drop_allowed_means, drop_peers_text, drop_peers_means, drop_network_text, drop_network_means, at_place}
 
 pub token_gone : (old new : State) (register : IsRegister old.now) (digest : Bytes) (count : ℕ) → Executes drop_token_text (Blob digest ∷ []) old new (Ok count) → Made (TokenGoes digest) old.now new.now
@@ -38,7 +38,7 @@ token_gone old new register digest count ran =
     let params : Row = Blob digest ∷ [] in
     let rows = old.now.trees 3 in
     let p = λ (r : Row). list_all (holds (params ∷ r ∷ [])) (at_place 1) in
-    let done = rows_deleted old new register drop_token_text params count ran 2 (token_at 3) refl refl (at_place 1) (drop_token_means register.others) register.written.tokens.keyed in
+    let done = rows_deleted old new register drop_token_text params count ran 2 (token_table_at 3) refl refl (at_place 1) (drop_token_means register.others) register.written.tokens.keyed in
     record {
       sound = register_tokens old.now new.now _ register done.sound done.edits (written_filter (2 ∷ []) [] [] (λ r. not (p r)) rows register.written.tokens);
       made = tokens_after old.now new.now _ register done.sound done.edits
@@ -50,18 +50,18 @@ token_gone old new register digest count ran =
 
     passes : (r : Row) → Has (old.now.trees 3) r → list_all (holds ((Blob digest ∷ []) ∷ r ∷ [])) (at_place 1) ≡ is_same digest (bytes_at r 1)
     passes r here =
-        ap (λ v. is_true (binary (Compare Eq Binary) v (Blob digest)) && true) (blob_at (schema_with register.others) old.now.trees sound (token_at 3) (inr (inr (inl refl))) r here 0 _ refl refl refl refl refl)
+        ap (λ v. is_true (binary (Compare Eq Binary) v (Blob digest)) && true) (blob_at (schema_with register.others) old.now.trees sound (token_table_at 3) (inr (inr (inl refl))) r here 0 _ refl refl refl refl refl)
         ∙ and_true _ ∙ same_blobs (bytes_at r 1) digest ∙ is_same_sym (bytes_at r 1) digest
 
 module _ (old new : State) (register : IsRegister old.now) (id count : ℕ) where
   abbrev params : Row
   params = Int (pos id) ∷ []
 
-  pub allowed_gone : Executes drop_allowed_text params old new (Ok count) → Made (AllowedGoes id) old.now new.now
+  pub allowed_gone : Executes drop_allowed_text params old new (Ok count) → Made (NetworkAllowedGoes id) old.now new.now
   allowed_gone ran =
       let rows = old.now.trees 10 in
       let p = λ (r : Row). list_all (holds (params ∷ r ∷ [])) (at_place 1) in
-      let done = rows_deleted old new register drop_allowed_text params count ran 5 (allowed_at 10) refl refl (at_place 1) (drop_allowed_means register.others) register.written.allowed.keyed in
+      let done = rows_deleted old new register drop_allowed_text params count ran 5 (allowed_table_at 10) refl refl (at_place 1) (drop_allowed_means register.others) register.written.allowed.keyed in
       record {
         sound = register_allowed old.now new.now _ register done.sound done.edits (written_filter allowed_numbers allowed_addresses (2 ∷ []) (λ r. not (p r)) rows register.written.allowed)
             (each_filter (λ r. IsKindAt r 7) (λ r. not (p r)) rows register.written.kinds);
@@ -70,11 +70,11 @@ module _ (old new : State) (register : IsRegister old.now) (id count : ℕ) wher
             (λ r here. ap not (ap (λ v. is_true (binary (Compare Eq Binary) v (Int (pos id))) && true) (register.written.allowed.numbers_are r here 1 (inl refl)) ∙ and_true _ ∙ equal_nats (number_at r 1) id)));
       }
 
-  pub peers_gone : Executes drop_peers_text params old new (Ok count) → Made (PeersGo id) old.now new.now
+  pub peers_gone : Executes drop_peers_text params old new (Ok count) → Made (NetworkPeersGo id) old.now new.now
   peers_gone ran =
       let rows = old.now.trees 8 in
       let p = λ (r : Row). list_all (holds (params ∷ r ∷ [])) (at_place 2) in
-      let done = rows_deleted old new register drop_peers_text params count ran 4 (peer_at 8) refl refl (at_place 2) (drop_peers_means register.others) register.written.peers.keyed in
+      let done = rows_deleted old new register drop_peers_text params count ran 4 (peer_table_at 8) refl refl (at_place 2) (drop_peers_means register.others) register.written.peers.keyed in
       record {
         sound = register_peers old.now new.now _ register done.sound done.edits (written_filter peer_numbers [] [] (λ r. not (p r)) rows register.written.peers)
             (each_filter IsStatusRow (λ r. not (p r)) rows register.written.statuses);
@@ -87,7 +87,7 @@ module _ (old new : State) (register : IsRegister old.now) (id count : ℕ) wher
   network_gone ran =
       let rows = old.now.trees 5 in
       let p = λ (r : Row). list_all (holds (params ∷ r ∷ [])) (at_place 0) in
-      let done = rows_deleted old new register drop_network_text params count ran 3 (network_at 5) refl refl (at_place 0) (drop_network_means register.others) register.written.networks.keyed in
+      let done = rows_deleted old new register drop_network_text params count ran 3 (network_table_at 5) refl refl (at_place 0) (drop_network_means register.others) register.written.networks.keyed in
       record {
         sound = register_networks old.now new.now _ register done.sound done.edits (written_filter network_numbers (5 ∷ []) (4 ∷ []) (λ r. not (p r)) rows register.written.networks);
         made = networks_after old.now new.now _ register done.sound done.edits

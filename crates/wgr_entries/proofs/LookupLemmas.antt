@@ -22,13 +22,14 @@ use Rattle.wgr_model.proofs.SameLemmas.{eqb_sym, has_permutation}
 use Rattle.wgr_sql.proofs.RowLemmas.{equal_nats}
 use Rattle.wgr_sql.proofs.TextLemmas.{text_at}
 use Rattle.wgr_sql.proofs.Values.{and_true, blob_at}
-use Rattle.wgr_columns.specs.Layout.{schema_with, tenant_at, token_at, network_at}
+use Rattle.wgr_columns.specs.Layout.{schema_with, tenant_table_at, token_table_at, network_table_at}
 use Rattle.wgr_columns.specs.Decode.{IsRegister, tables_of, tenant_in, token_in, network_in, number_at, bytes_at}
-use Rattle.wgr_entries.specs.Lookups.{IsIn, IsSlotOf, ShowNetworksOf, ShowSlot, ShowTenant, ShowToken}
+use Rattle.wgr_entries.specs.Lookups.{IsNumberIn, IsSlotOf, ShowNetworksOf, ShowSlot, ShowTenant, ShowToken}
 use Rattle.wgr_columns.specs.Stored.{AreStored, stored_network}
 use Rattle.wgr_tables.proofs.StoredLemmas.{network_is, stored_rows}
 use Rattle.wgr_tables.proofs.ListedLemmas.{listed}
-use Rattle.wgr_tables.proofs.Meanings.{network_places, of_network}
+use Rattle.wgr_columns.proofs.Statements.{network_places}
+use Rattle.wgr_tables.proofs.Meanings.{of_network}
 use Rattle.wgr_entries.proofs.LookupTexts.{token_text, token_asks, of_digest, token_places, tenant_text, tenant_asks, of_name, tenant_places, slot_text, slot_asks, of_slot, of_tenant_text, of_tenant_asks}
 use Rattle.wgr_tables.proofs.SameBytes.{same_blobs, same_texts, same_is}
 
@@ -41,13 +42,13 @@ module _ (old new : State) (register : IsRegister old.now) (rows : List Row) whe
   pub token_listed : (digest : Bytes) → Shown token_text (Blob digest ∷ []) old new rows → ShowToken digest (tables_of old.now) rows
   token_listed digest shown =
       listed old new register token_text (Blob digest ∷ []) 3 of_digest token_places [] _ (token_asks register.others) rows shown token_in (λ x. is_same digest x.digest) (λ r. refl)
-      (λ r here. ap (λ v. is_true (binary (Compare Eq Binary) v (Blob digest)) && true) (blob_at (schema_with register.others) old.now.trees sound (token_at 3) (inr (inr (inl refl))) r here 0 _ refl refl refl refl refl)
+      (λ r here. ap (λ v. is_true (binary (Compare Eq Binary) v (Blob digest)) && true) (blob_at (schema_with register.others) old.now.trees sound (token_table_at 3) (inr (inr (inl refl))) r here 0 _ refl refl refl refl refl)
       ∙ and_true _ ∙ same_blobs (bytes_at r 1) digest ∙ is_same_sym (bytes_at r 1) digest)
 
   pub tenant_listed : (name : Bytes) → Shown tenant_text (Text name ∷ []) old new rows → ShowTenant name (tables_of old.now) rows
   tenant_listed name shown =
       listed old new register tenant_text (Text name ∷ []) 1 of_name tenant_places [] _ (tenant_asks register.others) rows shown tenant_in (λ x. is_same name x.name) (λ r. refl)
-      (λ r here. ap (λ v. is_true (binary (Compare Eq Binary) v (Text name)) && true) (text_at (schema_with register.others) old.now.trees sound (tenant_at 1) (inr (inl refl)) r here 1 _ refl refl refl refl refl)
+      (λ r here. ap (λ v. is_true (binary (Compare Eq Binary) v (Text name)) && true) (text_at (schema_with register.others) old.now.trees sound (tenant_table_at 1) (inr (inl refl)) r here 1 _ refl refl refl refl refl)
       ∙ and_true _ ∙ same_texts (bytes_at r 2) name ∙ is_same_sym (bytes_at r 2) name)
 
   pub slot_listed : (tenant : ℕ) (name : Bytes) → Shown slot_text (Int (pos tenant) ∷ Text name ∷ []) old new rows → ShowSlot (tenant, name) (tables_of old.now) rows
@@ -55,7 +56,7 @@ module _ (old new : State) (register : IsRegister old.now) (rows : List Row) whe
       listed old new register slot_text (Int (pos tenant) ∷ Text name ∷ []) 5 of_slot network_places [] _ (slot_asks register.others) rows shown network_in (λ w. same_slot (tenant, name) (w.tenant, w.name)) (λ r. refl)
       (λ r here. ap₂ (λ x y. x && y)
       (ap (λ v. is_true (binary (Compare Eq Binary) v (Int (pos tenant)))) (register.written.networks.numbers_are r here 2 (inr (inl refl))) ∙ equal_nats (number_at r 2) tenant ∙ eqb_sym (number_at r 2) tenant)
-      (and_true _ ∙ ap (λ v. is_true (binary (Compare Eq Binary) v (Text name))) (text_at (schema_with register.others) old.now.trees sound (network_at 5) (inr (inr (inr (inl refl)))) r here 2 _ refl refl refl refl refl)
+      (and_true _ ∙ ap (λ v. is_true (binary (Compare Eq Binary) v (Text name))) (text_at (schema_with register.others) old.now.trees sound (network_table_at 5) (inr (inr (inr (inl refl)))) r here 2 _ refl refl refl refl refl)
       ∙ same_texts (bytes_at r 3) name ∙ is_same_sym (bytes_at r 3) name))
 
   pub of_tenant_stored : (tenant : ℕ) → Shown of_tenant_text (Int (pos tenant) ∷ []) old new rows → AreStored stored_network network_in rows
@@ -117,17 +118,17 @@ tenant_found (t ∷ ts) name = go (is_same name t.name) (tenant_found ts name)
     go true later = refl
     go false later = later
 
-pub token_is : (t : Tables) (digest : Bytes) (rows : List Row) (found : Option ℕ) → ShowToken digest t rows → IsIn rows 2 found → found ≡ tenant_of_token t.tokens digest
+pub token_is : (t : Tables) (digest : Bytes) (rows : List Row) (found : Option ℕ) → ShowToken digest t rows → IsNumberIn rows 2 found → found ≡ tenant_of_token t.tokens digest
 token_is t digest rows (Some id) shows (row, one, is) =
     sym (token_found t.tokens digest ∙ ap (option_map (λ x. x.tenant)) (one_found (λ x. is_same digest x.digest) t.tokens (token_in row) (subst (λ l. ShowToken digest t l) one shows)) ∙ ap Some is)
 token_is t digest rows None shows none = sym (token_found t.tokens digest ∙ ap (option_map (λ x. x.tenant)) (none_found (λ x. is_same digest x.digest) t.tokens (subst (λ l. ShowToken digest t l) none shows)))
 
-pub tenant_is : (t : Tables) (name : Bytes) (rows : List Row) (found : Option ℕ) → ShowTenant name t rows → IsIn rows 0 found → found ≡ id_of t.tenants name
+pub tenant_is : (t : Tables) (name : Bytes) (rows : List Row) (found : Option ℕ) → ShowTenant name t rows → IsNumberIn rows 0 found → found ≡ id_of t.tenants name
 tenant_is t name rows (Some id) shows (row, one, is) =
     sym (tenant_found t.tenants name ∙ ap (option_map (λ x. x.id)) (one_found (λ x. is_same name x.name) t.tenants (tenant_in row) (subst (λ l. ShowTenant name t l) one shows)) ∙ ap Some is)
 tenant_is t name rows None shows none = sym (tenant_found t.tenants name ∙ ap (option_map (λ x. x.id)) (none_found (λ x. is_same name x.name) t.tenants (subst (λ l. ShowTenant name t l) none shows)))
 
-pub slot_some : (t : Tables) (tenant : ℕ) (name : Bytes) (rows : List Row) (found : Option ℕ) → ShowSlot (tenant, name) t rows → IsIn rows 0 found
+pub slot_some : (t : Tables) (tenant : ℕ) (name : Bytes) (rows : List Row) (found : Option ℕ) → ShowSlot (tenant, name) t rows → IsNumberIn rows 0 found
     → IfSome found (λ id. (w : NetworkRow) × model.Has t.networks w × IsSlotOf w tenant name × (w.id ≡ id))
 slot_some t tenant name rows None shows is = tt
 slot_some t tenant name rows (Some id) shows (row, one, is) =
@@ -137,7 +138,7 @@ slot_some t tenant name rows (Some id) shows (row, one, is) =
     let both = and_parts (nat_eq tenant w.tenant) (is_same name w.name) f.1 in
     (w, f.0, (sym (eqb-true tenant w.tenant both.0), sym (same_is name w.name both.1)), is)
 
-pub slot_none : (t : Tables) (tenant : ℕ) (name : Bytes) (rows : List Row) (found : Option ℕ) → ShowSlot (tenant, name) t rows → IsIn rows 0 found
+pub slot_none : (t : Tables) (tenant : ℕ) (name : Bytes) (rows : List Row) (found : Option ℕ) → ShowSlot (tenant, name) t rows → IsNumberIn rows 0 found
     → IfNone found ((w : NetworkRow) → model.Has t.networks w → same_slot (tenant, name) (w.tenant, w.name) ≡ false)
 slot_none t tenant name rows (Some id) shows is = tt
 slot_none t tenant name rows None shows is = λ w here. go w here (p w) refl

@@ -8,8 +8,9 @@ use Rattle.sqlite_tied.specs.Compute.{everything}
 use Rattle.wgr_sql.specs.Causes.{IsAnswered}
 use Rattle.wgr_sql.specs.Effects.{plain_query}
 use Rattle.wgr_columns.specs.Layout.{Others, schema_with}
-use Rattle.wgr_columns.proofs.Statements.{Asks, equal_to, never_refused}
-use Rattle.wgr_tables.proofs.Meanings.{network_places, of_network}
+use Rattle.wgr_columns.specs.Texts.{select_networks}
+use Rattle.wgr_columns.proofs.Statements.{Asks, equal_to, network_names, network_places, never_refused}
+use Rattle.wgr_tables.proofs.Meanings.{of_network}
 
 abbrev pub token_text : List ℕ
 token_text = codes "SELECT NULL, digest, tenant FROM token WHERE digest = ?1"
@@ -30,13 +31,13 @@ abbrev pub tenant_places : List Term
 tenant_places = col 1 0 ∷ lit Null ∷ col 1 2 ∷ []
 
 abbrev pub slot_text : List ℕ
-slot_text = codes "SELECT id, NULL, tenant, name, family, lo, length, host, port, server, capacity, next FROM network WHERE tenant = ?1 AND name = ?2"
+slot_text = select_networks (codes " WHERE tenant = ?1 AND name = ?2")
 
 abbrev pub of_slot : List Term
 of_slot = equal_to 2 0 ∷ equal_to 3 1 ∷ []
 
 abbrev pub of_tenant_text : List ℕ
-of_tenant_text = codes "SELECT id, NULL, tenant, name, family, lo, length, host, port, server, capacity, next FROM network WHERE tenant = ?1"
+of_tenant_text = select_networks (codes " WHERE tenant = ?1")
 
 module _ (others : Others) where
   pub token_asks : Asks others token_text (Select (record { lets = []; body = plain_query 3 of_digest token_places [] }) (codes "NULL" ∷ codes "digest" ∷ codes "tenant" ∷ []))
@@ -47,7 +48,7 @@ module _ (others : Others) where
   unfolding understood everything
   tenant_asks = record { means = record { command_is = refl; plain = (refl, refl) }; unlisted = refl }
 
-  pub slot_asks : Asks others slot_text (Select (record { lets = []; body = plain_query 5 of_slot network_places [] }) (codes "id" ∷ codes "NULL" ∷ codes "tenant" ∷ codes "name" ∷ codes "family" ∷ codes "lo" ∷ codes "length" ∷ codes "host" ∷ codes "port" ∷ codes "server" ∷ codes "capacity" ∷ codes "next" ∷ []))
+  pub slot_asks : Asks others slot_text (Select (record { lets = []; body = plain_query 5 of_slot network_places [] }) network_names)
   unfolding understood everything
   slot_asks = record { means = record { command_is = refl; plain = (refl, refl) }; unlisted = refl }
 
@@ -63,7 +64,7 @@ module _ (others : Others) where
   unfolding understood everything
   slot_answered tenant name = record { given = (refl, refl, omega arith, refl); unlisted = refl; plain = λ limit trees e refused. never_refused _ refl limit (trees 5) refused }
 
-  pub of_tenant_asks : Asks others of_tenant_text (Select (record { lets = []; body = plain_query 5 (of_network 2) network_places [] }) (codes "id" ∷ codes "NULL" ∷ codes "tenant" ∷ codes "name" ∷ codes "family" ∷ codes "lo" ∷ codes "length" ∷ codes "host" ∷ codes "port" ∷ codes "server" ∷ codes "capacity" ∷ codes "next" ∷ []))
+  pub of_tenant_asks : Asks others of_tenant_text (Select (record { lets = []; body = plain_query 5 (of_network 2) network_places [] }) network_names)
   unfolding understood everything
   of_tenant_asks = record { means = record { command_is = refl; plain = (refl, refl) }; unlisted = refl }
 

@@ -10,14 +10,14 @@ use Rattle.sqlite.specs.State.{State, Shown}
 use Rattle.wgr_model.specs.Consistent.{IsId, IsTenant, has_tenant, same_slot, slot}
 use Rattle.wgr_model.specs.Register.{Bytes, Tenant, Token, is_same}
 use Rattle.wgr_model.specs.RowLaws.{AreConsistent}
-use Rattle.wgr_model.specs.Rows.{NetworkRow, Tables, holding_of}
+use Rattle.wgr_model.specs.Rows.{NetworkRow, Tables, network_entry_of}
 use Rattle.wgr_model.proofs.CollectLemmas.{has_map}
 use Rattle.wgr_model.proofs.GatherLemmas.{map_map}
 use Rattle.wgr_model.proofs.SameLemmas.{at_has}
 use Rattle.wgr_columns.specs.Decode.{IsRegister, tables_of, tenant_in, token_in, network_in, number_at}
 use Rattle.wgr_entries.specs.Lookups.{HasWordAt}
 use Rattle.wgr_entries.proofs.LookupLemmas.{token_listed, tenant_listed, slot_listed}
-use Rattle.wgr_tables.proofs.Meanings.{network_places}
+use Rattle.wgr_columns.proofs.Statements.{network_places}
 use Rattle.wgr_entries.proofs.LookupTexts.{token_text, token_asks, of_digest, token_places, tenant_text, tenant_asks, of_name, tenant_places, slot_text, slot_asks, of_slot}
 use Rattle.wgr_tables.proofs.FewRows.{few_rows, row_there}
 use Rattle.wgr_tables.proofs.SameBytes.{same_is}
@@ -76,8 +76,8 @@ module _ (old new : State) (register : IsRegister old.now) (rows : List Row) (go
   slot_word tenant name shown =
       let q = λ (w : NetworkRow). same_slot (tenant, name) (w.tenant, w.name) in
       let listed = slot_listed old new register rows tenant name shown in
-      word_of 0 rows (few_rows network_in q t.networks rows listed same_slot (λ w. (w.tenant, w.name)) (subst (IsDistinct same_slot) (map_map (holding_of t) slot t.networks) good.consistent.slots) (slots_same tenant name))
+      word_of 0 rows (few_rows network_in q t.networks rows listed same_slot (λ w. (w.tenant, w.name)) (subst (IsDistinct same_slot) (map_map (network_entry_of t) slot t.networks) good.consistent.slots) (slots_same tenant name))
       (λ r here. (
-        id_low (number_at r 0) (at_has _ (map (holding_of t) t.networks) (holding_of t (network_in r)) good.consistent.networks (has_map (holding_of t) t.networks (network_in r) (row_there network_in q t.networks rows listed r here))).id,
+        id_low (number_at r 0) (at_has _ (map (network_entry_of t) t.networks) (network_entry_of t (network_in r)) good.consistent.networks (has_map (network_entry_of t) t.networks (network_in r) (row_there network_in q t.networks rows listed r here))).id,
         each_shown old new register slot_text (Int (pos tenant) ∷ Text name ∷ []) 5 of_slot network_places [] _ (slot_asks register.others) rows shown (λ x. column x 0 ≡ Int (pos (number_at x 0))) (λ x there. register.written.networks.numbers_are x there 0 (inl refl)) r here,
       ))

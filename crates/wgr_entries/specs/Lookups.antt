@@ -3,7 +3,7 @@ use Rattle.std.specs.Prelude.{◌≡◌, ℕ, ⊤, ◌&&◌, List, [], ◌∷◌
 use Rattle.std.specs.List.Sorted.{IsPermutation}
 use Rattle.sqlite_value.specs.Order.{Row}
 use Rattle.wgr_model.specs.Consistent.{same_slot}
-use Rattle.wgr_model.specs.Register.{Bytes, Holding, is_same}
+use Rattle.wgr_model.specs.Register.{Bytes, NetworkEntry, is_same}
 use Rattle.wgr_model.specs.Rows.{NetworkRow, Tables}
 use Rattle.wgr_model.specs.Steps.{Settings, new_network}
 use Rattle.wgr_columns.specs.Decode.{number_at, tenant_in, token_in, network_in}
@@ -31,9 +31,9 @@ abbrev pub route_count : Tables → ℕ → ℕ
 route_count t network = length (filter (λ a. a.is_route && nat_eq a.network network) t.allowed)
 
 -- the number at this place of the one row, or none where there is no row
-abbrev pub IsIn : List Row → ℕ → Option ℕ → Type 0
-IsIn rows at (Some number) = (row : Row) × (rows ≡ row ∷ []) × (number_at row at ≡ number)
-IsIn rows at None = rows ≡ []
+abbrev pub IsNumberIn : List Row → ℕ → Option ℕ → Type 0
+IsNumberIn rows at (Some number) = (row : Row) × (rows ≡ row ∷ []) × (number_at row at ≡ number)
+IsNumberIn rows at None = rows ≡ []
 
 -- no row, or one with a number below 2 ^ 32 at this place
 abbrev pub HasWordAt : List Row → ℕ → Type 0
@@ -50,5 +50,5 @@ abbrev pub settings_of : NetworkRow → Settings
 settings_of w = record { pool = w.pool; host = w.host; port = w.port; server = w.server; capacity = w.capacity }
 
 -- the network of a row as it was added
-abbrev pub settled : NetworkRow → Holding
+abbrev pub settled : NetworkRow → NetworkEntry
 settled w = record { id = w.id; tenant = w.tenant; name = w.name; network = new_network (settings_of w) }

@@ -11,14 +11,14 @@ abbrev pub new_row : ℕ → ℕ → Bytes → Settings → NetworkRow
 new_row id tenant name settings = network_row (record { id = id; tenant = tenant; name = name; network = new_network settings })
 
 -- a network's allowed prefixes are deleted; its peers are deleted; its own row is deleted
-abbrev pub AllowedGoes : ℕ → Tables → Tables → Type 0
-AllowedGoes id t u = u ≡ record t { allowed = filter (λ a. not (nat_eq a.network id)) t.allowed }
+abbrev pub NetworkAllowedGoes : ℕ → Tables → Tables → Type 0
+NetworkAllowedGoes id t u = u ≡ record t { allowed = filter (λ a. not (nat_eq a.network id)) t.allowed }
 
-abbrev pub PeersGo : ℕ → Tables → Tables → Type 0
-PeersGo id t u = u ≡ record t { peers = filter (λ p. not (nat_eq p.network id)) t.peers }
+abbrev pub NetworkPeersGo : ℕ → Tables → Tables → Type 0
+NetworkPeersGo id t u = u ≡ record t { peers = filter (λ p. not (nat_eq p.network id)) t.peers }
 
 abbrev pub NetworkRowGoes : ℕ → Tables → Tables → Type 0
 NetworkRowGoes id t u = u ≡ record t { networks = filter (λ w. not (nat_eq w.id id)) t.networks }
 
 abbrev pub NetworkGoes : ℕ → Tables → Tables → Type 0
-NetworkGoes id = Then (AllowedGoes id) (Then (PeersGo id) (NetworkRowGoes id))
+NetworkGoes id = Then (NetworkAllowedGoes id) (Then (NetworkPeersGo id) (NetworkRowGoes id))

@@ -20,8 +20,8 @@ ghost use Rattle.wgr_tables.specs.Writes.{Written};
 use crate::settled::{read_settled, read_tenant, read_token};
 use sqlite::{Alter, Connection, Row};
 use std::alloc::Global;
-use wgr_columns::{tenant, word_at};
-use wgr_orders::{Holding, Tenant, Token};
+use wgr_columns::{select_networks, tenant, word_at};
+use wgr_orders::{NetworkEntry, Tenant, Token};
 use wgr_sql::{Fault, query};
 
 // The rows of all tokens.
@@ -100,11 +100,7 @@ fn network_rows<S: Alter>(conn: &mut Connection<S>) -> Result<Vec<Row>, Fault>
     ensures cause { (db : Database) (pending : List Written) → Stands S.Store conn.old db pending → IfErr result (HasCause (state S.Store conn.old) (state S.Store conn.new)) }
     ensures stored { (db : Database) (pending : List Written) → Stands S.Store conn.old db pending → HasCleanDisk (state S.Store conn.new) → IfOk result (λ rows. AreStored stored_network network_in rows.items) }
 {
-    query(
-        conn,
-        "SELECT id, NULL, tenant, name, family, lo, length, host, port, server, capacity, next FROM network",
-        &[],
-    )
+    query(conn, select_networks!(), &[])
 }
 
 // The tenants of these rows.
@@ -138,7 +134,7 @@ fn tokens_in(alloc: Global, rows: &[Row]) -> Result<Vec<Token>, Fault>
 }
 
 // Appends a network.
-fn keep(networks: &mut Vec<Holding>, network: Holding) -> Result<(), Fault>
+fn keep(networks: &mut Vec<NetworkEntry>, network: NetworkEntry) -> Result<(), Fault>
     ensures kept { OnOk result (networks.new.items ≡ networks.old.items ++ network ∷ []) }
     ensures memory { IfErr result (λ why. why ≡ NoMemory) }
 {
@@ -149,7 +145,7 @@ fn keep(networks: &mut Vec<Holding>, network: Holding) -> Result<(), Fault>
 }
 
 // The networks of these rows, as they were added.
-fn settled_in(alloc: Global, rows: &[Row]) -> Result<Vec<Holding>, Fault>
+fn settled_in(alloc: Global, rows: &[Row]) -> Result<Vec<NetworkEntry>, Fault>
     ensures read { IfOk result (λ networks. networks.items ≡ map (λ r. settled (network_in r)) rows.now) }
     ensures only { IfErr result (λ why. why ≡ Store → AreOf IsKeptNetwork stored_network rows.now → ⊥) }
 {
@@ -190,7 +186,7 @@ pub fn tokens<S: Alter>(alloc: Global, conn: &mut Connection<S>) -> Result<Vec<T
 pub fn settled_networks<S: Alter>(
     alloc: Global,
     conn: &mut Connection<S>,
-) -> Result<Vec<Holding>, Fault>
+) -> Result<Vec<NetworkEntry>, Fault>
     requires idle { conn.old.in_transaction ≡ false }
     ensures reads { OnlyReads S.Store conn.old conn.new }
     ensures listed { (db : Database) (pending : List Written) → Stands S.Store conn.old db pending → HasCleanDisk (state S.Store conn.new)

@@ -1,6 +1,6 @@
 //! The entries of the register in its tables: tenants, their tokens and their networks. They are
-//! found by a key (`lookup`), listed (`all`), counted (`counts`), read from their rows (`settled`), and
-//! added and deleted, each in one commit (`tenant`, `token`, `network`).
+//! found by a key (`lookup`), listed (`all`), counted (`counts`) and read from their rows (`settled`).
+//! What adds and deletes them (`tenant`, `token`, `network`) is committed by `commit` of `wgr_tables`.
 //!
 //! Whether an operator's order is refused is not decided here: the crate only reads what the decision
 //! needs of every entry. A key that a row has already is a fault of the store.
@@ -17,7 +17,7 @@ mod token;
 pub use all::{count_tokens, settled_networks, tenant_ids, tenants, tokens};
 pub use counts::{count_peers, count_routes};
 pub use lookup::{network_id, networks_of_tenant, tenant_id, tenant_of_token};
-pub use network::{add_network, end_network};
+pub use network::{EndedNetwork, NewNetwork};
 pub use settled::read_settled;
-pub use tenant::add_tenant;
-pub use token::{add_token, end_token};
+pub use tenant::NewTenant;
+pub use token::{EndedToken, NewToken};

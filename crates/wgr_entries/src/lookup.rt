@@ -12,13 +12,13 @@ ghost use Rattle.wgr_model.specs.Steps.{tenant_of_token};
 ghost use Rattle.wgr_sql.specs.Causes.{HasCause};
 ghost use Rattle.wgr_columns.specs.Decode.{network_in, tables_of};
 ghost use Rattle.wgr_columns.specs.Stored.{AreStored, stored_network};
-ghost use Rattle.wgr_entries.specs.Lookups.{HasWordAt, IsIn, IsSlotOf, ShowNetworksOf, ShowSlot, ShowTenant, ShowToken};
+ghost use Rattle.wgr_entries.specs.Lookups.{HasWordAt, IsNumberIn, IsSlotOf, ShowNetworksOf, ShowSlot, ShowTenant, ShowToken};
 ghost use Rattle.wgr_tables.specs.Writes.{Written};
 ghost use Rattle.wgr_tables.specs.Standing.{OnlyReads, Stands};
 
 use sqlite::types::ValueRef;
 use sqlite::{Alter, Connection, Row};
-use wgr_columns::{network, number_value, tenant, token, word_at};
+use wgr_columns::{network, number_value, select_networks, tenant, token, word_at};
 use wgr_peers::Name;
 use wgr_sql::{Fault, only, query};
 
@@ -71,7 +71,7 @@ fn slot_rows<S: Alter>(
 {
     query(
         conn,
-        "SELECT id, NULL, tenant, name, family, lo, length, host, port, server, capacity, next FROM network WHERE tenant = ?1 AND name = ?2",
+        select_networks!(" WHERE tenant = ?1 AND name = ?2"),
         &[
             number_value(tenant),
             ValueRef::Text(name.as_str().as_bytes()),
@@ -81,7 +81,7 @@ fn slot_rows<S: Alter>(
 
 // The number at this place of the one row, if there is one.
 fn number_in(rows: Vec<Row>, at: usize) -> Result<Option<u32>, Fault>
-    ensures found { IfOk result (λ found. IsIn rows.items at found) }
+    ensures found { IfOk result (λ found. IsNumberIn rows.items at found) }
     ensures only { OnErr result (HasWordAt rows.items at → ⊥) }
 {
     let Some(row) = only(rows)? else {
@@ -151,7 +151,7 @@ pub fn networks_of_tenant<S: Alter>(
 {
     query(
         conn,
-        "SELECT id, NULL, tenant, name, family, lo, length, host, port, server, capacity, next FROM network WHERE tenant = ?1",
+        select_networks!(" WHERE tenant = ?1"),
         &[number_value(tenant)],
     )
 }

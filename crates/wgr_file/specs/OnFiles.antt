@@ -21,7 +21,8 @@ use Rattle.wgr_register.specs.Standing.{StandsAt}
 use Rattle.wgr_register.specs.declared.fault.Done as done
 use Rattle.wgr_register.specs.declared.fault.OrderFault.{OrderFault}
 use Rattle.wgr_register.specs.declared.fault.OrderFault.TheVariants as order_fault
-use Rattle.wgr_schema.specs.FirstVersion.{IsFirstVersion}
+use Rattle.wgr_schema.specs.Versions.{IsOfVersion}
+use Rattle.wgr_schema.specs.declared.version.Version.TheVariants.{One}
 use Rattle.wgr_schema.specs.Fresh.{IsFresh, no_schema}
 use Rattle.wgr_columns.specs.Decode.{tables_of}
 use Rattle.wgr_opening.specs.Good.{IsGood}
@@ -71,11 +72,11 @@ FilesStay g start closed = IfSome closed (λ files. AreClean g files.log files.d
 
 -- the rows that they held are not those of a register of the first version
 abbrev pub WereForeign : {D : Type 0} → disk.Ghosts D → Image → Option (Files D) → Type 0
-WereForeign g start closed = IfSome closed (λ files. AreClean g files.log files.db → (db : Database) × AreThoseOf start db.trees × (IsFirstVersion db → ⊥))
+WereForeign g start closed = IfSome closed (λ files. AreClean g files.log files.db → (db : Database) × AreThoseOf start db.trees × (IsOfVersion One db → ⊥))
 
 -- they are those of one, and not good
 abbrev pub WereNotGood : {D : Type 0} → disk.Ghosts D → Image → Option (Files D) → Type 0
-WereNotGood g start closed = IfSome closed (λ files. AreClean g files.log files.db → (db : Database) × AreThoseOf start db.trees × IsFirstVersion db × (IsGood db → ⊥))
+WereNotGood g start closed = IfSome closed (λ files. AreClean g files.log files.db → (db : Database) × AreThoseOf start db.trees × IsOfVersion One db × (IsGood db → ⊥))
 
 -- ---- commands
 

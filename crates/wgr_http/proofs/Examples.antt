@@ -9,8 +9,8 @@ use Rattle.wgr_http.specs.Field.{absent, once}
 use Rattle.wgr_http.specs.Head.{IsRefused, MayBecomeHead}
 use Rattle.wgr_http.specs.Message.{MessageView, IsHeadless, empty, refused, long, cut, message_of}
 use Rattle.wgr_http.specs.Reply.{first_lines, last_lines, reply_bytes}
-use Rattle.wgr_http.specs.Token.{token_in}
-use Rattle.wgr_http.specs.Unfinished.{begun, open_target}
+use Rattle.wgr_http.specs.Token.{bearer_token}
+use Rattle.wgr_http.specs.Unfinished.{begun_lines, open_target}
 use Rattle.wgr_http.specs.declared.message.MessageFault.{MessageFault}
 use Rattle.wgr_http.specs.declared.message.MessageFault.TheVariants.{BadFields, BadHead, TooLarge, LengthRequired, Truncated}
 use Rattle.wgr_http.specs.declared.reply.Kind.TheVariants.{Json, Text}
@@ -115,10 +115,10 @@ refused_8193 : (bytes : List ℕ) → length bytes ≡ 8193 → IsRefused bytes 
 refused_8193 bytes is never = refused never
 
 -- what has begun: a request line and two fields, though the last has one byte; and a CR begins none
-two_fields : begun true (codes "\r\n\nGET / HTTP/1.1\r\nA: b\nC") ≡ 3
+two_fields : begun_lines true (codes "\r\n\nGET / HTTP/1.1\r\nA: b\nC") ≡ 3
 two_fields = refl
 
-one_field : begun true (codes "GET / HTTP/1.1\r\nA: b\r\n\r") ≡ 2
+one_field : begun_lines true (codes "GET / HTTP/1.1\r\nA: b\r\n\r") ≡ 2
 one_field = refl
 
 target_begins : open_target (codes "GET ") ≡ Some []
@@ -141,22 +141,22 @@ larger_body_is_not : wanted absent (once (codes "2097153")) absent ≡ 0
 larger_body_is_not = refl
 
 -- tokens
-spaces_before_the_token : token_in (codes "bEARER   a.b~") ≡ Some (codes "a.b~")
+spaces_before_the_token : bearer_token (codes "bEARER   a.b~") ≡ Some (codes "a.b~")
 spaces_before_the_token = refl
 
-another_scheme : token_in (codes "Basic abc") ≡ None
+another_scheme : bearer_token (codes "Basic abc") ≡ None
 another_scheme = refl
 
-no_space : token_in (codes "Bearerabc") ≡ None
+no_space : bearer_token (codes "Bearerabc") ≡ None
 no_space = refl
 
-tab : token_in (codes "Bearer\tabc") ≡ None
+tab : bearer_token (codes "Bearer\tabc") ≡ None
 tab = refl
 
-blank_in_the_token : token_in (codes "Bearer a b") ≡ None
+blank_in_the_token : bearer_token (codes "Bearer a b") ≡ None
 blank_in_the_token = refl
 
-no_token : token_in (codes "Bearer") ≡ None
+no_token : bearer_token (codes "Bearer") ≡ None
 no_token = refl
 
 -- replies

@@ -5,7 +5,7 @@ use Rattle.std.proofs.lemmas.List.Elements.{All-append, All-cons, All-from_recur
 use Rattle.httparse.proofs.GrammarLemmas.{cons-append, print_request-append}
 use Rattle.httparse.specs.Grammar.{Field, IsField, HasNoRequest, LineEnd, lf, RequestHead, IsRequestHead, ReadsRequest, ReadsSection, print_blank, print_end, print_field, print_request, print_section, print_version}
 use Rattle.wgr_http.specs.Head.{MayBecomeHead}
-use Rattle.wgr_http.specs.Unfinished.{begun}
+use Rattle.wgr_http.specs.Unfinished.{begun_lines}
 use Rattle.wgr_http.proofs.LineLemmas.{IsPlain, begun_blank, begun_end, begun_field, begun_grows, begun_line, begun_section, field_begins, token_byte, uri_byte}
 
 -- one text, cut at two places
@@ -32,7 +32,7 @@ record Fewer (text : List ℕ) : Type 0 where
   last : LineEnd
   more : List ℕ
   reads : ReadsSection (text ++ more) fields last []
-  few : length fields ≤ begun true text
+  few : length fields ≤ begun_lines true text
 
 fewer : (text more : List ℕ) (fields : List Field) (last : LineEnd) → All IsField fields → text ++ more ≡ print_section fields last → Fewer text
 fewer text more [] last are same = record { fields = []; last = last; more = more; reads = (are, same ∙ sym (append-nil (print_end last))); few = omega arith }
@@ -52,7 +52,7 @@ fewer (b ∷ bs) more (f ∷ fields) last are same =
               ap (λ (x : List ℕ). x ++ rest.more) w.1 ∙ append_assoc (print_field f) w.0 rest.more
                   ∙ ap (λ (x : List ℕ). print_field f ++ x) rest.reads.1 ∙ sym (section_cons f rest.fields rest.last []),
             );
-            few = omega (arith, rest.few, ap (begun true) w.1, begun_field f w.0 is);
+            few = omega (arith, rest.few, ap (begun_lines true) w.1, begun_field f w.0 is);
           }
       | inr w ↦ record {
         fields = f ∷ [];
@@ -88,7 +88,7 @@ version_plain minor =
     (plain_at 72 (omega arith), (plain_at 84 (omega arith), (plain_at 84 (omega arith), (plain_at 80 (omega arith), (plain_at 47 (omega arith), (plain_at 49 (omega arith), (plain_at 46 (omega arith), tt))))))))
     (All-cons IsPlain (48 + minor) [] (plain_at (48 + minor) (omega arith)) (All-nil IsPlain))
 
-begun_start : (h : RequestHead) (rest : List ℕ) → IsRequestHead h → begun true (start h ++ rest) ≡ 1 + begun true rest
+begun_start : (h : RequestHead) (rest : List ℕ) → IsRequestHead h → begun_lines true (start h ++ rest) ≡ 1 + begun_lines true rest
 begun_start h rest is =
     let line : List ℕ = h.method ++ 32 ∷ (h.target ++ 32 ∷ print_version h.minor) in
     let plain : All IsPlain line =
@@ -96,7 +96,7 @@ begun_start h rest is =
     (All-cons IsPlain 32 (h.target ++ 32 ∷ print_version h.minor) (plain_at 32 (omega arith))
     (All-append IsPlain h.target (32 ∷ print_version h.minor) (All-weaker _ IsPlain uri_byte h.target is.target.1)
     (All-cons IsPlain 32 (print_version h.minor) (plain_at 32 (omega arith)) (version_plain h.minor)))) in
-    ap (begun true) (regroup (print_blank h.blank) h.method h.target (print_version h.minor) (print_end h.line_end) rest)
+    ap (begun_lines true) (regroup (print_blank h.blank) h.method h.target (print_version h.minor) (print_end h.line_end) rest)
     ∙ begun_blank h.blank (line ++ (print_end h.line_end ++ rest))
     ∙ begun_line line (print_end h.line_end ++ rest) (longer h.method _ is.method.0) plain
     ∙ ap (λ n. 1 + n) (begun_end false h.line_end rest)
@@ -115,7 +115,7 @@ with_is : (h : RequestHead) (fields : List Field) (last : LineEnd) → IsRequest
 with_is h fields last is are = record { method = is.method; target = is.target; target_text = is.target_text; minor = is.minor; fields = are }
 
 -- no 33rd field has begun
-pub room_may : (front more : List ℕ) (h : RequestHead) → ReadsRequest (front ++ more) h [] → begun true front ≤ 33 → MayBecomeHead front
+pub room_may : (front more : List ℕ) (h : RequestHead) → ReadsRequest (front ++ more) h [] → begun_lines true front ≤ 33 → MayBecomeHead front
 room_may front more h reads few = elim (two_cuts front more (start h) (print_section h.fields h.last ++ []) (reads.1 ∙ print_start h [])) [
   | inl w ↦
       let rest : Fewer w.0 = fewer w.0 more h.fields h.last reads.0.fields (w.2 ∙ append-nil (print_section h.fields h.last)) in (
@@ -128,7 +128,7 @@ room_may front more h reads few = elim (two_cuts front more (start h) (print_sec
             ap (λ (x : List ℕ). x ++ rest.more) w.1 ∙ append_assoc (start h) w.0 rest.more
                 ∙ ap (λ (x : List ℕ). start h ++ x) rest.reads.1 ∙ sym (print_start (with_fields h rest.fields rest.last) []),
           );
-          few = omega (arith, few, rest.few, ap (begun true) w.1, begun_start h w.0 reads.0);
+          few = omega (arith, few, rest.few, ap (begun_lines true) w.1, begun_start h w.0 reads.0);
         },
       )
   | inr w ↦ (
@@ -146,12 +146,12 @@ room_may front more h reads few = elim (two_cuts front more (start h) (print_sec
 ]
 
 -- a 33rd field has begun
-pub room_never : (front : List ℕ) → HasNoRequest front → 33 < begun true front → ¬ (MayBecomeHead front)
+pub room_never : (front : List ℕ) → HasNoRequest front → 33 < begun_lines true front → ¬ (MayBecomeHead front)
 room_never front no_request over (h, b) = elim (two_cuts front b.more (print_request h) b.rest b.reads.1) [
   | inl w ↦ absurd (no_request h w.0 (b.reads.0, w.1))
   | inr w ↦
-      let all : begun true (print_request h) ≡ 1 + (length h.fields + 0) =
-      ap (begun true) (sym (append-nil (print_request h)) ∙ print_start h []) ∙ begun_start h (print_section h.fields h.last ++ []) b.reads.0
+      let all : begun_lines true (print_request h) ≡ 1 + (length h.fields + 0) =
+      ap (begun_lines true) (sym (append-nil (print_request h)) ∙ print_start h []) ∙ begun_start h (print_section h.fields h.last ++ []) b.reads.0
       ∙ ap (λ n. 1 + n) (begun_section h.fields h.last [] b.reads.0.fields) in
-      omega (arith, over, b.few, all, begun_grows true front w.0, ap (begun true) w.1)
+      omega (arith, over, b.few, all, begun_grows true front w.0, ap (begun_lines true) w.1)
 ]

@@ -7,7 +7,7 @@ use Rattle.httparse.proofs.GrammarLemmas.{cons-append, print_request-append}
 use Rattle.httparse.specs.Grammar.{IsField, LineEnd, crlf, lf, RequestHead, IsRequestHead, IsToken, AllPass, MayBecomeRequest, ReadsRequest, is_token_byte, is_uri_byte, print_blank, print_end, print_section, print_version}
 use Rattle.wgr_http.specs.Head.{MayBecomeHead}
 use Rattle.wgr_http.specs.Text.{IsContinuationByte, MayBecomeText, NeverBecomesText}
-use Rattle.wgr_http.specs.Unfinished.{after_space, begun, open_target, unended, unended_in}
+use Rattle.wgr_http.specs.Unfinished.{after_space, begun_lines, open_target, unended, unended_in}
 use Rattle.wgr_http.proofs.RoomLemmas.{room_may, two_cuts}
 use Rattle.wgr_http.proofs.TextLemmas.{one_byte}
 
@@ -158,7 +158,7 @@ some_of : {o : Option (List ℕ)} (t : List ℕ) → o ≡ Some t → IfSome o M
 some_of t is may = subst (λ (x : Option (List ℕ)). IfSome x MayBecomeText) is may
 
 -- what httparse leaves open, settled
-pub unfinished_may : (front : List ℕ) → MayBecomeRequest front → begun true front ≤ 33 → IfSome (open_target front) MayBecomeText → MayBecomeHead front
+pub unfinished_may : (front : List ℕ) → MayBecomeRequest front → begun_lines true front ≤ 33 → IfSome (open_target front) MayBecomeText → MayBecomeHead front
 unfinished_may front (inl (more, h, reads)) few text = room_may front more h reads few
 unfinished_may front (inr (blank, method, target, token, uri, is)) few text =
     let found : after_space front ≡ Some target =

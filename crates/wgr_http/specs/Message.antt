@@ -5,7 +5,7 @@ use Rattle.httparse.specs.Grammar.{RequestHead}
 use Rattle.wgr_http.specs.Field.{Occurrence, absent, once, repeated, in_head}
 use Rattle.wgr_http.specs.Head.{HasHead, HasNoHead, IsRefused, MayBecomeHead, max_head}
 use Rattle.wgr_http.specs.Length.{length_value, max_body}
-use Rattle.wgr_http.specs.Token.{token_in}
+use Rattle.wgr_http.specs.Token.{bearer_token}
 use Rattle.wgr_http.specs.declared.message.Message.{Message}
 use Rattle.wgr_http.specs.declared.message.MessageFault.{MessageFault}
 use Rattle.wgr_http.specs.declared.message.MessageFault.TheVariants.{BadFields, BadHead, TooLarge, LengthRequired, Truncated}
@@ -46,7 +46,7 @@ sized_by rest (Some n) = sized rest n
 
 abbrev pub token_given : Occurrence → Option (List ℕ)
 token_given absent = None
-token_given (once credentials) = token_in credentials
+token_given (once credentials) = bearer_token credentials
 token_given repeated = None
 
 abbrev pub with_body : List ℕ → List ℕ → Option (List ℕ) → Result (List ℕ) MessageFault → Result MessageView MessageFault

@@ -16,7 +16,7 @@ abbrev pub token_if : List ℕ → Option (List ℕ)
 token_if text = cond (token_test text) (Some text) None
 
 -- the token of credentials: the case-insensitive scheme, one or more spaces, and the token
-abbrev pub token_in : List ℕ → Option (List ℕ)
-token_in credentials =
+abbrev pub bearer_token : List ℕ → Option (List ℕ)
+bearer_token credentials =
     cond (nat_le 8 (length credentials) && str_eq_ignore_ascii_case (take 6 credentials) (codes "bearer") && (slice_index credentials 6 == 32))
     (token_if (skip_spaces (drop 7 credentials))) None

@@ -2,9 +2,9 @@
 use Rattle.std.specs.Prelude.{ℕ, ◌+◌, Bool, true, false, List, [], ◌∷◌, cond, ◌==◌, Option, Some, None}
 
 -- The lines that have begun, where the bytes come at the start of a line or within one. A line begins with its first byte that isn't CR or LF.
-abbrev pub begun : Bool → List ℕ → ℕ
-begun fresh [] = 0
-begun fresh (b ∷ bs) = cond (b == 10) (begun true bs) (cond (b == 13) (begun fresh bs) (cond fresh 1 0 + begun false bs))
+abbrev pub begun_lines : Bool → List ℕ → ℕ
+begun_lines fresh [] = 0
+begun_lines fresh (b ∷ bs) = cond (b == 10) (begun_lines true bs) (cond (b == 13) (begun_lines fresh bs) (cond fresh 1 0 + begun_lines false bs))
 
 -- what comes after the first space
 abbrev pub after_space : List ℕ → Option (List ℕ)

@@ -1,7 +1,7 @@
 //! The token of a request.
 ghost use Rattle.std.specs.Prelude.{◌≡◌, ◌&&◌, nat_le, option_map};
 ghost use Rattle.std.specs.List.{list_all};
-ghost use Rattle.wgr_http.specs.Token.{skip_spaces, token_test, token_in};
+ghost use Rattle.wgr_http.specs.Token.{skip_spaces, token_test, bearer_token};
 
 use crate::field_lines::same_name;
 
@@ -15,7 +15,7 @@ pub fn is_token(text: &[u8]) -> bool
 /// The token of credentials in the scheme `Bearer` (RFC 6750 section 2.1), whose name is
 /// case-insensitive. One or more spaces come before the token.
 pub(crate) fn token_of(credentials: &[u8]) -> Option<&[u8]>
-    ensures { option_map (λ t. t.now) result ≡ token_in credentials.now }
+    ensures { option_map (λ t. t.now) result ≡ bearer_token credentials.now }
 {
     if credentials.len() >= 8 && same_name(&credentials[..6], b"bearer") && credentials[6] == b' ' {
         let token = after_spaces(&credentials[7..]);

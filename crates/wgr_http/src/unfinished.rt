@@ -2,7 +2,7 @@
 ghost use Rattle.std.specs.Prelude.{◌≡◌, length, take, true, false, option_map, OnSome, IfSome, IsSomeAnd};
 ghost use Rattle.wgr_http.specs.Head.{IsRefused, MayBecomeHead};
 ghost use Rattle.wgr_http.specs.Text.{MayBecomeText, NeverBecomesText};
-ghost use Rattle.wgr_http.specs.Unfinished.{after_space, begun, open_target};
+ghost use Rattle.wgr_http.specs.Unfinished.{after_space, begun_lines, open_target};
 
 use crate::head::{MAX_HEADERS, front_of};
 use crate::text::may_become_text;
@@ -29,7 +29,7 @@ pub(crate) fn may_become_head(bytes: &[u8]) -> bool
 
 // How many lines have begun, that of the request among them; not those that are empty.
 fn lines_begun(front: &[u8]) -> usize
-    ensures { result ≡ begun true front.now }
+    ensures { result ≡ begun_lines true front.now }
 {
     let mut count = 0;
     let mut fresh = true;

@@ -1,4 +1,4 @@
--- Values as JSON, and the texts of endpoints, by computation.
+-- Values as JSON, by computation.
 use Rattle.std.proofs.Common.{◌≡◌, ◌*◌, ◌+◌, ◌^◌, [], ◌∷◌, codes, map, refl}
 use Rattle.std.specs.Fmt.{digits}
 use Rattle.std.specs.Prelude.{replicate}
@@ -7,7 +7,6 @@ use Rattle.serde_json.proofs.OnLiterals.{serde_json_on_literals}
 use Rattle.serde_json.specs.Written.{compact_text}
 use Rattle.wgr_text.specs.declared.addr.Family.TheVariants.{V4}
 use Rattle.wgr_text.specs.PrefixText.{octets_of_number}
-use Rattle.wgr_json.specs.Endpoint.{endpoint_text}
 use Rattle.wgr_json.specs.Values.{array_of, count, key_data, prefix_data}
 
 numbers : compact_text (array_of (map count (1 ∷ 1000000 ∷ []))) ≡ codes "[1,1000000]"
@@ -25,11 +24,3 @@ a_key = refl
 a_prefix : compact_text (prefix_data (record { address = record { family = V4; number = 10 * 2 ^ 24 + 8 * 2 ^ 16 }; length = 24 })) ≡ codes "\"10.8.0.0/24\""
 unfolding serde_json_on_literals digits octets_of_number
 a_prefix = refl
-
-named_endpoint : endpoint_text (codes "vpn.example.net") 51820 ≡ codes "vpn.example.net:51820"
-unfolding digits
-named_endpoint = refl
-
-ipv6_endpoint : endpoint_text (codes "2001:db8::1") 51820 ≡ codes "[2001:db8::1]:51820"
-unfolding digits
-ipv6_endpoint = refl

@@ -1,4 +1,3 @@
-pub mod Endpoint
 pub mod Sending
 pub mod Values
 pub mod Whole

@@ -4,7 +4,7 @@ ghost use Rattle.serde_json.specs.Data.{member, no_members, object, string};
 ghost use Rattle.serde_json.specs.Events.{SendsValue};
 ghost use Rattle.wgr_json.specs.Values.{count, key_data};
 
-use crate::{List, ToJson, send_member, send_number, send_text, text_of_endpoint, to_json};
+use crate::{List, ToJson, send_member, send_number, send_text, to_json};
 use serde::Serializer;
 use std::alloc::{AllocGlobal, Global};
 use std::process::Abort;
@@ -68,17 +68,4 @@ fn members(rt: HostRuntime) {
         &note,
         r#"{"text":"a \"b\\/~","most":18446744073709551615,"key":"AQEBAQEBAQEBAQEBAQEBAQEBAQEBAQEBAQEBAQEBAQE="}"#,
     );
-}
-
-#[test]
-fn endpoints(rt: HostRuntime) {
-    let rows = [
-        ("vpn.example.net", 51820, "vpn.example.net:51820"),
-        ("203.0.113.7", 1, "203.0.113.7:1"),
-        ("2001:db8::1", 65535, "[2001:db8::1]:65535"),
-    ];
-    for (host, port, wanted) in rows {
-        let text = text_of_endpoint(rt.alloc(), host, port).expect(&rt, "memory");
-        assert_eq!(rt; text.as_str(), wanted);
-    }
 }

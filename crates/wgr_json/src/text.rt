@@ -1,9 +1,7 @@
-//! The texts of keys, prefixes and endpoints, as strings.
-ghost use Rattle.std.specs.Prelude.{◌≡◌, ◌==◌, IfOk, IsUtf8, string_bytes};
-ghost use Rattle.std.specs.List.{list_any};
+//! The texts of keys and prefixes, as strings.
+ghost use Rattle.std.specs.Prelude.{◌≡◌, IfOk, IsUtf8, string_bytes};
 ghost use Rattle.wgr_text.specs.KeyText.{key_text};
 ghost use Rattle.wgr_text.specs.PrefixText.{canonical_text};
-ghost use Rattle.wgr_json.specs.Endpoint.{endpoint_text};
 
 use base64::engine::general_purpose::STANDARD;
 use std::alloc::{AllocError, Global};
@@ -34,22 +32,4 @@ fn as_string(bytes: Vec<u8>) -> String
         unreachable!();
     };
     text
-}
-
-/// A host and a port; an IPv6 address is in brackets.
-pub fn text_of_endpoint(alloc: Global, host: &str, port: u16) -> Result<String, AllocError>
-    ensures { IfOk result (λ s. string_bytes s ≡ endpoint_text host.now port) }
-{
-    if has_colon(host.as_bytes()) {
-        format!(in alloc; "[{host}]:{port}")
-    } else {
-        format!(in alloc; "{host}:{port}")
-    }
-}
-
-// Whether a host is an IPv6 address: a name has no colon.
-fn has_colon(host: &[u8]) -> bool
-    ensures { result ≡ list_any (λ b. b == 58) host.now }
-{
-    host.iter().any(|&byte| byte == b':')
 }

@@ -9,14 +9,15 @@ use Rattle.std.proofs.lemmas.Result.{IfOk-weaker}
 use Rattle.wgr_text.specs.declared.key.Key.{Key}
 use Rattle.wgr_peers.specs.declared.peer.Peer.{Peer}
 use Rattle.wgr_peers.specs.Peers.{peer_of, put_peer, same_key, AreNumbered}
+use Rattle.wgr_core.specs.declared.refusal.CommandRefusal.{CommandRefusal}
 use Rattle.wgr_core.specs.declared.refusal.Refusal.{Refusal}
 use Rattle.wgr_core.specs.declared.refusal.Refusal.TheVariants as refusal
-use Rattle.wgr_core.specs.declared.refusal.LineRefusal.{LineRefusal}
 use Rattle.wgr_core.specs.declared.reply.Reply.TheVariants as reply
 use Rattle.wgr_core.specs.declared.seen_peer.SeenPeer.{SeenPeer}
 use Rattle.wgr_core.specs.Network.{NetworkValue, IsNetwork, live_at}
 use Rattle.wgr_core.specs.Adoption.{Adoption, and_then, peer_of_line, adopt_line, in_line, adopt_lines, numbered_from, adoption_order, adoption_of}
 use Rattle.wgr_core.specs.Outcome.{Outcome, unless, adopted, adopt, kept_if}
+use Rattle.wgr_core.specs.Refusals.{of_command, of_line}
 use Rattle.wgr_laws.specs.AdoptionLaws.{IsCounted, IsOtherServer, adopt_at}
 use Rattle.wgr_laws.proofs.AdoptionOrder.{length-order}
 use Rattle.wgr_core.proofs.JoinLemmas.{leads_on}
@@ -101,7 +102,7 @@ refused_in : (Q : ℕ → Type 0) (s : Adoption) (lines : List (ℕ × SeenPeer)
 refused_in Q s [] all = tt
 refused_in Q s (l ∷ more) all = by_line (adopt_line s l.1) (λ next. refused_in Q next more (All-tail (λ (l : ℕ × SeenPeer). Q l.0) l more all))
   where
-    by_line : (r : Result Adoption LineRefusal) → ((next : Adoption) → IfErr (adopt_lines next more) (λ e. Q e.0)) → IfErr (and_then (in_line l.0 r) (λ next. adopt_lines next more)) (λ e. Q e.0)
+    by_line : (r : Result Adoption Refusal) → ((next : Adoption) → IfErr (adopt_lines next more) (λ e. Q e.0)) → IfErr (and_then (in_line l.0 r) (λ next. adopt_lines next more)) (λ e. Q e.0)
     by_line (Err e) later = All-head (λ (l : ℕ × SeenPeer). Q l.0) l more all
     by_line (Ok next) later = later next
 
@@ -112,11 +113,11 @@ numbers_from number (line ∷ more) =
     (All-weaker (λ (l : ℕ × SeenPeer). (number + 1 ≤ l.0) × (l.0 < number + 1 + length more)) (λ (l : ℕ × SeenPeer). (number ≤ l.0) × (l.0 < number + length (line ∷ more))) (λ l within. let low = within.0 in let high = within.1 in (omega (arith, low), omega (arith, high)))
     (numbered_from (number + 1) more) (numbers_from (number + 1) more))
 
-abbrev IsToldLine : List SeenPeer → Refusal → Type 0
-IsToldLine lines why = (number : ℕ) × (what : LineRefusal) × (why ≡ refusal.InLine number what) × (2 ≤ number) × (number ≤ length lines + 1)
+abbrev IsToldLine : List SeenPeer → CommandRefusal → Type 0
+IsToldLine lines why = (number : ℕ) × (what : Refusal) × (why ≡ of_line number what) × (2 ≤ number) × (number ≤ length lines + 1)
 
-abbrev IsTold : NetworkValue → Option Key → List SeenPeer → Refusal → Type 0
-IsTold n server lines why = ((why ≡ refusal.WrongServer) × IsOtherServer n server) ⊎ IsToldLine lines why
+abbrev IsTold : NetworkValue → Option Key → List SeenPeer → CommandRefusal → Type 0
+IsTold n server lines why = ((why ≡ of_command refusal.WrongServer) × IsOtherServer n server) ⊎ IsToldLine lines why
 
 pub adopt_refusals : (n : NetworkValue) (now : ℕ) (server : Option Key) (lines : List SeenPeer) → IfErr (adopt_at n now server lines) (IsTold n server lines)
 adopt_refusals n now server lines = kept_err (adopt (live_at n now) server lines) (by_server server)
@@ -125,7 +126,7 @@ adopt_refusals n now server lines = kept_err (adopt (live_at n now) server lines
     kept_err (Err why) told = told
     kept_err (Ok done) told = tt
 
-    in_lines : (server : Option Key) (r : Result Adoption (ℕ × LineRefusal)) → IfErr r (λ e. (2 ≤ e.0) × (e.0 < 2 + length lines)) → IfErr (adopted r) (IsTold n server lines)
+    in_lines : (server : Option Key) (r : Result Adoption (ℕ × Refusal)) → IfErr r (λ e. (2 ≤ e.0) × (e.0 < 2 + length lines)) → IfErr (adopted r) (IsTold n server lines)
     in_lines server (Err e) within = let low = within.0 in let high = within.1 in inr (e.0, e.1, refl, low, omega (arith, high))
     in_lines server (Ok s) within = tt
 
@@ -142,7 +143,7 @@ adopt_refusals n now server lines = kept_err (adopt (live_at n now) server lines
     by_server None = lines_alone None
     by_server (Some key) = by_key key (same_key key n.server) refl
 
-pub other_servers_are_refused : (n : NetworkValue) (now : ℕ) (server : Option Key) (lines : List SeenPeer) → IsOtherServer n server → adopt_at n now server lines ≡ Err refusal.WrongServer
+pub other_servers_are_refused : (n : NetworkValue) (now : ℕ) (server : Option Key) (lines : List SeenPeer) → IsOtherServer n server → adopt_at n now server lines ≡ Err (of_command refusal.WrongServer)
 other_servers_are_refused n now server lines other =
     ap (λ (server : Option Key). adopt_at n now server lines) other.1
     ∙ ap (λ b. kept_if false n (unless (cond b None (Some refusal.WrongServer)) (adopted (adoption_of (live_at n now) lines)))) other.2

@@ -7,12 +7,12 @@ use Rattle.wgr_peers.specs.declared.peer.Peer.{Peer}
 use Rattle.wgr_core.specs.declared.command.Command.{Command}
 use Rattle.wgr_core.specs.declared.command.Command.TheVariants as command
 use Rattle.wgr_core.specs.declared.refusal.Refusal.TheVariants as refusal
-use Rattle.wgr_core.specs.declared.refusal.LineRefusal.TheVariants as why
 use Rattle.wgr_core.specs.declared.reply.Reply.TheVariants as reply
 use Rattle.wgr_core.specs.declared.seen_peer.SeenPeer.{SeenPeer}
 use Rattle.wgr_core.specs.Network.{NetworkValue}
 use Rattle.wgr_core.specs.Owner.{owner_of}
 use Rattle.wgr_core.specs.Outcome.{outcome_of}
+use Rattle.wgr_core.specs.Refusals.{of_command, of_line}
 use Rattle.wgr_laws.proofs.Examples.{addresses, key, routed, run, ten_eight, v4, with_peers}
 
 -- one address of the pool, as a prefix
@@ -56,7 +56,7 @@ again : outcome_of after_three 0 (adopt three) ≡ Ok (reply.Adopted [] 3, after
 again = refl
 
 -- no two lines have one address
-one_address : outcome_of empty 0 (adopt (seen 1 (alone 2 ∷ []) ∷ seen 2 (alone 2 ∷ []) ∷ [])) ≡ Err (refusal.InLine 3 why.AddressHeld)
+one_address : outcome_of empty 0 (adopt (seen 1 (alone 2 ∷ []) ∷ seen 2 (alone 2 ∷ []) ∷ [])) ≡ Err (of_line 3 refusal.AddressHeld)
 one_address = refl
 
 -- of two addresses the first is the peer's, and the second a route
@@ -65,15 +65,15 @@ two_addresses : (addresses (run empty ((0, adopt (seen 1 (alone 5 ∷ alone 6 �
 two_addresses = (refl, refl)
 
 -- the server's address is no route
-servers_address : outcome_of empty 0 (adopt (seen 1 (alone 1 ∷ []) ∷ [])) ≡ Err (refusal.InLine 2 why.IsAddress)
+servers_address : outcome_of empty 0 (adopt (seen 1 (alone 1 ∷ []) ∷ [])) ≡ Err (of_line 2 refusal.IsAddress)
 servers_address = refl
 
 -- another interface
-other_interface : outcome_of empty 0 (command.Adopt (Some (key 8)) three) ≡ Err refusal.WrongServer
+other_interface : outcome_of empty 0 (command.Adopt (Some (key 8)) three) ≡ Err (of_command refusal.WrongServer)
 other_interface = refl
 
 -- a line that names an address is looked at first
-named_first : outcome_of (with_peers 24 (1 ∷ [])) 0 (adopt (seen 9 [] ∷ seen 2 (alone 2 ∷ []) ∷ [])) ≡ Err (refusal.InLine 3 why.AddressHeld)
+named_first : outcome_of (with_peers 24 (1 ∷ [])) 0 (adopt (seen 9 [] ∷ seen 2 (alone 2 ∷ []) ∷ [])) ≡ Err (of_line 3 refusal.AddressHeld)
 named_first = refl
 
 -- an address that a line was given stays its own where a later line has a prefix with it; where that

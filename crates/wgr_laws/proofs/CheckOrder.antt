@@ -5,19 +5,20 @@ use Rattle.wgr_core.specs.declared.command.Command.{Command}
 use Rattle.wgr_core.specs.declared.command.Command.TheVariants as command
 use Rattle.wgr_core.specs.declared.refusal.Refusal.{Refusal}
 use Rattle.wgr_core.specs.declared.refusal.Refusal.TheVariants as refusal
-use Rattle.wgr_core.specs.declared.refusal.LineRefusal.TheVariants as why
 use Rattle.wgr_core.specs.declared.seen_peer.SeenPeer.{SeenPeer}
 use Rattle.wgr_core.specs.Network.{NetworkValue}
 use Rattle.wgr_core.specs.Outcome.{outcome_of}
+use Rattle.wgr_core.specs.Refusals.{of_command, of_line}
 use Rattle.wgr_laws.proofs.Examples.{key, run, v4, with_peers}
 use Rattle.wgr_laws.proofs.AdoptionExamples.{adopt, alone, seen}
 
 -- a command that is refused so at the moment 100
 abbrev IsRefused : NetworkValue → Command → Refusal → Type 0
-IsRefused n asked why = outcome_of n 100 asked ≡ Err why
+IsRefused n asked why = outcome_of n 100 asked ≡ Err (of_command why)
 
+-- the first line is refused so, which is the second of the dump
 abbrev IsRefusedInLine : NetworkValue → List SeenPeer → Refusal → Type 0
-IsRefusedInLine n lines why = IsRefused n (adopt lines) why
+IsRefusedInLine n lines why = outcome_of n 100 (adopt lines) ≡ Err (of_line 2 why)
 
 -- ---- networks in which much is spent
 
@@ -114,21 +115,21 @@ at_servers allowed = seen 2 (mask (v4 10 8 0 1) 32 ∷ allowed)
 interface_first : IsRefused one (command.Adopt (Some (key 8)) (seen 9 [] ∷ [])) refusal.WrongServer
 interface_first = refl
 
-lines_server_key_first : IsRefusedInLine (no_room one) (seen 9 [] ∷ []) (refusal.InLine 2 why.ServerKey)
+lines_server_key_first : IsRefusedInLine (no_room one) (seen 9 [] ∷ []) refusal.ServerKey
 lines_server_key_first = refl
 
-lines_capacity_first : IsRefusedInLine (no_number (no_room one)) (seen 2 [] ∷ []) (refusal.InLine 2 why.CapacityReached)
+lines_capacity_first : IsRefusedInLine (no_number (no_room one)) (seen 2 [] ∷ []) refusal.CapacityReached
 lines_capacity_first = refl
 
-lines_numbers_first : IsRefusedInLine (no_number one) (at_held ∷ []) (refusal.InLine 2 why.NumbersSpent)
-    × IsRefusedInLine (no_number no_address) (seen 2 [] ∷ []) (refusal.InLine 2 why.NumbersSpent)
+lines_numbers_first : IsRefusedInLine (no_number one) (at_held ∷ []) refusal.NumbersSpent
+    × IsRefusedInLine (no_number no_address) (seen 2 [] ∷ []) refusal.NumbersSpent
 lines_numbers_first = (refl, refl)
 
-lines_place_first : IsRefusedInLine one (at_servers (alone 2 ∷ []) ∷ []) (refusal.InLine 2 why.AddressHeld)
-    × IsRefusedInLine no_address (at_servers [] ∷ []) (refusal.InLine 2 why.PoolFull)
-    × IsRefusedInLine no_route (seen 2 (alone 2 ∷ alone 9 ∷ []) ∷ []) (refusal.InLine 2 why.AddressHeld)
+lines_place_first : IsRefusedInLine one (at_servers (alone 2 ∷ []) ∷ []) refusal.AddressHeld
+    × IsRefusedInLine no_address (at_servers [] ∷ []) refusal.PoolFull
+    × IsRefusedInLine no_route (seen 2 (alone 2 ∷ alone 9 ∷ []) ∷ []) refusal.AddressHeld
 lines_place_first = (refl, refl, refl)
 
-lines_address_first : IsRefusedInLine no_route (at_servers [] ∷ []) (refusal.InLine 2 why.IsAddress)
-    × IsRefusedInLine no_route (seen 2 (alone 3 ∷ alone 9 ∷ []) ∷ []) (refusal.InLine 2 why.RoutesFull)
+lines_address_first : IsRefusedInLine no_route (at_servers [] ∷ []) refusal.IsAddress
+    × IsRefusedInLine no_route (seen 2 (alone 3 ∷ alone 9 ∷ []) ∷ []) refusal.RoutesFull
 lines_address_first = (refl, refl)

@@ -11,6 +11,7 @@ use Rattle.wgr_core.specs.declared.refusal.Refusal.TheVariants as refusal
 use Rattle.wgr_core.specs.Network.{NetworkValue, live_at}
 use Rattle.wgr_core.specs.Owner.{owner_of}
 use Rattle.wgr_core.specs.Outcome.{outcome_of}
+use Rattle.wgr_core.specs.Refusals.{of_command}
 
 abbrev pub v4 : ℕ → ℕ → ℕ → ℕ → AddrValue
 v4 a b c d = record { family = V4; number = a * 2 ^ 24 + b * 2 ^ 16 + c * 2 ^ 8 + d }
@@ -44,7 +45,7 @@ abbrev pub addresses : List Peer → List (ℕ × AddrValue)
 addresses peers = map (λ (p : Peer). (p.number, p.address)) peers
 
 -- a pool of four addresses has one to give, and one of eight has five
-one_of_four : (addresses (run (ten_eight 30) ((0, add 0) ∷ [])).peers ≡ (1, v4 10 8 0 2) ∷ []) × (outcome_of (run (ten_eight 30) ((0, add 0) ∷ [])) 0 (add 1) ≡ Err refusal.PoolFull)
+one_of_four : (addresses (run (ten_eight 30) ((0, add 0) ∷ [])).peers ≡ (1, v4 10 8 0 2) ∷ []) × (outcome_of (run (ten_eight 30) ((0, add 0) ∷ [])) 0 (add 1) ≡ Err (of_command refusal.PoolFull))
 one_of_four = (refl, refl)
 
 five_of_eight : (addresses (run (ten_eight 29) ((0, add 1) ∷ (0, add 2) ∷ (0, add 3) ∷ (0, add 4) ∷ (0, add 5) ∷ [])).peers ≡ (1, v4 10 8 0 2) ∷ (2, v4 10 8 0 3) ∷ (3, v4 10 8 0 4) ∷ (4, v4 10 8 0 5) ∷ (5, v4 10 8 0 6) ∷ [])
@@ -59,13 +60,13 @@ around : addresses (run (ten_eight 29) ((0, add_at 1 (v4 10 8 0 3)) ∷ (0, add 
 around = refl
 
 -- each refusal, with its fact
-refused : (outcome_of (ten_eight 24) 0 (add 9) ≡ Err refusal.ServerKey)
-    × (outcome_of (run (ten_eight 24) ((0, add 1) ∷ [])) 0 (add 1) ≡ Err (refusal.KeyHeld 1))
-    × (outcome_of (ten_eight 24) 100 (add_until 1 100) ≡ Err refusal.LeaseOver)
-    × (outcome_of (record (ten_eight 24) { capacity = 0 }) 0 (add 1) ≡ Err refusal.CapacityReached)
-    × (outcome_of (record (ten_eight 24) { next = 1000001 }) 0 (add 1) ≡ Err refusal.NumbersSpent)
-    × (outcome_of (ten_eight 24) 0 (add_at 1 (v4 10 8 0 255)) ≡ Err refusal.OutsidePool)
-    × (outcome_of (run (ten_eight 24) ((0, add 1) ∷ [])) 0 (add_at 2 (v4 10 8 0 2)) ≡ Err refusal.AddressHeld)
+refused : (outcome_of (ten_eight 24) 0 (add 9) ≡ Err (of_command refusal.ServerKey))
+    × (outcome_of (run (ten_eight 24) ((0, add 1) ∷ [])) 0 (add 1) ≡ Err (of_command (refusal.KeyHeld 1)))
+    × (outcome_of (ten_eight 24) 100 (add_until 1 100) ≡ Err (of_command refusal.LeaseOver))
+    × (outcome_of (record (ten_eight 24) { capacity = 0 }) 0 (add 1) ≡ Err (of_command refusal.CapacityReached))
+    × (outcome_of (record (ten_eight 24) { next = 1000001 }) 0 (add 1) ≡ Err (of_command refusal.NumbersSpent))
+    × (outcome_of (ten_eight 24) 0 (add_at 1 (v4 10 8 0 255)) ≡ Err (of_command refusal.OutsidePool))
+    × (outcome_of (run (ten_eight 24) ((0, add 1) ∷ [])) 0 (add_at 2 (v4 10 8 0 2)) ≡ Err (of_command refusal.AddressHeld))
 refused = (refl, refl, refl, refl, refl, refl, refl)
 
 -- a lease that ends at 100 runs at 99; the next number is new, and the address is given again
@@ -107,13 +108,13 @@ two_routes = run (with_peers 24 (1 ∷ 2 ∷ [])) ((0, command.Route 2 (mask (v4
 
 -- the longest prefix that has the address owns it, and a prefix of the other family never does
 longest : (owner two_routes (v4 10 1 1 1) ≡ Some 2) × (owner two_routes (v4 1 1 1 1) ≡ Some 1) × (owner two_routes (v4 10 8 0 2) ≡ Some 1)
-    × (outcome_of two_routes 0 (command.Owner (record { family = V6; number = 0xfd00 * 2 ^ 112 + 1 })) ≡ Err refusal.NobodysAddress)
+    × (outcome_of two_routes 0 (command.Owner (record { family = V6; number = 0xfd00 * 2 ^ 112 + 1 })) ≡ Err (of_command refusal.NobodysAddress))
 longest = (refl, refl, refl, refl)
 
 -- neither a peer's nor the server's address becomes a route
-no_route : (outcome_of (with_peers 24 (1 ∷ 2 ∷ [])) 0 (command.Route 1 (mask (v4 10 8 0 3) 32)) ≡ Err refusal.IsAddress)
-    × (outcome_of (with_peers 24 (1 ∷ 2 ∷ [])) 0 (command.Route 1 (mask (v4 10 8 0 1) 32)) ≡ Err refusal.IsAddress)
-    × (outcome_of (with_peers 24 (1 ∷ [])) 0 (command.Unroute (mask (v4 10 8 0 2) 32)) ≡ Err refusal.NoSuchRoute)
+no_route : (outcome_of (with_peers 24 (1 ∷ 2 ∷ [])) 0 (command.Route 1 (mask (v4 10 8 0 3) 32)) ≡ Err (of_command refusal.IsAddress))
+    × (outcome_of (with_peers 24 (1 ∷ 2 ∷ [])) 0 (command.Route 1 (mask (v4 10 8 0 1) 32)) ≡ Err (of_command refusal.IsAddress))
+    × (outcome_of (with_peers 24 (1 ∷ [])) 0 (command.Unroute (mask (v4 10 8 0 2) 32)) ≡ Err (of_command refusal.NoSuchRoute))
 no_route = (refl, refl, refl)
 
 -- a peer may move to its own address, and where it names none its own is free
@@ -124,8 +125,8 @@ stays = (refl, refl)
 -- a named address may lie in a shorter route, but not be one
 into_a_route : (addresses (run (with_peers 24 (1 ∷ [])) ((0, command.Route 1 (mask (v4 10 8 0 4) 30)) ∷ (0, command.Move 1 (Some (v4 10 8 0 5))) ∷ [])).peers ≡ (1, v4 10 8 0 5) ∷ [])
     × (addresses (run (with_peers 24 (1 ∷ [])) ((0, command.Route 1 (mask (v4 10 8 0 4) 30)) ∷ (0, command.Move 1 (Some (v4 10 8 0 5))) ∷ (0, command.Move 1 None) ∷ [])).peers ≡ (1, v4 10 8 0 2) ∷ [])
-    × (outcome_of (run (with_peers 24 (1 ∷ [])) ((0, command.Route 1 (mask (v4 10 8 0 9) 32)) ∷ [])) 0 (command.Move 1 (Some (v4 10 8 0 9))) ≡ Err refusal.AddressHeld)
-    × (outcome_of (run (with_peers 30 (1 ∷ [])) ((0, command.Route 1 (mask (v4 10 8 0 2) 31)) ∷ [])) 0 (command.Move 1 None) ≡ Err refusal.PoolFull)
+    × (outcome_of (run (with_peers 24 (1 ∷ [])) ((0, command.Route 1 (mask (v4 10 8 0 9) 32)) ∷ [])) 0 (command.Move 1 (Some (v4 10 8 0 9))) ≡ Err (of_command refusal.AddressHeld))
+    × (outcome_of (run (with_peers 30 (1 ∷ [])) ((0, command.Route 1 (mask (v4 10 8 0 2) 31)) ∷ [])) 0 (command.Move 1 None) ≡ Err (of_command refusal.PoolFull))
 into_a_route = (refl, refl, refl, refl)
 
 abbrev leased : NetworkValue
@@ -133,8 +134,8 @@ leased = run (ten_eight 24) ((0, add_until 1 100) ∷ (50, command.Route 1 (mask
 
 -- a lease that is over owns nothing and isn't renewed; one that is renewed goes on
 leases_and_routes : (owner (live_at leased 99) (v4 172 16 0 1) ≡ Some 1)
-    × (outcome_of leased 100 (command.Owner (v4 172 16 0 1)) ≡ Err refusal.NobodysAddress)
-    × (outcome_of leased 100 (command.Renew 1 200) ≡ Err refusal.NoSuchPeer)
-    × (outcome_of leased 99 (command.Renew 1 99) ≡ Err refusal.LeaseOver)
+    × (outcome_of leased 100 (command.Owner (v4 172 16 0 1)) ≡ Err (of_command refusal.NobodysAddress))
+    × (outcome_of leased 100 (command.Renew 1 200) ≡ Err (of_command refusal.NoSuchPeer))
+    × (outcome_of leased 99 (command.Renew 1 99) ≡ Err (of_command refusal.LeaseOver))
     × (owner (live_at (run leased ((99, command.Renew 1 0) ∷ [])) 100) (v4 172 16 0 1) ≡ Some 1)
 leases_and_routes = (refl, refl, refl, refl, refl)

@@ -12,12 +12,13 @@ use Rattle.wgr_pool.specs.Allot.{is_assignable}
 use Rattle.wgr_peers.specs.Peers.{is_own, peer_of, same_key}
 use Rattle.wgr_peers.specs.Routes.{Routes, assign_route, route_of, ComesBefore, AreOrdered}
 use Rattle.wgr_core.specs.declared.command.Command.TheVariants as command
-use Rattle.wgr_core.specs.declared.refusal.LineRefusal.TheVariants as why
+use Rattle.wgr_core.specs.declared.refusal.Refusal.{Refusal}
 use Rattle.wgr_core.specs.declared.reply.Reply.{Reply}
 use Rattle.wgr_core.specs.declared.seen_peer.SeenPeer.{SeenPeer}
 use Rattle.wgr_core.specs.Network.{NetworkValue, IsNetwork, live_at}
 use Rattle.wgr_core.specs.Owner.{allowed, own_prefixes}
-use Rattle.wgr_core.specs.Adoption.{Adoption, unless_refused, is_one_address, named_address, line_place, peer_of_line, other_prefixes, adopt_line, adoption_order}
+use Rattle.wgr_core.specs.Adoption.{Adoption, is_one_address, named_address, peer_of_line, other_prefixes, adopt_line, adoption_order}
+use Rattle.wgr_core.specs.Refusals.{address_refusal, place, unless_refused}
 use Rattle.wgr_core.specs.Change.{assign_routes}
 use Rattle.wgr_core.specs.Outcome.{AreLinesAsked}
 use Rattle.wgr_laws.specs.AdoptionLaws.{adopt_at}
@@ -205,7 +206,7 @@ module _ (s : Adoption) (line : SeenPeer) (a : AddrValue) where
       back p h = route_after p ∙ ap (λ b. cond b (Some s.network.next) (route_of s.network.routes p)) (off p h) ∙ (has.routes p).1 h
 
   -- and the line has its own
-  line_joins : ((p : PrefixValue) (i : ℕ) → route_of s.network.routes p ≡ Some i → i < s.network.next) → line_place s.network (named_address s.network.pool line.allowed) ≡ Ok a → HasLine after line (peer_of_line s.network line a)
+  line_joins : ((p : PrefixValue) (i : ℕ) → route_of s.network.routes p ≡ Some i → i < s.network.next) → place s.network s.network.pool (named_address s.network.pool line.allowed) ≡ Ok a → HasLine after line (peer_of_line s.network line a)
   line_joins below placed = record {
     stands = Contains-push s.network.peers (peer_of_line s.network line a);
     key = refl;
@@ -217,13 +218,13 @@ module _ (s : Adoption) (line : SeenPeer) (a : AddrValue) where
     routes = λ p. (there p, back p);
   }
     where
-      by_test : (b : AddrValue) (held : Bool) → unless_refused (cond held (Some why.AddressHeld) None) b ≡ Ok a → b ≡ a
-      by_test b true h = cc
-      by_test b false h = cc
+      by_test : (b : AddrValue) (why : Option Refusal) → unless_refused why b ≡ Ok a → b ≡ a
+      by_test b (Some why) h = cc
+      by_test b None h = cc
 
-      by_name : (o : Option AddrValue) → line_place s.network o ≡ Ok a → (o ≡ Some a) ⊎ (o ≡ None)
+      by_name : (o : Option AddrValue) → place s.network s.network.pool o ≡ Ok a → (o ≡ Some a) ⊎ (o ≡ None)
       by_name None h = inr refl
-      by_name (Some b) h = inl (ap (λ x. Some x) (by_test b (is_own s.network.peers b || is_some (route_of s.network.routes (full b))) h))
+      by_name (Some b) h = inl (ap (λ x. Some x) (by_test b (address_refusal s.network s.network.pool b) h))
 
       there : (p : PrefixValue) → route_of after.routes p ≡ Some s.network.next → has_prefix others p ≡ true
       there p h = elim (given_from (has_prefix others p) s.network.next s.network.next (route_of s.network.routes p) (sym (route_after p) ∙ h)) [

@@ -12,7 +12,8 @@ use Rattle.wgr_peers.specs.Peers.{peer_of, put_peer}
 use Rattle.wgr_peers.specs.Routes.{Routes, assign_route, route_of, without_route}
 use Rattle.wgr_core.specs.Network.{NetworkValue, IsNetwork, is_among, live_at, without_peers}
 use Rattle.wgr_core.specs.Owner.{owner_of}
-use Rattle.wgr_core.specs.Outcome.{join_refusal, place, vacated, lease_refusal, route_refusal, adopt, live_outcome, is_reading, outcome_of}
+use Rattle.wgr_core.specs.Outcome.{vacated, lease_refusal, adopt, live_outcome, is_reading, outcome_of}
+use Rattle.wgr_core.specs.Refusals.{join_refusal, place, route_refusal}
 use Rattle.wgr_laws.specs.Laws.{HasSettingsOf, is_on, is_on_route}
 use Rattle.wgr_core.proofs.KeptLemmas.{kept_stands}
 use Rattle.wgr_core.proofs.LiveLemmas.{live_is_network}
@@ -89,7 +90,7 @@ framed : (n : NetworkValue) (now : ℕ) (asked : Command) → IsNetwork n → If
 framed n now (command.Add key label wanted until keepalive) is =
     let asked = command.Add key label wanted until keepalive in
     unless_if (IsFramed n asked) (join_refusal n now key until) _ (λ admitted.
-    place_if (IsFramed n asked) (place n wanted) _ (λ a placed.
+    place_if (IsFramed n asked) (place n n.pool wanted) _ (λ a placed.
     record {
       settings = record { pool = refl; host = refl; port = refl; server = refl; capacity = refl };
       peers = λ i l off. appended_others n.peers (record { number = n.next; key = key; label = label; address = a; until = until; keepalive = keepalive; status = None }) i l;
@@ -98,7 +99,7 @@ framed n now (command.Add key label wanted until keepalive) is =
 framed n now (command.Move number wanted) is =
     let asked = command.Move number wanted in
     stands_if (IsFramed n asked) (peer_of n.peers number) _ (λ p found.
-    place_if (IsFramed n asked) (place (vacated n (Some number)) wanted) _ (λ a placed. put_framed n asked _ (record p { address = a }) (at_number n number p found)))
+    place_if (IsFramed n asked) (place (vacated n (Some number)) n.pool wanted) _ (λ a placed. put_framed n asked _ (record p { address = a }) (at_number n number p found)))
 framed n now (command.Revoke number) is = stands_if (IsFramed n (command.Revoke number)) (peer_of n.peers number) _ (λ p found. revoked_framed n number _ is)
 framed n now (command.Route number prefix) is =
     let asked = command.Route number prefix in

@@ -24,12 +24,12 @@ first_below f passes start (suc count) a k h from below = step (passes (record {
       | inr here ↦ let same : start ≡ k = omega (arith, here, from) in subst (λ k. passes (record { family = f; number = k }) ≡ false) same is
     ]
 
-pub lowest_is_least : (n : NetworkValue) (a : AddrValue) (k : ℕ) → lowest_free n ≡ Some a → n.pool.address.number ≤ k → k < a.number
-    → is_assignable n.pool (record n.pool.address { number = k }) ≡ true → is_held n (record n.pool.address { number = k }) ≡ true
+pub lowest_is_least : (n : NetworkValue) (a : AddrValue) (k : ℕ) → lowest_free n n.pool ≡ Some a → n.pool.address.number ≤ k → k < a.number
+    → is_assignable n.pool (record n.pool.address { number = k }) ≡ true → is_held n n.pool (record n.pool.address { number = k }) ≡ true
 lowest_is_least n a k h from below given =
     let b : AddrValue = record n.pool.address { number = k } in
-    let fails = first_below n.pool.address.family (λ a. is_assignable n.pool a && not (is_held n a)) n.pool.address.number (block n.pool.address.family n.pool.length) a k h from below in
-    not_false (is_held n b) (and_false (is_assignable n.pool b) (not (is_held n b)) given fails)
+    let fails = first_below n.pool.address.family (λ a. is_assignable n.pool a && not (is_held n n.pool a)) n.pool.address.number (block n.pool.address.family n.pool.length) a k h from below in
+    not_false (is_held n n.pool b) (and_false (is_assignable n.pool b) (not (is_held n n.pool b)) given fails)
 
 -- where none is found, none of them passes
 none_passes : (f : Family) (passes : AddrValue → Bool) (start count k : ℕ) → first_from f passes start count ≡ None → start ≤ k → k < start + count → passes (record { family = f; number = k }) ≡ false
@@ -44,13 +44,13 @@ none_passes f passes start (suc count) k h from below = step (passes (record { f
       | inr here ↦ let same : start ≡ k = omega (arith, here, from) in subst (λ k. passes (record { family = f; number = k }) ≡ false) same is
     ]
 
-pub none_is_full : (n : NetworkValue) (a : AddrValue) → lowest_free n ≡ None → is_assignable n.pool a ≡ true → is_held n a ≡ true
+pub none_is_full : (n : NetworkValue) (a : AddrValue) → lowest_free n n.pool ≡ None → is_assignable n.pool a ≡ true → is_held n n.pool a ≡ true
 none_is_full n a none given =
     let pool = n.pool in
     let same : same_family pool.address.family a.family ≡ true = grind arith in
     let low : pool.address.number + 2 ≤ a.number = grind (arith, nat_tests) in
     let high : a.number < pool.address.number + block pool.address.family pool.length - reserved pool.address.family = grind (arith, nat_tests) in
     let is : record { family = pool.address.family; number = a.number } ≡ a = ap (λ f. record { family = f; number = a.number }) (same_family_is pool.address.family a.family same) in
-    let fails = subst (λ (b : AddrValue). (is_assignable pool b && not (is_held n b)) ≡ false) is
-    (none_passes pool.address.family (λ b. is_assignable pool b && not (is_held n b)) pool.address.number (block pool.address.family pool.length) a.number none (omega (arith, low)) (omega (arith, high))) in
-    not_false (is_held n a) (and_false (is_assignable pool a) (not (is_held n a)) given fails)
+    let fails = subst (λ (b : AddrValue). (is_assignable pool b && not (is_held n n.pool b)) ≡ false) is
+    (none_passes pool.address.family (λ b. is_assignable pool b && not (is_held n n.pool b)) pool.address.number (block pool.address.family pool.length) a.number none (omega (arith, low)) (omega (arith, high))) in
+    not_false (is_held n n.pool a) (and_false (is_assignable pool a) (not (is_held n n.pool a)) given fails)

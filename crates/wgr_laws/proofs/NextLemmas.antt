@@ -17,7 +17,8 @@ use Rattle.wgr_peers.specs.Peers.{is_live, peer_of}
 use Rattle.wgr_peers.specs.Routes.{route_of}
 use Rattle.wgr_core.specs.Network.{NetworkValue, IsNetwork, is_among, live_at, without_peers}
 use Rattle.wgr_core.specs.Owner.{allowed, owner_of, own_prefixes}
-use Rattle.wgr_core.specs.Outcome.{join_refusal, place, vacated, lease_refusal, route_refusal, view_of, live_outcome, is_reading, outcome_of}
+use Rattle.wgr_core.specs.Outcome.{vacated, lease_refusal, peer_view, live_outcome, is_reading, outcome_of}
+use Rattle.wgr_core.specs.Refusals.{join_refusal, joining_of, place, route_refusal}
 use Rattle.wgr_laws.specs.Laws.{ShowsLive}
 use Rattle.wgr_pool.proofs.Bools.{decide, not_true}
 use Rattle.wgr_peers.proofs.TableLemmas.{peer_absent}
@@ -28,7 +29,7 @@ use Rattle.wgr_peers.proofs.PeerLemmas.{peer_is}
 use Rattle.wgr_core.proofs.LookLemmas.{absent_kept}
 use Rattle.wgr_laws.proofs.MatchLemmas.{owner_has_longest}
 use Rattle.wgr_core.proofs.OutcomeCases.{unless_if, place_if, stands_if, routed_if, owner_if, kept_if_reading}
-use Rattle.wgr_core.proofs.OutcomeLemmas.{is_admitted}
+use Rattle.wgr_core.proofs.JoinLemmas.{is_admitted}
 use Rattle.wgr_laws.proofs.NextSteps.{AllLive, IsNext, joined_next, replaced_next, same_key_at, unmoved}
 use Rattle.wgr_laws.proofs.AdoptNext.{adopt_next}
 
@@ -82,11 +83,11 @@ runs_on now until h = by_test (is_expired now until) h
 pub live_outcome_next : (n : NetworkValue) (now : ℕ) (asked : Command) → IsNetwork n → AllLive now n.peers → IfOk (live_outcome n now asked) (IsNext n now)
 live_outcome_next n now (command.Add key label wanted until keepalive) is live =
     unless_if (IsNext n now) (join_refusal n now key until) _ (λ admitted.
-    place_if (IsNext n now) (place n wanted) _ (λ a placed.
-    joined_next n now (record { number = n.next; key = key; label = label; address = a; until = until; keepalive = keepalive; status = None }) live refl (ap not (is_admitted n now key until admitted).runs)))
+    place_if (IsNext n now) (place n n.pool wanted) _ (λ a placed.
+    joined_next n now (record { number = n.next; key = key; label = label; address = a; until = until; keepalive = keepalive; status = None }) live refl (ap not (is_admitted (joining_of n key) now key until admitted).runs)))
 live_outcome_next n now (command.Move number wanted) is live =
     stands_if (IsNext n now) (peer_of n.peers number) _ (λ p found.
-    place_if (IsNext n now) (place (vacated n (Some number)) wanted) _ (λ a placed.
+    place_if (IsNext n now) (place (vacated n (Some number)) n.pool wanted) _ (λ a placed.
     let here = peer_is (λ p. is_live now p ≡ true) n.peers number p live found in
     replaced_next n now p (record p { address = a }) live (ap (peer_of n.peers) here.1 ∙ found) refl here.0))
 live_outcome_next n now (command.Revoke number) is live = stands_if (IsNext n now) (peer_of n.peers number) _ (λ p found. revoked_next n now number p live found)
@@ -101,7 +102,7 @@ live_outcome_next n now (command.Renew number until) is live =
     let here = peer_is (λ p. is_live now p ≡ true) n.peers number p live found in
     replaced_next n now p (record p { until = until }) live (ap (peer_of n.peers) here.1 ∙ found) refl (ap not (runs_on now until allowed))))
 live_outcome_next n now (command.Adopt server lines) is live = adopt_next n now server lines is live
-live_outcome_next n now command.List is live = unmoved n now _ live refl refl (All-map (λ view. is_live now view.peer ≡ true) (view_of n.routes) n.peers live)
+live_outcome_next n now command.List is live = unmoved n now _ live refl refl (All-map (λ view. is_live now view.peer ≡ true) (peer_view n.routes) n.peers live)
 live_outcome_next n now (command.Owner address) is live = owner_if (IsNext n now) n (owner_of n address) (λ number found. unmoved n now _ live refl refl (owner_stands n address number is found))
 live_outcome_next n now (command.ServerFile form) is live = unmoved n now _ live refl refl tt
 live_outcome_next n now (command.PeerFile number form) is live = stands_if (IsNext n now) (peer_of n.peers number) _ (λ p found. unmoved n now _ live refl refl (ap is_some found))

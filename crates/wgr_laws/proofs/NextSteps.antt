@@ -8,7 +8,7 @@ use Rattle.wgr_core.specs.declared.reply.Reply.{Reply}
 use Rattle.wgr_core.specs.declared.reply.Reply.TheVariants as reply
 use Rattle.wgr_peers.specs.Peers.{is_live, peer_of, put_peer}
 use Rattle.wgr_core.specs.Network.{NetworkValue, IsNetwork, IsMember}
-use Rattle.wgr_core.specs.Outcome.{view_of}
+use Rattle.wgr_core.specs.Outcome.{peer_view}
 use Rattle.wgr_laws.specs.Laws.{ShowsLive}
 use Rattle.wgr_pool.proofs.Bools.{decide}
 use Rattle.wgr_pool.proofs.PrefixLemmas.{nat_eq_is}
@@ -64,7 +64,7 @@ appended_found (e ∷ peers) p q i found = elim (decide (nat_eq e.number i)) [
 ]
 
 pub joined_next : (n : NetworkValue) (now : ℕ) (p : Peer) → AllLive now n.peers → p.number ≡ n.next → is_live now p ≡ true
-    → IsNext n now (reply.Peer (view_of n.routes p), record n { next = n.next + 1; peers = n.peers ++ p ∷ [] })
+    → IsNext n now (reply.Peer (peer_view n.routes p), record n { next = n.next + 1; peers = n.peers ++ p ∷ [] })
 joined_next n now p live number lives = record {
   next = omega arith;
   absent = λ i l none. appended_absent n.peers p i none (above i p.number (omega (arith, l, number)));
@@ -77,7 +77,7 @@ joined_next n now p live number lives = record {
     above i m l = grind (arith, nat_tests)
 
 -- a peer in the place of one of the same key and number
-pub replaced_next : (n : NetworkValue) (now : ℕ) (p q : Peer) → AllLive now n.peers → peer_of n.peers q.number ≡ Some p → q.key ≡ p.key → is_live now q ≡ true → IsNext n now (reply.Peer (view_of n.routes q), record n { peers = put_peer n.peers q })
+pub replaced_next : (n : NetworkValue) (now : ℕ) (p q : Peer) → AllLive now n.peers → peer_of n.peers q.number ≡ Some p → q.key ≡ p.key → is_live now q ≡ true → IsNext n now (reply.Peer (peer_view n.routes q), record n { peers = put_peer n.peers q })
 replaced_next n now p q live stands key lives = record {
   next = omega arith;
   absent = λ i l none. put_others n.peers q i (elsewhere i none) ∙ none;

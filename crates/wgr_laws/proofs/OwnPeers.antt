@@ -7,7 +7,6 @@ use Rattle.wgr_peers.specs.declared.peer.Peer.{Peer}
 use Rattle.wgr_core.specs.declared.command.Command.{Command}
 use Rattle.wgr_core.specs.declared.command.Command.TheVariants as command
 use Rattle.wgr_core.specs.declared.refusal.Refusal.{Refusal}
-use Rattle.wgr_core.specs.declared.refusal.LineRefusal.{LineRefusal}
 use Rattle.wgr_core.specs.declared.reply.PeerView.{PeerView}
 use Rattle.wgr_core.specs.declared.reply.Reply.{Reply}
 use Rattle.wgr_core.specs.declared.reply.Reply.TheVariants as reply
@@ -16,7 +15,8 @@ use Rattle.wgr_peers.specs.Routes.{assign_route, route_of, routes_to, without_ro
 use Rattle.wgr_core.specs.Adoption.{Adoption, adoption_of}
 use Rattle.wgr_core.specs.Network.{NetworkValue, IsNetwork, IsMember, live_at}
 use Rattle.wgr_core.specs.Owner.{owner_of}
-use Rattle.wgr_core.specs.Outcome.{address_refusal, adopted, is_reading, join_refusal, lease_refusal, live_outcome, outcome_of, place, route_refusal, server_refusal, address_unless, vacated, view_of}
+use Rattle.wgr_core.specs.Outcome.{adopted, is_reading, lease_refusal, live_outcome, outcome_of, server_refusal, vacated, peer_view}
+use Rattle.wgr_core.specs.Refusals.{address_refusal, join_refusal, place, route_refusal, unless_refused}
 use Rattle.wgr_peers.proofs.PeerLemmas.{peer_is}
 use Rattle.wgr_core.proofs.CommandLemmas.{put_peer_above}
 use Rattle.wgr_core.proofs.LiveLemmas.{live_is_network}
@@ -40,11 +40,11 @@ put_at : (peers : List Peer) (number : ℕ) (p q : Peer) → peer_of peers numbe
 put_at peers number p q found same = subst (λ (i : ℕ). peer_of (put_peer peers q) i ≡ Some q) (same ∙ number_is peers number p found) (put_stands_there peers q)
 
 -- a named address is the one that is taken
-as_named : (n : NetworkValue) (wanted : Option AddrValue) (a : AddrValue) → place n wanted ≡ Ok a → IfSome wanted (λ b. a ≡ b)
+as_named : (n : NetworkValue) (wanted : Option AddrValue) (a : AddrValue) → place n n.pool wanted ≡ Ok a → IfSome wanted (λ b. a ≡ b)
 as_named n None a placed = tt
-as_named n (Some b) a placed = named (address_refusal n b) placed
+as_named n (Some b) a placed = named (address_refusal n n.pool b) placed
   where
-    named : (why : Option Refusal) → address_unless b why ≡ Ok a → a ≡ b
+    named : (why : Option Refusal) → unless_refused why b ≡ Ok a → a ≡ b
     named None is = cc
     named (Some why) is = cc
 
@@ -63,7 +63,7 @@ added_as_asked n now key label wanted until keepalive is =
     let P = λ (done : Reply × NetworkValue). (a : AddrValue) × IfSome wanted (λ b. a ≡ b) × (peer_of done.1.peers n.next ≡ Some (record { number = n.next; key = key; label = label; address = a; until = until; keepalive = keepalive; status = None })) in
     changed_if P n now (command.Add key label wanted until keepalive) refl
     (unless_if P (join_refusal live now key until) _ (λ admitted.
-    place_if P (place live wanted) _ (λ a placed.
+    place_if P (place live live.pool wanted) _ (λ a placed.
     (a, as_named live wanted a placed, appended_stands live (record { number = n.next; key = key; label = label; address = a; until = until; keepalive = keepalive; status = None }) (live_is_network n now is) refl))))
 
 pub added_counts : AddedCounts
@@ -71,7 +71,7 @@ added_counts n now key label wanted until keepalive =
     let live = live_at n now in
     let P = λ (done : Reply × NetworkValue). done.1.next ≡ n.next + 1 in
     changed_if P n now (command.Add key label wanted until keepalive) refl
-    (unless_if P (join_refusal live now key until) _ (λ admitted. place_if P (place live wanted) _ (λ a placed. refl)))
+    (unless_if P (join_refusal live now key until) _ (λ admitted. place_if P (place live live.pool wanted) _ (λ a placed. refl)))
 
 pub moved_alone : MovedAlone
 moved_alone n now number wanted p stands =
@@ -79,7 +79,7 @@ moved_alone n now number wanted p stands =
     let P = λ (done : Reply × NetworkValue). (a : AddrValue) × IfSome wanted (λ b. a ≡ b) × (peer_of done.1.peers number ≡ Some (record p { address = a })) in
     changed_if P n now (command.Move number wanted) refl
     (stands_if P (peer_of live.peers number) _ (λ q found.
-    place_if P (place (vacated live (Some number)) wanted) _ (λ a placed.
+    place_if P (place (vacated live (Some number)) live.pool wanted) _ (λ a placed.
     let same = one_peer (sym found ∙ stands) in
     (a, as_named (vacated live (Some number)) wanted a placed, put_at live.peers number q (record q { address = a }) found refl ∙ ap (λ (e : Peer). Some (record e { address = a })) same))))
 
@@ -96,8 +96,8 @@ pub routes_stay : RoutesStay
 routes_stay n now number until keepalive key label wanted =
     let live = live_at n now in
     let P = λ (done : Reply × NetworkValue). done.1.routes ≡ live.routes in (
-      changed_if P n now (command.Add key label wanted until keepalive) refl (unless_if P (join_refusal live now key until) _ (λ admitted. place_if P (place live wanted) _ (λ a placed. refl))),
-      changed_if P n now (command.Move number wanted) refl (stands_if P (peer_of live.peers number) _ (λ p found. place_if P (place (vacated live (Some number)) wanted) _ (λ a placed. refl))),
+      changed_if P n now (command.Add key label wanted until keepalive) refl (unless_if P (join_refusal live now key until) _ (λ admitted. place_if P (place live live.pool wanted) _ (λ a placed. refl))),
+      changed_if P n now (command.Move number wanted) refl (stands_if P (peer_of live.peers number) _ (λ p found. place_if P (place (vacated live (Some number)) live.pool wanted) _ (λ a placed. refl))),
       changed_if P n now (command.Renew number until) refl (stands_if P (peer_of live.peers number) _ (λ p found. unless_if P (lease_refusal now until) _ (λ allowed. refl))),
     )
 
@@ -106,28 +106,28 @@ routes_stay n now number until keepalive key label wanted =
 abbrev Shows : PeerView → Reply × NetworkValue → Type 0
 Shows v done = done.0 ≡ reply.Peer v → (peer_of done.1.peers v.peer.number ≡ Some v.peer) × (v.routes ≡ routes_to done.1.routes v.peer.number)
 
-shows : (v : PeerView) (n : NetworkValue) (p : Peer) → peer_of n.peers p.number ≡ Some p → Shows v (reply.Peer (view_of n.routes p), n)
+shows : (v : PeerView) (n : NetworkValue) (p : Peer) → peer_of n.peers p.number ≡ Some p → Shows v (reply.Peer (peer_view n.routes p), n)
 shows v n p stands = λ is.
-    let same : view_of n.routes p ≡ v = cc in
+    let same : peer_view n.routes p ≡ v = cc in
     subst (λ (v : PeerView). (peer_of n.peers v.peer.number ≡ Some v.peer) × (v.routes ≡ routes_to n.routes v.peer.number)) same (stands, refl)
 
 -- a peer that is found stands at its own number
 stands_at : (peers : List Peer) (number : ℕ) (p : Peer) → peer_of peers number ≡ Some p → peer_of peers p.number ≡ Some p
 stands_at peers number p found = subst (λ (i : ℕ). peer_of peers i ≡ Some p) (sym (number_is peers number p found)) found
 
-adoption_shows : (v : PeerView) (r : Result Adoption (ℕ × LineRefusal)) → IfOk (adopted r) (Shows v)
+adoption_shows : (v : PeerView) (r : Result Adoption (ℕ × Refusal)) → IfOk (adopted r) (Shows v)
 adoption_shows v (Err e) = tt
 adoption_shows v (Ok s) = λ is. cc
 
 shows_live : (v : PeerView) (n : NetworkValue) (now : ℕ) (asked : Command) → IsNetwork n → is_reading asked ≡ false → IfOk (live_outcome n now asked) (Shows v)
 shows_live v n now (command.Add key label wanted until keepalive) is changes =
     unless_if (Shows v) (join_refusal n now key until) _ (λ admitted.
-    place_if (Shows v) (place n wanted) _ (λ a placed.
+    place_if (Shows v) (place n n.pool wanted) _ (λ a placed.
     let p : Peer = record { number = n.next; key = key; label = label; address = a; until = until; keepalive = keepalive; status = None } in
     shows v (record n { next = n.next + 1; peers = n.peers ++ p ∷ [] }) p (appended_stands n p is refl)))
 shows_live v n now (command.Move number wanted) is changes =
     stands_if (Shows v) (peer_of n.peers number) _ (λ p found.
-    place_if (Shows v) (place (vacated n (Some number)) wanted) _ (λ a placed.
+    place_if (Shows v) (place (vacated n (Some number)) n.pool wanted) _ (λ a placed.
     shows v (record n { peers = put_peer n.peers (record p { address = a }) }) (record p { address = a }) (put_stands_there n.peers (record p { address = a }))))
 shows_live v n now (command.Revoke number) is changes = stands_if (Shows v) (peer_of n.peers number) _ (λ p found. λ is. cc)
 shows_live v n now (command.Route number prefix) is changes =

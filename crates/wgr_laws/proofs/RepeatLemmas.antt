@@ -15,7 +15,7 @@ use Rattle.wgr_peers.specs.declared.peer.Status.{Status}
 use Rattle.wgr_pool.specs.PrefixTests.{is_before, same_prefix}
 use Rattle.wgr_peers.specs.Peers.{is_live, peer_of, put_peer, same_key, AreNumbered, IsNumberedBelow}
 use Rattle.wgr_peers.specs.Routes.{Routes, assign_route}
-use Rattle.wgr_core.specs.declared.refusal.LineRefusal.{LineRefusal}
+use Rattle.wgr_core.specs.declared.refusal.Refusal.{Refusal}
 use Rattle.wgr_core.specs.declared.refusal.Refusal.TheVariants.{WrongServer}
 use Rattle.wgr_core.specs.declared.reply.Reply.{Reply}
 use Rattle.wgr_core.specs.declared.reply.Reply.TheVariants as reply
@@ -220,7 +220,7 @@ again s (l ∷ more) numbered keys held =
     (map_pairs (shown l.1) IsNumberedBelow s.network.peers numbered) (map_pairs (shown l.1) DifferInKey s.network.peers keys)
     (λ k d h. list_any-map (λ (p : Peer). same_key p.key (get_or more k d).1.key) (shown l.1) s.network.peers ∙ All-tail (λ (e : ℕ × SeenPeer). is_keyed s.network.peers e.1.key ≡ true) l more held k d h))
   where
-    after : List Peer → ℕ → Result Adoption (ℕ × LineRefusal)
+    after : List Peer → ℕ → Result Adoption (ℕ × Refusal)
     after ps k = Ok (record s { network = record s.network { peers = ps }; known = k })
 
     count : (k m : ℕ) → k + 1 + m ≡ k + suc m
@@ -279,7 +279,7 @@ where_adopted Q n now server lines is holds =
     kept_if_reading Q n false (adopt (live_at n now) server lines) (λ reads. cc) (λ changes.
     unless_if Q (server_refusal (live_at n now) server) _ (λ allowed. by_result (adoption_of (live_at n now) lines) (adopted_all n now lines is) allowed))
   where
-    by_result : (r : Result Adoption (ℕ × LineRefusal)) → IfOk r (IsAdopted (live_at n now) now (adoption_order n.pool lines)) → server_refusal (live_at n now) server ≡ None → IfOk (adopted r) Q
+    by_result : (r : Result Adoption (ℕ × Refusal)) → IfOk r (IsAdopted (live_at n now) now (adoption_order n.pool lines)) → server_refusal (live_at n now) server ≡ None → IfOk (adopted r) Q
     by_result (Err e) kept allowed = tt
     by_result (Ok s) kept allowed = holds s kept allowed
 

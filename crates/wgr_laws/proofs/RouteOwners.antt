@@ -12,7 +12,8 @@ use Rattle.wgr_peers.specs.Peers.{peer_of}
 use Rattle.wgr_peers.specs.Routes.{Routes, assign_route, route_of, without_route}
 use Rattle.wgr_core.specs.Network.{NetworkValue, IsNetwork, live_at}
 use Rattle.wgr_core.specs.Owner.{allowed, longer, longest_match, owner_of, own_prefixes}
-use Rattle.wgr_core.specs.Outcome.{route_refusal, route, unroute, outcome_of, IsAsked}
+use Rattle.wgr_core.specs.Outcome.{route, unroute, outcome_of, IsAsked}
+use Rattle.wgr_core.specs.Refusals.{route_refusal}
 use Rattle.wgr_laws.specs.Laws.{IsLongestMatch}
 use Rattle.wgr_pool.proofs.Bools.{decide}
 use Rattle.wgr_pool.proofs.Bridge.{has_iff}

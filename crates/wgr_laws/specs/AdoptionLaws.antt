@@ -7,7 +7,7 @@ use Rattle.wgr_peers.specs.declared.peer.Peer.{Peer}
 use Rattle.wgr_peers.specs.declared.peer.Status.{Status}
 use Rattle.wgr_core.specs.declared.command.Command.TheVariants as command
 use Rattle.wgr_core.specs.declared.refusal.Refusal.TheVariants as refusal
-use Rattle.wgr_core.specs.declared.refusal.LineRefusal.{LineRefusal}
+use Rattle.wgr_core.specs.declared.refusal.Refusal.{Refusal}
 use Rattle.wgr_core.specs.declared.reply.Reply.{Reply}
 use Rattle.wgr_core.specs.declared.reply.Reply.TheVariants as reply
 use Rattle.wgr_core.specs.declared.seen_peer.SeenPeer.{SeenPeer}
@@ -15,6 +15,7 @@ use Rattle.wgr_peers.specs.Peers.{key_holder, peer_of, same_key}
 use Rattle.wgr_peers.specs.Routes.{route_of}
 use Rattle.wgr_core.specs.Network.{NetworkValue, IsNetwork, live_at}
 use Rattle.wgr_core.specs.Outcome.{Outcome, outcome_of}
+use Rattle.wgr_core.specs.Refusals.{of_command, of_line}
 use Rattle.wgr_laws.specs.Laws.{is_on_route}
 
 abbrev pub adopt_at : NetworkValue → ℕ → Option Key → List SeenPeer → Outcome
@@ -74,8 +75,8 @@ IsOtherServer n server = (key : Key) × (server ≡ Some key) × (same_key key n
 -- a refusal is that of another interface, or has the number of a line, counted from the interface's as 1
 abbrev pub AdoptRefusals : Type 0
 AdoptRefusals = (n : NetworkValue) (now : ℕ) (server : Option Key) (lines : List SeenPeer)
-    → IfErr (adopt_at n now server lines) (λ why. ((why ≡ refusal.WrongServer) × IsOtherServer n server) ⊎ ((number : ℕ) × (what : LineRefusal) × (why ≡ refusal.InLine number what) × (2 ≤ number) × (number ≤ length lines + 1)))
+    → IfErr (adopt_at n now server lines) (λ why. ((why ≡ of_command refusal.WrongServer) × IsOtherServer n server) ⊎ ((number : ℕ) × (what : Refusal) × (why ≡ of_line number what) × (2 ≤ number) × (number ≤ length lines + 1)))
 
 -- and another interface is refused, whatever its lines are
 abbrev pub OtherServersAreRefused : Type 0
-OtherServersAreRefused = (n : NetworkValue) (now : ℕ) (server : Option Key) (lines : List SeenPeer) → IsOtherServer n server → adopt_at n now server lines ≡ Err refusal.WrongServer
+OtherServersAreRefused = (n : NetworkValue) (now : ℕ) (server : Option Key) (lines : List SeenPeer) → IsOtherServer n server → adopt_at n now server lines ≡ Err (of_command refusal.WrongServer)

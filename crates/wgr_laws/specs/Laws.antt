@@ -45,16 +45,16 @@ CommandsKeepTheForms = (n : NetworkValue) (now : ℕ) (asked : Command) → IsNe
 
 -- the lowest free address may be given and isn't held
 abbrev pub LowestIsFree : Type 0
-LowestIsFree = (n : NetworkValue) (a : AddrValue) → lowest_free n ≡ Some a → (is_assignable n.pool a ≡ true) × (is_held n a ≡ false)
+LowestIsFree = (n : NetworkValue) (a : AddrValue) → lowest_free n n.pool ≡ Some a → (is_assignable n.pool a ≡ true) × (is_held n n.pool a ≡ false)
 
 -- no address of the pool below it is free
 abbrev pub LowestIsLeast : Type 0
-LowestIsLeast = (n : NetworkValue) (a : AddrValue) → lowest_free n ≡ Some a
-    → (k : ℕ) → n.pool.address.number ≤ k → k < a.number → is_assignable n.pool (record n.pool.address { number = k }) ≡ true → is_held n (record n.pool.address { number = k }) ≡ true
+LowestIsLeast = (n : NetworkValue) (a : AddrValue) → lowest_free n n.pool ≡ Some a
+    → (k : ℕ) → n.pool.address.number ≤ k → k < a.number → is_assignable n.pool (record n.pool.address { number = k }) ≡ true → is_held n n.pool (record n.pool.address { number = k }) ≡ true
 
 -- where there is none, each address that the pool may give is held
 abbrev pub NoneIsFull : Type 0
-NoneIsFull = (n : NetworkValue) (a : AddrValue) → lowest_free n ≡ None → is_assignable n.pool a ≡ true → is_held n a ≡ true
+NoneIsFull = (n : NetworkValue) (a : AddrValue) → lowest_free n n.pool ≡ None → is_assignable n.pool a ≡ true → is_held n n.pool a ≡ true
 
 -- ---- owner
 

@@ -4,12 +4,12 @@ use Rattle.std.specs.Prelude.{if◌then◌else◌}
 use Rattle.wgr_core.specs.Network.{NetworkValue}
 use Rattle.wgr_core.specs.declared.command.Command.{Command}
 use Rattle.wgr_core.specs.declared.reply.Reply.{Reply}
-use Rattle.wgr_model.specs.Consistent.{IsHolding, same_slot, slot}
+use Rattle.wgr_model.specs.Consistent.{IsNetworkEntry, same_slot, slot}
 use Rattle.wgr_model.specs.Laws.{Has}
-use Rattle.wgr_model.specs.Register.{Bytes, Holding, IsSame, is_same}
+use Rattle.wgr_model.specs.Register.{Bytes, NetworkEntry, IsSame, is_same}
 use Rattle.wgr_model.specs.RowAsks.{ChangesReplaceRows, NetworksAreFound, ReadingsLeaveRows, RefusalsLeaveRows}
 use Rattle.wgr_model.specs.RowLaws.{AreConsistent, IsRowStep}
-use Rattle.wgr_model.specs.Rows.{AreRowsOf, NetworkRow, Tables, holding_of, register_of}
+use Rattle.wgr_model.specs.Rows.{AreRowsOf, NetworkRow, Tables, network_entry_of, register_of}
 use Rattle.wgr_model.specs.Steps.{Ask, Replied, act, acted, ask, asked, network_at, outcome, put_network, tenant_of_token, with_network}
 use Rattle.wgr_model.proofs.CollectLemmas.{has_map}
 use Rattle.wgr_model.proofs.CommitLemmas.{committed}
@@ -20,7 +20,7 @@ use Rattle.wgr_model.proofs.RunLemmas.{same_itself}
 use Rattle.wgr_model.proofs.SameLemmas.{at_has, has_find, network_found, slot_tells}
 
 -- a network that is put in its own place
-put_itself : (hs : List Holding) (id : ℕ) (name : Bytes) (n : NetworkValue) → network_at hs id name ≡ Some n → with_network hs id name n ≡ hs
+put_itself : (hs : List NetworkEntry) (id : ℕ) (name : Bytes) (n : NetworkValue) → network_at hs id name ≡ Some n → with_network hs id name n ≡ hs
 put_itself [] id name n e = refl
 put_itself (h ∷ hs) id name n e = by_test (nat_eq h.tenant id && is_same name h.name) e (put_itself hs id name n) where
   by_test : (b : Bool) → (if b then Some h.network else network_at hs id name) ≡ Some n → (network_at hs id name ≡ Some n → with_network hs id name n ≡ hs) → (if b then record h { network = n } ∷ hs else h ∷ with_network hs id name n) ≡ h ∷ hs
@@ -28,23 +28,23 @@ put_itself (h ∷ hs) id name n e = by_test (nat_eq h.tenant id && is_same name 
   by_test false g rest = ap (λ xs. h ∷ xs) (rest g)
 
 module _ (t : Tables) (is : AreConsistent t) (w : NetworkRow) (there : Has t.networks w) where
-  held : Holding
-  held = holding_of t w
+  held : NetworkEntry
+  held = network_entry_of t w
 
-  pub found : network_at (register_of t).networks w.tenant w.name ≡ Some (holding_of t w).network
+  pub found : network_at (register_of t).networks w.tenant w.name ≡ Some (network_entry_of t w).network
   found = network_found (register_of t).networks w.tenant w.name
-      ∙ ap (option_map (λ h. h.network)) (has_find (λ h. nat_eq h.tenant w.tenant && is_same w.name h.name) slot same_slot (slot_tells w.tenant w.name) (register_of t).networks (holding_of t w) is.consistent.slots
-      (has_map (holding_of t) t.networks w there) (ap₂ (λ x y. x && y) (eqb_self w.tenant) (is_same_refl w.name)))
+      ∙ ap (option_map (λ h. h.network)) (has_find (λ h. nat_eq h.tenant w.tenant && is_same w.name h.name) slot same_slot (slot_tells w.tenant w.name) (register_of t).networks (network_entry_of t w) is.consistent.slots
+      (has_map (network_entry_of t) t.networks w there) (ap₂ (λ x y. x && y) (eqb_self w.tenant) (is_same_refl w.name)))
 
   -- what the command gives is what the ask gives
-  pub asked_at : (digest : Bytes) (now : ℕ) (command : Command) (done : Reply × NetworkValue) → tenant_of_token t.tokens digest ≡ Some w.tenant → act (holding_of t w).network now command ≡ Ok done
+  pub asked_at : (digest : Bytes) (now : ℕ) (command : Command) (done : Reply × NetworkValue) → tenant_of_token t.tokens digest ≡ Some w.tenant → act (network_entry_of t w).network now command ≡ Ok done
       → outcome (register_of t) (Ask digest w.name now command) 0 ≡ (Replied done.0 done.1, put_network (register_of t) w.tenant w.name done.1)
   asked_at digest now command done token e =
       ap (λ x. ask (register_of t) w.name now command x) token
       ∙ ap (λ n. asked now command (register_of t) w.tenant w.name n) found
       ∙ ap (λ x. acted (register_of t) w.tenant w.name x) e
 
-  pub replaced_at : (u : Tables) (digest : Bytes) (now : ℕ) (command : Command) (done : Reply × NetworkValue) → tenant_of_token t.tokens digest ≡ Some w.tenant → act (holding_of t w).network now command ≡ Ok done
+  pub replaced_at : (u : Tables) (digest : Bytes) (now : ℕ) (command : Command) (done : Reply × NetworkValue) → tenant_of_token t.tokens digest ≡ Some w.tenant → act (network_entry_of t w).network now command ≡ Ok done
       → AreRowsOf (put_network (register_of t) w.tenant w.name done.1) u → IsRowStep t (Ask digest w.name now command) (Replied done.0 done.1) u
   replaced_at u digest now command done token e rows = record {
     after = put_network (register_of t) w.tenant w.name done.1;
@@ -69,13 +69,13 @@ refusals_leave_rows t e new is stays refused = record {
 
 pub readings_leave_rows : ReadingsLeaveRows
 readings_leave_rows t w digest now command reply is there token e =
-    replaced_at t is w there t digest now command (reply, (holding_of t w).network) token e
-    (subst (λ hs. AreRowsOf (record (register_of t) { networks = hs }) t) (sym (put_itself (register_of t).networks w.tenant w.name (holding_of t w).network (found t is w there))) is.rows)
+    replaced_at t is w there t digest now command (reply, (network_entry_of t w).network) token e
+    (subst (λ hs. AreRowsOf (record (register_of t) { networks = hs }) t) (sym (put_itself (register_of t).networks w.tenant w.name (network_entry_of t w).network (found t is w there))) is.rows)
 
 pub changes_replace_rows : ChangesReplaceRows
 changes_replace_rows t u w digest now command done is there token e replaces =
-    let n = (holding_of t w).network in
-    let h = has_map (holding_of t) t.networks w there in
-    let rules = (at_has IsHolding (register_of t).networks (holding_of t w) is.consistent.networks h).rules in
+    let n = (network_entry_of t w).network in
+    let h = has_map (network_entry_of t) t.networks w there in
+    let rules = (at_has IsNetworkEntry (register_of t).networks (network_entry_of t w) is.consistent.networks h).rules in
     replaced_at t is w there u digest now command done token e
-    (committed (register_of t) t u (holding_of t w) done.1 is.rows is.consistent h (act_settings n now command done rules e) replaces)
+    (committed (register_of t) t u (network_entry_of t w) done.1 is.rows is.consistent h (act_settings n now command done rules e) replaces)

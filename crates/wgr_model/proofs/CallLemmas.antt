@@ -1,21 +1,21 @@
 -- Single steps.
 use Rattle.std.proofs.Common.{◌≡◌, ℕ, true, false, Some, None, Result, Ok, Err, refl, sym, ap, subst, ◌∙◌, true≢false}
 use Rattle.wgr_core.specs.declared.command.Command.{Command}
-use Rattle.wgr_core.specs.declared.refusal.Refusal.{Refusal}
+use Rattle.wgr_core.specs.declared.refusal.CommandRefusal.{CommandRefusal}
 use Rattle.wgr_core.specs.declared.reply.Reply.{Reply}
 use Rattle.wgr_core.specs.Network.{NetworkValue}
 use Rattle.wgr_model.specs.Listing.{Entries, EntriesOf}
 use Rattle.wgr_model.specs.Register.{Bytes, IsSame, Register}
-use Rattle.wgr_model.specs.Steps.{Answer, Ask, Declined, Event, IsStep, IsUnused, Listed, Networks, NoSuchNetwork, Outcome, Replied, UnknownToken, act, acted, ask, asked, is_done, listed, network_at, outcome, put_network, tenant_of_token}
+use Rattle.wgr_model.specs.Steps.{Answer, Ask, Declined, Event, IsStep, IsUnused, Listed, Networks, NoSuchNetwork, EventOutcome, Replied, UnknownToken, act, acted, ask, asked, is_done, listed, network_at, outcome, put_network, tenant_of_token}
 use Rattle.wgr_model.proofs.RunLemmas.{same_itself}
 
 -- what an event gives is a step
-pub step_is : (r s : Register) (e : Event) (new : ℕ) (o : Outcome) → outcome r e new ≡ o → (is_done o.0 ≡ true → IsUnused r e new) → IsSame o.1 s → IsStep r e o.0 s
+pub step_is : (r s : Register) (e : Event) (new : ℕ) (o : EventOutcome) → outcome r e new ≡ o → (is_done o.0 ≡ true → IsUnused r e new) → IsSame o.1 s → IsStep r e o.0 s
 step_is r s e new o is unused same = record {
   new = new;
   unused = unused;
-  answered = sym (ap {A = Outcome} (λ x. x.0) is);
-  rows = subst (λ (x : Outcome). IsSame x.1 s) (sym is) same;
+  answered = sym (ap {A = EventOutcome} (λ x. x.0) is);
+  rows = subst (λ (x : EventOutcome). IsSame x.1 s) (sym is) same;
 }
 
 -- and so where the register stays
@@ -30,16 +30,16 @@ module _ (r : Register) (digest name : Bytes) (now : ℕ) (command : Command) wh
     pub nothing_asked : network_at r.networks id name ≡ None → IsStep r (Ask digest name now command) NoSuchNetwork r
     nothing_asked none = quiet r (Ask digest name now command) NoSuchNetwork refl (ap (ask r name now command) known ∙ ap (asked now command r id name) none)
 
-    found_acts : (n : NetworkValue) (given : Result (Reply × NetworkValue) Refusal) → network_at r.networks id name ≡ Some n → act n now command ≡ given → outcome r (Ask digest name now command) 0 ≡ acted r id name given
+    found_acts : (n : NetworkValue) (given : Result (Reply × NetworkValue) CommandRefusal) → network_at r.networks id name ≡ Some n → act n now command ≡ given → outcome r (Ask digest name now command) 0 ≡ acted r id name given
     found_acts n given found is = ap (ask r name now command) known ∙ ap (asked now command r id name) found ∙ ap (acted r id name) is
 
-    pub declined : (n : NetworkValue) (why : Refusal) → network_at r.networks id name ≡ Some n → act n now command ≡ Err why → IsStep r (Ask digest name now command) (Declined why) r
+    pub declined : (n : NetworkValue) (why : CommandRefusal) → network_at r.networks id name ≡ Some n → act n now command ≡ Err why → IsStep r (Ask digest name now command) (Declined why) r
     declined n why found is = quiet r (Ask digest name now command) (Declined why) refl (found_acts n (Err why) found is)
 
     pub replied : (n : NetworkValue) (done : Reply × NetworkValue) (s : Register) → network_at r.networks id name ≡ Some n → act n now command ≡ Ok done → s ≡ put_network r id name done.1
         → IsStep r (Ask digest name now command) (Replied done.0 done.1) s
     replied n done s found is after =
-        let o : Outcome = (Replied done.0 done.1, put_network r id name done.1) in
+        let o : EventOutcome = (Replied done.0 done.1, put_network r id name done.1) in
         step_is r s (Ask digest name now command) 0 o (found_acts n (Ok done) found is) (λ _. tt) (subst (λ x. IsSame (put_network r id name done.1) x) (sym after) (same_itself (put_network r id name done.1)))
 
 pub stranger_lists : (r : Register) (digest : Bytes) → tenant_of_token r.tokens digest ≡ None → IsStep r (Networks digest) UnknownToken r

@@ -8,7 +8,7 @@ use Rattle.wgr_laws.specs.Laws.{HasSettingsOf}
 use Rattle.wgr_core.specs.Network.{NetworkValue}
 use Rattle.wgr_model.specs.Consistent.{IsConsistent, same_slot, slot}
 use Rattle.wgr_model.specs.Laws.{Has}
-use Rattle.wgr_model.specs.Register.{Holding, Register, is_same}
+use Rattle.wgr_model.specs.Register.{NetworkEntry, Register, is_same}
 use Rattle.wgr_model.specs.Rows.{AllowedRow, AreRowsOf, NetworkRow, PeerRow, Replaces, Tables, address_row, allowed_rows, network_row, peer_row, peer_rows, route_row, with_next}
 use Rattle.wgr_model.specs.Steps.{put_network, with_network}
 use Rattle.wgr_model.proofs.CollectLemmas.{from_append, from_flat, from_map, has_flat}
@@ -17,27 +17,27 @@ use Rattle.wgr_model.proofs.HolderLemmas.{head_apart, one_or_apart}
 use Rattle.wgr_model.proofs.LookLemmas.{is_same_refl}
 use Rattle.wgr_model.proofs.SameLemmas.{eqb_sym, slot_sym}
 
-in_slot : (h x : Holding) → Bool
+in_slot : (h x : NetworkEntry) → Bool
 in_slot h x = nat_eq x.tenant h.tenant && is_same h.name x.name
 
-is_slot : (h x : Holding) → (nat_eq x.tenant h.tenant && is_same h.name x.name) ≡ same_slot (slot h) (slot x)
+is_slot : (h x : NetworkEntry) → (nat_eq x.tenant h.tenant && is_same h.name x.name) ≡ same_slot (slot h) (slot x)
 is_slot h x = ap (λ b. b && is_same h.name x.name) (eqb_sym x.tenant h.tenant)
 
-pub self_slot : (h : Holding) → same_slot (slot h) (slot h) ≡ true
+pub self_slot : (h : NetworkEntry) → same_slot (slot h) (slot h) ≡ true
 self_slot h = ap₂ (λ x y. x && y) (eqb_self h.tenant) (is_same_refl h.name)
 
-module _ (h : Holding) (n : NetworkValue) where
-  put : List Holding → List Holding
+module _ (h : NetworkEntry) (n : NetworkValue) where
+  put : List NetworkEntry → List NetworkEntry
   put hs = with_network hs h.tenant h.name n
 
   -- the network itself is in its place
-  pub put_has : (hs : List Holding) → IsDistinct same_slot (map slot hs) → Has hs h → Has (with_network hs h.tenant h.name n) (record h { network = n })
+  pub put_has : (hs : List NetworkEntry) → IsDistinct same_slot (map slot hs) → Has hs h → Has (with_network hs h.tenant h.name n) (record h { network = n })
   put_has [] u k = elim k [ ]
-  put_has (x ∷ hs) u (inl e) = subst (λ b. Has (if b then record x { network = n } ∷ hs else x ∷ with_network hs h.tenant h.name n) (record h { network = n })) (sym (is_slot h x ∙ ap (λ z. same_slot (slot h) (slot z)) e ∙ self_slot h)) (inl (ap {A = Holding} (λ z. record z { network = n }) e))
+  put_has (x ∷ hs) u (inl e) = subst (λ b. Has (if b then record x { network = n } ∷ hs else x ∷ with_network hs h.tenant h.name n) (record h { network = n })) (sym (is_slot h x ∙ ap (λ z. same_slot (slot h) (slot z)) e ∙ self_slot h)) (inl (ap {A = NetworkEntry} (λ z. record z { network = n }) e))
   put_has (x ∷ hs) u (inr k) = subst (λ b. Has (if b then record x { network = n } ∷ hs else x ∷ with_network hs h.tenant h.name n) (record h { network = n })) (sym (is_slot h x ∙ slot_sym (slot h) (slot x) ∙ head_apart slot same_slot (slot x) hs h (IsDistinct-head same_slot (slot x) (map slot hs) u) k)) (inr (put_has hs (IsDistinct-tail same_slot (slot x) (map slot hs) u) k))
 
   -- and so is each other one
-  pub put_other : (hs : List Holding) (k : Holding) → Has hs k → same_slot (slot h) (slot k) ≡ false → Has (with_network hs h.tenant h.name n) k
+  pub put_other : (hs : List NetworkEntry) (k : NetworkEntry) → Has hs k → same_slot (slot h) (slot k) ≡ false → Has (with_network hs h.tenant h.name n) k
   put_other [] k there apart = elim there [ ]
   put_other (x ∷ hs) k (inl e) apart = subst (λ b. Has (if b then record x { network = n } ∷ hs else x ∷ with_network hs h.tenant h.name n) k) (sym (is_slot h x ∙ ap (λ z. same_slot (slot h) (slot z)) e ∙ apart)) (inl e)
   put_other (x ∷ hs) k (inr there) apart = by_test (nat_eq x.tenant h.tenant && is_same h.name x.name) (put_other hs k there apart) where
@@ -46,11 +46,11 @@ module _ (h : Holding) (n : NetworkValue) where
     by_test false rest = inr rest
 
   -- nothing else is there
-  from_put : (hs : List Holding) → IsDistinct same_slot (map slot hs) → Has hs h → (k : Holding) → Has (with_network hs h.tenant h.name n) k → (k ≡ record h { network = n }) ⊎ (Has hs k × (same_slot (slot h) (slot k) ≡ false))
+  from_put : (hs : List NetworkEntry) → IsDistinct same_slot (map slot hs) → Has hs h → (k : NetworkEntry) → Has (with_network hs h.tenant h.name n) k → (k ≡ record h { network = n }) ⊎ (Has hs k × (same_slot (slot h) (slot k) ≡ false))
   from_put [] u there k at = elim there [ ]
   from_put (x ∷ hs) u (inl e) k at = split (subst (λ b. Has (if b then record x { network = n } ∷ hs else x ∷ with_network hs h.tenant h.name n) k) (is_slot h x ∙ ap (λ z. same_slot (slot h) (slot z)) e ∙ self_slot h) at) where
     split : Has (record x { network = n } ∷ hs) k → (k ≡ record h { network = n }) ⊎ (Has (x ∷ hs) k × (same_slot (slot h) (slot k) ≡ false))
-    split (inl same) = inl (sym same ∙ ap {A = Holding} (λ z. record z { network = n }) e)
+    split (inl same) = inl (sym same ∙ ap {A = NetworkEntry} (λ z. record z { network = n }) e)
     split (inr later) = inr (inr later, ap (λ z. same_slot (slot z) (slot k)) (sym e) ∙ head_apart slot same_slot (slot x) hs k (IsDistinct-head same_slot (slot x) (map slot hs) u) later)
   from_put (x ∷ hs) u (inr there) k at = split (from_put hs (IsDistinct-tail same_slot (slot x) (map slot hs) u) there k) (subst (λ b. Has (if b then record x { network = n } ∷ hs else x ∷ with_network hs h.tenant h.name n) k) (is_slot h x ∙ apart) at) where
     apart : same_slot (slot h) (slot x) ≡ false
@@ -61,14 +61,14 @@ module _ (h : Holding) (n : NetworkValue) where
     split rest (inr later) = elim (rest later) [ inl e ↦ inl e | inr e ↦ inr (inr e.0, e.1) ]
 
 -- rows of one kind, each with its network's id
-module _ {A : Type 0} (rows_in : Holding → List A) (id_in : A → ℕ) (own : (k : Holding) (a : A) → Has (rows_in k) a → id_in a ≡ k.id) (r : Register) (good : IsConsistent r) (h : Holding) (held : Has r.networks h) (n : NetworkValue) where
-  after : Holding
+module _ {A : Type 0} (rows_in : NetworkEntry → List A) (id_in : A → ℕ) (own : (k : NetworkEntry) (a : A) → Has (rows_in k) a → id_in a ≡ k.id) (r : Register) (good : IsConsistent r) (h : NetworkEntry) (held : Has r.networks h) (n : NetworkValue) where
+  after : NetworkEntry
   after = record h { network = n }
 
-  ids_apart : (k : Holding) → Has r.networks k → same_slot (slot h) (slot k) ≡ false → nat_eq k.id h.id ≡ false
+  ids_apart : (k : NetworkEntry) → Has r.networks k → same_slot (slot h) (slot k) ≡ false → nat_eq k.id h.id ≡ false
   ids_apart k kk apart = elim (one_or_apart (λ x. x.id) nat_eq eqb_sym r.networks k h good.network_ids kk held) [ inr other ↦ other | inl same ↦ absurd (true≢false (sym (self_slot h) ∙ ap (λ z. same_slot (slot h) (slot z)) (sym same) ∙ apart)) ]
 
-  slots_apart : (k : Holding) → Has r.networks k → nat_eq k.id h.id ≡ false → same_slot (slot h) (slot k) ≡ false
+  slots_apart : (k : NetworkEntry) → Has r.networks k → nat_eq k.id h.id ≡ false → same_slot (slot h) (slot k) ≡ false
   slots_apart k kk apart = elim (one_or_apart slot same_slot slot_sym r.networks h k good.slots held kk) [ inr other ↦ other | inl same ↦ absurd (true≢false (sym (eqb_self h.id) ∙ ap (λ z. nat_eq z.id h.id) same ∙ apart)) ]
 
   pub replaced : (old new : List A) → ((a : A) → Has (flat_map rows_in r.networks) a ↔ Has old a) → ((a : A) → Has new a ↔ (Has (rows_in (record h { network = n })) a ⊎ (Has old a × (nat_eq (id_in a) h.id ≡ false)))) → (a : A) → Has (flat_map rows_in (with_network r.networks h.tenant h.name n)) a ↔ Has new a
@@ -90,19 +90,19 @@ module _ {A : Type 0} (rows_in : Holding → List A) (id_in : A → ℕ) (own : 
     ]
 
 -- the network rows
-abbrev network_row_put : Holding → NetworkValue → NetworkRow
+abbrev network_row_put : NetworkEntry → NetworkValue → NetworkRow
 network_row_put h n = network_row (record h { network = n })
 
-module _ (h : Holding) (n : NetworkValue) (pool : n.pool ≡ h.network.pool) (host : n.host ≡ h.network.host) (port : n.port ≡ h.network.port) (server : n.server ≡ h.network.server) (capacity : n.capacity ≡ h.network.capacity) where
+module _ (h : NetworkEntry) (n : NetworkValue) (pool : n.pool ≡ h.network.pool) (host : n.host ≡ h.network.host) (port : n.port ≡ h.network.port) (server : n.server ≡ h.network.server) (capacity : n.capacity ≡ h.network.capacity) where
   next_row : network_row_put h n ≡ with_next h.id n.next (network_row h)
   next_row = (λ i. record { id = h.id; tenant = h.tenant; name = h.name; pool = pool i; host = host i; port = port i; server = server i; capacity = capacity i; next = n.next })
       ∙ sym (ap (λ b. if b then record (network_row h) { next = n.next } else network_row h) (eqb_self h.id))
 
-  others_stay : (hs : List Holding) → AllByRecursion (λ y. nat_eq h.id y ≡ false) (map (λ x. x.id) hs) → map network_row hs ≡ map (λ x. with_next h.id n.next (network_row x)) hs
+  others_stay : (hs : List NetworkEntry) → AllByRecursion (λ y. nat_eq h.id y ≡ false) (map (λ x. x.id) hs) → map network_row hs ≡ map (λ x. with_next h.id n.next (network_row x)) hs
   others_stay [] all = refl
   others_stay (x ∷ hs) all = ap₂ (λ y ys. y ∷ ys) (sym (ap (λ b. if b then record (network_row x) { next = n.next } else network_row x) (eqb_sym x.id h.id ∙ all.0))) (others_stay hs all.1)
 
-  rows_put : (hs : List Holding) → IsDistinct same_slot (map slot hs) → IsDistinct nat_eq (map (λ x. x.id) hs) → Has hs h → map network_row (with_network hs h.tenant h.name n) ≡ map (λ x. with_next h.id n.next (network_row x)) hs
+  rows_put : (hs : List NetworkEntry) → IsDistinct same_slot (map slot hs) → IsDistinct nat_eq (map (λ x. x.id) hs) → Has hs h → map network_row (with_network hs h.tenant h.name n) ≡ map (λ x. with_next h.id n.next (network_row x)) hs
   rows_put [] u v there = elim there [ ]
   rows_put (x ∷ hs) u v (inl e) =
       ap (λ b. map network_row (if b then record x { network = n } ∷ hs else x ∷ with_network hs h.tenant h.name n)) (is_slot h x ∙ ap (λ z. same_slot (slot h) (slot z)) e ∙ self_slot h)
@@ -113,17 +113,17 @@ module _ (h : Holding) (n : NetworkValue) (pool : n.pool ≡ h.network.pool) (ho
       ∙ ap₂ (λ y ys. y ∷ ys) (sym (ap (λ b. if b then record (network_row x) { next = n.next } else network_row x) (head_apart (λ x. x.id) nat_eq x.id hs h (IsDistinct-head nat_eq x.id (map (λ x. x.id) hs) v) there)))
       (rows_put hs (IsDistinct-tail same_slot (slot x) (map slot hs) u) (IsDistinct-tail nat_eq x.id (map (λ x. x.id) hs) v) there)
 
-pub own_peers : (k : Holding) (a : PeerRow) → Has (peer_rows k) a → a.network ≡ k.id
+pub own_peers : (k : NetworkEntry) (a : PeerRow) → Has (peer_rows k) a → a.network ≡ k.id
 own_peers k a x = let v = from_map (peer_row k.id) k.network.peers a x in ap (λ z. z.network) (sym v.2)
 
-pub own_allowed : (k : Holding) (a : AllowedRow) → Has (allowed_rows k) a → a.network ≡ k.id
+pub own_allowed : (k : NetworkEntry) (a : AllowedRow) → Has (allowed_rows k) a → a.network ≡ k.id
 own_allowed k a x = elim (from_append (map (address_row k.id) k.network.peers) (map (route_row k.id) k.network.routes) a x) [
   | inl y ↦ let v = from_map (address_row k.id) k.network.peers a y in ap (λ z. z.network) (sym v.2)
   | inr y ↦ let v = from_map (route_row k.id) k.network.routes a y in ap (λ z. z.network) (sym v.2)
 ]
 
 -- what a commit leaves are the rows of the register with the network in its place
-pub committed : (r : Register) (t u : Tables) (h : Holding) (n : NetworkValue) → AreRowsOf r t → IsConsistent r → Has r.networks h
+pub committed : (r : Register) (t u : Tables) (h : NetworkEntry) (n : NetworkValue) → AreRowsOf r t → IsConsistent r → Has r.networks h
     → HasSettingsOf h.network n
     → Replaces h.id n t u → AreRowsOf (put_network r h.tenant h.name n) u
 committed r t u h n rows good held settings done = record {

@@ -17,9 +17,9 @@ use Rattle.wgr_peers.specs.Peers.{IsApart, IsNumberedBelow}
 use Rattle.wgr_peers.specs.Routes.{ComesBefore}
 use Rattle.wgr_peers.specs.declared.peer.Peer.{Peer}
 use Rattle.wgr_core.specs.Network.{IsNetwork, IsRoute, server_address}
-use Rattle.wgr_model.specs.Consistent.{IsHolding}
+use Rattle.wgr_model.specs.Consistent.{IsNetworkEntry}
 use Rattle.wgr_model.specs.Laws.{Has}
-use Rattle.wgr_model.specs.Register.{Holding}
+use Rattle.wgr_model.specs.Register.{NetworkEntry}
 use Rattle.wgr_model.specs.Rows.{AllowedRow, address_row, allowed_key, allowed_rows, family_number, network_row, number_in, peer_id, peer_row, peer_rows, register_of, route_row, same_allowed, same_pair}
 use Rattle.wgr_model.specs.RowsExist.{EveryEventHasARowStep, RowsExist, StepsHaveRows, rows_of}
 use Rattle.wgr_model.proofs.CollectLemmas.{from_append, from_flat, from_map}
@@ -57,11 +57,11 @@ module _ {A B : Type 0} (e : B → B → Bool) (f : A → B) where
       (distinct_append xs ys (IsDistinct-tail e (f x) (map f xs) u) v (λ a b h k. cross a b (inr h) k))
 
   -- in the rows of networks that no id is common to
-  distinct_flat : (rows_in : Holding → List A) (id_in : A → ℕ) → ((k : Holding) (a : A) → Has (rows_in k) a → id_in a ≡ k.id) → ((a b : A) → nat_eq (id_in a) (id_in b) ≡ false → e (f a) (f b) ≡ false)
-      → (hs : List Holding) → IsDistinct nat_eq (map (λ h. h.id) hs) → ((h : Holding) → Has hs h → IsDistinct e (map f (rows_in h))) → IsDistinct e (map f (flat_map rows_in hs))
+  distinct_flat : (rows_in : NetworkEntry → List A) (id_in : A → ℕ) → ((k : NetworkEntry) (a : A) → Has (rows_in k) a → id_in a ≡ k.id) → ((a b : A) → nat_eq (id_in a) (id_in b) ≡ false → e (f a) (f b) ≡ false)
+      → (hs : List NetworkEntry) → IsDistinct nat_eq (map (λ h. h.id) hs) → ((h : NetworkEntry) → Has hs h → IsDistinct e (map f (rows_in h))) → IsDistinct e (map f (flat_map rows_in hs))
   distinct_flat rows_in id_in own tells [] u each = none_distinct
   distinct_flat rows_in id_in own tells (h ∷ hs) u each =
-      let ids = map (λ (x : Holding). x.id) hs in
+      let ids = map (λ (x : NetworkEntry). x.id) hs in
       distinct_append (rows_in h) (flat_map rows_in hs) (each h (inl refl)) (distinct_flat rows_in id_in own tells hs (IsDistinct-tail nat_eq h.id ids u) (λ k at. each k (inr at)))
       (λ a b at there. let k = from_flat rows_in hs b there in tells a b (ap₂ nat_eq (own h a at) (own k.0 b k.2) ∙ head_apart (λ x. x.id) nat_eq h.id hs k.0 (IsDistinct-head nat_eq h.id ids u) k.1))
 
@@ -89,7 +89,7 @@ differ_turn p q h = by_family p.address.family q.address.family h where
   by_family V6 V4 h = refl
   by_family V6 V6 h = grind (arith, nat_tests, h)
 
-module _ (h : Holding) (rules : IsNetwork h.network) where
+module _ (h : NetworkEntry) (rules : IsNetwork h.network) where
   pub peers_apart : IsDistinct same_pair (map (λ p. (p.network, number_in p.network p.id)) (peer_rows h))
   peers_apart = subst (IsDistinct same_pair) (sym (map_map (peer_row h.id) (λ p. (p.network, number_in p.network p.id)) h.network.peers))
       (distinct_pairs same_pair (λ (p : Peer). (h.id, number_in h.id (peer_id h.id p.number))) IsNumberedBelow
@@ -137,7 +137,7 @@ routes_left_out : (id : ℕ) (routes : List (PrefixValue × ℕ)) → filter (λ
 routes_left_out id [] = refl
 routes_left_out id (r ∷ routes) = routes_left_out id routes
 
-only_addresses : (hs : List Holding) → filter (λ a. not a.is_route) (flat_map allowed_rows hs) ≡ flat_map (λ h. map (address_row h.id) h.network.peers) hs
+only_addresses : (hs : List NetworkEntry) → filter (λ a. not a.is_route) (flat_map allowed_rows hs) ≡ flat_map (λ h. map (address_row h.id) h.network.peers) hs
 only_addresses [] = refl
 only_addresses (h ∷ hs) =
     filter_append (λ a. not a.is_route) (allowed_rows h) (flat_map allowed_rows hs)
@@ -154,7 +154,7 @@ pair_by_id a b c d h = ap (λ x. x && nat_eq c d) h
 
 pub rows_exist : RowsExist
 rows_exist r good =
-    let rules = λ (h : Holding) (at : Has r.networks h). (at_has IsHolding r.networks h good.networks at).rules in
+    let rules = λ (h : NetworkEntry) (at : Has r.networks h). (at_has IsNetworkEntry r.networks h good.networks at).rules in
     record {
       meta = refl;
       tenants = IsPermutation-refl r.tenants;

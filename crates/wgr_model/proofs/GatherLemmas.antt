@@ -24,10 +24,10 @@ use Rattle.wgr_peers.specs.Peers.{IsNumberedBelow}
 use Rattle.wgr_peers.specs.Routes.{ComesBefore}
 use Rattle.wgr_peers.specs.declared.peer.Peer.{Peer}
 use Rattle.wgr_core.specs.Network.{IsNetwork, IsRoute, NetworkValue}
-use Rattle.wgr_model.specs.Consistent.{IsConsistent, IsHolding}
+use Rattle.wgr_model.specs.Consistent.{IsConsistent, IsNetworkEntry}
 use Rattle.wgr_model.specs.Laws.{Has}
-use Rattle.wgr_model.specs.Register.{Holding, IsSame, Register}
-use Rattle.wgr_model.specs.Rows.{AllowedRow, AreKeyed, AreRowsOf, PeerRow, Tables, address_of, address_row, allowed_key, allowed_rows, family_number, holding_of, network_row, number_in, peer_id, peer_row, peer_rows, peer_value, peers_of, prefix_cmp, prefix_key, register_of, route_row, route_value, routes_of, same_allowed, same_pair}
+use Rattle.wgr_model.specs.Register.{NetworkEntry, IsSame, Register}
+use Rattle.wgr_model.specs.Rows.{AllowedRow, AreKeyed, AreRowsOf, PeerRow, Tables, address_of, address_row, allowed_key, allowed_rows, family_number, network_entry_of, network_row, number_in, peer_id, peer_row, peer_rows, peer_value, peers_of, prefix_cmp, prefix_key, register_of, route_row, route_value, routes_of, same_allowed, same_pair}
 use Rattle.wgr_model.proofs.CollectLemmas.{collected, from_append, from_flat, from_map, has_flat, has_left, has_map, has_right}
 use Rattle.wgr_model.proofs.HolderLemmas.{one_or_apart}
 use Rattle.wgr_model.proofs.SameLemmas.{at_has, eqb_sym, has_find}
@@ -148,12 +148,12 @@ route_keys_tell id a b x y e =
     subst (λ z. same_allowed (allowed_key a) z ≡ true) (λ i. ((p ∙ sym q) i, (e i).0, (e i).1, (e i).2))
     (ap₂ (λ u v. u && v) (ap₂ (λ u v. u && v) (ap₂ (λ u v. u && v) (eqb_self a.network) (eqb_self key.0)) (eqb_self key.1)) (eqb_self key.2))
 
-module _ (r : Register) (t : Tables) (rows : AreRowsOf r t) (good : IsConsistent r) (h : Holding) (held : Has r.networks h) where
-  one_id : (k : Holding) → Has r.networks k → nat_eq k.id h.id ≡ true → k ≡ h
+module _ (r : Register) (t : Tables) (rows : AreRowsOf r t) (good : IsConsistent r) (h : NetworkEntry) (held : Has r.networks h) where
+  one_id : (k : NetworkEntry) → Has r.networks k → nat_eq k.id h.id ≡ true → k ≡ h
   one_id k kk e = elim (one_or_apart (λ x. x.id) nat_eq eqb_sym r.networks k h good.network_ids kk held) [ inl same ↦ same | inr other ↦ absurd (true≢false (sym e ∙ other)) ]
 
   rules : IsNetwork h.network
-  rules = (at_has IsHolding r.networks h good.networks held).rules
+  rules = (at_has IsNetworkEntry r.networks h good.networks held).rules
 
   allowed_there : (a : AllowedRow) → Has (allowed_rows h) a → Has t.allowed a
   allowed_there a k = (rows.allowed a).0 (has_flat allowed_rows r.networks h a held k)
@@ -197,8 +197,8 @@ module _ (r : Register) (t : Tables) (rows : AreRowsOf r t) (good : IsConsistent
   pub routes_read : routes_of t h.id ≡ h.network.routes
   routes_read = collected prefix_cmp prefix_total prefix_exact (λ v. prefix_key v.0) (λ a. a.is_route && nat_eq a.network h.id) (λ a. prefix_key a.prefix) route_value (route_row h.id) allowed_key same_allowed t.allowed h.network.routes (route_keys_tell h.id) rows.keyed.allowed_keys (routes_sorted h.network rules) route_to route_from
 
-  pub holding_read : holding_of t (network_row h) ≡ h
-  holding_read = λ i. record { id = h.id; tenant = h.tenant; name = h.name; network = record { pool = h.network.pool; host = h.network.host; port = h.network.port; server = h.network.server; capacity = h.network.capacity; next = h.network.next; peers = peers_read i; routes = routes_read i } }
+  pub network_entry_read : network_entry_of t (network_row h) ≡ h
+  network_entry_read = λ i. record { id = h.id; tenant = h.tenant; name = h.name; network = record { pool = h.network.pool; host = h.network.host; port = h.network.port; server = h.network.server; capacity = h.network.capacity; next = h.network.next; peers = peers_read i; routes = routes_read i } }
 
 map_itself : {A : Type 0} (f : A → A) (xs : List A) → ((x : A) → Has xs x → f x ≡ x) → map f xs ≡ xs
 map_itself f [] h = refl
@@ -212,5 +212,5 @@ pub gathered : (r : Register) (t : Tables) → AreRowsOf r t → IsConsistent r 
 gathered r t rows good = record {
   tenants = rows.tenants;
   tokens = rows.tokens;
-  networks = subst (λ xs. IsPermutation xs (map (holding_of t) t.networks)) (map_map network_row (holding_of t) r.networks ∙ map_itself (λ h. holding_of t (network_row h)) r.networks (λ h k. holding_read r t rows good h k)) (IsPermutation-map (holding_of t) (map network_row r.networks) t.networks rows.networks);
+  networks = subst (λ xs. IsPermutation xs (map (network_entry_of t) t.networks)) (map_map network_row (network_entry_of t) r.networks ∙ map_itself (λ h. network_entry_of t (network_row h)) r.networks (λ h k. network_entry_read r t rows good h k)) (IsPermutation-map (network_entry_of t) (map network_row r.networks) t.networks rows.networks);
 }

@@ -13,9 +13,9 @@ use Rattle.wgr_pool.specs.PrefixTests.{covers, has, same_address, same_family}
 use Rattle.wgr_peers.specs.Peers.{IsApart}
 use Rattle.wgr_peers.specs.declared.peer.Peer.{Peer}
 use Rattle.wgr_core.specs.Network.{IsMember, IsNetwork, NetworkValue}
-use Rattle.wgr_model.specs.Consistent.{IsConsistent, IsHolding, overlaps, pool_of}
+use Rattle.wgr_model.specs.Consistent.{IsConsistent, IsNetworkEntry, overlaps, pool_of}
 use Rattle.wgr_model.specs.Laws.{Has, HasOneHolder}
-use Rattle.wgr_model.specs.Register.{Holding, Register}
+use Rattle.wgr_model.specs.Register.{NetworkEntry, Register}
 use Rattle.wgr_model.proofs.SameLemmas.{at_has, overlaps_sym}
 
 pub head_apart : {A B : Type 0} (f : A → B) (e : B → B → Bool) (b : B) (xs : List A) (a : A) → AllByRecursion (λ y. e b y ≡ false) (map f xs) → Has xs a → e b (f a) ≡ false
@@ -92,5 +92,5 @@ one_holder r good h k p q hh kk hp kq same = elim (one_or_apart pool_of overlaps
   | inl e ↦ (e, one_in_network k.network p q (rules k kk) (subst (λ z. Has z.network.peers p) e hp) kq same)
   | inr e ↦ absurd (true≢false (sym (in_both (pool_of h) (pool_of k) q.address (subst (λ a. has (pool_of h) a ≡ true) same (in_pool h.network p (rules h hh) hp)) (in_pool k.network q (rules k kk) kq)) ∙ e))
 ] where
-  rules : (x : Holding) → Has r.networks x → IsNetwork x.network
-  rules x there = (at_has IsHolding r.networks x good.networks there).rules
+  rules : (x : NetworkEntry) → Has r.networks x → IsNetwork x.network
+  rules x there = (at_has IsNetworkEntry r.networks x good.networks there).rules

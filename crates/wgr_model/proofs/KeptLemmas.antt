@@ -18,16 +18,16 @@ use Rattle.wgr_peers.specs.Peers.{IsApart, IsNumberedBelow}
 use Rattle.wgr_peers.specs.Routes.{ComesBefore}
 use Rattle.wgr_laws.proofs.FormLemmas.{commands_keep_the_forms}
 use Rattle.wgr_laws.proofs.FrameLemmas.{settings_stay}
-use Rattle.wgr_core.specs.Forms.{HasForms, IsFormed, IsFormedCommand}
+use Rattle.wgr_core.specs.Forms.{HasForms, IsPeerFormed, IsFormedCommand}
 use Rattle.wgr_core.proofs.OutcomeLemmas.{outcome_keeps}
 use Rattle.wgr_laws.specs.Laws.{HasSettingsOf}
 use Rattle.wgr_core.specs.Network.{IsMember, IsNetwork, IsRoute, NetworkValue}
 use Rattle.wgr_core.specs.Outcome.{IsAsked}
 use Rattle.wgr_core.specs.declared.command.Command.{Command}
-use Rattle.wgr_core.specs.declared.refusal.Refusal.{Refusal}
+use Rattle.wgr_core.specs.declared.refusal.CommandRefusal.{CommandRefusal}
 use Rattle.wgr_core.specs.declared.reply.Reply.{Reply}
-use Rattle.wgr_model.specs.Consistent.{IsConsistent, IsDigest, IsHolding, IsId, IsName, endpoint, has_tenant, is_pool, is_pool_length, overlaps, pool_of, same_endpoint, same_slot, slot}
-use Rattle.wgr_model.specs.Register.{Bytes, Holding, Register, Tenant, id_of, is_same}
+use Rattle.wgr_model.specs.Consistent.{IsConsistent, IsDigest, IsNetworkEntry, IsId, IsName, endpoint, has_tenant, is_pool, is_pool_length, overlaps, pool_of, same_endpoint, same_slot, slot}
+use Rattle.wgr_model.specs.Register.{Bytes, NetworkEntry, Register, Tenant, id_of, is_same}
 use Rattle.wgr_model.specs.Steps.{AddNetwork, AddTenant, Ask, BadPool, Decided, DigestHeld, EndNetwork, EndToken, Event, Grant, IsProper, IsProperCommand, IsUnused, NameHeld, Networks, NoNetwork, NoSuchToken, OrderRefusal, PortHeld, RegisterFull, Settings, act, acted, ask, asked, first_refusal, given, grant_checks, granted, has_digest, has_endpoint, has_name, has_network, has_slot, is_done, is_full, listed, name_of, network_added, network_at, network_checks, network_ended, new_network, ordered, outcome, overlapping, pool_refusal, put_network, refuse, tenant_checks, tenant_of_token, with_network, with_new_network, with_tenant, with_token, without_network, without_token}
 use Rattle.wgr_model.proofs.LookLemmas.{none_some}
 use Rattle.wgr_model.proofs.SeenLemmas.{is_accepted, not_refused, passed}
@@ -83,32 +83,32 @@ first_tenant id q [] h = absurd (none_some h)
 first_tenant id q (t ∷ ts) h = grind (arith, nat_tests, h, first_tenant id q ts)
 
 -- ---- a network put in its place
-put_keys : {B : Type 0} (f : Holding → B) (hs : List Holding) (id : ℕ) (name : Bytes) (n old : NetworkValue) → ((h : Holding) → h.network ≡ old → f (record h { network = n }) ≡ f h) → network_at hs id name ≡ Some old → map f (with_network hs id name n) ≡ map f hs
+put_keys : {B : Type 0} (f : NetworkEntry → B) (hs : List NetworkEntry) (id : ℕ) (name : Bytes) (n old : NetworkValue) → ((h : NetworkEntry) → h.network ≡ old → f (record h { network = n }) ≡ f h) → network_at hs id name ≡ Some old → map f (with_network hs id name n) ≡ map f hs
 put_keys f [] id name n old same e = refl
 put_keys f (h ∷ hs) id name n old same e = by_test (nat_eq h.tenant id && is_same name h.name) e (put_keys f hs id name n old same) where
   by_test : (b : Bool) → (if b then Some h.network else network_at hs id name) ≡ Some old → (network_at hs id name ≡ Some old → map f (with_network hs id name n) ≡ map f hs) → map f (if b then record h { network = n } ∷ hs else h ∷ with_network hs id name n) ≡ f h ∷ map f hs
   by_test true g rest = let is : h.network ≡ old = grind (arith, g) in ap (λ x. x ∷ map f hs) (same h is)
   by_test false g rest = ap (λ xs. f h ∷ xs) (rest g)
 
-put_all : (P : Holding → Type 0) (hs : List Holding) (id : ℕ) (name : Bytes) (n : NetworkValue) → ((h : Holding) → P h → P (record h { network = n })) → AllByRecursion P hs → AllByRecursion P (with_network hs id name n)
+put_all : (P : NetworkEntry → Type 0) (hs : List NetworkEntry) (id : ℕ) (name : Bytes) (n : NetworkValue) → ((h : NetworkEntry) → P h → P (record h { network = n })) → AllByRecursion P hs → AllByRecursion P (with_network hs id name n)
 put_all P [] id name n keep all = tt
 put_all P (h ∷ hs) id name n keep all = by_test (nat_eq h.tenant id && is_same name h.name) (put_all P hs id name n keep all.1) where
   by_test : (b : Bool) → AllByRecursion P (with_network hs id name n) → AllByRecursion P (if b then record h { network = n } ∷ hs else h ∷ with_network hs id name n)
   by_test true rest = (keep h all.0, all.1)
   by_test false rest = (all.0, rest)
 
-put_held : (hs : List Holding) (id : ℕ) (name : Bytes) (n old : NetworkValue) → ((h : Holding) → h.network ≡ old → IsHolding h → IsHolding (record h { network = n })) → network_at hs id name ≡ Some old → AllByRecursion IsHolding hs → AllByRecursion IsHolding (with_network hs id name n)
+put_held : (hs : List NetworkEntry) (id : ℕ) (name : Bytes) (n old : NetworkValue) → ((h : NetworkEntry) → h.network ≡ old → IsNetworkEntry h → IsNetworkEntry (record h { network = n })) → network_at hs id name ≡ Some old → AllByRecursion IsNetworkEntry hs → AllByRecursion IsNetworkEntry (with_network hs id name n)
 put_held [] id name n old keep e all = tt
 put_held (h ∷ hs) id name n old keep e all = by_test (nat_eq h.tenant id && is_same name h.name) e (λ g. put_held hs id name n old keep g all.1) where
-  by_test : (b : Bool) → (if b then Some h.network else network_at hs id name) ≡ Some old → (network_at hs id name ≡ Some old → AllByRecursion IsHolding (with_network hs id name n)) → AllByRecursion IsHolding (if b then record h { network = n } ∷ hs else h ∷ with_network hs id name n)
+  by_test : (b : Bool) → (if b then Some h.network else network_at hs id name) ≡ Some old → (network_at hs id name ≡ Some old → AllByRecursion IsNetworkEntry (with_network hs id name n)) → AllByRecursion IsNetworkEntry (if b then record h { network = n } ∷ hs else h ∷ with_network hs id name n)
   by_test true g rest = let is : h.network ≡ old = grind (arith, g) in (keep h is all.0, all.1)
   by_test false g rest = (all.0, rest g)
 
-put_length : (hs : List Holding) (id : ℕ) (name : Bytes) (n : NetworkValue) → length (with_network hs id name n) ≡ length hs
+put_length : (hs : List NetworkEntry) (id : ℕ) (name : Bytes) (n : NetworkValue) → length (with_network hs id name n) ≡ length hs
 put_length [] id name n = refl
 put_length (h ∷ hs) id name n = grind (arith, put_length hs id name n)
 
-found_all : (P : NetworkValue → Type 0) (hs : List Holding) (id : ℕ) (name : Bytes) (n : NetworkValue) → AllByRecursion (λ h. P h.network) hs → network_at hs id name ≡ Some n → P n
+found_all : (P : NetworkValue → Type 0) (hs : List NetworkEntry) (id : ℕ) (name : Bytes) (n : NetworkValue) → AllByRecursion (λ h. P h.network) hs → network_at hs id name ≡ Some n → P n
 found_all P [] id name n all e = absurd (none_some e)
 found_all P (h ∷ hs) id name n all e = by_test (nat_eq h.tenant id && is_same name h.name) e (found_all P hs id name n all.1) where
   by_test : (b : Bool) → (if b then Some h.network else network_at hs id name) ≡ Some n → (network_at hs id name ≡ Some n → P n) → P n
@@ -168,7 +168,7 @@ new_keeps s pool port capacity = record {
 }
 
 -- where no pool overlaps, none is named
-no_overlap : (ts : List Tenant) (hs : List Holding) (pool : PrefixValue) → pool_refusal (overlapping ts hs pool) ≡ None → list_any (overlaps pool) (map pool_of hs) ≡ false
+no_overlap : (ts : List Tenant) (hs : List NetworkEntry) (pool : PrefixValue) → pool_refusal (overlapping ts hs pool) ≡ None → list_any (overlaps pool) (map pool_of hs) ≡ false
 no_overlap ts [] pool e = refl
 no_overlap ts (h ∷ hs) pool e = by_test (overlaps pool h.network.pool) e (no_overlap ts hs pool) where
   by_test : (b : Bool) → pool_refusal (map (λ k. (name_of ts k.tenant, k.name)) (cond b (h ∷ filter (λ k. overlaps pool k.network.pool) hs) (filter (λ k. overlaps pool k.network.pool) hs))) ≡ None → (pool_refusal (overlapping ts hs pool) ≡ None → list_any (overlaps pool) (map pool_of hs) ≡ false) → (b || list_any (overlaps pool) (map pool_of hs)) ≡ false
@@ -190,13 +190,13 @@ module _ (r : Register) (good : IsConsistent r) where
     network_tenants = put_all (λ h. has_tenant r.tenants h.tenant ≡ true) r.networks t name done.1 (λ h x. x) good.network_tenants;
     tenants = good.tenants;
     tokens = good.tokens;
-    networks = put_held r.networks t name done.1 n (λ h x holding. record { id = holding.id; name = holding.name; host = subst IsHost (ap (λ m. m.host) x ∙ sym settings.host) holding.host; forms = forms_after; rules = after }) e good.networks;
+    networks = put_held r.networks t name done.1 n (λ h x network_entry. record { id = network_entry.id; name = network_entry.name; host = subst IsHost (ap (λ m. m.host) x ∙ sym settings.host) network_entry.host; forms = forms_after; rules = after }) e good.networks;
     few_tenants = good.few_tenants;
     few_tokens = good.few_tokens;
     few_networks = subst (λ k. k ≤ 65536) (sym (put_length r.networks t name done.1)) good.few_networks;
   } where
     before : IsNetwork n
-    before = found_all IsNetwork r.networks t name n (weaken IsHolding (λ h. IsNetwork h.network) (λ h x. x.rules) r.networks good.networks) e
+    before = found_all IsNetwork r.networks t name n (weaken IsNetworkEntry (λ h. IsNetwork h.network) (λ h x. x.rules) r.networks good.networks) e
 
     settings : HasSettingsOf n done.1
     settings = act_settings n now command done before is
@@ -205,12 +205,12 @@ module _ (r : Register) (good : IsConsistent r) where
     after = act_keeps n now command done before is_asked.0 is
 
     forms_after : HasForms done.1
-    forms_after = act_forms n now command done before (found_all HasForms r.networks t name n (weaken IsHolding (λ h. HasForms h.network) (λ h x. x.forms) r.networks good.networks) e) is_asked.1 is
+    forms_after = act_forms n now command done before (found_all HasForms r.networks t name n (weaken IsNetworkEntry (λ h. HasForms h.network) (λ h x. x.forms) r.networks good.networks) e) is_asked.1 is
 
-    keys : {B : Type 0} (f : Holding → B) → ((h : Holding) → h.network ≡ n → f (record h { network = done.1 }) ≡ f h) → map f (with_network r.networks t name done.1) ≡ map f r.networks
+    keys : {B : Type 0} (f : NetworkEntry → B) → ((h : NetworkEntry) → h.network ≡ n → f (record h { network = done.1 }) ≡ f h) → map f (with_network r.networks t name done.1) ≡ map f r.networks
     keys f same = put_keys f r.networks t name done.1 n same e
 
-  acted_stays : (t : ℕ) (name : Bytes) (now : ℕ) (command : Command) (n : NetworkValue) → IsProperCommand command → network_at r.networks t name ≡ Some n → (x : Result (Reply × NetworkValue) Refusal) → act n now command ≡ x → IsConsistent (acted r t name x).1
+  acted_stays : (t : ℕ) (name : Bytes) (now : ℕ) (command : Command) (n : NetworkValue) → IsProperCommand command → network_at r.networks t name ≡ Some n → (x : Result (Reply × NetworkValue) CommandRefusal) → act n now command ≡ x → IsConsistent (acted r t name x).1
   acted_stays t name now command n is_asked e (Ok done) is = put_stays t name now command n is_asked e done is
   acted_stays t name now command n is_asked e (Err why) is = good
 
@@ -303,7 +303,7 @@ module _ (r : Register) (good : IsConsistent r) where
     network_tenants = all_filter (λ t. has_tenant r.tenants t.tenant ≡ true) _ r.networks good.network_tenants;
     tenants = good.tenants;
     tokens = good.tokens;
-    networks = all_filter IsHolding _ r.networks good.networks;
+    networks = all_filter IsNetworkEntry _ r.networks good.networks;
     few_tenants = good.few_tenants;
     few_tokens = good.few_tokens;
     few_networks = le_trans (shorter _ r.networks) good.few_networks;
@@ -347,7 +347,7 @@ module _ (r : Register) (good : IsConsistent r) where
       let c = passed pools (port ∷ full ∷ []) b.1 in
       let d = passed port (full ∷ []) c.1 in
       let e_ = passed full [] d.1 in
-      network_stays tenant id name (new_network s) new (unused (is_accepted r (with_new_network r new id name (new_network s)) (network_checks r id name s) ok)) e proper.0 proper.1.0 (proper.1.3, All-nil IsFormed)
+      network_stays tenant id name (new_network s) new (unused (is_accepted r (with_new_network r new id name (new_network s)) (network_checks r id name s) ok)) e proper.0 proper.1.0 (proper.1.3, All-nil IsPeerFormed)
       (new_keeps s (is_pool_sound s.pool (not_false (is_pool s.pool) (not_refused (not (is_pool s.pool)) BadPool b.0))) proper.1.1 proper.1.2)
       (not_refused (has_slot r.networks id name) NameHeld a.0) (no_overlap r.tenants r.networks s.pool c.0)
       (not_refused (has_endpoint r.networks (s.host, s.port)) PortHeld d.0) (not_refused (is_full r.networks) RegisterFull e_.0)

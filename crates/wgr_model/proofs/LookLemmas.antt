@@ -10,7 +10,7 @@ use Rattle.std.proofs.lemmas.Bool.Decides.{nat_tests}
 use Rattle.std.proofs.lemmas.Map.Keys.{IsDistinct-head, IsDistinct-tail}
 use Rattle.wgr_core.specs.Network.{NetworkValue}
 use Rattle.wgr_model.specs.Consistent.{has_tenant, same_slot, slot}
-use Rattle.wgr_model.specs.Register.{Bytes, Holding, Tenant, Token, digests_of, id_of, is_same, networks_of}
+use Rattle.wgr_model.specs.Register.{Bytes, NetworkEntry, Tenant, Token, digests_of, id_of, is_same, networks_of}
 use Rattle.wgr_model.specs.Steps.{network_at, tenant_of_token, with_network}
 
 pub is_same_equiv : IsEquivalence is_same
@@ -35,7 +35,7 @@ pub is_same_is : (x y : Bytes) → eq_by_cmp (slice_cmp nat_cmp) x y ≡ is_same
 unfolding is_same
 is_same_is x y = refl
 
-pub find_network : (hs : List Holding) (id : ℕ) (q : Bytes) → find (slice_cmp nat_cmp) q (networks_of hs id) ≡ network_at hs id q
+pub find_network : (hs : List NetworkEntry) (id : ℕ) (q : Bytes) → find (slice_cmp nat_cmp) q (networks_of hs id) ≡ network_at hs id q
 find_network [] id q = refl
 find_network (h ∷ hs) id q = grind (arith, nat_tests, find_network hs id q, is_same_is q h.name)
 
@@ -92,20 +92,20 @@ pub no_digests : (ts : List Token) (tenants : List Tenant) (new : ℕ) → AllBy
 no_digests [] tenants new all e = refl
 no_digests (t ∷ ts) tenants new all e = grind (arith, nat_tests, all.0, e, no_digests ts tenants new all.1 e)
 
-pub no_networks : (hs : List Holding) (tenants : List Tenant) (new : ℕ) → AllByRecursion (λ h. has_tenant tenants h.tenant ≡ true) hs → has_tenant tenants new ≡ false → networks_of hs new ≡ []
+pub no_networks : (hs : List NetworkEntry) (tenants : List Tenant) (new : ℕ) → AllByRecursion (λ h. has_tenant tenants h.tenant ≡ true) hs → has_tenant tenants new ≡ false → networks_of hs new ≡ []
 no_networks [] tenants new all e = refl
 no_networks (h ∷ hs) tenants new all e = grind (arith, nat_tests, all.0, e, no_networks hs tenants new all.1 e)
 
-pub network_same : (hs : List Holding) (id : ℕ) (a b : Bytes) → is_same a b ≡ true → network_at hs id a ≡ network_at hs id b
+pub network_same : (hs : List NetworkEntry) (id : ℕ) (a b : Bytes) → is_same a b ≡ true → network_at hs id a ≡ network_at hs id b
 network_same [] id a b e = refl
 network_same (h ∷ hs) id a b e = grind (arith, nat_tests, is_same_congr a b h.name e, network_same hs id a b e)
 
 -- the look-up after each change
-pub network_put : (hs : List Holding) (id i : ℕ) (name q : Bytes) (n old : NetworkValue) → network_at hs id name ≡ Some old → network_at (with_network hs id name n) i q ≡ (if nat_eq i id && is_same q name then Some n else network_at hs i q)
+pub network_put : (hs : List NetworkEntry) (id i : ℕ) (name q : Bytes) (n old : NetworkValue) → network_at hs id name ≡ Some old → network_at (with_network hs id name n) i q ≡ (if nat_eq i id && is_same q name then Some n else network_at hs i q)
 network_put [] id i name q n old e = grind (arith, nat_tests, e)
 network_put (h ∷ hs) id i name q n old e = grind (arith, nat_tests, e, network_put hs id i name q n old, is_same_congr q name h.name, joined name q h.name)
 
-pub network_gone : (hs : List Holding) (id i : ℕ) (name q : Bytes) → network_at (filter (λ h. not (same_slot (id, name) (slot h))) hs) i q ≡ (if nat_eq i id && is_same q name then None else network_at hs i q)
+pub network_gone : (hs : List NetworkEntry) (id i : ℕ) (name q : Bytes) → network_at (filter (λ h. not (same_slot (id, name) (slot h))) hs) i q ≡ (if nat_eq i id && is_same q name then None else network_at hs i q)
 network_gone [] id i name q = grind (arith, nat_tests)
 network_gone (h ∷ hs) id i name q = grind (arith, nat_tests, network_gone hs id i name q, is_same_congr q name h.name, joined name q h.name)
 

@@ -14,13 +14,13 @@ use Rattle.wgr_text.specs.Prefix.{PrefixValue}
 use Rattle.wgr_pool.proofs.Bools.{decide}
 use Rattle.wgr_core.specs.Network.{NetworkValue}
 use Rattle.wgr_core.specs.declared.command.Command.{Command}
-use Rattle.wgr_core.specs.declared.refusal.Refusal.{Refusal}
+use Rattle.wgr_core.specs.declared.refusal.CommandRefusal.{CommandRefusal}
 use Rattle.wgr_core.specs.declared.reply.Reply.{Reply}
 use Rattle.wgr_model.specs.Consistent.{IsConsistent, endpoint, is_pool, overlaps, same_endpoint, same_slot, slot}
 use Rattle.wgr_model.specs.Laws.{Has, OrderIsNoAccount}
-use Rattle.wgr_model.specs.Register.{Bytes, Holding, IsSame, Register, Tenant, Token, id_of, is_same}
+use Rattle.wgr_model.specs.Register.{Bytes, NetworkEntry, IsSame, Register, Tenant, Token, id_of, is_same}
 use Rattle.wgr_model.specs.Rows.{HaveSame}
-use Rattle.wgr_model.specs.Steps.{AddNetwork, AddTenant, Answer, Ask, BadPool, Decided, Declined, DigestHeld, EndNetwork, EndToken, Event, Grant, IsUnused, Listed, NameHeld, Networks, NoNetwork, NoSuchNetwork, NoSuchTenant, NoSuchToken, OrderRefusal, Outcome, Plain, PoolOverlaps, PortHeld, Refused, RegisterFull, Settings, UnknownToken, act, acted, ask, asked, first_of, first_refusal, given, grant_checks, granted, has_digest, has_endpoint, has_slot, is_full, listed, name_of, network_added, network_at, network_checks, network_ended, new_network, ordered, outcome, overlapping, pool_refusal, put_network, refuse, tenant_checks, tenant_of_token, with_network, with_new_network, with_tenant, with_token, without_network, without_token}
+use Rattle.wgr_model.specs.Steps.{AddNetwork, AddTenant, Answer, Ask, BadPool, Decided, Declined, DigestHeld, EndNetwork, EndToken, Event, Grant, IsUnused, Listed, NameHeld, Networks, NoNetwork, NoSuchNetwork, NoSuchTenant, NoSuchToken, OrderRefusal, EventOutcome, Plain, PoolOverlaps, PortHeld, Refused, RegisterFull, Settings, UnknownToken, act, acted, ask, asked, first_of, first_refusal, given, grant_checks, granted, has_digest, has_endpoint, has_slot, is_full, listed, name_of, network_added, network_at, network_checks, network_ended, new_network, ordered, outcome, overlapping, pool_refusal, put_network, refuse, tenant_checks, tenant_of_token, with_network, with_new_network, with_tenant, with_token, without_network, without_token}
 use Rattle.wgr_model.proofs.CollectLemmas.{from_map, has_map}
 use Rattle.wgr_model.proofs.GatherLemmas.{eqb_self, in_filter}
 use Rattle.wgr_model.proofs.KeptLemmas.{distinct_filter}
@@ -82,10 +82,10 @@ id_tells id a b x y = grind (arith, nat_tests, x, y)
 
 -- ---- the network that is put
 
-put_in : ℕ → Bytes → NetworkValue → Holding → Holding
+put_in : ℕ → Bytes → NetworkValue → NetworkEntry → NetworkEntry
 put_in id name n h = if nat_eq h.tenant id && is_same name h.name then record h { network = n } else h
 
-no_other : (id : ℕ) (name : Bytes) (n : NetworkValue) (h : Holding) (hs : List Holding) → (nat_eq h.tenant id && is_same name h.name) ≡ true → AllByRecursion (λ y. same_slot (slot h) y ≡ false) (map slot hs) → map (put_in id name n) hs ≡ hs
+no_other : (id : ℕ) (name : Bytes) (n : NetworkValue) (h : NetworkEntry) (hs : List NetworkEntry) → (nat_eq h.tenant id && is_same name h.name) ≡ true → AllByRecursion (λ y. same_slot (slot h) y ≡ false) (map slot hs) → map (put_in id name n) hs ≡ hs
 unfolding put_in
 no_other id name n h [] e apart = refl
 no_other id name n h (x ∷ xs) e apart = ap₂ (λ y ys. y ∷ ys) (elim (decide (nat_eq x.tenant id && is_same name x.name)) [
@@ -93,7 +93,7 @@ no_other id name n h (x ∷ xs) e apart = ap₂ (λ y ys. y ∷ ys) (elim (decid
   | inr other ↦ ap (λ b. if b then record x { network = n } else x) other
 ]) (no_other id name n h xs e apart.1)
 
-put_is_map : (hs : List Holding) (id : ℕ) (name : Bytes) (n : NetworkValue) → IsDistinct same_slot (map slot hs) → with_network hs id name n ≡ map (put_in id name n) hs
+put_is_map : (hs : List NetworkEntry) (id : ℕ) (name : Bytes) (n : NetworkValue) → IsDistinct same_slot (map slot hs) → with_network hs id name n ≡ map (put_in id name n) hs
 unfolding put_in
 put_is_map [] id name n u = refl
 put_is_map (h ∷ hs) id name n u = by_test (nat_eq h.tenant id && is_same name h.name) refl (put_is_map hs id name n (IsDistinct-tail same_slot (slot h) (map slot hs) u)) where
@@ -126,7 +126,7 @@ refusal_same (p ∷ ps) (q ∷ qs) same =
 -- ---- outcomes
 
 -- one answer, and the same entries
-pub record AreAlike (x y : Outcome) : Type 0 where
+pub record AreAlike (x y : EventOutcome) : Type 0 where
   pub answer : x.0 ≡ y.0
   pub entries : IsSame x.1 y.1
 
@@ -144,7 +144,7 @@ module _ (r s : Register) (same : IsSame r s) (good : IsConsistent r) where
   same_overlapping pool =
       (λ i. pool_refusal (map (λ h. (same_name h.tenant i, h.name)) (filter (λ h. overlaps pool h.network.pool) r.networks)))
       ∙ refusal_same (overlapping s.tenants r.networks pool) (overlapping s.tenants s.networks pool) (λ p. (moved r.networks s.networks same.networks p, moved s.networks r.networks (IsPermutation-sym r.networks s.networks same.networks) p)) where
-        moved : (hs ks : List Holding) → IsPermutation hs ks → (p : Bytes × Bytes) → Has (overlapping s.tenants hs pool) p → Has (overlapping s.tenants ks pool) p
+        moved : (hs ks : List NetworkEntry) → IsPermutation hs ks → (p : Bytes × Bytes) → Has (overlapping s.tenants hs pool) p → Has (overlapping s.tenants ks pool) p
         moved hs ks perm p h =
             let x = from_map (λ k. (name_of s.tenants k.tenant, k.name)) (filter (λ k. overlaps pool k.network.pool) hs) p h in
             subst (Has (overlapping s.tenants ks pool)) x.2 (has_map (λ k. (name_of s.tenants k.tenant, k.name)) (filter (λ k. overlaps pool k.network.pool) ks) x.0 ((filter_same (λ k. overlaps pool k.network.pool) hs ks perm x.0).0 x.1))
@@ -160,7 +160,7 @@ module _ (r s : Register) (same : IsSame r s) (good : IsConsistent r) where
         (subst (IsPermutation (map (put_in id name n) r.networks)) (sym (put_is_map s.networks id name n there.slots)) (IsPermutation-map (put_in id name n) r.networks s.networks same.networks));
   }
 
-  acted_alike : (id : ℕ) (name : Bytes) (x : Result (Reply × NetworkValue) Refusal) → AreAlike (acted r id name x) (acted s id name x)
+  acted_alike : (id : ℕ) (name : Bytes) (x : Result (Reply × NetworkValue) CommandRefusal) → AreAlike (acted r id name x) (acted s id name x)
   acted_alike id name (Err why) = alike (Declined why)
   acted_alike id name (Ok done) = record { answer = refl; entries = put_same id name done.1 }
 

@@ -6,7 +6,7 @@ use Rattle.std.proofs.lemmas.Map.Keys.{IsDistinct-IsPermutation}
 use Rattle.wgr_pool.proofs.Bools.{not_true}
 use Rattle.wgr_model.specs.Consistent.{IsConsistent, same_slot, slot}
 use Rattle.wgr_model.specs.Laws.{Has}
-use Rattle.wgr_model.specs.Register.{Holding, Register, Token, is_same}
+use Rattle.wgr_model.specs.Register.{NetworkEntry, Register, Token, is_same}
 use Rattle.wgr_model.specs.RowRules.{NetworksGain, NetworksLose, TenantsGain, TokensGain, TokensLose}
 use Rattle.wgr_model.specs.Rows.{HaveSame, NetworkRow, allowed_rows, network_row, peer_rows}
 use Rattle.wgr_model.specs.Steps.{new_network, without_network}
@@ -80,9 +80,9 @@ map_filter f p (x ∷ xs) = by_test (p (f x)) (map_filter f p xs) where
   by_test true rest = ap (λ ys. f x ∷ ys) rest
   by_test false rest = rest
 
-module _ (r : Register) (good : IsConsistent r) (h : Holding) (held : Has r.networks h) where
+module _ (r : Register) (good : IsConsistent r) (h : NetworkEntry) (held : Has r.networks h) where
   -- a network is told by its name as it is by its id
-  told_apart : (k : Holding) → Has r.networks k → not (same_slot (h.tenant, h.name) (slot k)) ≡ not (nat_eq k.id h.id)
+  told_apart : (k : NetworkEntry) → Has r.networks k → not (same_slot (h.tenant, h.name) (slot k)) ≡ not (nat_eq k.id h.id)
   told_apart k kk = elim (one_or_apart (λ x. x.id) nat_eq eqb_sym r.networks k h good.network_ids kk held) [
     | inl same ↦ ap not (ap (λ z. same_slot (slot h) (slot z)) same ∙ self_slot h ∙ sym (ap (λ z. nat_eq z.id h.id) same ∙ eqb_self h.id))
     | inr apart ↦ elim (one_or_apart slot same_slot slot_sym r.networks h k good.slots held kk) [
@@ -94,7 +94,7 @@ module _ (r : Register) (good : IsConsistent r) (h : Holding) (held : Has r.netw
   left : (without_network r h.tenant h.name).networks ≡ filter (λ k. not (nat_eq k.id h.id)) r.networks
   left = filter_agree (λ k. not (same_slot (h.tenant, h.name) (slot k))) (λ k. not (nat_eq k.id h.id)) r.networks told_apart
 
-  rows_left : {A : Type 0} (rows_in : Holding → List A) (id_in : A → ℕ) → ((k : Holding) (a : A) → Has (rows_in k) a → id_in a ≡ k.id) → (old new : List A) → HaveSame (flat_map rows_in r.networks) old
+  rows_left : {A : Type 0} (rows_in : NetworkEntry → List A) (id_in : A → ℕ) → ((k : NetworkEntry) (a : A) → Has (rows_in k) a → id_in a ≡ k.id) → (old new : List A) → HaveSame (flat_map rows_in r.networks) old
       → ((a : A) → Has new a ↔ (Has old a × (nat_eq (id_in a) h.id ≡ false))) → HaveSame (flat_map rows_in (filter (λ k. not (nat_eq k.id h.id)) r.networks)) new
   rows_left rows_in id_in own old new was now a = (
     (λ x.
@@ -107,7 +107,7 @@ module _ (r : Register) (good : IsConsistent r) (h : Holding) (held : Has r.netw
         has_flat rows_in (filter (λ k. not (nat_eq k.id h.id)) r.networks) f.0 a (in_filter (λ k. not (nat_eq k.id h.id)) r.networks f.0 f.1 (ap not (ap (λ i. nat_eq i h.id) (sym (own f.0 a f.2)) ∙ y.1))) f.2),
   )
 
-ids_of_rows : (hs : List Holding) → map (λ w. w.id) (map network_row hs) ≡ map (λ h. h.id) hs
+ids_of_rows : (hs : List NetworkEntry) → map (λ w. w.id) (map network_row hs) ≡ map (λ h. h.id) hs
 ids_of_rows hs = map_map network_row (λ w. w.id) hs
 
 pub networks_lose : NetworksLose

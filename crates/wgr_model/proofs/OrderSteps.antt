@@ -5,8 +5,8 @@ use Rattle.std.specs.List.Sorted.{IsPermutation}
 use Rattle.std.proofs.lemmas.List.Sorted.{IsPermutation-append_comm, IsPermutation-refl}
 use Rattle.std.proofs.lemmas.Bool.Decides.{nat_tests}
 use Rattle.wgr_model.specs.Consistent.{IsId, is_pool}
-use Rattle.wgr_model.specs.Register.{Bytes, Holding, IsSame, Register, Tenant, Token, id_of}
-use Rattle.wgr_model.specs.Steps.{AddNetwork, AddTenant, BadPool, DigestHeld, Done, EndNetwork, EndToken, Event, Grant, IsStep, NameHeld, NoNetwork, NoSuchTenant, NoSuchToken, OrderRefusal, Outcome, PortHeld, Refused, RegisterFull, Settings, first_refusal, given, granted, has_digest, has_endpoint, has_name, has_slot, is_full, network_added, network_at, network_checks, network_ended, new_network, ordered, outcome, overlapping, pool_refusal, refuse, tenant_of_token, with_new_network, with_tenant, with_token, without_network, without_token}
+use Rattle.wgr_model.specs.Register.{Bytes, NetworkEntry, IsSame, Register, Tenant, Token, id_of}
+use Rattle.wgr_model.specs.Steps.{AddNetwork, AddTenant, BadPool, DigestHeld, Done, EndNetwork, EndToken, Event, Grant, IsStep, NameHeld, NoNetwork, NoSuchTenant, NoSuchToken, OrderRefusal, EventOutcome, PortHeld, Refused, RegisterFull, Settings, first_refusal, given, granted, has_digest, has_endpoint, has_name, has_slot, is_full, network_added, network_at, network_checks, network_ended, new_network, ordered, outcome, overlapping, pool_refusal, refuse, tenant_of_token, with_new_network, with_tenant, with_token, without_network, without_token}
 use Rattle.wgr_model.proofs.CallLemmas.{quiet, step_is}
 use Rattle.wgr_model.proofs.RunLemmas.{same_itself}
 use Rattle.wgr_model.proofs.SameLemmas.{eqb_sym}
@@ -21,7 +21,7 @@ pub digest_is_held : (ts : List Token) (digest : Bytes) → has_digest ts digest
 digest_is_held [] digest = refl
 digest_is_held (t ∷ ts) digest = grind (arith, nat_tests, digest_is_held ts digest)
 
-pub slot_is_held : (hs : List Holding) (id : ℕ) (name : Bytes) → has_slot hs id name ≡ is_some (network_at hs id name)
+pub slot_is_held : (hs : List NetworkEntry) (id : ℕ) (name : Bytes) → has_slot hs id name ≡ is_some (network_at hs id name)
 slot_is_held [] id name = refl
 slot_is_held (h ∷ hs) id name = grind (arith, nat_tests, slot_is_held hs id name, eqb_sym id h.tenant)
 
@@ -45,7 +45,7 @@ module _ (r : Register) (name : Bytes) where
   pub tenant_added : (s : Register) (new : ℕ) → is_some (id_of r.tenants name) ≡ false → is_full r.tenants ≡ false → IsId new → list_any (nat_eq new) (map (λ (t : Tenant). t.id) r.tenants) ≡ false
       → s.tenants ≡ r.tenants ++ record { id = new; name = name } ∷ [] → s.tokens ≡ r.tokens → s.networks ≡ r.networks → IsStep r (AddTenant name) Done s
   tenant_added s new free some_room id unused tenants tokens networks =
-      let o : Outcome = (Done, with_tenant r name new) in
+      let o : EventOutcome = (Done, with_tenant r name new) in
       step_is r s (AddTenant name) new o
       (ap₂ (λ a b. ordered (refuse a NameHeld ∷ refuse b RegisterFull ∷ []) r (with_tenant r name new)) (name_is_held r.tenants name ∙ free) some_room)
       (λ _. (id, unused))
@@ -69,7 +69,7 @@ module _ (r : Register) (tenant digest : Bytes) where
     pub token_granted : (s : Register) → is_some (tenant_of_token r.tokens digest) ≡ false → is_full r.tokens ≡ false → s.tokens ≡ r.tokens ++ record { digest = digest; tenant = id } ∷ [] → s.tenants ≡ r.tenants → s.networks ≡ r.networks
         → IsStep r (Grant tenant digest) Done s
     token_granted s free some_room tokens tenants networks =
-        let o : Outcome = (Done, with_token r digest id) in
+        let o : EventOutcome = (Done, with_token r digest id) in
         step_is r s (Grant tenant digest) 0 o
         (ap (granted r digest) known ∙ ap₂ (λ a b. ordered (refuse a DigestHeld ∷ refuse b RegisterFull ∷ []) r (with_token r digest id)) (digest_is_held r.tokens digest ∙ free) some_room)
         (λ _. tt)
@@ -85,7 +85,7 @@ module _ (r : Register) (digest : Bytes) where
 
   pub token_ended : is_some (tenant_of_token r.tokens digest) ≡ true → (s : Register) → s ≡ without_token r digest → IsStep r (EndToken digest) Done s
   token_ended held s is =
-      let o : Outcome = (Done, without_token r digest) in
+      let o : EventOutcome = (Done, without_token r digest) in
       step_is r s (EndToken digest) 0 o
       (ap (λ b. ordered (refuse (not b) NoSuchToken ∷ []) r (without_token r digest)) (digest_is_held r.tokens digest ∙ held))
       (λ _. tt)
@@ -101,7 +101,7 @@ module _ (r : Register) (tenant name : Bytes) where
 
     pub network_gone : is_some (network_at r.networks id name) ≡ true → (s : Register) → s ≡ without_network r id name → IsStep r (EndNetwork tenant name) Done s
     network_gone held s is =
-        let o : Outcome = (Done, without_network r id name) in
+        let o : EventOutcome = (Done, without_network r id name) in
         step_is r s (EndNetwork tenant name) 0 o
         (ap (network_ended r name) known ∙ ap (λ b. ordered (refuse (not b) NoNetwork ∷ []) r (without_network r id name)) (slot_is_held r.networks id name ∙ held))
         (λ _. tt)
@@ -115,10 +115,10 @@ module _ (r : Register) (tenant name : Bytes) (settings : Settings) where
     pub not_added : (why : OrderRefusal) → first_refusal (network_checks r id name settings) ≡ Some why → IsStep r (AddNetwork tenant name settings) (Refused why) r
     not_added why is = refused r (AddNetwork tenant name settings) why (ap (network_added r name settings 0) known ∙ ap (λ o. given o r (with_new_network r 0 id name (new_network settings))) is)
 
-    pub network_added_is : (s : Register) (new : ℕ) → first_refusal (network_checks r id name settings) ≡ None → IsId new → list_any (nat_eq new) (map (λ (h : Holding). h.id) r.networks) ≡ false
+    pub network_added_is : (s : Register) (new : ℕ) → first_refusal (network_checks r id name settings) ≡ None → IsId new → list_any (nat_eq new) (map (λ (h : NetworkEntry). h.id) r.networks) ≡ false
         → s.networks ≡ r.networks ++ record { id = new; tenant = id; name = name; network = new_network settings } ∷ [] → s.tenants ≡ r.tenants → s.tokens ≡ r.tokens → IsStep r (AddNetwork tenant name settings) Done s
     network_added_is s new passed is_id unused networks tenants tokens =
-        let o : Outcome = (Done, with_new_network r new id name (new_network settings)) in
+        let o : EventOutcome = (Done, with_new_network r new id name (new_network settings)) in
         step_is r s (AddNetwork tenant name settings) new o
         (ap (network_added r name settings new) known ∙ ap (λ o. given o r (with_new_network r new id name (new_network settings))) passed)
         (λ _. (is_id, unused))

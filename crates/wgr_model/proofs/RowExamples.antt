@@ -14,7 +14,7 @@ use Rattle.wgr_core.specs.declared.command.Command.TheVariants as command
 use Rattle.wgr_core.specs.declared.reply.Reply.TheVariants as reply
 use Rattle.wgr_core.specs.Network.{NetworkValue}
 use Rattle.wgr_model.specs.Consistent.{IsConsistent, IsDigest, is_pool, overlaps}
-use Rattle.wgr_model.specs.Register.{Bytes, Holding, IsSame, Register, Tenant, Token, empty_register, is_same}
+use Rattle.wgr_model.specs.Register.{Bytes, NetworkEntry, IsSame, Register, Tenant, Token, empty_register, is_same}
 use Rattle.wgr_model.specs.Rows.{AllowedRow, AreRowsOf, NetworkRow, PeerRow, Tables, register_of}
 use Rattle.wgr_model.specs.RowLaws.{AreConsistent, IsRowStep}
 use Rattle.wgr_model.specs.RowsExist.{rows_of}
@@ -49,11 +49,11 @@ abbrev peer : ℕ → ℕ → AddrValue → ℕ → Peer
 peer number k at until = record { number = number; key = key k; label = []; address = at; until = until; keepalive = 0; status = None }
 
 -- acme's network
-abbrev office : ℕ → List Peer → Routes → Holding
+abbrev office : ℕ → List Peer → Routes → NetworkEntry
 office next peers routes = record { id = 3; tenant = 1; name = codes "office"; network = record (new_network (settings 8 51820)) { next = next; peers = peers; routes = routes } }
 
 -- and bolt's
-abbrev lab : ℕ → List Peer → Holding
+abbrev lab : ℕ → List Peer → NetworkEntry
 lab next peers = record { id = 4; tenant = 2; name = codes "lab"; network = record (new_network (settings 9 51821)) { next = next; peers = peers } }
 
 abbrev acme : Tenant
@@ -65,7 +65,7 @@ bolt = record { id = 2; name = codes "bolt" }
 abbrev token : ℕ → Token
 token id = record { digest = replicate 32 id; tenant = id }
 
-abbrev house : List Holding → Register
+abbrev house : List NetworkEntry → Register
 house networks = record { tenants = bolt ∷ acme ∷ []; tokens = token 2 ∷ token 1 ∷ []; networks = networks }
 
 -- peer 1 of acme's has the route, peer 2's lease ends at 100, and bolt's peer has the key of acme's first
@@ -132,7 +132,7 @@ with_two_good = asked with_one with_two 1 (codes "office") 0 (add 2 100) (added 
     (tt, (refl, no_label, omega arith, omega arith)) refl
 
 -- acme's network as it is from then on
-abbrev acmes : Holding
+abbrev acmes : NetworkEntry
 acmes = office 3 (peer 1 1 (address 8 2) 0 ∷ peer 2 2 (address 8 3) 100 ∷ []) ((route, 1) ∷ [])
 
 with_route_good : IsConsistent (house (lab 1 [] ∷ acmes ∷ []))
@@ -200,7 +200,7 @@ listing =
     on_rows (Ask (replicate 32 1) (codes "office") 100 command.List) answer full_house (tt, tt) (step_is full_house full_house (Ask (replicate 32 1) (codes "office") 100 command.List) 0 (answer, full_house) refl (λ _. tt) (same_itself full_house))
 
 -- the next peer takes its address, and its rows are gone; those of bolt's stay
-abbrev later : Holding
+abbrev later : NetworkEntry
 later = office 4 (peer 1 1 (address 8 2) 0 ∷ peer 3 3 (address 8 3) 0 ∷ []) ((route, 1) ∷ [])
 
 abbrev later_rows : Tables

@@ -5,7 +5,7 @@ use Rattle.std.specs.List.{flat_map}
 use Rattle.std.proofs.lemmas.List.Sorted.{IsPermutation-trans, IsPermutation-map, IsPermutation-sym, IsPermutation-refl}
 use Rattle.wgr_peers.specs.declared.peer.Peer.{Peer}
 use Rattle.wgr_model.specs.Laws.{Has}
-use Rattle.wgr_model.specs.Register.{Holding, IsSame, Register, empty_register}
+use Rattle.wgr_model.specs.Register.{NetworkEntry, IsSame, Register, empty_register}
 use Rattle.wgr_model.specs.RowLaws.{AreConsistent, HasOneRow, IsRowRun, IsRowStep, NoRowsAreConsistent, OrderIsUnseen, RowsAreIsolated, RowsStayConsistent, no_rows}
 use Rattle.wgr_model.specs.Rows.{AllowedRow, AreRowsOf, first_version, HaveSame, Tables, address_row, allowed_rows, network_row, peer_rows, register_of, route_row}
 use Rattle.wgr_model.specs.Runs.{AreProper, IsRun, Served}
@@ -17,7 +17,7 @@ use Rattle.wgr_model.proofs.RunLemmas.{empty_consistent, run_law, same_itself, s
 use Rattle.wgr_model.proofs.SameLemmas.{has_permutation, same_consistent, same_view}
 
 -- the rows of the entries of a register are those of the same entries in another order
-flat_same : {A : Type 0} (rows_in : Holding → List A) (hs ks : List Holding) (rows : List A) → IsPermutation hs ks → HaveSame (flat_map rows_in hs) rows → HaveSame (flat_map rows_in ks) rows
+flat_same : {A : Type 0} (rows_in : NetworkEntry → List A) (hs ks : List NetworkEntry) (rows : List A) → IsPermutation hs ks → HaveSame (flat_map rows_in hs) rows → HaveSame (flat_map rows_in ks) rows
 flat_same rows_in hs ks rows same was a = (
   (λ h. let f = from_flat rows_in ks a h in (was a).0 (has_flat rows_in hs f.0 a (has_permutation ks hs f.0 (IsPermutation-sym hs ks same) f.1) f.2)),
   (λ h. let f = from_flat rows_in hs a ((was a).1 h) in has_flat rows_in ks f.0 a (has_permutation hs ks f.0 same f.1) f.2),
@@ -59,7 +59,7 @@ row_run ((event, Some answer) ∷ es) t u is proper (next, step, run) =
 -- ---- address rows
 
 -- an address row is that of a peer
-from_address : (r : Register) (t : Tables) (a : AllowedRow) → AreRowsOf r t → Has t.allowed a → a.is_route ≡ false → (h : Holding) × (p : Peer) × Has r.networks h × Has h.network.peers p × (address_row h.id p ≡ a)
+from_address : (r : Register) (t : Tables) (a : AllowedRow) → AreRowsOf r t → Has t.allowed a → a.is_route ≡ false → (h : NetworkEntry) × (p : Peer) × Has r.networks h × Has h.network.peers p × (address_row h.id p ≡ a)
 from_address r t a rows there is =
     let f = from_flat allowed_rows r.networks a ((rows.allowed a).1 there) in
     elim (from_append (map (address_row f.0.id) f.0.network.peers) (map (route_row f.0.id) f.0.network.routes) a f.2) [

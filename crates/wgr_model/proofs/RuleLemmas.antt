@@ -11,11 +11,11 @@ use Rattle.wgr_pool.specs.PrefixTests.{full, same_prefix}
 use Rattle.wgr_peers.specs.Peers.{IsApart, peer_of, same_key}
 use Rattle.wgr_peers.specs.declared.peer.Peer.{Peer}
 use Rattle.wgr_core.specs.Network.{IsNetwork, IsRoute, server_address}
-use Rattle.wgr_model.specs.Consistent.{IsHolding}
+use Rattle.wgr_model.specs.Consistent.{IsNetworkEntry}
 use Rattle.wgr_model.specs.Laws.{Has}
 use Rattle.wgr_model.specs.RowLaws.{AreConsistent}
 use Rattle.wgr_model.specs.RowRules.{ConsistentRowsKeepRules, IsAddressOf, IsPeerOf, IsRouteOf}
-use Rattle.wgr_model.specs.Rows.{AllowedRow, NetworkRow, PeerRow, Tables, address_row, allowed_rows, holding_of, network_row, peer_id, peer_row, peer_rows, register_of, route_row, same_pair}
+use Rattle.wgr_model.specs.Rows.{AllowedRow, NetworkRow, PeerRow, Tables, address_row, allowed_rows, network_entry_of, network_row, peer_id, peer_row, peer_rows, register_of, route_row, same_pair}
 use Rattle.wgr_model.proofs.CollectLemmas.{from_append, from_flat, from_map, has_flat, has_left, has_map}
 use Rattle.wgr_model.proofs.GatherLemmas.{eqb_self, in_filter}
 use Rattle.wgr_model.proofs.HolderLemmas.{member, one_or_apart, one_or_related}
@@ -41,36 +41,36 @@ pair_flips : (a b : ℕ × ℕ) → same_pair a b ≡ same_pair b a
 pair_flips a b = ap₂ (λ x y. x && y) (eqb_sym a.0 b.0) (eqb_sym a.1 b.1)
 
 module _ (t : Tables) (is : AreConsistent t) where
-  pub here : (w : NetworkRow) → Has t.networks w → Has (register_of t).networks (holding_of t w)
-  here w h = has_map (holding_of t) t.networks w h
+  pub here : (w : NetworkRow) → Has t.networks w → Has (register_of t).networks (network_entry_of t w)
+  here w h = has_map (network_entry_of t) t.networks w h
 
-  pub holding : (w : NetworkRow) → Has t.networks w → IsHolding (holding_of t w)
-  holding w h = at_has IsHolding (register_of t).networks (holding_of t w) is.consistent.networks (here w h)
+  pub network_entry : (w : NetworkRow) → Has t.networks w → IsNetworkEntry (network_entry_of t w)
+  network_entry w h = at_has IsNetworkEntry (register_of t).networks (network_entry_of t w) is.consistent.networks (here w h)
 
-  pub rules : (w : NetworkRow) → Has t.networks w → IsNetwork (holding_of t w).network
-  rules w h = (holding w h).rules
+  pub rules : (w : NetworkRow) → Has t.networks w → IsNetwork (network_entry_of t w).network
+  rules w h = (network_entry w h).rules
 
   -- two networks of one id are one
   pub one_network : (v w : NetworkRow) → Has t.networks v → Has t.networks w → v.id ≡ w.id → v ≡ w
-  one_network v w hv hw e = elim (one_or_apart (λ x. x.id) nat_eq eqb_sym (register_of t).networks (holding_of t v) (holding_of t w) is.consistent.network_ids (here v hv) (here w hw)) [
+  one_network v w hv hw e = elim (one_or_apart (λ x. x.id) nat_eq eqb_sym (register_of t).networks (network_entry_of t v) (network_entry_of t w) is.consistent.network_ids (here v hv) (here w hw)) [
     | inl same ↦ ap network_row same
     | inr apart ↦ absurd (true≢false (sym (eqb_self w.id) ∙ ap (λ i. nat_eq i w.id) (sym e) ∙ apart))
   ]
 
-  pub from_peer : (p : PeerRow) → Has t.peers p → (w : NetworkRow) × (v : Peer) × Has t.networks w × Has (holding_of t w).network.peers v × (peer_row w.id v ≡ p)
+  pub from_peer : (p : PeerRow) → Has t.peers p → (w : NetworkRow) × (v : Peer) × Has t.networks w × Has (network_entry_of t w).network.peers v × (peer_row w.id v ≡ p)
   from_peer p h =
       let f = from_flat peer_rows (register_of t).networks p ((is.rows.peers p).1 h) in
-      let w = from_map (holding_of t) t.networks f.0 f.1 in
+      let w = from_map (network_entry_of t) t.networks f.0 f.1 in
       let v = from_map (peer_row f.0.id) f.0.network.peers p f.2 in
       (w.0, v.0, w.1, subst (λ k. Has k.network.peers v.0) (sym w.2) v.1, ap (λ k. peer_row k.id v.0) w.2 ∙ v.2)
 
   abbrev pub IsOf : AllowedRow → NetworkRow → Type 0
-  IsOf a w = ((v : Peer) × Has (holding_of t w).network.peers v × (address_row w.id v ≡ a)) ⊎ ((r : PrefixValue × ℕ) × Has (holding_of t w).network.routes r × (route_row w.id r ≡ a))
+  IsOf a w = ((v : Peer) × Has (network_entry_of t w).network.peers v × (address_row w.id v ≡ a)) ⊎ ((r : PrefixValue × ℕ) × Has (network_entry_of t w).network.routes r × (route_row w.id r ≡ a))
 
   pub from_allowed : (a : AllowedRow) → Has t.allowed a → (w : NetworkRow) × Has t.networks w × IsOf a w
   from_allowed a h =
       let f = from_flat allowed_rows (register_of t).networks a ((is.rows.allowed a).1 h) in
-      let w = from_map (holding_of t) t.networks f.0 f.1 in (
+      let w = from_map (network_entry_of t) t.networks f.0 f.1 in (
         w.0,
         w.1,
         elim (from_append (map (address_row f.0.id) f.0.network.peers) (map (route_row f.0.id) f.0.network.routes) a f.2) [
@@ -79,25 +79,25 @@ module _ (t : Tables) (is : AreConsistent t) where
         ],
       )
 
-  pub peer_there : (w : NetworkRow) (v : Peer) → Has t.networks w → Has (holding_of t w).network.peers v → Has t.peers (peer_row w.id v)
-  peer_there w v hw hv = (is.rows.peers (peer_row w.id v)).0 (has_flat peer_rows (register_of t).networks (holding_of t w) (peer_row w.id v) (here w hw) (has_map (peer_row w.id) (holding_of t w).network.peers v hv))
+  pub peer_there : (w : NetworkRow) (v : Peer) → Has t.networks w → Has (network_entry_of t w).network.peers v → Has t.peers (peer_row w.id v)
+  peer_there w v hw hv = (is.rows.peers (peer_row w.id v)).0 (has_flat peer_rows (register_of t).networks (network_entry_of t w) (peer_row w.id v) (here w hw) (has_map (peer_row w.id) (network_entry_of t w).network.peers v hv))
 
-  pub address_there : (w : NetworkRow) (v : Peer) → Has t.networks w → Has (holding_of t w).network.peers v → Has t.allowed (address_row w.id v)
-  address_there w v hw hv = (is.rows.allowed (address_row w.id v)).0 (has_flat allowed_rows (register_of t).networks (holding_of t w) (address_row w.id v) (here w hw)
-      (has_left (map (address_row w.id) (holding_of t w).network.peers) (map (route_row w.id) (holding_of t w).network.routes) (address_row w.id v) (has_map (address_row w.id) (holding_of t w).network.peers v hv)))
+  pub address_there : (w : NetworkRow) (v : Peer) → Has t.networks w → Has (network_entry_of t w).network.peers v → Has t.allowed (address_row w.id v)
+  address_there w v hw hv = (is.rows.allowed (address_row w.id v)).0 (has_flat allowed_rows (register_of t).networks (network_entry_of t w) (address_row w.id v) (here w hw)
+      (has_left (map (address_row w.id) (network_entry_of t w).network.peers) (map (route_row w.id) (network_entry_of t w).network.routes) (address_row w.id v) (has_map (address_row w.id) (network_entry_of t w).network.peers v hv)))
 
-  is_address_of : (w : NetworkRow) (v : Peer) → Has t.networks w → Has (holding_of t w).network.peers v → IsAddressOf w (peer_row w.id v) (address_row w.id v)
-  is_address_of w v hw hv = record { kind = refl; network = refl; peer = refl; whole = refl; last = refl; assignable = (member (holding_of t w).network v (rules w hw) hv).assignable }
+  is_address_of : (w : NetworkRow) (v : Peer) → Has t.networks w → Has (network_entry_of t w).network.peers v → IsAddressOf w (peer_row w.id v) (address_row w.id v)
+  is_address_of w v hw hv = record { kind = refl; network = refl; peer = refl; whole = refl; last = refl; assignable = (member (network_entry_of t w).network v (rules w hw) hv).assignable }
 
-  is_peer_of : (w : NetworkRow) (v : Peer) → Has t.networks w → Has (holding_of t w).network.peers v → IsPeerOf w (peer_row w.id v)
-  is_peer_of w v hw hv = let m = member (holding_of t w).network v (rules w hw) hv in record { network = refl; number = v.number; id = refl; given = m.numbered; not_server = m.not_server }
+  is_peer_of : (w : NetworkRow) (v : Peer) → Has t.networks w → Has (network_entry_of t w).network.peers v → IsPeerOf w (peer_row w.id v)
+  is_peer_of w v hw hv = let m = member (network_entry_of t w).network v (rules w hw) hv in record { network = refl; number = v.number; id = refl; given = m.numbered; not_server = m.not_server }
 
-  route_rules : (w : NetworkRow) (r : PrefixValue × ℕ) → Has t.networks w → Has (holding_of t w).network.routes r → IsRoute (holding_of t w).network r
-  route_rules w r hw hr = let n = (holding_of t w).network in at_has (IsRoute n) n.routes r (recursion_from_All (IsRoute n) n.routes (rules w hw).routes) hr
+  route_rules : (w : NetworkRow) (r : PrefixValue × ℕ) → Has t.networks w → Has (network_entry_of t w).network.routes r → IsRoute (network_entry_of t w).network r
+  route_rules w r hw hr = let n = (network_entry_of t w).network in at_has (IsRoute n) n.routes r (recursion_from_All (IsRoute n) n.routes (rules w hw).routes) hr
 
-  not_address : (w : NetworkRow) (r : PrefixValue × ℕ) → Has t.networks w → Has (holding_of t w).network.routes r
-      → (list_any (λ e. same_prefix r.0 (full e.address)) (holding_of t w).network.peers ≡ false) × (same_prefix r.0 (full (server_address w.pool)) ≡ false)
-  not_address w r hw hr = or_false (list_any (λ e. same_prefix r.0 (full e.address)) (holding_of t w).network.peers) (same_prefix r.0 (full (server_address w.pool))) (route_rules w r hw hr).no_address
+  not_address : (w : NetworkRow) (r : PrefixValue × ℕ) → Has t.networks w → Has (network_entry_of t w).network.routes r
+      → (list_any (λ e. same_prefix r.0 (full e.address)) (network_entry_of t w).network.peers ≡ false) × (same_prefix r.0 (full (server_address w.pool)) ≡ false)
+  not_address w r hw hr = or_false (list_any (λ e. same_prefix r.0 (full e.address)) (network_entry_of t w).network.peers) (same_prefix r.0 (full (server_address w.pool))) (route_rules w r hw hr).no_address
 
   peers_keep : (p : PeerRow) → Has t.peers p → (w : NetworkRow) × (a : AllowedRow) × Has t.networks w × Has t.allowed a × IsPeerOf w p × IsAddressOf w p a
   peers_keep p h =
@@ -110,7 +110,7 @@ module _ (t : Tables) (is : AreConsistent t) where
       let y = from_peer q hq in
       let w : x.0 ≡ y.0 = one_network x.0 y.0 x.2 y.2 (ap (λ z. z.network) x.4 ∙ e ∙ ap (λ z. z.network) (sym y.4)) in
       let key : x.1.key ≡ y.1.key = ap (λ z. z.key) x.4 ∙ k ∙ ap (λ z. z.key) (sym y.4) in
-      let v : x.1 ≡ y.1 = elim (one_or_related IsApart (holding_of t y.0).network.peers x.1 y.1 (rules y.0 y.2).apart (subst (λ z. Has (holding_of t z).network.peers x.1) w x.3) y.3) [
+      let v : x.1 ≡ y.1 = elim (one_or_related IsApart (network_entry_of t y.0).network.peers x.1 y.1 (rules y.0 y.2).apart (subst (λ z. Has (network_entry_of t z).network.peers x.1) w x.3) y.3) [
         | inl same ↦ same
         | inr apart ↦ elim apart [
           | inl z ↦ absurd (true≢false (sym (same_key_self y.1.key) ∙ ap (λ a. same_key a y.1.key) (sym key) ∙ z.0))
@@ -132,7 +132,7 @@ module _ (t : Tables) (is : AreConsistent t) where
     by_kind (w, hw, inl x) = (w, peer_row w.id x.0, hw, peer_there w x.0 hw x.1, inl (subst (IsAddressOf w (peer_row w.id x.0)) x.2 (is_address_of w x.0 hw x.1)))
     by_kind (w, hw, inr x) =
         let route = route_rules w x.0 hw x.1 in
-        let v = found_peer (holding_of t w).network.peers x.0.1 route.leads in
+        let v = found_peer (network_entry_of t w).network.peers x.0.1 route.leads in
         (w, peer_row w.id v.0, hw, peer_there w v.0 hw v.1, inr (subst (IsRouteOf w (peer_row w.id v.0)) x.2 (record { kind = refl; network = refl; peer = ap (peer_id w.id) (sym v.2); masked = route.masked; last = refl; not_server = (not_address w x.0 hw x.1).1 })))
 
   routes_keep : (a b : AllowedRow) → Has t.allowed a → Has t.allowed b → a.is_route ≡ true → b.is_route ≡ false → a.network ≡ b.network → same_prefix a.prefix b.prefix ≡ false
@@ -143,7 +143,7 @@ module _ (t : Tables) (is : AreConsistent t) where
     by_kind (w, hw, inr x) (u, hu, inl y) =
         let one : u ≡ w = one_network u w hu hw (ap (λ z. z.network) y.2 ∙ sym network ∙ ap (λ z. z.network) (sym x.2)) in
         ap₂ (λ z v. same_prefix z.prefix v.prefix) (sym x.2) (sym y.2)
-        ∙ none_at (λ e. same_prefix x.0.0 (full e.address)) (holding_of t w).network.peers y.0 (not_address w x.0 hw x.1).0 (subst (λ z. Has (holding_of t z).network.peers y.0) one y.1)
+        ∙ none_at (λ e. same_prefix x.0.0 (full e.address)) (network_entry_of t w).network.peers y.0 (not_address w x.0 hw x.1).0 (subst (λ z. Has (network_entry_of t z).network.peers y.0) one y.1)
 
 pub rows_keep_rules : ConsistentRowsKeepRules
 rows_keep_rules t is = record { peers = peers_keep t is; keys = keys_keep t is; one_address = one_address_keeps t is; allowed = allowed_keep t is; routes_apart = routes_keep t is }

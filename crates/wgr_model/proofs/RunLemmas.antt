@@ -7,7 +7,7 @@ use Rattle.wgr_model.specs.Laws.{RunsAreIsolated, StepLaw}
 use Rattle.wgr_model.specs.Register.{Bytes, IsSame, Register, View, empty_register, tenant_view}
 use Rattle.wgr_model.specs.Runs.{AreProper, IsRun, Served, acknowledged}
 use Rattle.wgr_model.specs.Steps.{Answer, Event, IsProper, IsStep, IsUnused, is_done, outcome}
-use Rattle.wgr_model.specs.Tenants.{Agree, Fits, tenant_after, tenant_answer, tenant_run}
+use Rattle.wgr_model.specs.Tenants.{Agree, FitsAnswer, tenant_after, tenant_answer, tenant_run}
 use Rattle.wgr_model.proofs.AnswerLemmas.{step_fits}
 use Rattle.wgr_model.proofs.HolderLemmas.{one_holder}
 use Rattle.wgr_model.proofs.KeptLemmas.{step_stays}
@@ -53,7 +53,7 @@ step_law r s e answer good proper step =
     let after : IsConsistent o.1 = step_stays r good e step.new unused proper in
     record {
       consistent = same_consistent o.1 s step.rows after;
-      answered = λ me. subst (λ a. Fits (tenant_answer (tenant_view r me) e) a) (sym step.answered) (step_fits me r good step.new e);
+      answered = λ me. subst (λ a. FitsAnswer (tenant_answer (tenant_view r me) e) a) (sym step.answered) (step_fits me r good step.new e);
       view = λ me. ap (λ a. tenant_after me (tenant_view r me) e (is_done a)) step.answered ∙ sym (step_sees me r good e step.new unused) ∙ same_view o.1 s step.rows after me;
     }
 

@@ -7,9 +7,9 @@ use Rattle.std.proofs.lemmas.Map.Keys.{IsDistinct-head, IsDistinct-tail, IsDisti
 use Rattle.std.proofs.lemmas.Bool.Decides.{nat_tests}
 use Rattle.wgr_text.specs.Prefix.{PrefixValue}
 use Rattle.wgr_pool.specs.PrefixTests.{covers}
-use Rattle.wgr_model.specs.Consistent.{IsConsistent, IsDigest, IsHolding, IsTenant, endpoint, has_tenant, overlaps, pool_of, same_endpoint, same_slot, slot}
+use Rattle.wgr_model.specs.Consistent.{IsConsistent, IsDigest, IsNetworkEntry, IsTenant, endpoint, has_tenant, overlaps, pool_of, same_endpoint, same_slot, slot}
 use Rattle.wgr_model.specs.Laws.{Has}
-use Rattle.wgr_model.specs.Register.{Bytes, Holding, IsSame, Register, Tenant, Token, digests_of, id_of, is_same, tenant_view, view_at, view_of}
+use Rattle.wgr_model.specs.Register.{Bytes, NetworkEntry, IsSame, Register, Tenant, Token, digests_of, id_of, is_same, tenant_view, view_at, view_of}
 use Rattle.wgr_model.specs.Steps.{network_at}
 use Rattle.wgr_model.proofs.LookLemmas.{is_same_congr, is_same_sym}
 use Rattle.wgr_model.proofs.ViewLemmas.{contains_view, get_view, same_digests, same_networks}
@@ -80,7 +80,7 @@ unfolding overlaps
 overlaps_sym p q = or_sym (covers p q) (covers q p)
 
 -- ---- the look-ups
-pub network_found : (hs : List Holding) (i : ℕ) (q : Bytes) → network_at hs i q ≡ option_map (λ h. h.network) (find (λ h. nat_eq h.tenant i && is_same q h.name) hs)
+pub network_found : (hs : List NetworkEntry) (i : ℕ) (q : Bytes) → network_at hs i q ≡ option_map (λ h. h.network) (find (λ h. nat_eq h.tenant i && is_same q h.name) hs)
 network_found [] i q = refl
 network_found (h ∷ hs) i q = grind (arith, nat_tests, network_found hs i q)
 
@@ -92,7 +92,7 @@ digest_found : (ts : List Token) (i : ℕ) (d : Bytes) → list_any (is_same d) 
 digest_found [] i d = refl
 digest_found (t ∷ ts) i d = grind (arith, nat_tests, digest_found ts i d)
 
-pub slot_tells : (i : ℕ) (q : Bytes) (a b : Holding) → (nat_eq a.tenant i && is_same q a.name) ≡ true → (nat_eq b.tenant i && is_same q b.name) ≡ true → same_slot (slot a) (slot b) ≡ true
+pub slot_tells : (i : ℕ) (q : Bytes) (a b : NetworkEntry) → (nat_eq a.tenant i && is_same q a.name) ≡ true → (nat_eq b.tenant i && is_same q b.name) ≡ true → same_slot (slot a) (slot b) ≡ true
 slot_tells i q a b x y = grind (arith, nat_tests, x, y, is_same_congr q a.name b.name)
 
 name_tells : (q : Bytes) (a b : Tenant) → is_same q a.name ≡ true → is_same q b.name ≡ true → is_same a.name b.name ≡ true
@@ -124,7 +124,7 @@ module _ (r s : Register) (same : IsSame r s) (good : IsConsistent r) where
     network_tenants = each (λ h. has_tenant r.tenants h.tenant ≡ true) (λ h. has_tenant s.tenants h.tenant ≡ true) (λ h. known h.tenant) r.networks s.networks same.networks good.network_tenants;
     tenants = each IsTenant IsTenant (λ t x. x) r.tenants s.tenants same.tenants good.tenants;
     tokens = each (λ t. IsDigest t.digest) (λ t. IsDigest t.digest) (λ t x. x) r.tokens s.tokens same.tokens good.tokens;
-    networks = each IsHolding IsHolding (λ h x. x) r.networks s.networks same.networks good.networks;
+    networks = each IsNetworkEntry IsNetworkEntry (λ h x. x) r.networks s.networks same.networks good.networks;
     few_tenants = subst (λ n. n ≤ 65536) (sym (length_permutation r.tenants s.tenants same.tenants)) good.few_tenants;
     few_tokens = subst (λ n. n ≤ 65536) (sym (length_permutation r.tokens s.tokens same.tokens)) good.few_tokens;
     few_networks = subst (λ n. n ≤ 65536) (sym (length_permutation r.networks s.networks same.networks)) good.few_networks;

@@ -13,13 +13,13 @@ use Rattle.wgr_core.specs.Network.{NetworkValue}
 use Rattle.wgr_core.specs.declared.command.Command.{Command}
 use Rattle.wgr_model.specs.Consistent.{IsConsistent, has_tenant, same_slot, slot}
 use Rattle.wgr_model.specs.Register.{Bytes, Register, Tenant, View, empty_view, id_of, is_same, tenant_view, view_at, view_of}
-use Rattle.wgr_model.specs.Steps.{AddNetwork, AddTenant, Ask, Decided, Done, EndNetwork, EndToken, Event, Grant, IsUnused, NameHeld, Networks, NoNetwork, NoSuchToken, OrderRefusal, Outcome, RegisterFull, Settings, ask, first_refusal, given, grant_checks, granted, has_digest, has_name, has_slot, is_done, is_full, listed, network_added, network_at, network_checks, network_ended, new_network, ordered, outcome, refuse, tenant_checks, tenant_of_token, with_new_network, with_tenant, with_token, without_network, without_token}
+use Rattle.wgr_model.specs.Steps.{AddNetwork, AddTenant, Ask, Decided, Done, EndNetwork, EndToken, Event, Grant, IsUnused, NameHeld, Networks, NoNetwork, NoSuchToken, OrderRefusal, EventOutcome, RegisterFull, Settings, ask, first_refusal, given, grant_checks, granted, has_digest, has_name, has_slot, is_done, is_full, listed, network_added, network_at, network_checks, network_ended, new_network, ordered, outcome, refuse, tenant_checks, tenant_of_token, with_new_network, with_tenant, with_token, without_network, without_token}
 use Rattle.wgr_model.specs.Tenants.{after_asked, put_view, tenant_after}
 use Rattle.wgr_model.proofs.LookLemmas.{digest_gone, id_of_none, id_of_same, is_id, is_same_sym, network_gone, no_digests, no_networks, none_some, one_name}
 use Rattle.wgr_model.proofs.ViewLemmas.{ask_tenants, ask_view, contains_token, contains_view, get_view, gone_map, gone_set, same_digests}
 
 -- the view after the event is that of the tenant alone
-abbrev pub Sees : Bytes → Register → Event → Outcome → Type 0
+abbrev pub Sees : Bytes → Register → Event → EventOutcome → Type 0
 Sees me r e o = tenant_view o.1 me ≡ tenant_after me (tenant_view r me) e (is_done o.0)
 
 -- another name is of another id

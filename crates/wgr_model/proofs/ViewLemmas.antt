@@ -10,7 +10,7 @@ use Rattle.std.specs.FinSet as set_
 use Rattle.std.proofs.lemmas.Bool.Decides.{nat_tests}
 use Rattle.wgr_core.specs.Network.{NetworkValue}
 use Rattle.wgr_core.specs.declared.command.Command.{Command}
-use Rattle.wgr_core.specs.declared.refusal.Refusal.{Refusal}
+use Rattle.wgr_core.specs.declared.refusal.CommandRefusal.{CommandRefusal}
 use Rattle.wgr_core.specs.declared.reply.Reply.{Reply}
 use Rattle.wgr_model.specs.Register.{Bytes, Register, View, digests_of, is_same, networks_of, view_at}
 use Rattle.wgr_model.specs.Steps.{act, acted, ask, asked, network_at, put_network, tenant_of_token}
@@ -64,7 +64,7 @@ view_put r t i name n old e =
 pub ask_tenants : (r : Register) (name : Bytes) (now : ℕ) (command : Command) (token : Option ℕ) → (ask r name now command token).1.tenants ≡ r.tenants
 ask_tenants r name now command None = refl
 ask_tenants r name now command (Some t) = found (network_at r.networks t name) where
-  done : (x : Result (Reply × NetworkValue) Refusal) → (acted r t name x).1.tenants ≡ r.tenants
+  done : (x : Result (Reply × NetworkValue) CommandRefusal) → (acted r t name x).1.tenants ≡ r.tenants
   done (Ok x) = refl
   done (Err why) = refl
 
@@ -72,7 +72,7 @@ ask_tenants r name now command (Some t) = found (network_at r.networks t name) w
   found None = refl
   found (Some n) = done (act n now command)
 
-acted_view : (r : Register) (t i : ℕ) (name : Bytes) (n : NetworkValue) → network_at r.networks t name ≡ Some n → (x : Result (Reply × NetworkValue) Refusal) → view_at (acted r t name x).1 i ≡ (if nat_eq t i then after_acted (view_at r i) name x else view_at r i)
+acted_view : (r : Register) (t i : ℕ) (name : Bytes) (n : NetworkValue) → network_at r.networks t name ≡ Some n → (x : Result (Reply × NetworkValue) CommandRefusal) → view_at (acted r t name x).1 i ≡ (if nat_eq t i then after_acted (view_at r i) name x else view_at r i)
 acted_view r t i name n e (Err why) = grind (arith, nat_tests)
 acted_view r t i name n e (Ok x) = grind (arith, nat_tests, view_put r t i name x.1 n e)
 

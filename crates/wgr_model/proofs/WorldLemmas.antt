@@ -4,14 +4,14 @@ use Rattle.std.specs.Prelude.{if◌then◌else◌}
 use Rattle.std.specs.FinSet as set_
 use Rattle.wgr_model.specs.Register.{Bytes, View, is_same}
 use Rattle.wgr_model.specs.Steps.{AddNetwork, AddTenant, Answer, Ask, Decided, EndNetwork, EndToken, Event, Grant, Networks, is_done}
-use Rattle.wgr_model.specs.Tenants.{in_front, is_own, own_events, tenant_after, tenant_answer, tenant_run, answers_given}
+use Rattle.wgr_model.specs.Tenants.{in_front, is_own_event, own_events, tenant_after, tenant_answer, tenant_run, answers_given}
 
 -- what isn't the tenant's has no answer and changes nothing
 if_false : {A : Type 0} (b : Bool) (x y : A) → b ≡ false → (if b then x else y) ≡ y
 if_false true x y e = absurd (true≢false e)
 if_false false x y e = refl
 
-pub not_own : (me : Bytes) (v : View) (e : Event) (done : Bool) → is_own me v e done ≡ false → (tenant_answer v e ≡ None) × (tenant_after me v e done ≡ v)
+pub not_own : (me : Bytes) (v : View) (e : Event) (done : Bool) → is_own_event me v e done ≡ false → (tenant_answer v e ≡ None) × (tenant_after me v e done ≡ v)
 not_own me v (Decided None answer) done h = (refl, refl)
 not_own me v (Decided (Some digest) answer) done h = (if_false (set_.contains v.digests digest) _ _ h, refl)
 not_own me v (Ask digest name now command) done h = (if_false (set_.contains v.digests digest) _ _ h, if_false (set_.contains v.digests digest) _ _ h)
@@ -39,21 +39,21 @@ run_view me v es = (tenant_run me v es).1
 
 told_own : (me : Bytes) (v : View) (es : List (Event × Answer)) → run_given me v es ≡ replies me v (own_events me v es)
 told_own me v [] = refl
-told_own me v (e ∷ es) = by_test (is_own me v e.0 (is_done e.1)) refl (told_own me v es) (told_own me (tenant_after me v e.0 (is_done e.1)) es) where
+told_own me v (e ∷ es) = by_test (is_own_event me v e.0 (is_done e.1)) refl (told_own me v es) (told_own me (tenant_after me v e.0 (is_done e.1)) es) where
   w : View
   w = tenant_after me v e.0 (is_done e.1)
 
-  by_test : (b : Bool) → is_own me v e.0 (is_done e.1) ≡ b → run_given me v es ≡ replies me v (own_events me v es) → run_given me w es ≡ replies me w (own_events me w es) → in_front (tenant_answer v e.0) (run_given me w es) ≡ replies me v (if b then (e.0, is_done e.1) ∷ own_events me w es else own_events me v es)
+  by_test : (b : Bool) → is_own_event me v e.0 (is_done e.1) ≡ b → run_given me v es ≡ replies me v (own_events me v es) → run_given me w es ≡ replies me w (own_events me w es) → in_front (tenant_answer v e.0) (run_given me w es) ≡ replies me v (if b then (e.0, is_done e.1) ∷ own_events me w es else own_events me v es)
   by_test true h skip take = ap (in_front (tenant_answer v e.0)) take
   by_test false h skip take = let n = not_own me v e.0 (is_done e.1) h in ap₂ (λ a x. in_front a (run_given me x es)) n.0 n.1 ∙ skip
 
 view_own : (me : Bytes) (v : View) (es : List (Event × Answer)) → run_view me v es ≡ last_view me v (own_events me v es)
 view_own me v [] = refl
-view_own me v (e ∷ es) = by_test (is_own me v e.0 (is_done e.1)) refl (view_own me v es) (view_own me (tenant_after me v e.0 (is_done e.1)) es) where
+view_own me v (e ∷ es) = by_test (is_own_event me v e.0 (is_done e.1)) refl (view_own me v es) (view_own me (tenant_after me v e.0 (is_done e.1)) es) where
   w : View
   w = tenant_after me v e.0 (is_done e.1)
 
-  by_test : (b : Bool) → is_own me v e.0 (is_done e.1) ≡ b → run_view me v es ≡ last_view me v (own_events me v es) → run_view me w es ≡ last_view me w (own_events me w es) → run_view me w es ≡ last_view me v (if b then (e.0, is_done e.1) ∷ own_events me w es else own_events me v es)
+  by_test : (b : Bool) → is_own_event me v e.0 (is_done e.1) ≡ b → run_view me v es ≡ last_view me v (own_events me v es) → run_view me w es ≡ last_view me w (own_events me w es) → run_view me w es ≡ last_view me v (if b then (e.0, is_done e.1) ∷ own_events me w es else own_events me v es)
   by_test true h skip take = take
   by_test false h skip take = let n = not_own me v e.0 (is_done e.1) h in ap (λ x. run_view me x es) n.1 ∙ skip
 

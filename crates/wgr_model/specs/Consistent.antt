@@ -9,7 +9,7 @@ use Rattle.wgr_peers.specs.Host.{IsHost}
 use Rattle.wgr_peers.specs.Name.{is_name}
 use Rattle.wgr_core.specs.Network.{IsNetwork}
 use Rattle.wgr_core.specs.Forms.{HasForms}
-use Rattle.wgr_model.specs.Register.{Bytes, Tenant, Holding, Register, is_same}
+use Rattle.wgr_model.specs.Register.{Bytes, Tenant, NetworkEntry, Register, is_same}
 
 -- ---- forms
 
@@ -46,19 +46,19 @@ overlaps p q = covers p q || covers q p
 -- ---- what must be unique
 
 -- a network's name within its tenant
-abbrev pub slot : Holding → ℕ × Bytes
+abbrev pub slot : NetworkEntry → ℕ × Bytes
 slot h = (h.tenant, h.name)
 
 abbrev pub same_slot : ℕ × Bytes → ℕ × Bytes → Bool
 same_slot p q = nat_eq p.0 q.0 && is_same p.1 q.1
 
-abbrev pub endpoint : Holding → Bytes × ℕ
+abbrev pub endpoint : NetworkEntry → Bytes × ℕ
 endpoint h = (h.network.host, h.network.port)
 
 abbrev pub same_endpoint : Bytes × ℕ → Bytes × ℕ → Bool
 same_endpoint p q = is_same p.0 q.0 && nat_eq p.1 q.1
 
-abbrev pub pool_of : Holding → PrefixValue
+abbrev pub pool_of : NetworkEntry → PrefixValue
 pool_of h = h.network.pool
 
 abbrev pub has_tenant : List Tenant → ℕ → Bool
@@ -70,7 +70,7 @@ pub record IsTenant (t : Tenant) : Type 0 where
 
 -- a network's id, name, host and server key, and the fields of its peers, are of their forms, and it
 -- keeps the rules of one network
-pub record IsHolding (h : Holding) : Type 0 where
+pub record IsNetworkEntry (h : NetworkEntry) : Type 0 where
   pub id : IsId h.id
   pub name : IsName h.name
   pub host : IsHost h.network.host
@@ -89,7 +89,7 @@ pub record IsConsistent (r : Register) : Type 0 where
   pub network_tenants : AllByRecursion (λ h. has_tenant r.tenants h.tenant ≡ true) r.networks
   pub tenants : AllByRecursion IsTenant r.tenants
   pub tokens : AllByRecursion (λ t. IsDigest t.digest) r.tokens
-  pub networks : AllByRecursion IsHolding r.networks
+  pub networks : AllByRecursion IsNetworkEntry r.networks
   pub few_tenants : length r.tenants ≤ max_entries
   pub few_tokens : length r.tokens ≤ max_entries
   pub few_networks : length r.networks ≤ max_entries

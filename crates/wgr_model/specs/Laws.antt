@@ -6,10 +6,10 @@ use Rattle.wgr_text.specs.Prefix.{PrefixValue, AreDisjoint}
 use Rattle.wgr_pool.specs.Pool.{IsPool}
 use Rattle.wgr_peers.specs.declared.peer.Peer.{Peer}
 use Rattle.wgr_core.specs.Network.{NetworkValue}
-use Rattle.wgr_model.specs.Register.{Bytes, Register, View, Holding, IsSame, empty_register, tenant_view}
+use Rattle.wgr_model.specs.Register.{Bytes, Register, View, NetworkEntry, IsSame, empty_register, tenant_view}
 use Rattle.wgr_model.specs.Consistent.{IsConsistent, IsId, is_pool, overlaps, max_entries}
 use Rattle.wgr_model.specs.Steps.{AddNetwork, Event, Answer, Done, PoolOverlaps, Settings, IsProper, IsStep, comes_before, is_done, overlapping, pool_refusal}
-use Rattle.wgr_model.specs.Tenants.{Agree, Fits, own_events, tenant_after, tenant_answer, tenant_run, answers_given}
+use Rattle.wgr_model.specs.Tenants.{Agree, FitsAnswer, own_events, tenant_after, tenant_answer, tenant_run, answers_given}
 use Rattle.wgr_model.specs.Runs.{Served, AreProper, IsRun, acknowledged}
 
 -- an element of a list
@@ -19,7 +19,7 @@ Has (x ∷ xs) a = (x ≡ a) ⊎ Has xs a
 
 -- two peers of the register that hold the same address are the same peer of the same network
 abbrev pub HasOneHolder : Register → Type 0
-HasOneHolder s = (h k : Holding) (p q : Peer) → Has s.networks h → Has s.networks k → Has h.network.peers p → Has k.network.peers q → p.address ≡ q.address → (h ≡ k) × (p ≡ q)
+HasOneHolder s = (h k : NetworkEntry) (p q : Peer) → Has s.networks h → Has s.networks k → Has h.network.peers p → Has k.network.peers q → p.address ≡ q.address → (h ≡ k) × (p ≡ q)
 
 -- a register without entries is consistent
 abbrev pub EmptyIsConsistent : Type 0
@@ -29,7 +29,7 @@ EmptyIsConsistent = IsConsistent empty_register
 -- answer other than the one given; and each tenant sees what it then has alone.
 pub record StepLaw (r : Register) (e : Event) (answer : Answer) (s : Register) : Type 0 where
   pub consistent : IsConsistent s
-  pub answered : (me : Bytes) → Fits (tenant_answer (tenant_view r me) e) answer
+  pub answered : (me : Bytes) → FitsAnswer (tenant_answer (tenant_view r me) e) answer
   pub view : (me : Bytes) → tenant_after me (tenant_view r me) e (is_done answer) ≡ tenant_view s me
 
 abbrev pub StepsAreIsolated : Type 0

@@ -5,13 +5,13 @@ use Rattle.std.specs.Cmp.Lexicographic.{slice_cmp}
 use Rattle.std.specs.FinMap as map_
 use Rattle.std.specs.FinMap.Entries.{put}
 use Rattle.wgr_core.specs.Network.{NetworkValue}
-use Rattle.wgr_model.specs.Register.{Bytes, Holding, networks_of}
+use Rattle.wgr_model.specs.Register.{Bytes, NetworkEntry, networks_of}
 
 abbrev pub Entries : Type 0
 Entries = List (Bytes × NetworkValue)
 
 -- the entries are those of the tenant's map
-abbrev pub EntriesOf : List Holding → ℕ → Entries → Type 0
+abbrev pub EntriesOf : List NetworkEntry → ℕ → Entries → Type 0
 EntriesOf hs id entries = entries ≡ map_.entries (map_.from_entries {R = slice_cmp nat_cmp} (networks_of hs id))
 
 abbrev pub put_entry : Bytes → NetworkValue → Entries → Entries

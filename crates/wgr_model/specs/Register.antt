@@ -29,7 +29,7 @@ pub record Token : Type 0 where
   pub tenant : ℕ
 
 -- a network, with its own id, its tenant's id and its name
-pub record Holding : Type 0 where
+pub record NetworkEntry : Type 0 where
   pub id : ℕ
   pub tenant : ℕ
   pub name : Bytes
@@ -38,7 +38,7 @@ pub record Holding : Type 0 where
 pub record Register : Type 0 where
   pub tenants : List Tenant
   pub tokens : List Token
-  pub networks : List Holding
+  pub networks : List NetworkEntry
 
 abbrev pub empty_register : Register
 empty_register = record { tenants = []; tokens = []; networks = [] }
@@ -66,7 +66,7 @@ id_of (t ∷ ts) name = if is_same name t.name then Some t.id else id_of ts name
 abbrev pub digests_of : List Token → ℕ → List Bytes
 digests_of ts id = map (λ t. t.digest) (filter (λ t. nat_eq t.tenant id) ts)
 
-abbrev pub networks_of : List Holding → ℕ → List (Bytes × NetworkValue)
+abbrev pub networks_of : List NetworkEntry → ℕ → List (Bytes × NetworkValue)
 networks_of hs id = map (λ h. (h.name, h.network)) (filter (λ h. nat_eq h.tenant id) hs)
 
 -- what the tenant of this id sees

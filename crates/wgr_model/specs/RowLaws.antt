@@ -2,7 +2,7 @@
 use Rattle.std.specs.Prelude.{◌≡◌, false, List, [], ◌∷◌, Option, Some, None}
 use Rattle.wgr_core.specs.Network.{NetworkValue}
 use Rattle.wgr_laws.specs.Laws.{HasSettingsOf}
-use Rattle.wgr_model.specs.Register.{Bytes, Holding, Register, View, IsSame, tenant_view}
+use Rattle.wgr_model.specs.Register.{Bytes, NetworkEntry, Register, View, IsSame, tenant_view}
 use Rattle.wgr_model.specs.Consistent.{IsConsistent}
 use Rattle.wgr_model.specs.Steps.{Event, Answer, IsStep, put_network}
 use Rattle.wgr_model.specs.Tenants.{Agree, own_events, tenant_run}
@@ -71,7 +71,7 @@ OrderIsUnseen = (r : Register) (t u : Tables) (me : Bytes) → AreRowsOf r t →
 
 -- a commit that replaces the rows of one network leaves the rows of the register with that network
 abbrev pub CommitsReplace : Type 0
-CommitsReplace = (r : Register) (t u : Tables) (h : Holding) (n : NetworkValue) → AreRowsOf r t → IsConsistent r → Has r.networks h
+CommitsReplace = (r : Register) (t u : Tables) (h : NetworkEntry) (n : NetworkValue) → AreRowsOf r t → IsConsistent r → Has r.networks h
     → HasSettingsOf h.network n → Replaces h.id n t u → AreRowsOf (put_network r h.tenant h.name n) u
 
 -- ---- two worlds

@@ -7,7 +7,7 @@ use Rattle.wgr_pool.specs.Allot.{is_assignable}
 use Rattle.wgr_pool.specs.PrefixTests.{full, same_prefix}
 use Rattle.wgr_peers.specs.Peers.{same_key}
 use Rattle.wgr_core.specs.Network.{server_address}
-use Rattle.wgr_model.specs.Register.{Bytes, Holding, Register, Tenant, Token, is_same}
+use Rattle.wgr_model.specs.Register.{Bytes, NetworkEntry, Register, Tenant, Token, is_same}
 use Rattle.wgr_model.specs.Consistent.{IsConsistent}
 use Rattle.wgr_model.specs.Steps.{Settings, new_network, with_new_network, with_tenant, with_token, without_network, without_token}
 use Rattle.wgr_model.specs.Laws.{Has}
@@ -88,4 +88,4 @@ pub record Removes (id : ℕ) (t u : Tables) : Type 0 where
 
 -- a network is removed with its peers and its routes
 abbrev pub NetworksLose : Type 0
-NetworksLose = (r : Register) (t u : Tables) (h : Holding) → AreRowsOf r t → IsConsistent r → Has r.networks h → Removes h.id t u → AreRowsOf (without_network r h.tenant h.name) u
+NetworksLose = (r : Register) (t u : Tables) (h : NetworkEntry) → AreRowsOf r t → IsConsistent r → Has r.networks h → Removes h.id t u → AreRowsOf (without_network r h.tenant h.name) u

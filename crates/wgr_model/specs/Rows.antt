@@ -14,7 +14,7 @@ use Rattle.wgr_peers.specs.declared.peer.Peer.{Peer}
 use Rattle.wgr_peers.specs.declared.peer.Status.{Status}
 use Rattle.wgr_peers.specs.Routes.{Routes}
 use Rattle.wgr_core.specs.Network.{NetworkValue}
-use Rattle.wgr_model.specs.Register.{Bytes, Tenant, Token, Holding, Register}
+use Rattle.wgr_model.specs.Register.{Bytes, Tenant, Token, NetworkEntry, Register}
 use Rattle.wgr_model.specs.Laws.{Has}
 
 -- ---- the rows; those of tenants and of tokens are `Tenant` and `Token`
@@ -123,19 +123,19 @@ route_value a = (a.prefix, number_in a.network a.peer)
 abbrev pub routes_of : Tables → ℕ → Routes
 routes_of t id = in_order prefix_cmp (map (λ a. (prefix_key a.prefix, route_value a)) (filter (λ a. a.is_route && nat_eq a.network id) t.allowed))
 
-abbrev pub holding_of : Tables → NetworkRow → Holding
-holding_of t n = record { id = n.id; tenant = n.tenant; name = n.name; network = record { pool = n.pool; host = n.host; port = n.port; server = n.server; capacity = n.capacity; next = n.next; peers = peers_of t n.id; routes = routes_of t n.id } }
+abbrev pub network_entry_of : Tables → NetworkRow → NetworkEntry
+network_entry_of t n = record { id = n.id; tenant = n.tenant; name = n.name; network = record { pool = n.pool; host = n.host; port = n.port; server = n.server; capacity = n.capacity; next = n.next; peers = peers_of t n.id; routes = routes_of t n.id } }
 
 -- it is the network that the rows of this id form
 abbrev pub IsFormed : Tables → ℕ → NetworkValue → Type 0
-IsFormed t id n = (w : NetworkRow) × Has t.networks w × (w.id ≡ id) × (n ≡ (holding_of t w).network)
+IsFormed t id n = (w : NetworkRow) × Has t.networks w × (w.id ≡ id) × (n ≡ (network_entry_of t w).network)
 
 abbrev pub register_of : Tables → Register
-register_of t = record { tenants = t.tenants; tokens = t.tokens; networks = map (holding_of t) t.networks }
+register_of t = record { tenants = t.tenants; tokens = t.tokens; networks = map (network_entry_of t) t.networks }
 
 -- ---- from the register to the rows
 
-abbrev pub network_row : Holding → NetworkRow
+abbrev pub network_row : NetworkEntry → NetworkRow
 network_row h = record { id = h.id; tenant = h.tenant; name = h.name; pool = h.network.pool; host = h.network.host; port = h.network.port; server = h.network.server; capacity = h.network.capacity; next = h.network.next }
 
 abbrev pub peer_row : ℕ → Peer → PeerRow
@@ -154,10 +154,10 @@ address_row network p = allowed_row network false (full p.address) p.number
 abbrev pub route_row : ℕ → PrefixValue × ℕ → AllowedRow
 route_row network r = allowed_row network true r.0 r.1
 
-abbrev pub peer_rows : Holding → List PeerRow
+abbrev pub peer_rows : NetworkEntry → List PeerRow
 peer_rows h = map (peer_row h.id) h.network.peers
 
-abbrev pub allowed_rows : Holding → List AllowedRow
+abbrev pub allowed_rows : NetworkEntry → List AllowedRow
 allowed_rows h = map (address_row h.id) h.network.peers ++ map (route_row h.id) h.network.routes
 
 -- the same elements

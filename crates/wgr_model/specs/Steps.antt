@@ -9,16 +9,16 @@ use Rattle.wgr_text.specs.Prefix.{PrefixValue}
 use Rattle.wgr_peers.specs.Host.{IsHost}
 use Rattle.wgr_peers.specs.Limits.{IsPort, IsCapacity}
 use Rattle.wgr_core.specs.declared.command.Command.{Command}
-use Rattle.wgr_core.specs.declared.refusal.Refusal.{Refusal}
+use Rattle.wgr_core.specs.declared.refusal.CommandRefusal.{CommandRefusal}
 use Rattle.wgr_core.specs.declared.reply.Reply.{Reply}
 use Rattle.wgr_core.specs.Network.{NetworkValue}
 use Rattle.wgr_core.specs.Outcome.{IsAsked, outcome_of}
 use Rattle.wgr_core.specs.Forms.{IsFormedCommand, IsKey}
-use Rattle.wgr_model.specs.Register.{Bytes, Tenant, Token, Holding, Register, IsSame, id_of, is_same, view_at}
+use Rattle.wgr_model.specs.Register.{Bytes, Tenant, Token, NetworkEntry, Register, IsSame, id_of, is_same, view_at}
 use Rattle.wgr_model.specs.Consistent.{IsDigest, IsId, IsName, endpoint, has_tenant, is_pool, overlaps, same_endpoint, same_slot, slot, max_entries}
 
 -- what a command gives on a network: a refusal, or a reply and the network after it
-unfoldable pub act : NetworkValue → ℕ → Command → Result (Reply × NetworkValue) Refusal
+unfoldable pub act : NetworkValue → ℕ → Command → Result (Reply × NetworkValue) CommandRefusal
 act n now command = outcome_of n now command
 
 -- ---- events
@@ -78,7 +78,7 @@ pub data OrderRefusal : Type 0 where
 pub data Answer : Type 0 where
   Plain : (reply : Bytes) → Answer
   Replied : (reply : Reply) (network : NetworkValue) → Answer
-  Declined : (why : Refusal) → Answer
+  Declined : (why : CommandRefusal) → Answer
   Listed : (networks : List (Bytes × NetworkValue)) → Answer
   UnknownToken : Answer
   NoSuchNetwork : Answer
@@ -91,8 +91,8 @@ is_done Done = true
 is_done _ = false
 
 -- an answer, and the register after it
-abbrev pub Outcome : Type 0
-Outcome = Answer × Register
+abbrev pub EventOutcome : Type 0
+EventOutcome = Answer × Register
 
 -- ---- requests
 
@@ -102,31 +102,31 @@ tenant_of_token [] digest = None
 tenant_of_token (t ∷ ts) digest = if is_same digest t.digest then Some t.tenant else tenant_of_token ts digest
 
 -- the network of this name that the tenant of this id has
-abbrev pub network_at : List Holding → ℕ → Bytes → Option NetworkValue
+abbrev pub network_at : List NetworkEntry → ℕ → Bytes → Option NetworkValue
 network_at [] id name = None
 network_at (h ∷ hs) id name = if nat_eq h.tenant id && is_same name h.name then Some h.network else network_at hs id name
 
 -- the networks with this one in its place
-abbrev pub with_network : List Holding → ℕ → Bytes → NetworkValue → List Holding
+abbrev pub with_network : List NetworkEntry → ℕ → Bytes → NetworkValue → List NetworkEntry
 with_network [] id name n = []
 with_network (h ∷ hs) id name n = if nat_eq h.tenant id && is_same name h.name then record h { network = n } ∷ hs else h ∷ with_network hs id name n
 
 abbrev pub put_network : Register → ℕ → Bytes → NetworkValue → Register
 put_network r id name n = record r { networks = with_network r.networks id name n }
 
-abbrev pub acted : Register → ℕ → Bytes → Result (Reply × NetworkValue) Refusal → Outcome
+abbrev pub acted : Register → ℕ → Bytes → Result (Reply × NetworkValue) CommandRefusal → EventOutcome
 acted r id name (Err why) = (Declined why, r)
 acted r id name (Ok done) = (Replied done.0 done.1, put_network r id name done.1)
 
-abbrev pub asked : ℕ → Command → Register → ℕ → Bytes → Option NetworkValue → Outcome
+abbrev pub asked : ℕ → Command → Register → ℕ → Bytes → Option NetworkValue → EventOutcome
 asked now command r id name None = (NoSuchNetwork, r)
 asked now command r id name (Some n) = acted r id name (act n now command)
 
-abbrev pub ask : Register → Bytes → ℕ → Command → Option ℕ → Outcome
+abbrev pub ask : Register → Bytes → ℕ → Command → Option ℕ → EventOutcome
 ask r name now command None = (UnknownToken, r)
 ask r name now command (Some id) = asked now command r id name (network_at r.networks id name)
 
-abbrev pub listed : Register → Option ℕ → Outcome
+abbrev pub listed : Register → Option ℕ → EventOutcome
 listed r None = (UnknownToken, r)
 listed r (Some id) = (Listed (map_.entries (view_at r id).networks), r)
 
@@ -142,12 +142,12 @@ first_refusal [] = None
 first_refusal (None ∷ checks) = first_refusal checks
 first_refusal (Some why ∷ checks) = Some why
 
-abbrev pub given : Option OrderRefusal → Register → Register → Outcome
+abbrev pub given : Option OrderRefusal → Register → Register → EventOutcome
 given (Some why) r s = (Refused why, r)
 given None r s = (Done, s)
 
 -- the first refusal and the register as it is, or the register with the order done
-abbrev pub ordered : List (Option OrderRefusal) → Register → Register → Outcome
+abbrev pub ordered : List (Option OrderRefusal) → Register → Register → EventOutcome
 ordered checks r s = given (first_refusal checks) r s
 
 abbrev pub has_name : List Tenant → Bytes → Bool
@@ -156,10 +156,10 @@ has_name ts name = list_any (is_same name) (map (λ t. t.name) ts)
 abbrev pub has_digest : List Token → Bytes → Bool
 has_digest ts digest = list_any (is_same digest) (map (λ t. t.digest) ts)
 
-abbrev pub has_slot : List Holding → ℕ → Bytes → Bool
+abbrev pub has_slot : List NetworkEntry → ℕ → Bytes → Bool
 has_slot hs id name = list_any (same_slot (id, name)) (map slot hs)
 
-abbrev pub has_endpoint : List Holding → Bytes × ℕ → Bool
+abbrev pub has_endpoint : List NetworkEntry → Bytes × ℕ → Bool
 has_endpoint hs e = list_any (same_endpoint e) (map endpoint hs)
 
 abbrev pub is_full : {A : Type 0} → List A → Bool
@@ -170,7 +170,7 @@ name_of [] id = []
 name_of (t ∷ ts) id = if nat_eq t.id id then t.name else name_of ts id
 
 -- the names of the tenant and of the network, for each network whose pool overlaps
-abbrev pub overlapping : List Tenant → List Holding → PrefixValue → List (Bytes × Bytes)
+abbrev pub overlapping : List Tenant → List NetworkEntry → PrefixValue → List (Bytes × Bytes)
 overlapping ts hs pool = map (λ h. (name_of ts h.tenant, h.name)) (filter (λ h. overlaps pool h.network.pool) hs)
 
 -- byte order by the tenant's name, then by the network's
@@ -220,22 +220,22 @@ network_checks r id name s =
     ∷ refuse (is_full r.networks) RegisterFull
     ∷ []
 
-abbrev pub granted : Register → Bytes → Option ℕ → Outcome
+abbrev pub granted : Register → Bytes → Option ℕ → EventOutcome
 granted r digest None = (Refused NoSuchTenant, r)
 granted r digest (Some id) = ordered (grant_checks r digest) r (with_token r digest id)
 
-abbrev pub network_added : Register → Bytes → Settings → ℕ → Option ℕ → Outcome
+abbrev pub network_added : Register → Bytes → Settings → ℕ → Option ℕ → EventOutcome
 network_added r name s new None = (Refused NoSuchTenant, r)
 network_added r name s new (Some id) = ordered (network_checks r id name s) r (with_new_network r new id name (new_network s))
 
-abbrev pub network_ended : Register → Bytes → Option ℕ → Outcome
+abbrev pub network_ended : Register → Bytes → Option ℕ → EventOutcome
 network_ended r name None = (Refused NoSuchTenant, r)
 network_ended r name (Some id) = ordered (refuse (not (has_slot r.networks id name)) NoNetwork ∷ []) r (without_network r id name)
 
 -- ---- steps
 
 -- what an event gives, where `new` is the id of the tenant or network that it adds
-abbrev pub outcome : Register → Event → ℕ → Outcome
+abbrev pub outcome : Register → Event → ℕ → EventOutcome
 outcome r (Decided digest reply) new = (Plain reply, r)
 outcome r (Ask digest name now command) new = ask r name now command (tenant_of_token r.tokens digest)
 outcome r (Networks digest) new = listed r (tenant_of_token r.tokens digest)
@@ -245,7 +245,7 @@ outcome r (EndToken digest) new = ordered (refuse (not (has_digest r.tokens dige
 outcome r (AddNetwork tenant name settings) new = network_added r name settings new (id_of r.tenants tenant)
 outcome r (EndNetwork tenant name) new = network_ended r name (id_of r.tenants tenant)
 
-abbrev pub has_network : List Holding → ℕ → Bool
+abbrev pub has_network : List NetworkEntry → ℕ → Bool
 has_network hs id = list_any (nat_eq id) (map (λ h. h.id) hs)
 
 -- an id that no other tenant has, where a tenant is added; that no other network has, where a

@@ -3,7 +3,7 @@ use Rattle.std.specs.Prelude.{◌≡◌, ℕ, Bool, false, ◌&&◌, if◌then�
 use Rattle.std.specs.FinMap as map_
 use Rattle.std.specs.FinSet as set_
 use Rattle.wgr_core.specs.declared.command.Command.{Command}
-use Rattle.wgr_core.specs.declared.refusal.Refusal.{Refusal}
+use Rattle.wgr_core.specs.declared.refusal.CommandRefusal.{CommandRefusal}
 use Rattle.wgr_core.specs.declared.reply.Reply.{Reply}
 use Rattle.wgr_core.specs.Network.{NetworkValue}
 use Rattle.wgr_model.specs.Register.{Bytes, View, is_same}
@@ -14,7 +14,7 @@ put_view v name n = record v { networks = map_.insert v.networks name n }
 
 -- ---- the answer
 
-abbrev pub answer_acted : Result (Reply × NetworkValue) Refusal → Answer
+abbrev pub answer_acted : Result (Reply × NetworkValue) CommandRefusal → Answer
 answer_acted (Err why) = Declined why
 answer_acted (Ok done) = Replied done.0 done.1
 
@@ -32,7 +32,7 @@ tenant_answer v _ = None
 
 -- ---- what the tenant has after it
 
-abbrev pub after_acted : View → Bytes → Result (Reply × NetworkValue) Refusal → View
+abbrev pub after_acted : View → Bytes → Result (Reply × NetworkValue) CommandRefusal → View
 after_acted v name (Err why) = v
 after_acted v name (Ok done) = put_view v name done.1
 
@@ -66,34 +66,34 @@ tenant_run me v (e ∷ es) =
     (step.0 ∷ rest.0, rest.1)
 
 -- an answer that the tenant alone has is the one that was given
-abbrev pub Fits : Option Answer → Answer → Type 0
-Fits alone given = MatchOption alone ⊤ (λ answer. answer ≡ given)
+abbrev pub FitsAnswer : Option Answer → Answer → Type 0
+FitsAnswer alone given = MatchOption alone ⊤ (λ answer. answer ≡ given)
 
 -- and so at each place of a list
 abbrev pub Agree : List (Option Answer) → List (Event × Answer) → Type 0
 Agree [] [] = ⊤
-Agree (a ∷ rest) (e ∷ es) = Fits a e.1 × Agree rest es
+Agree (a ∷ rest) (e ∷ es) = FitsAnswer a e.1 × Agree rest es
 Agree [] (e ∷ es) = ⊥
 Agree (a ∷ rest) [] = ⊥
 
 -- ---- the events that are a tenant's own
 
 -- whether the tenant is answered, or what it has may change
-abbrev pub is_own : Bytes → View → Event → Bool → Bool
-is_own me v (Decided None reply) done = false
-is_own me v (Decided (Some digest) reply) done = set_.contains v.digests digest
-is_own me v (Ask digest name now command) done = set_.contains v.digests digest
-is_own me v (Networks digest) done = set_.contains v.digests digest
-is_own me v (AddTenant name) done = false
-is_own me v (Grant tenant digest) done = done && is_same me tenant
-is_own me v (EndToken digest) done = done && set_.contains v.digests digest
-is_own me v (AddNetwork tenant name settings) done = done && is_same me tenant
-is_own me v (EndNetwork tenant name) done = done && is_same me tenant
+abbrev pub is_own_event : Bytes → View → Event → Bool → Bool
+is_own_event me v (Decided None reply) done = false
+is_own_event me v (Decided (Some digest) reply) done = set_.contains v.digests digest
+is_own_event me v (Ask digest name now command) done = set_.contains v.digests digest
+is_own_event me v (Networks digest) done = set_.contains v.digests digest
+is_own_event me v (AddTenant name) done = false
+is_own_event me v (Grant tenant digest) done = done && is_same me tenant
+is_own_event me v (EndToken digest) done = done && set_.contains v.digests digest
+is_own_event me v (AddNetwork tenant name settings) done = done && is_same me tenant
+is_own_event me v (EndNetwork tenant name) done = done && is_same me tenant
 
 -- these events in turn, each with whether it was accepted
 abbrev pub own_events : Bytes → View → List (Event × Answer) → List (Event × Bool)
 own_events me v [] = []
-own_events me v (e ∷ es) = if is_own me v e.0 (is_done e.1) then (e.0, is_done e.1) ∷ own_events me (tenant_after me v e.0 (is_done e.1)) es else own_events me v es
+own_events me v (e ∷ es) = if is_own_event me v e.0 (is_done e.1) then (e.0, is_done e.1) ∷ own_events me (tenant_after me v e.0 (is_done e.1)) es else own_events me v es
 
 abbrev pub in_front : Option Answer → List Answer → List Answer
 in_front None answers = answers

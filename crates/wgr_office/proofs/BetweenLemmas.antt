@@ -7,7 +7,7 @@ use Rattle.sqlite.specs.Held.{Held, state}
 use Rattle.wgr_model.specs.RowLaws.{RowsAreIsolated}
 use Rattle.wgr_model.specs.Runs.{Served}
 use Rattle.wgr_model.specs.Steps.{Event}
-use Rattle.wgr_office.specs.Between.{AreCalls, HasPassed, IsCall, IsKeptBetween, Keeps, PassesAll, Place, StopsKeepAcknowledged, place}
+use Rattle.wgr_office.specs.Between.{AreCalls, HasPassed, IsCall, IsKeptBetween, Keeps, PassesAll, Place, StopsKeepAcknowledged, place_at}
 use Rattle.wgr_office.specs.Events.{GoesAll, HaveBeenServed}
 use Rattle.wgr_office.specs.declared.answer.Answer as given
 use Rattle.wgr_office.specs.declared.run.Event as event
@@ -52,14 +52,14 @@ module _ {S : Type 0} (g : Ghosts S) where
   -- where the register stood, they lead it along the places between them
   record IsAlong (old new : Held S) (db : Database) (late : List Event) (asked : List event.Event) (answers : List given.Answer) : Type 0 where
     all : HaveBeenServed g new db late asked answers
-    passes : PassesAll g (place old db late) (place new all.next all.left) asked answers all.served
+    passes : PassesAll g (place_at old db late) (place_at new all.next all.left) asked answers all.served
 
   along : (old new : Held S) (db : Database) (late : List Event) (asked : List event.Event) (answers : List given.Answer)
       → AreCalls g old new asked answers → StandsAt g old db late → HasCleanDisk (state g new) → IsAlong old new db late asked answers
   along old new db late [] [] same at clean =
       record {
         all = record { served = []; reported = tt; proper = tt; next = db; left = late; goes = (refl, refl); stands = subst (λ (conn : Held S). StandsAt g conn db late) (sym same) at };
-        passes = ap (λ (conn : Held S). place conn db late) same;
+        passes = ap (λ (conn : Held S). place_at conn db late) same;
       }
   along old new db late [] (a ∷ answers) calls at clean = absurd calls
   along old new db late (e ∷ asked) [] calls at clean = absurd calls
@@ -77,7 +77,7 @@ module _ {S : Type 0} (g : Ghosts S) where
           goes = (one.next, one.left, one.goes, others.all.goes);
           stands = others.all.stands;
         };
-        passes = (place mid one.next one.left, record { call = first; serves = one.serves; goes = one.goes; stands = one.stands; clean = clean_mid }, others.passes);
+        passes = (place_at mid one.next one.left, record { call = first; serves = one.serves; goes = one.goes; stands = one.stands; clean = clean_mid }, others.passes);
       }
 
   pub passed : (old new : Held S) (db : Database) (late : List Event) (asked : List event.Event) (answers : List given.Answer)
@@ -133,6 +133,6 @@ module _ {S : Type 0} (g : Ghosts S) where
 
   pub stops_keep : StopsKeepAcknowledged g
   stops_keep old new db late asked answers at clean it k le =
-      let from = place old db late in
-      let to = place new it.run.all.next it.run.all.left in
+      let from = place_at old db late in
+      let to = place_at new it.run.all.next it.run.all.left in
       kept k from to asked answers it.run.all.served at (first_clean from to asked answers it.run.all.served it.passes clean) it.passes le

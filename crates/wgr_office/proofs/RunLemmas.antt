@@ -13,7 +13,7 @@ use Rattle.wgr_orders.specs.declared.order.Order.{Order}
 use Rattle.wgr_model.specs.RowLaws.{AreConsistent, RowsAreIsolated, IsRowRun, IsRowServed, IsRowStep}
 use Rattle.wgr_model.specs.Runs.{Served, acknowledged}
 use Rattle.wgr_model.specs.Steps.{Answer, Event, IsProper, Refused}
-use Rattle.wgr_model.specs.Tenants.{Agree, Fits}
+use Rattle.wgr_model.specs.Tenants.{Agree, FitsAnswer}
 use Rattle.wgr_model.proofs.RunLemmas.{proper_more}
 use Rattle.wgr_office.specs.Events.{AgreeAsGiven, HaveAnswers, Goes, GoesAll, HasRun, HaveBeenServed, IsAnswerTo, IsEventServed, IsOrderAnswer, Serves, Settles, IsAnswerIfAny, unread}
 use Rattle.wgr_office.specs.Pages.{IsAnsweredAs, event_of}
@@ -105,7 +105,7 @@ given_to (events.Order order) (givens.Reply b) e answer serves = serves.1
 given_to (events.Order order) givens.Unavailable e answer serves = serves.1
 given_to (events.Order order) (givens.Order done) e answer serves = serves.1
 
-tells : (event : event.Event) (reply : given.Answer) (alone : Option Answer) (answer : Answer) → IsAnswerTo event reply answer → Fits alone answer → IsAnswerIfAny event reply alone
+tells : (event : event.Event) (reply : given.Answer) (alone : Option Answer) (answer : Answer) → IsAnswerTo event reply answer → FitsAnswer alone answer → IsAnswerIfAny event reply alone
 tells event reply None answer is fits = tt
 tells event reply (Some a) answer is fits = subst (IsAnswerTo event reply) (sym fits) is
 

@@ -6,7 +6,7 @@ use Rattle.std.specs.declared.vec.Vec.{Vec}
 use Rattle.std.specs.declared.alloc.Global.{Global}
 use Rattle.wgr_model.specs.Register.{Bytes, View}
 use Rattle.wgr_model.specs.Steps.{AddTenant, Done, Event, Listed, Networks, Plain}
-use Rattle.wgr_model.specs.Tenants.{is_own, own_events, tenant_answer}
+use Rattle.wgr_model.specs.Tenants.{is_own_event, own_events, tenant_answer}
 use Rattle.wgr_office.specs.Events.{Serves, unread}
 use Rattle.wgr_office.specs.Pages.{event_of, fault_page}
 use Rattle.wgr_office.specs.declared.answer.Answer.TheVariants as givens
@@ -28,7 +28,7 @@ strangers_have_no_answer : (v : View) (now : ℕ) (why : RequestFault) → tenan
 strangers_have_no_answer v now why = refl
 
 -- an order for a new tenant is no other tenant's
-new_tenants_are_others : (me : Bytes) (v : View) (name : Bytes) (done : Bool) → is_own me v (AddTenant name) done ≡ false
+new_tenants_are_others : (me : Bytes) (v : View) (name : Bytes) (done : Bool) → is_own_event me v (AddTenant name) done ≡ false
 new_tenants_are_others me v name done = refl
 
 no_own_events : (me : Bytes) (v : View) (name : Bytes) → own_events me v ((AddTenant name, Done) ∷ []) ≡ []

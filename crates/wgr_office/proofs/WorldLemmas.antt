@@ -9,7 +9,7 @@ use Rattle.wgr_model.specs.Register.{Bytes, View}
 use Rattle.wgr_model.specs.RowLaws.{rows_view}
 use Rattle.wgr_model.specs.Runs.{Served, acknowledged}
 use Rattle.wgr_model.specs.Steps.{Answer, Event, Listed, Plain, is_done}
-use Rattle.wgr_model.specs.Tenants.{is_own, own_events, tenant_after, tenant_answer, tenant_run}
+use Rattle.wgr_model.specs.Tenants.{is_own_event, own_events, tenant_after, tenant_answer, tenant_run}
 use Rattle.wgr_orders.specs.declared.order.Order.{Order}
 use Rattle.wgr_orders.specs.declared.order.Order.TheVariants as ordered
 use Rattle.wgr_model.proofs.WorldLemmas.{not_own, two_worlds}
@@ -59,8 +59,8 @@ module _ (me : Bytes) (v : View) (reply : given.Answer) (answers : List given.An
       → (replies_to (reply ∷ answers) (None ∷ (tenant_run me w es).0) ≡ replies_to answers (tenant_run me w es).0)
       → replies_to answers (tenant_run me w es).0 ≡ own_replies me w (own_events me w es)
       → replies_to (reply ∷ answers) (tenant_answer v e ∷ (tenant_run me w es).0) ≡ own_replies me v (own_events me v ((e, a) ∷ es))
-  next front skip rest = by_test (is_own me v e (is_done a)) refl where
-    by_test : (b : Bool) → is_own me v e (is_done a) ≡ b → replies_to (reply ∷ answers) (tenant_answer v e ∷ (tenant_run me w es).0) ≡ own_replies me v (if b then (e, is_done a) ∷ own_events me w es else own_events me v es)
+  next front skip rest = by_test (is_own_event me v e (is_done a)) refl where
+    by_test : (b : Bool) → is_own_event me v e (is_done a) ≡ b → replies_to (reply ∷ answers) (tenant_answer v e ∷ (tenant_run me w es).0) ≡ own_replies me v (if b then (e, is_done a) ∷ own_events me w es else own_events me v es)
     by_test true own = front (own_replies me w (own_events me w es)) rest
     by_test false own =
         let n = not_own me v e (is_done a) own in

@@ -40,8 +40,8 @@ pub record Place (S : Type 0) : Type 0 where
   pub db : Database
   pub late : List Event
 
-abbrev pub place : {S : Type 0} → Held S → Database → List Event → Place S
-place conn db late = record { conn = conn; db = db; late = late }
+abbrev pub place_at : {S : Type 0} → Held S → Database → List Event → Place S
+place_at conn db late = record { conn = conn; db = db; late = late }
 
 -- from one place to the next by one event: by a call that served it, and by its step on the rows
 pub record Passes {S : Type 0} (g : Ghosts S) (from to : Place S) (event : event.Event) (given : given.Answer) (s : Served) : Type 0 where
@@ -60,7 +60,7 @@ PassesAll g from to events answers served = ⊥
 -- a run of the events, and all places between them, from the connection as it was to the connection as it is
 pub record HasPassed {S : Type 0} (g : Ghosts S) (old new : Held S) (db : Database) (late : List Event) (asked : List event.Event) (answers : List given.Answer) : Type 0 where
   pub run : HasRun g new db late asked answers
-  pub passes : PassesAll g (place old db late) (place new run.all.next run.all.left) asked answers run.all.served
+  pub passes : PassesAll g (place_at old db late) (place_at new run.all.next run.all.left) asked answers run.all.served
 
 -- ---- a stop
 
@@ -79,4 +79,4 @@ pub record IsKeptBetween {S : Type 0} (g : Ghosts S) (from to : Place S) (asked 
 abbrev pub StopsKeepAcknowledged : {S : Type 0} → Ghosts S → Type 0
 StopsKeepAcknowledged {S} g = (old new : Held S) (db : Database) (late : List Event) (asked : List event.Event) (answers : List given.Answer)
     → StandsAt g old db late → HasCleanDisk (state g new) → (passed : HasPassed g old new db late asked answers) → (k : ℕ) → k ≤ length asked
-    → IsKeptBetween g (place old db late) (place new passed.run.all.next passed.run.all.left) asked answers passed.run.all.served k
+    → IsKeptBetween g (place_at old db late) (place_at new passed.run.all.next passed.run.all.left) asked answers passed.run.all.served k

@@ -6,7 +6,7 @@ use Rattle.std.specs.declared.alloc.AllocError.{AllocError}
 use Rattle.sqlite.specs.Effect.{Database}
 use Rattle.sqlite.specs.Store.{Ghosts}
 use Rattle.sqlite.specs.Held.{Held}
-use Rattle.wgr_core.specs.declared.refusal.Refusal.{Refusal}
+use Rattle.wgr_core.specs.declared.refusal.CommandRefusal.{CommandRefusal}
 use Rattle.wgr_core.specs.declared.reply.Reply.TheVariants as reply
 use Rattle.wgr_reply.specs.Bodies.{adopted_data, networks_data, owner_data, peers_data, revoked_data}
 use Rattle.wgr_reply.specs.Shown.{peer_data}
@@ -59,8 +59,8 @@ abbrev pub page_if : Option GivenValue → Bytes
 page_if None = []
 page_if (Some given) = page given
 
-abbrev pub refusal_page : Refusal → Bytes
-refusal_page why = shown_bytes (problem (refusal_status why) [] (refusal_name why) (refusal_facts why))
+abbrev pub refusal_page : CommandRefusal → Bytes
+refusal_page why = shown_bytes (problem (refusal_status why) [] (refusal_name why.why) (refusal_facts why))
 
 abbrev pub nowhere_page : Bytes
 nowhere_page = shown_bytes (plain status.NotFound (codes "no_such_network"))

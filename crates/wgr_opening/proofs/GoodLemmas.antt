@@ -13,9 +13,9 @@ use Rattle.sqlite_rules.specs.Edit.{id_in}
 use Rattle.sqlite_rules.specs.Lists as rules
 use Rattle.sqlite_rules.proofs.ListLemmas.{all_from, all_has, some_from}
 use Rattle.wgr_pool.proofs.PrefixLemmas.{nat_eq_is}
-use Rattle.wgr_model.specs.Consistent.{IsHolding}
+use Rattle.wgr_model.specs.Consistent.{IsNetworkEntry}
 use Rattle.wgr_model.specs.Laws.{Has}
-use Rattle.wgr_model.specs.Rows.{NetworkRow, PeerRow, Tables, allowed_key, holding_of, number_in, same_allowed, same_pair}
+use Rattle.wgr_model.specs.Rows.{NetworkRow, PeerRow, Tables, allowed_key, network_entry_of, number_in, same_allowed, same_pair}
 use Rattle.wgr_model.proofs.CollectLemmas.{from_map, has_map}
 use Rattle.wgr_model.proofs.GatherLemmas.{eqb_self}
 use Rattle.wgr_model.proofs.SameLemmas.{has_permutation}
@@ -25,7 +25,7 @@ use Rattle.wgr_tables.proofs.RouteRests.{allowed_self}
 use Rattle.wgr_tables.proofs.UniqueLemmas.{from_model, to_model}
 use Rattle.wgr_columns.specs.LaidOut.{IsLaidOut}
 use Rattle.wgr_columns.specs.Fields.{IsIntegerAt}
-use Rattle.wgr_checks.specs.Laws.{IsSettled}
+use Rattle.wgr_checks.specs.Laws.{HasGoodValues}
 use Rattle.wgr_checks.specs.TenantRows.{AreGoodTenants, AreIdsOf}
 use Rattle.wgr_checks.specs.TokenRows.{AreGoodTokens}
 use Rattle.wgr_checks.specs.NetworkRows.{AreGoodNetworks}
@@ -37,7 +37,7 @@ use Rattle.wgr_checks.specs.PeerRows.{AreWrittenPeers, IsPeerRow}
 use Rattle.wgr_checks.specs.AllowedRows.{AreWrittenAllowed, IsAllowedRow}
 use Rattle.wgr_opening.specs.Good.{IsGood, StoresNetwork}
 use Rattle.wgr_opening.specs.Whole.{AreWhole, IsThere}
-use Rattle.wgr_opening.proofs.ConsistentLemmas.{consistent_is_whole, holding, pair_self}
+use Rattle.wgr_opening.proofs.ConsistentLemmas.{consistent_is_whole, network_entry, pair_self}
 
 -- where no row stands twice, what tells the rows apart is told apart with them
 keys_apart : {A B C : Type 0} (f : A → B) (e : B → B → Bool) → ((b : B) → e b b ≡ true) → (g : A → C) (d : C → C → Bool) → (xs : List A) → ((x y : A) → rules.Has xs x → rules.Has xs y → d (g x) (g y) ≡ true → x ≡ y) → IsDistinct e (map f xs) → IsDistinct d (map g xs)
@@ -77,13 +77,13 @@ module _ (db : Database) (good : IsGood db) where
   good_tokens ids are = (good_tokens_are db laid database good_tenants ids are).1
       (record { written = written.tokens; each = whole.tokens.each; digests = whole.tokens.digests; owners = whole.tokens.owners; few = whole.tokens.few })
 
-  settled : (w : NetworkRow) → IsHolding (holding_of t w) → IsSettled w
+  settled : (w : NetworkRow) → IsNetworkEntry (network_entry_of t w) → HasGoodValues w
   settled w is = record { id = is.id; name = is.name; pool = is.rules.pool; host = is.host; port = is.rules.port; server = is.forms.0; capacity = is.rules.capacity; next = omega (arith, is.rules.next.1) }
 
   pub good_networks : (ids : List ℕ) → AreIdsOf (db.trees 1) ids → AreGoodNetworks ids (db.trees 5)
   good_networks ids are = (good_networks_are db laid database good_tenants ids are).1 (record {
     written = written.networks;
-    each = all_from IsSettled t.networks (λ w here. settled w (holding t good.consistent w (to_model t.networks w here)));
+    each = all_from HasGoodValues t.networks (λ w here. settled w (network_entry t good.consistent w (to_model t.networks w here)));
     ids = whole.networks.ids;
     slots = whole.networks.slots;
     endpoints = whole.networks.endpoints;

@@ -26,14 +26,15 @@ use Rattle.wgr_sql.specs.declared.fault.Fault.{Fault}
 use Rattle.wgr_sql.specs.declared.fault.Fault.TheVariants.{NoMemory, Store}
 use Rattle.wgr_sql.proofs.Answers.{map-both}
 use Rattle.wgr_sql.proofs.StandingLemmas.{stands_kept, stands_open}
-use Rattle.wgr_schema.specs.FirstVersion.{SaysFirst}
+use Rattle.wgr_schema.specs.Versions.{SaysVersion}
+use Rattle.wgr_schema.specs.declared.version.Version.TheVariants.{One}
 use Rattle.wgr_columns.specs.LaidOut.{IsLaidOut}
 use Rattle.wgr_columns.specs.Decode.{AreAllowed, ArePeers, AreWritten, HaveKinds, HaveStatuses, IsRegister, allowed_in, network_in, number_at, peer_in, tables_of, tenant_in}
 use Rattle.wgr_tables.specs.Standing.{Stands}
 use Rattle.wgr_tables.specs.Writes.{Writes}
 use Rattle.wgr_checks.specs.Sorted.{AreAmong}
 use Rattle.wgr_columns.specs.LaidOut.{Laid}
-use Rattle.wgr_checks.specs.Laws.{AreConsistentNetworks, AreConsistentTenants, AreConsistentTokens, IsSettled}
+use Rattle.wgr_checks.specs.Laws.{AreConsistentNetworks, AreConsistentTenants, AreConsistentTokens, HasGoodValues}
 use Rattle.wgr_checks.specs.TenantRows.{AreIdsOf}
 use Rattle.wgr_checks.proofs.TenantLaws.{good_is}
 use Rattle.wgr_checks.proofs.NetworkLaws.{good_networks_are}
@@ -86,7 +87,7 @@ any_has p (x ∷ xs) some = go (p x) refl some (λ later. any_has p xs later) wh
 
 -- ---- the register
 
-version_written : (rows : List Row) → SaysFirst rows → AreWritten (0 ∷ []) [] [] rows
+version_written : (rows : List Row) → SaysVersion One rows → AreWritten (0 ∷ []) [] [] rows
 version_written [] first = absurd cc
 version_written (r ∷ s ∷ rows) first = absurd cc
 version_written (r ∷ []) first =
@@ -108,7 +109,7 @@ version_written (r ∷ []) first =
     only : {x : Row} → rules.Has (r ∷ []) x → x ≡ r
     only {x = x} here = elim here [ inl same ↦ same | inr none ↦ absurd none ]
 
-module _ (db : Database) (laid : IsLaidOut db.schema) (first : SaysFirst (db.trees 0)) (database : IsDatabase db) (ids : List ℕ) (tables : HasTables db.trees ids) where
+module _ (db : Database) (laid : IsLaidOut db.schema) (first : SaysVersion One (db.trees 0)) (database : IsDatabase db) (ids : List ℕ) (tables : HasTables db.trees ids) where
   abbrev t : Tables
   t = tables_of db
 
@@ -158,7 +159,7 @@ module _ (db : Database) (laid : IsLaidOut db.schema) (first : SaysFirst (db.tre
     tenants = record { each = tenants.each; ids = tenants.ids; names = tenants.names; few = subst (λ n. n ≤ 65536) (sym (length-map (db.trees 1) tenant_in)) entries.few };
     tokens = record { each = tokens.each; digests = tokens.digests; owners = tokens.owners; few = tokens.few };
     networks = record {
-      each = all_weaker IsSettled IsNamed (λ w is. record { id = is.id; name = is.name; host = is.host }) t.networks networks.each;
+      each = all_weaker HasGoodValues IsNamed (λ w is. record { id = is.id; name = is.name; host = is.host }) t.networks networks.each;
       ids = networks.ids;
       slots = networks.slots;
       endpoints = networks.endpoints;

@@ -6,10 +6,10 @@ use Rattle.std.proofs.lemmas.Map.Keys.{IsDistinct-IsPermutation}
 use Rattle.std.proofs.Math.ListN.{length-map}
 use Rattle.wgr_core.specs.Forms.{HasForms}
 use Rattle.wgr_core.specs.Network.{IsNetwork, NetworkValue}
-use Rattle.wgr_model.specs.Consistent.{IsConsistent, IsHolding, endpoint, has_tenant, overlaps, pool_of, same_endpoint, same_slot, slot}
+use Rattle.wgr_model.specs.Consistent.{IsConsistent, IsNetworkEntry, endpoint, has_tenant, overlaps, pool_of, same_endpoint, same_slot, slot}
 use Rattle.wgr_model.specs.Laws.{Has}
-use Rattle.wgr_model.specs.Register.{Holding}
-use Rattle.wgr_model.specs.Rows.{AllowedRow, AreKeyed, AreRowsOf, NetworkRow, PeerRow, Tables, address_row, allowed_key, allowed_rows, holding_of, network_row, number_in, peer_row, peer_rows, register_of, route_row, same_allowed, same_pair}
+use Rattle.wgr_model.specs.Register.{NetworkEntry}
+use Rattle.wgr_model.specs.Rows.{AllowedRow, AreKeyed, AreRowsOf, NetworkRow, PeerRow, Tables, address_row, allowed_key, allowed_rows, network_entry_of, network_row, number_in, peer_row, peer_rows, register_of, route_row, same_allowed, same_pair}
 use Rattle.wgr_model.proofs.CollectLemmas.{from_append, from_flat, from_map, has_flat, has_left, has_map, has_right}
 use Rattle.wgr_model.proofs.ExistLemmas.{peers_apart, owners_apart, addresses_apart, routes_apart, kinds_apart, pair_by_id}
 use Rattle.wgr_model.proofs.GatherLemmas.{eqb_self, in_filter, map_map}
@@ -45,7 +45,7 @@ abbrev routes_at : Tables → ℕ → List AllowedRow
 routes_at t i = filter (λ a. a.is_route && nat_eq a.network i) t.allowed
 
 -- a network of this id, of whichever tenant
-abbrev held : ℕ → NetworkValue → Holding
+abbrev held : ℕ → NetworkValue → NetworkEntry
 held i n = record { id = i; tenant = 0; name = []; network = n }
 
 module _ (t : Tables) (i : ℕ) (n : NetworkValue) (told : IsStored t i n) where
@@ -136,56 +136,56 @@ module _ (t : Tables) (whole : AreWhole t) where
       | inr other ↦ absurd (true≢false (sym (eqb_self w.id) ∙ sym (ap (λ i. nat_eq i w.id) told_at.1.id_is) ∙ other))
     ]
 
-    is_read : told_at.0 ≡ (holding_of t w).network
+    is_read : told_at.0 ≡ (network_entry_of t w).network
     is_read = network_is_read t w w.id refl keyed told_at.0.peers told_at.0.routes told_at.0
         (record { value = told_at.1.value ∙ ap (λ r. record { pool = r.pool; host = r.host; port = r.port; server = r.server; capacity = r.capacity; next = r.next; peers = told_at.0.peers; routes = told_at.0.routes }) row_is; peers = IsPermutation-refl told_at.0.peers; routes = IsPermutation-refl told_at.0.routes; rules = told_at.1.rules })
         told_at.1.peers told_at.1.addresses told_at.1.routes
 
-    holding : IsHolding (holding_of t w)
-    holding =
+    network_entry : IsNetworkEntry (network_entry_of t w)
+    network_entry =
         let named = at_has IsNamed t.networks w whole.networks.each here in
         record { id = named.id; name = named.name; host = named.host; forms = subst HasForms is_read told_at.1.forms; rules = subst IsNetwork is_read told_at.1.rules }
 
-    peers_there : IsPermutation (peers_at t w.id) (peer_rows (holding_of t w))
+    peers_there : IsPermutation (peers_at t w.id) (peer_rows (network_entry_of t w))
     peers_there = subst (λ (n : NetworkValue). IsPermutation (peers_at t w.id) (map (peer_row w.id) n.peers)) is_read told_at.1.peers
 
-    addresses_there : IsPermutation (addresses_at t w.id) (map (address_row w.id) (holding_of t w).network.peers)
+    addresses_there : IsPermutation (addresses_at t w.id) (map (address_row w.id) (network_entry_of t w).network.peers)
     addresses_there = subst (λ (n : NetworkValue). IsPermutation (addresses_at t w.id) (map (address_row w.id) n.peers)) is_read told_at.1.addresses
 
-    routes_there : IsPermutation (routes_at t w.id) (map (route_row w.id) (holding_of t w).network.routes)
+    routes_there : IsPermutation (routes_at t w.id) (map (route_row w.id) (network_entry_of t w).network.routes)
     routes_there = subst (λ (n : NetworkValue). IsPermutation (routes_at t w.id) (map (route_row w.id) n.routes)) is_read told_at.1.routes
 
-    own_peer : (a : PeerRow) → Has (peer_rows (holding_of t w)) a → Has t.peers a
-    own_peer a k = (from_filter (λ p. nat_eq p.network w.id) t.peers a (has_permutation (peer_rows (holding_of t w)) (peers_at t w.id) a (IsPermutation-sym (peers_at t w.id) (peer_rows (holding_of t w)) peers_there) k)).0
+    own_peer : (a : PeerRow) → Has (peer_rows (network_entry_of t w)) a → Has t.peers a
+    own_peer a k = (from_filter (λ p. nat_eq p.network w.id) t.peers a (has_permutation (peer_rows (network_entry_of t w)) (peers_at t w.id) a (IsPermutation-sym (peers_at t w.id) (peer_rows (network_entry_of t w)) peers_there) k)).0
 
-    own_allowed : (a : AllowedRow) → Has (allowed_rows (holding_of t w)) a → Has t.allowed a
-    own_allowed a k = elim (from_append (map (address_row w.id) (holding_of t w).network.peers) (map (route_row w.id) (holding_of t w).network.routes) a k) [
-      | inl l ↦ (from_filter (λ x. nat_eq x.network w.id && not x.is_route) t.allowed a (has_permutation (map (address_row w.id) (holding_of t w).network.peers) (addresses_at t w.id) a (IsPermutation-sym (addresses_at t w.id) (map (address_row w.id) (holding_of t w).network.peers) addresses_there) l)).0
-      | inr l ↦ (from_filter (λ x. x.is_route && nat_eq x.network w.id) t.allowed a (has_permutation (map (route_row w.id) (holding_of t w).network.routes) (routes_at t w.id) a (IsPermutation-sym (routes_at t w.id) (map (route_row w.id) (holding_of t w).network.routes) routes_there) l)).0
+    own_allowed : (a : AllowedRow) → Has (allowed_rows (network_entry_of t w)) a → Has t.allowed a
+    own_allowed a k = elim (from_append (map (address_row w.id) (network_entry_of t w).network.peers) (map (route_row w.id) (network_entry_of t w).network.routes) a k) [
+      | inl l ↦ (from_filter (λ x. nat_eq x.network w.id && not x.is_route) t.allowed a (has_permutation (map (address_row w.id) (network_entry_of t w).network.peers) (addresses_at t w.id) a (IsPermutation-sym (addresses_at t w.id) (map (address_row w.id) (network_entry_of t w).network.peers) addresses_there) l)).0
+      | inr l ↦ (from_filter (λ x. x.is_route && nat_eq x.network w.id) t.allowed a (has_permutation (map (route_row w.id) (network_entry_of t w).network.routes) (routes_at t w.id) a (IsPermutation-sym (routes_at t w.id) (map (route_row w.id) (network_entry_of t w).network.routes) routes_there) l)).0
     ]
 
-    peer_here : (a : PeerRow) → Has t.peers a → w.id ≡ a.network → Has (peer_rows (holding_of t w)) a
-    peer_here a k is = has_permutation (peers_at t w.id) (peer_rows (holding_of t w)) a peers_there (in_filter (λ p. nat_eq p.network w.id) t.peers a k (subst (λ i. nat_eq a.network i ≡ true) (sym is) (eqb_self a.network)))
+    peer_here : (a : PeerRow) → Has t.peers a → w.id ≡ a.network → Has (peer_rows (network_entry_of t w)) a
+    peer_here a k is = has_permutation (peers_at t w.id) (peer_rows (network_entry_of t w)) a peers_there (in_filter (λ p. nat_eq p.network w.id) t.peers a k (subst (λ i. nat_eq a.network i ≡ true) (sym is) (eqb_self a.network)))
 
-    allowed_here : (a : AllowedRow) → Has t.allowed a → w.id ≡ a.network → Has (allowed_rows (holding_of t w)) a
+    allowed_here : (a : AllowedRow) → Has t.allowed a → w.id ≡ a.network → Has (allowed_rows (network_entry_of t w)) a
     allowed_here a k is = go a.is_route refl where
       mine : nat_eq a.network w.id ≡ true
       mine = subst (λ i. nat_eq a.network i ≡ true) (sym is) (eqb_self a.network)
 
-      go : (r : Bool) → a.is_route ≡ r → Has (allowed_rows (holding_of t w)) a
-      go true e = has_right (map (address_row w.id) (holding_of t w).network.peers) (map (route_row w.id) (holding_of t w).network.routes) a
-          (has_permutation (routes_at t w.id) (map (route_row w.id) (holding_of t w).network.routes) a routes_there (in_filter (λ x. x.is_route && nat_eq x.network w.id) t.allowed a k (ap₂ (λ x y. x && y) e mine)))
-      go false e = has_left (map (address_row w.id) (holding_of t w).network.peers) (map (route_row w.id) (holding_of t w).network.routes) a
-          (has_permutation (addresses_at t w.id) (map (address_row w.id) (holding_of t w).network.peers) a addresses_there (in_filter (λ x. nat_eq x.network w.id && not x.is_route) t.allowed a k (ap₂ (λ x y. x && not y) mine e)))
+      go : (r : Bool) → a.is_route ≡ r → Has (allowed_rows (network_entry_of t w)) a
+      go true e = has_right (map (address_row w.id) (network_entry_of t w).network.peers) (map (route_row w.id) (network_entry_of t w).network.routes) a
+          (has_permutation (routes_at t w.id) (map (route_row w.id) (network_entry_of t w).network.routes) a routes_there (in_filter (λ x. x.is_route && nat_eq x.network w.id) t.allowed a k (ap₂ (λ x y. x && y) e mine)))
+      go false e = has_left (map (address_row w.id) (network_entry_of t w).network.peers) (map (route_row w.id) (network_entry_of t w).network.routes) a
+          (has_permutation (addresses_at t w.id) (map (address_row w.id) (network_entry_of t w).network.peers) a addresses_there (in_filter (λ x. nat_eq x.network w.id && not x.is_route) t.allowed a k (ap₂ (λ x y. x && not y) mine e)))
 
   -- ---- the register
 
-  holdings : List Holding
-  holdings = map (holding_of t) t.networks
+  network_entries : List NetworkEntry
+  network_entries = map (network_entry_of t) t.networks
 
-  held_all : (P : Holding → Type 0) → ((w : NetworkRow) → Has t.networks w → P (holding_of t w)) → AllByRecursion P (map (holding_of t) t.networks)
+  held_all : (P : NetworkEntry → Type 0) → ((w : NetworkRow) → Has t.networks w → P (network_entry_of t w)) → AllByRecursion P (map (network_entry_of t) t.networks)
   held_all P each = go t.networks each where
-    go : (ws : List NetworkRow) → ((w : NetworkRow) → Has ws w → P (holding_of t w)) → AllByRecursion P (map (holding_of t) ws)
+    go : (ws : List NetworkRow) → ((w : NetworkRow) → Has ws w → P (network_entry_of t w)) → AllByRecursion P (map (network_entry_of t) ws)
     go [] each = tt
     go (w ∷ ws) each = (each w (inl refl), go ws (λ x k. each x (inr k)))
 
@@ -194,21 +194,21 @@ module _ (t : Tables) (whole : AreWhole t) where
     names = whole.tenants.names;
     ids = whole.tenants.ids;
     digests = whole.tokens.digests;
-    slots = subst (IsDistinct same_slot) (sym (map_map (holding_of t) slot t.networks)) whole.networks.slots;
-    network_ids = subst (IsDistinct nat_eq) (sym (map_map (holding_of t) (λ h. h.id) t.networks)) whole.networks.ids;
-    endpoints = subst (IsDistinct same_endpoint) (sym (map_map (holding_of t) endpoint t.networks)) whole.networks.endpoints;
-    pools = subst (IsDistinct overlaps) (sym (map_map (holding_of t) pool_of t.networks)) whole.networks.pools;
+    slots = subst (IsDistinct same_slot) (sym (map_map (network_entry_of t) slot t.networks)) whole.networks.slots;
+    network_ids = subst (IsDistinct nat_eq) (sym (map_map (network_entry_of t) (λ h. h.id) t.networks)) whole.networks.ids;
+    endpoints = subst (IsDistinct same_endpoint) (sym (map_map (network_entry_of t) endpoint t.networks)) whole.networks.endpoints;
+    pools = subst (IsDistinct overlaps) (sym (map_map (network_entry_of t) pool_of t.networks)) whole.networks.pools;
     token_tenants = whole.tokens.owners;
     network_tenants = held_all (λ h. has_tenant t.tenants h.tenant ≡ true) (λ w here. at_has (λ x. has_tenant t.tenants x.tenant ≡ true) t.networks w whole.networks.owners here);
     tenants = whole.tenants.each;
     tokens = whole.tokens.each;
-    networks = held_all IsHolding holding;
+    networks = held_all IsNetworkEntry network_entry;
     few_tenants = whole.tenants.few;
     few_tokens = whole.tokens.few;
-    few_networks = subst (λ k. k ≤ 65536) (sym (length-map t.networks (holding_of t))) whole.networks.few;
+    few_networks = subst (λ k. k ≤ 65536) (sym (length-map t.networks (network_entry_of t))) whole.networks.few;
   }
 
-  same_rows : (ws : List NetworkRow) → map (λ w. network_row (holding_of t w)) ws ≡ ws
+  same_rows : (ws : List NetworkRow) → map (λ w. network_row (network_entry_of t w)) ws ≡ ws
   same_rows [] = refl
   same_rows (w ∷ ws) = ap (λ l. w ∷ l) (same_rows ws)
 
@@ -217,14 +217,14 @@ module _ (t : Tables) (whole : AreWhole t) where
     meta = whole.meta;
     tenants = IsPermutation-refl t.tenants;
     tokens = IsPermutation-refl t.tokens;
-    networks = subst (λ l. IsPermutation l t.networks) (sym (map_map (holding_of t) network_row t.networks ∙ same_rows t.networks)) (IsPermutation-refl t.networks);
+    networks = subst (λ l. IsPermutation l t.networks) (sym (map_map (network_entry_of t) network_row t.networks ∙ same_rows t.networks)) (IsPermutation-refl t.networks);
     peers = λ a. (
-      (λ h. let k = from_flat peer_rows (map (holding_of t) t.networks) a h in let w = from_map (holding_of t) t.networks k.0 k.1 in own_peer w.0 w.1 a (subst (λ (x : Holding). Has (peer_rows x) a) (sym w.2) k.2)),
-      (λ h. let w = whole.peers a h in has_flat peer_rows (map (holding_of t) t.networks) (holding_of t w.0) a (has_map (holding_of t) t.networks w.0 w.1) (peer_here w.0 w.1 a h w.2)),
+      (λ h. let k = from_flat peer_rows (map (network_entry_of t) t.networks) a h in let w = from_map (network_entry_of t) t.networks k.0 k.1 in own_peer w.0 w.1 a (subst (λ (x : NetworkEntry). Has (peer_rows x) a) (sym w.2) k.2)),
+      (λ h. let w = whole.peers a h in has_flat peer_rows (map (network_entry_of t) t.networks) (network_entry_of t w.0) a (has_map (network_entry_of t) t.networks w.0 w.1) (peer_here w.0 w.1 a h w.2)),
     );
     allowed = λ a. (
-      (λ h. let k = from_flat allowed_rows (map (holding_of t) t.networks) a h in let w = from_map (holding_of t) t.networks k.0 k.1 in own_allowed w.0 w.1 a (subst (λ (x : Holding). Has (allowed_rows x) a) (sym w.2) k.2)),
-      (λ h. let w = whole.allowed a h in has_flat allowed_rows (map (holding_of t) t.networks) (holding_of t w.0) a (has_map (holding_of t) t.networks w.0 w.1) (allowed_here w.0 w.1 a h w.2)),
+      (λ h. let k = from_flat allowed_rows (map (network_entry_of t) t.networks) a h in let w = from_map (network_entry_of t) t.networks k.0 k.1 in own_allowed w.0 w.1 a (subst (λ (x : NetworkEntry). Has (allowed_rows x) a) (sym w.2) k.2)),
+      (λ h. let w = whole.allowed a h in has_flat allowed_rows (map (network_entry_of t) t.networks) (network_entry_of t w.0) a (has_map (network_entry_of t) t.networks w.0 w.1) (allowed_here w.0 w.1 a h w.2)),
     );
     keyed = keyed;
   }

@@ -13,7 +13,8 @@ ghost use Rattle.sqlite.specs.Held.{state};
 ghost use Rattle.wgr_sql.specs.Calls.{IsKept};
 ghost use Rattle.wgr_sql.specs.Causes.{HasCause};
 ghost use Rattle.wgr_schema.specs.Faults.{IfStatementFails};
-ghost use Rattle.wgr_schema.specs.FirstVersion.{IsFirstVersion};
+ghost use Rattle.wgr_schema.specs.Versions.{IsOfVersion};
+ghost use Rattle.wgr_schema.specs.declared.version.Version.TheVariants.{One};
 ghost use Rattle.wgr_schema.specs.declared.fault.RegisterFault.TheVariants.{NotARegister, NotEmpty, NotGood};
 ghost use Rattle.wgr_columns.specs.Decode.{tables_of};
 ghost use Rattle.wgr_tables.specs.Standing.{Stands};
@@ -35,14 +36,14 @@ fn good_outlines<S: Alter>(
 ) -> Result<Option<Outlines>, Fault>
     requires idle { conn.old.in_transaction ≡ false }
     ensures idle { conn.new.in_transaction ≡ false }
-    ensures good { HasCleanDisk (state S.Store conn.new) → (IsTrue (state S.Store conn.old).is_open → IsFirstVersion (state S.Store conn.old).now)
+    ensures good { HasCleanDisk (state S.Store conn.new) → (IsTrue (state S.Store conn.old).is_open → IsOfVersion One (state S.Store conn.old).now)
         → IfOk result (λ found. IfSome found (λ outlines. IsTrue (state S.Store conn.old).is_open × IsGood (state S.Store conn.old).now × Stands S.Store conn.new (state S.Store conn.old).now [] × AreOutlines (outline_in outlines) (tables_of (state S.Store conn.old).now))) }
-    ensures only { HasCleanDisk (state S.Store conn.new) → (IsTrue (state S.Store conn.old).is_open → IsFirstVersion (state S.Store conn.old).now)
+    ensures only { HasCleanDisk (state S.Store conn.new) → (IsTrue (state S.Store conn.old).is_open → IsOfVersion One (state S.Store conn.old).now)
         → IfOk result (λ found. IsTrue (state S.Store conn.old).is_open × (IsGood (state S.Store conn.old).now → IsSome found)) }
-    ensures kept { (HasCleanDisk (state S.Store conn.new) → IsTrue (state S.Store conn.old).is_open → IsFirstVersion (state S.Store conn.old).now) → IsKept (state S.Store conn.old) (state S.Store conn.new) }
+    ensures kept { (HasCleanDisk (state S.Store conn.new) → IsTrue (state S.Store conn.old).is_open → IsOfVersion One (state S.Store conn.old).now) → IsKept (state S.Store conn.old) (state S.Store conn.new) }
     ensures clean { HasCleanDisk (state S.Store conn.new) → HasCleanDisk (state S.Store conn.old) }
     ensures survives { Survives (state S.Store conn.old) (state S.Store conn.new) (λ _. ⊥) }
-    ensures cause { (HasCleanDisk (state S.Store conn.new) → IsTrue (state S.Store conn.old).is_open → IsFirstVersion (state S.Store conn.old).now) → IfErr result (HasCause (state S.Store conn.old) (state S.Store conn.new)) }
+    ensures cause { (HasCleanDisk (state S.Store conn.new) → IsTrue (state S.Store conn.old).is_open → IsOfVersion One (state S.Store conn.old).now) → IfErr result (HasCause (state S.Store conn.old) (state S.Store conn.new)) }
 {
     let _live = conn.schema();
     let _settled = conn.is_autocommit();
@@ -65,9 +66,9 @@ pub fn check_register<S: Alter>(
     ensures idle { conn.new.in_transaction ≡ false }
     ensures right { HasCleanDisk (state S.Store conn.new) → IfOk result (λ _. IsGood (state S.Store conn.old).now × Stands S.Store conn.new (state S.Store conn.old).now []) }
     ensures outlines { HasCleanDisk (state S.Store conn.new) → IfOk result (λ outlines. AreOutlines (outline_in outlines) (tables_of (state S.Store conn.old).now)) }
-    ensures wrong { HasCleanDisk (state S.Store conn.new) → result ≡ Err NotARegister → IsFirstVersion (state S.Store conn.old).now → ⊥ }
+    ensures wrong { HasCleanDisk (state S.Store conn.new) → result ≡ Err NotARegister → IsOfVersion One (state S.Store conn.old).now → ⊥ }
     ensures bad { HasCleanDisk (state S.Store conn.new) → result ≡ Err NotGood → IsGood (state S.Store conn.old).now → ⊥ }
-    ensures version { HasCleanDisk (state S.Store conn.new) → result ≡ Err NotGood → IsFirstVersion (state S.Store conn.old).now }
+    ensures version { HasCleanDisk (state S.Store conn.new) → result ≡ Err NotGood → IsOfVersion One (state S.Store conn.old).now }
     ensures full { result ≡ Err NotEmpty → ⊥ }
     ensures kept { IsKept (state S.Store conn.old) (state S.Store conn.new) }
     ensures clean { HasCleanDisk (state S.Store conn.new) → HasCleanDisk (state S.Store conn.old) }

@@ -34,7 +34,7 @@ pub(crate) fn read_tables<S: Alter>(
     ensures survives { Survives (state S.Store conn.old) (state S.Store conn.new) (λ _. ⊥) }
     ensures cause { (HasCleanDisk (state S.Store conn.new) → Laid (state S.Store conn.old)) → IfErr result (HasCause (state S.Store conn.old) (state S.Store conn.new)) }
 {
-    let Some(networks) = read_holdings(alloc, conn)? else {
+    let Some(networks) = read_network_entries(alloc, conn)? else {
         return Ok(None);
     };
     if !are_members_written(conn, networks.as_slice())? {
@@ -44,7 +44,7 @@ pub(crate) fn read_tables<S: Alter>(
 }
 
 // The ids of the networks, if their rows and those of all entries are good.
-fn read_holdings<S: Alter>(
+fn read_network_entries<S: Alter>(
     alloc: Global,
     conn: &mut Connection<S>,
 ) -> Result<Option<Vec<u32>>, Fault>

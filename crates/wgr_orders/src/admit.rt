@@ -4,7 +4,7 @@ ghost use Rattle.wgr_model.specs.Consistent.{IsId};
 ghost use Rattle.wgr_model.specs.Steps.{has_network, is_full};
 ghost use Rattle.wgr_orders.specs.Orders.{IsAdmitted, IsChecked};
 
-use crate::holding::{Holding, Tenant};
+use crate::entries::{NetworkEntry, Tenant};
 use crate::look::{has_endpoint, network_ids, place_of, unused_id};
 use crate::order::Settings;
 use crate::overlap::overlap_refusal;
@@ -18,7 +18,7 @@ use wgr_model::MAX_ENTRIES;
 pub fn admit_network(
     alloc: Global,
     tenants: &[Tenant],
-    networks: &[Holding],
+    networks: &[NetworkEntry],
     tenant: u32,
     name: &Name,
     settings: &Settings,
@@ -36,7 +36,7 @@ pub fn admit_network(
 pub fn checked_pool(
     alloc: Global,
     tenants: &[Tenant],
-    networks: &[Holding],
+    networks: &[NetworkEntry],
     id: u32,
     name: &Name,
     settings: &Settings,
@@ -62,7 +62,7 @@ pub fn checked_pool(
 }
 
 /// An id that none of these networks has.
-pub fn new_id(alloc: Global, networks: &[Holding]) -> Result<u32, AllocError>
+pub fn new_id(alloc: Global, networks: &[NetworkEntry]) -> Result<u32, AllocError>
     requires room { is_full networks.now ≡ false }
     ensures { IfOk result (λ id. IsId id × (has_network networks.now id ≡ false)) }
 {

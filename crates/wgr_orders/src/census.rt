@@ -1,11 +1,11 @@
 //! All entries of a register, for an operator to look at.
-use crate::holding::{Holding, Tenant, Token};
+use crate::entries::{NetworkEntry, Tenant, Token};
 
 /// A network as it was added, and how many peers and routes its rows have. A peer whose lease is over counts
 /// until a change of the network removes it.
 #[derive(Drop)]
 pub struct Counted {
-    pub holding: Holding,
+    pub network_entry: NetworkEntry,
     pub peers: usize,
     pub routes: usize,
 }

@@ -3,8 +3,8 @@
 
 mod admit;
 mod census;
+mod entries;
 mod forms;
-mod holding;
 mod listing;
 mod look;
 mod order;
@@ -13,8 +13,8 @@ mod refusal;
 
 pub use admit::{admit_network, checked_pool, is_full, new_id};
 pub use census::{Census, Counted};
+pub use entries::{NetworkEntry, Tenant, Token};
 pub use forms::{digest_has_form, name_has_form, settings_have_forms};
-pub use holding::{Holding, Tenant, Token};
 pub use listing::ByName;
 pub use look::{is_same, place_of, unused_id};
 pub use order::{Order, Settings};

@@ -4,9 +4,9 @@ ghost use Rattle.std.specs.List.{list_any};
 ghost use Rattle.wgr_model.specs.Register.{is_same};
 ghost use Rattle.wgr_model.specs.Consistent.{IsId, max_entries};
 ghost use Rattle.wgr_model.specs.Steps.{has_endpoint, network_at};
-ghost use Rattle.wgr_orders.specs.Places.{IsPlace};
+ghost use Rattle.wgr_orders.specs.Places.{IsNetworkPlace};
 
-use crate::holding::Holding;
+use crate::entries::NetworkEntry;
 use std::alloc::{AllocError, Global};
 use wgr_core::{Host, Port};
 use wgr_model::MAX_ENTRIES;
@@ -19,11 +19,11 @@ pub fn is_same(one: &[u8], other: &[u8]) -> bool
 }
 
 /// The place of the network of this name that the tenant of this id has.
-pub fn place_of(networks: &[Holding], id: u32, name: &[u8]) -> Option<usize>
-    ensures { MatchOption result (network_at networks.now id name.now ≡ None) (λ place. IsPlace networks.now id name.now place) }
+pub fn place_of(networks: &[NetworkEntry], id: u32, name: &[u8]) -> Option<usize>
+    ensures { MatchOption result (network_at networks.now id name.now ≡ None) (λ place. IsNetworkPlace networks.now id name.now place) }
 {
-    for (place, holding) in networks.iter().enumerate() {
-        if holding.tenant == id && is_same(name, holding.name.as_bytes()) {
+    for (place, network_entry) in networks.iter().enumerate() {
+        if network_entry.tenant == id && is_same(name, network_entry.name.as_bytes()) {
             return Some(place);
         }
     }
@@ -31,11 +31,11 @@ pub fn place_of(networks: &[Holding], id: u32, name: &[u8]) -> Option<usize>
 }
 
 // Whether a network has the endpoint.
-pub(crate) fn has_endpoint(networks: &[Holding], host: &Host, port: Port) -> bool
+pub(crate) fn has_endpoint(networks: &[NetworkEntry], host: &Host, port: Port) -> bool
     ensures { result ≡ has_endpoint networks.now (host.now, port) }
 {
-    for holding in networks {
-        let network = &holding.network;
+    for network_entry in networks {
+        let network = &network_entry.network;
         if is_same(host.as_str().as_bytes(), network.host().as_str().as_bytes())
             && network.port() == port
         {
@@ -46,12 +46,12 @@ pub(crate) fn has_endpoint(networks: &[Holding], host: &Host, port: Port) -> boo
 }
 
 // The ids of the networks.
-pub(crate) fn network_ids(alloc: Global, networks: &[Holding]) -> Result<Vec<u32>, AllocError>
+pub(crate) fn network_ids(alloc: Global, networks: &[NetworkEntry]) -> Result<Vec<u32>, AllocError>
     ensures { IfOk result (λ ids. ids.items ≡ map (λ h. h.id) networks.now) }
 {
     let mut ids = Vec::new(alloc);
-    for holding in networks {
-        ids.push(holding.id)?;
+    for network_entry in networks {
+        ids.push(network_entry.id)?;
     }
     Ok(ids)
 }

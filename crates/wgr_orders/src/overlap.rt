@@ -7,7 +7,7 @@ ghost use Rattle.wgr_model.specs.Consistent.{overlaps};
 ghost use Rattle.wgr_model.specs.Register.{Bytes, Tenant};
 ghost use Rattle.wgr_model.specs.Steps.{comes_before, first_of, name_of, overlapping, pool_refusal};
 
-use crate::holding::{Holding, Tenant};
+use crate::entries::{NetworkEntry, Tenant};
 use crate::refusal::OrderRefusal;
 use std::alloc::{AllocError, Global};
 use std::collections::BTreeMap;
@@ -34,7 +34,7 @@ impl Model for Names {
 pub(crate) fn overlap_refusal(
     alloc: Global,
     tenants: &[Tenant],
-    networks: &[Holding],
+    networks: &[NetworkEntry],
     pool: &Pool,
 ) -> Result<Option<OrderRefusal>, AllocError>
     ensures { IfOk result (λ refusal. option_map refusal_of refusal ≡ pool_refusal (overlapping tenants.now networks.now pool.now)) }
@@ -55,17 +55,17 @@ pub(crate) fn overlap_refusal(
 fn overlapping(
     alloc: Global,
     tenants: &BTreeMap<u32, &str>,
-    networks: &[Holding],
+    networks: &[NetworkEntry],
     pool: &Pool,
 ) -> Result<Vec<Names>, AllocError>
     ensures { (named : List Tenant) → NamesOf named tenants.now → IfOk result (λ names. names.items ≡ overlapping named networks.now pool.now) }
 {
     let mut names = Vec::new(alloc);
-    for holding in networks {
-        if overlaps(pool, &holding.network.pool()) {
+    for network_entry in networks {
+        if overlaps(pool, &network_entry.network.pool()) {
             names.push(Names {
-                tenant: name_of(tenants, holding.tenant).to_string(alloc)?,
-                network: holding.name.as_str().to_string(alloc)?,
+                tenant: name_of(tenants, network_entry.tenant).to_string(alloc)?,
+                network: network_entry.name.as_str().to_string(alloc)?,
             })?;
         }
     }

@@ -11,7 +11,8 @@ use Rattle.wgr_core.specs.declared.reply.Reply.TheVariants as reply
 use Rattle.wgr_core.specs.declared.reply.PeerView.{PeerView}
 use Rattle.wgr_core.specs.Change.{Meets, applied_if}
 use Rattle.wgr_core.specs.Network.{IsNetwork, NetworkValue, live_at, lowest_free}
-use Rattle.wgr_core.specs.Outcome.{Outcome, at_place, join_refusal, joined, kept_if, or_full, outcome_of, place, unless, view_of}
+use Rattle.wgr_core.specs.Outcome.{Outcome, at_place, joined, kept_if, outcome_of, unless, peer_view}
+use Rattle.wgr_core.specs.Refusals.{join_refusal, or_full, place}
 use Rattle.wgr_core.proofs.LiveLemmas.{live_is_network}
 use Rattle.wgr_outline.specs.Outline.{IsFloor}
 use Rattle.wgr_outline.proofs.FloorLemmas.{joined_floor, lowest_is_floor}
@@ -28,7 +29,7 @@ module _ (n : NetworkValue) (now : ℕ) (key : Key) (label : List ℕ) (until ke
 
   -- a peer joins at any address
   pub added_floor : (wanted : Option AddrValue) (given : Reply) (floor : ℕ) → IsFloor m floor → Meets n (Ok (given, change)) (outcome_of n now (command.Add key label wanted until keepalive)) → IsFloor (applied_if change n) floor
-  added_floor wanted given floor is meets = go (join_refusal m now key until) (place m wanted) meets
+  added_floor wanted given floor is meets = go (join_refusal m now key until) (place m m.pool wanted) meets
     where
       go : (why : Option Refusal) (place : Result AddrValue Refusal) → Meets n (Ok (given, change)) (at why place) → IsFloor (applied_if change n) floor
       go (Some why) place meets = elim meets [ ]
@@ -37,13 +38,13 @@ module _ (n : NetworkValue) (now : ℕ) (key : Key) (label : List ℕ) (until ke
 
   -- and, where none is named, at the lowest that was free
   pub lowest_added : IsNetwork n → (view : PeerView) → Meets n (Ok (reply.Peer view, change)) (outcome_of n now (command.Add key label None until keepalive)) → IsFloor (applied_if change n) view.peer.address.number
-  lowest_added is view meets = go (join_refusal m now key until) (lowest_free m) refl meets
+  lowest_added is view meets = go (join_refusal m now key until) (lowest_free m m.pool) refl meets
     where
-      go : (why : Option Refusal) (lowest : Option AddrValue) → lowest_free m ≡ lowest → Meets n (Ok (reply.Peer view, change)) (at why (or_full lowest)) → IsFloor (applied_if change n) view.peer.address.number
+      go : (why : Option Refusal) (lowest : Option AddrValue) → lowest_free m m.pool ≡ lowest → Meets n (Ok (reply.Peer view, change)) (at why (or_full lowest)) → IsFloor (applied_if change n) view.peer.address.number
       go (Some why) lowest found meets = elim meets [ ]
       go None None found meets = elim meets [ ]
       go None (Some a) found meets =
-          let shown : view ≡ view_of m.routes (new a) = cc in
+          let shown : view ≡ peer_view m.routes (new a) = cc in
           let same : view.peer.address ≡ a = ap (λ (v : PeerView). v.peer.address) shown in
           subst (λ (x : NetworkValue). IsFloor x view.peer.address.number) (sym meets.1)
           (joined_floor m (m.next + 1) (new a) view.peer.address.number (subst (λ (x : AddrValue). IsFloor m x.number) (sym same) (lowest_is_floor m (live_is_network n now is) a found)))

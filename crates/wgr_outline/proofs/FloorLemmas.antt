@@ -63,14 +63,14 @@ given_above pool a given =
     above : (m n : ℕ) → not (nat_lt m (n + 2)) ≡ true → n ≤ m
     above m n h = grind (arith, nat_tests)
 
-pub lowest_is_floor : (n : NetworkValue) → IsNetwork n → (a : AddrValue) → lowest_free n ≡ Some a → IsFloor n a.number
+pub lowest_is_floor : (n : NetworkValue) → IsNetwork n → (a : AddrValue) → lowest_free n n.pool ≡ Some a → IsFloor n a.number
 lowest_is_floor n is a lowest =
     let free = lowest_is_free n a lowest in
     record {
       held = λ b given low.
           let place = given_above n.pool b given in
           let same : record n.pool.address { number = b.number } ≡ b = λ i. record { family = sym place.0 i; number = b.number } in
-          subst (λ (x : AddrValue). is_held n x ≡ true) same (lowest_is_least n a b.number lowest place.1 low (subst (λ (x : AddrValue). is_assignable n.pool x ≡ true) (sym same) given));
+          subst (λ (x : AddrValue). is_held n n.pool x ≡ true) same (lowest_is_least n a b.number lowest place.1 low (subst (λ (x : AddrValue). is_assignable n.pool x ≡ true) (sym same) given));
       routes = each_one_side n.pool a (given_above n.pool a free.0).0 n.routes (λ k d h. (is.routes k d h).masked) (or_false (is_own n.peers a) (list_any (λ r. covers n.pool r.0 && has r.0 a) n.routes) free.1).1;
     }
 

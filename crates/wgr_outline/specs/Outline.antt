@@ -13,7 +13,7 @@ EndsBelow pool floor r = covers pool r.0 ≡ true → r.0.address.number < floor
 
 -- each address below this one that the pool may give is held, and no route in the pool has addresses on both sides
 pub record IsFloor (n : NetworkValue) (floor : ℕ) : Type 0 where
-  pub held : (a : AddrValue) → is_assignable n.pool a ≡ true → a.number < floor → is_held n a ≡ true
+  pub held : (a : AddrValue) → is_assignable n.pool a ≡ true → a.number < floor → is_held n n.pool a ≡ true
   pub routes : All (EndsBelow n.pool floor) n.routes
 
 -- no lease of the network ends before the moment, and none of its addresses below the floor is free

@@ -35,7 +35,8 @@ impl Outline {
         ensures { IsOutline result network.now }
     {
         network.rules_hold();
-        let floor = match network.lowest_free(alloc) {
+        let pool = network.pool();
+        let floor = match network.lowest_free(alloc, &pool) {
             Some(address) => address.number(),
             None => 0,
         };

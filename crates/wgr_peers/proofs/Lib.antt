@@ -18,3 +18,4 @@ pub mod SlotLemmas
 pub mod RouteLengths
 -- Texts of fields.
 pub mod TextLemmas
+pub mod EndpointExamples

@@ -8,4 +8,5 @@ pub mod PeerIndex
 pub mod PeersLeft
 pub mod PeerDraft
 pub mod Host
+pub mod Endpoint
 pub mod Name

@@ -2,6 +2,7 @@
 //! with limits.
 #![tactic(auto)]
 
+mod endpoint;
 mod host;
 mod items;
 mod label;

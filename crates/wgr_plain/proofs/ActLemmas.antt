@@ -4,7 +4,7 @@ use Rattle.wgr_core.specs.Change.{Meets, applied_if}
 use Rattle.wgr_core.specs.declared.change.Change.{Change}
 use Rattle.wgr_core.specs.declared.command.Command.{Command}
 use Rattle.wgr_core.specs.declared.fault.ActFault.TheVariants as fault
-use Rattle.wgr_core.specs.declared.refusal.Refusal.{Refusal}
+use Rattle.wgr_core.specs.declared.refusal.CommandRefusal.{CommandRefusal}
 use Rattle.wgr_core.specs.declared.reply.Reply.{Reply}
 use Rattle.wgr_core.specs.Network.{NetworkValue}
 use Rattle.wgr_core.specs.Outcome.{outcome_of}
@@ -12,7 +12,7 @@ use Rattle.wgr_core.specs.Outcome as one
 use Rattle.wgr_plain.specs.Calls.{IsActed}
 use Rattle.wgr_model.specs.Steps.{Declined, Replied, act}
 
-refused_by : (n : NetworkValue) (why : Refusal) (o : one.Outcome) → Meets n (Err (fault.Refused why)) o → IsActed o (Declined why) None
+refused_by : (n : NetworkValue) (why : CommandRefusal) (o : one.Outcome) → Meets n (Err (fault.Refused why)) o → IsActed o (Declined why) None
 refused_by n why (Err is) e = ap Declined e
 refused_by n why (Ok done) e = absurd e
 
@@ -21,7 +21,7 @@ given_by : (n : NetworkValue) (reply : Reply) (change : Option Change) (after sh
 given_by n reply change after shown (Err is) e a b = absurd e
 given_by n reply change after shown (Ok done) e a b = (ap₂ Replied e.0 (b ∙ e.1), a ∙ e.1)
 
-pub refusal_acted : (n : NetworkValue) (now : ℕ) (command : Command) (why : Refusal) → Meets n (Err (fault.Refused why)) (outcome_of n now command) → IsActed (act n now command) (Declined why) None
+pub refusal_acted : (n : NetworkValue) (now : ℕ) (command : Command) (why : CommandRefusal) → Meets n (Err (fault.Refused why)) (outcome_of n now command) → IsActed (act n now command) (Declined why) None
 unfolding act
 refusal_acted n now command why e = refused_by n why (outcome_of n now command) e
 

@@ -1,7 +1,7 @@
 -- The steps of the plain register's calls.
 use Rattle.std.proofs.Common.{◌≡◌, ℕ, Some, None, Result, Ok, Err, refl, sym, ap, subst, ◌∙◌}
 use Rattle.wgr_core.specs.declared.command.Command.{Command}
-use Rattle.wgr_core.specs.declared.refusal.Refusal.{Refusal}
+use Rattle.wgr_core.specs.declared.refusal.CommandRefusal.{CommandRefusal}
 use Rattle.wgr_core.specs.declared.reply.Reply.{Reply}
 use Rattle.wgr_core.specs.Network.{NetworkValue}
 use Rattle.wgr_model.specs.Register.{Bytes, Register, id_of}
@@ -17,14 +17,14 @@ module _ (r : Register) (digest name : Bytes) (now : ℕ) (command : Command) (i
   -- a command that is refused
   pub refusal_step : IsActed (act n now command) answer None → IsStep r (Ask digest name now command) answer r
   refusal_step e = by_case (act n now command) refl e where
-    by_case : (given : Result (Reply × NetworkValue) Refusal) → act n now command ≡ given → IsActed given answer None → IsStep r (Ask digest name now command) answer r
+    by_case : (given : Result (Reply × NetworkValue) CommandRefusal) → act n now command ≡ given → IsActed given answer None → IsStep r (Ask digest name now command) answer r
     by_case (Err why) is e = subst (λ (a : Answer). IsStep r (Ask digest name now command) a r) (sym e) (declined r digest name now command id known n why found is)
     by_case (Ok done) is e = absurd e
 
   -- and one that is done
   pub reply_step : (after : NetworkValue) (s : Register) → IsActed (act n now command) answer (Some after) → s ≡ put_network r id name after → IsStep r (Ask digest name now command) answer s
   reply_step after s e put = by_case (act n now command) refl e where
-    by_case : (given : Result (Reply × NetworkValue) Refusal) → act n now command ≡ given → IsActed given answer (Some after) → IsStep r (Ask digest name now command) answer s
+    by_case : (given : Result (Reply × NetworkValue) CommandRefusal) → act n now command ≡ given → IsActed given answer (Some after) → IsStep r (Ask digest name now command) answer s
     by_case (Err why) is e = absurd e
     by_case (Ok done) is e = subst (λ (a : Answer). IsStep r (Ask digest name now command) a s) (sym e.0) (replied r digest name now command id known n done s found is (put ∙ ap (put_network r id name) e.1))
 

@@ -2,7 +2,7 @@
 use Rattle.std.specs.Prelude.{◌≡◌, ℕ, false, List, map, Option, Some, None, Result, Ok, Err}
 use Rattle.std.specs.Option.{option_map}
 use Rattle.wgr_core.specs.Network.{NetworkValue}
-use Rattle.wgr_core.specs.declared.refusal.Refusal.{Refusal}
+use Rattle.wgr_core.specs.declared.refusal.CommandRefusal.{CommandRefusal}
 use Rattle.wgr_core.specs.declared.reply.Reply.{Reply}
 use Rattle.wgr_orders.specs.declared.refusal.OrderFault as fault
 use Rattle.wgr_orders.specs.declared.refusal.OrderFault.TheVariants as faulted
@@ -13,7 +13,7 @@ use Rattle.wgr_plain.specs.declared.run.Event as event
 use Rattle.wgr_plain.specs.declared.run.Event.TheVariants as events
 use Rattle.wgr_model.specs.Runs.{AreServed, Served}
 use Rattle.wgr_model.specs.Consistent.{IsId}
-use Rattle.wgr_model.specs.Register.{Bytes, Holding, Register}
+use Rattle.wgr_model.specs.Register.{Bytes, NetworkEntry, Register}
 use Rattle.wgr_model.specs.Steps.{Event, Ask, Networks, Answer, Replied, Declined, Listed, UnknownToken, NoSuchNetwork, Done, Refused, Settings, IsStep, has_network, new_network}
 
 abbrev pub answer_of : answer.Answer → Answer
@@ -36,7 +36,7 @@ abbrev pub AreAnswered : List event.Event → List (Option answer.Answer) → Li
 AreAnswered events answers es = AreServed (map model_event events) (map (option_map answer_of) answers) es
 
 -- a command's result on a network is answered, and the network after it is returned
-abbrev pub IsActed : Result (Reply × NetworkValue) Refusal → Answer → Option NetworkValue → Type 0
+abbrev pub IsActed : Result (Reply × NetworkValue) CommandRefusal → Answer → Option NetworkValue → Type 0
 IsActed (Err why) answer None = answer ≡ Declined why
 IsActed (Err why) answer (Some after) = ⊥
 IsActed (Ok done) answer None = ⊥
@@ -49,5 +49,5 @@ IsOrdered r event (Err (faulted.Refused why)) s = IsStep r event (Refused (refus
 IsOrdered r event (Err faulted.NoMemory) s = s ≡ r
 
 -- a network of these settings, without peers, under an id that no other has
-abbrev pub IsNewHolding : List Holding → ℕ → Bytes → Settings → Holding → Type 0
-IsNewHolding hs tenant name settings h = IsId h.id × (has_network hs h.id ≡ false) × (h ≡ record { id = h.id; tenant = tenant; name = name; network = new_network settings })
+abbrev pub IsNewNetworkEntry : List NetworkEntry → ℕ → Bytes → Settings → NetworkEntry → Type 0
+IsNewNetworkEntry hs tenant name settings h = IsId h.id × (has_network hs h.id ≡ false) × (h ≡ record { id = h.id; tenant = tenant; name = name; network = new_network settings })

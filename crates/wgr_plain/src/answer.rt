@@ -1,5 +1,5 @@
 //! The answer to an event.
-use wgr_core::{Items, Name, Network, Refusal, Reply};
+use wgr_core::{CommandRefusal, Items, Name, Network, Reply};
 use wgr_orders::OrderRefusal;
 
 /// The answer to an event.
@@ -8,7 +8,7 @@ pub enum Answer {
     /// What a command replies, with a copy of the network after it, from which files are written.
     Replied(Reply, Network),
     /// The network refuses the command.
-    Declined(Refusal),
+    Declined(CommandRefusal),
     /// Copies of a tenant's networks, in the order of their names.
     Listed(Items<(Name, Network)>),
     /// No tenant has the token.

@@ -1,7 +1,7 @@
 //! Requests of tenants.
 ghost use Rattle.std.specs.Prelude.{◌≡◌, ◌<◌, length, slice_index_or, slice_set, IfOk, IfSome, OnErr};
 ghost use Rattle.wgr_core.specs.Change.{Fits, applied_if};
-ghost use Rattle.wgr_model.specs.Register.{Holding};
+ghost use Rattle.wgr_model.specs.Register.{NetworkEntry};
 ghost use Rattle.wgr_model.specs.Steps.{Ask, IsStep, Networks, act};
 ghost use Rattle.wgr_plain.specs.Calls.{IsActed, answer_of};
 
@@ -11,7 +11,7 @@ use crate::look::tenant_of_token;
 use crate::register::Register;
 use std::alloc::{AllocError, Global};
 use wgr_core::{ActFault, Change, Command, Items, Name, Network};
-use wgr_orders::{Holding, place_of};
+use wgr_orders::{NetworkEntry, place_of};
 
 impl Register {
     /// A command, at this moment, to the network of this name that the tenant of the token has; if
@@ -89,12 +89,12 @@ fn act_on(
 }
 
 // Replaces a network by another, under the same ids and name.
-fn put_network(networks: &mut Vec<Holding>, place: usize, network: Network)
+fn put_network(networks: &mut Vec<NetworkEntry>, place: usize, network: Network)
     requires { place < length networks.old.items }
-    ensures { (d : Holding) → networks.new.items ≡ slice_set networks.old.items place (record (slice_index_or networks.old.items place d) { network = network }) }
+    ensures { (d : NetworkEntry) → networks.new.items ≡ slice_set networks.old.items place (record (slice_index_or networks.old.items place d) { network = network }) }
 {
-    let holding = &mut networks[place];
-    holding.network = network;
+    let network_entry = &mut networks[place];
+    network_entry.network = network;
 }
 
 // The network with the change, or a copy where there is none.

@@ -5,12 +5,12 @@ ghost use Rattle.wgr_model.specs.Listing.{EntriesOf};
 use crate::ask::copied;
 use std::alloc::{AllocError, Global};
 use wgr_core::{Items, Name, Network};
-use wgr_orders::{ByName, Holding};
+use wgr_orders::{ByName, NetworkEntry};
 
 // Copies of the networks of the tenant of this id, in the order of their names.
 pub(crate) fn listed(
     alloc: Global,
-    networks: &[Holding],
+    networks: &[NetworkEntry],
     id: u32,
 ) -> Result<Items<(Name, Network)>, AllocError>
     ensures { IfOk result (λ entries. EntriesOf networks.now id entries) }
@@ -19,10 +19,10 @@ pub(crate) fn listed(
     let mut rest = networks.len();
     while rest > 0 {
         rest -= 1;
-        let holding = &networks[rest];
-        if holding.tenant == id {
-            let network = copied(alloc, &holding.network)?;
-            listed.put(holding.name.copy()?, network)?;
+        let network_entry = &networks[rest];
+        if network_entry.tenant == id {
+            let network = copied(alloc, &network_entry.network)?;
+            listed.put(network_entry.name.copy()?, network)?;
         }
     }
     Ok(Items::of(listed.into_entries(alloc)?))

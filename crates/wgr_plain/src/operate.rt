@@ -2,7 +2,7 @@
 ghost use Rattle.std.specs.Prelude.{◌≡◌, ◌++◌, ◌∷◌, [], not, false, IfOk, OnErr, OnOk};
 ghost use Rattle.std.specs.List.{filter};
 ghost use Rattle.wgr_orders.specs.Orders.{order_event};
-ghost use Rattle.wgr_plain.specs.Calls.{IsNewHolding, IsOrdered, answer_of};
+ghost use Rattle.wgr_plain.specs.Calls.{IsNewNetworkEntry, IsOrdered, answer_of};
 ghost use Rattle.wgr_model.specs.Consistent.{same_slot, slot};
 ghost use Rattle.wgr_model.specs.Register.{is_same};
 ghost use Rattle.wgr_model.specs.Steps.{AddNetwork, AddTenant, EndNetwork, EndToken, Grant, IsStep, is_full, new_network};
@@ -13,7 +13,7 @@ use crate::register::{Register, Token};
 use std::alloc::{AllocError, Global};
 use wgr_core::{Name, Network, Pool};
 use wgr_orders::{
-    Holding, Order, OrderFault, OrderRefusal, Settings, Tenant, checked_pool, digest_has_form,
+    NetworkEntry, Order, OrderFault, OrderRefusal, Settings, Tenant, checked_pool, digest_has_form,
     is_full, is_same, name_has_form, new_id, place_of, settings_have_forms, unused_id,
 };
 
@@ -109,10 +109,10 @@ impl Register {
             return Err(OrderFault::Refused(OrderRefusal::NoSuchTenant));
         };
         let pool = checked_pool(alloc, &self.tenants, &self.networks, id, name, settings)?;
-        let holding = new_holding(alloc, &self.networks, id, name, settings, pool)?;
+        let network_entry = new_network_entry(alloc, &self.networks, id, name, settings, pool)?;
         name_has_form(name);
         settings_have_forms(settings);
-        push(&mut self.networks, holding)?;
+        push(&mut self.networks, network_entry)?;
         Ok(())
     }
 
@@ -131,20 +131,20 @@ impl Register {
 }
 
 // A network with these settings, under an id that none of the others has.
-fn new_holding(
+fn new_network_entry(
     alloc: Global,
-    networks: &[Holding],
+    networks: &[NetworkEntry],
     tenant: u32,
     name: &Name,
     settings: &Settings,
     pool: Pool,
-) -> Result<Holding, AllocError>
+) -> Result<NetworkEntry, AllocError>
     requires room { is_full networks.now ≡ false }
     requires pool { pool ≡ settings.now.pool }
-    ensures { IfOk result (λ h. IsNewHolding networks.now tenant name.now settings.now h) }
+    ensures { IfOk result (λ h. IsNewNetworkEntry networks.now tenant name.now settings.now h) }
 {
     let network = network_of(alloc, settings, pool)?;
-    Ok(Holding {
+    Ok(NetworkEntry {
         id: new_id(alloc, networks)?,
         tenant,
         name: name.copy()?,
@@ -185,9 +185,9 @@ fn drop_token(tokens: &mut Vec<Token>, digest: &[u8; 32])
 }
 
 // Removes the network of this name of the tenant of this id.
-fn drop_network(networks: &mut Vec<Holding>, id: u32, name: &Name)
+fn drop_network(networks: &mut Vec<NetworkEntry>, id: u32, name: &Name)
     ensures { networks.new.items ≡ filter (λ h. not (same_slot (id, name.now) (slot h))) networks.old.items }
 {
-    networks.retain(|holding| !(id == holding.tenant
-        && is_same(name.as_bytes(), holding.name.as_bytes())));
+    networks.retain(|network_entry| !(id == network_entry.tenant
+        && is_same(name.as_bytes(), network_entry.name.as_bytes())));
 }

@@ -5,7 +5,7 @@ ghost use Rattle.wgr_model.specs.Consistent.{IsConsistent};
 
 use std::alloc::Global;
 use std::marker::Model;
-use wgr_orders::{Holding, Tenant};
+use wgr_orders::{NetworkEntry, Tenant};
 
 // The digest of a token, and the id of the tenant that the token names.
 #[derive(Drop)]
@@ -28,7 +28,7 @@ impl Model for Token {
 pub struct Register {
     pub(crate) tenants: Vec<Tenant>,
     pub(crate) tokens: Vec<Token>,
-    pub(crate) networks: Vec<Holding>,
+    pub(crate) networks: Vec<NetworkEntry>,
 }
 
 impl Model for Register {

@@ -1,14 +1,13 @@
 -- The plan of a text of keys: the lines that are printed, and the first line that is refused.
-use Rattle.std.specs.Prelude.{ℕ, ◌≡◌, ◌≢◌, ◌+◌, List, [], ◌∷◌, ◌++◌, length, replicate, codes, decimal, Option, Some, None, Ok, Err}
-use Rattle.base64.specs.GeneralPurpose.{IsBytes}
+use Rattle.std.specs.Prelude.{ℕ, ◌≡◌, ◌+◌, List, [], ◌∷◌, ◌++◌, replicate, codes, decimal, Option, Some, None, Ok, Err}
 use Rattle.wgr_text.specs.declared.key.Key.{Key}
 use Rattle.wgr_text.specs.Prefix.{PrefixValue}
 use Rattle.wgr_text.specs.PrefixText.{canonical_text}
-use Rattle.wgr_text.specs.KeyText.{key_text}
+use Rattle.wgr_text.specs.KeyText.{SpellsKey, key_text}
 use Rattle.wgr_peers.specs.declared.peer.Peer.{Peer}
 use Rattle.wgr_core.specs.declared.command.Command.{Command}
 use Rattle.wgr_core.specs.declared.command.Command.TheVariants as command
-use Rattle.wgr_core.specs.declared.refusal.Refusal.{Refusal}
+use Rattle.wgr_core.specs.declared.refusal.CommandRefusal.{CommandRefusal}
 use Rattle.wgr_core.specs.declared.fault.ActFault.{ActFault}
 use Rattle.wgr_core.specs.declared.fault.ActFault.TheVariants.{Refused, NoMemory}
 use Rattle.wgr_core.specs.declared.reply.PeerView.{PeerView}
@@ -43,26 +42,22 @@ abbrev pub refused_at : ℕ → RowFault → Plan
 refused_at line why = record { printed = []; refused = Some (line, why) }
 
 -- what is printed first, and then the rest of the plan
-abbrev pub after : List ℕ → Plan → Plan
-after printed p = record { printed = printed ++ p.printed; refused = p.refused }
-
--- the text is that of a key of 32 bytes
-abbrev pub SpellsKey : List ℕ → Key → Type 0
-SpellsKey text key = (length key.0 ≡ 32) × IsBytes key.0 × (text ≡ key_text key.0)
+abbrev pub printed_first : List ℕ → Plan → Plan
+printed_first printed p = record { printed = printed ++ p.printed; refused = p.refused }
 
 -- the plan of the lines from this one on, for the network that the lines before it made
 pub data Plans : NetworkValue → ℕ → List (List ℕ) → Plan → Type 0 where
   ends : (n : NetworkValue) (line : ℕ) → Plans n line [] no_more
   no_key : (n : NetworkValue) (line : ℕ) (text : List ℕ) (more : List (List ℕ))
-      → ((key : List ℕ) → length key ≡ 32 → IsBytes key → text ≢ key_text key)
+      → ((key : Key) → ¬ (SpellsKey text key))
       → Plans n line (text ∷ more) (refused_at line fault.NoKey)
-  refused : (n : NetworkValue) (line : ℕ) (text : List ℕ) (more : List (List ℕ)) (key : Key) (why : Refusal)
+  refused : (n : NetworkValue) (line : ℕ) (text : List ℕ) (more : List (List ℕ)) (key : Key) (why : CommandRefusal)
       → SpellsKey text key → outcome_of n 0 (joining key) ≡ Err why
       → Plans n line (text ∷ more) (refused_at line (fault.Refused why))
   joined : (n : NetworkValue) (line : ℕ) (text : List ℕ) (more : List (List ℕ)) (key : Key) (view : PeerView) (m : NetworkValue) (p : Plan)
       → SpellsKey text key → outcome_of n 0 (joining key) ≡ Ok (reply.Peer view, m)
       → Plans m (line + 1) more p
-      → Plans n line (text ∷ more) (after (row_text view.peer) p)
+      → Plans n line (text ∷ more) (printed_first (row_text view.peer) p)
 
 -- the plan of a whole text
 abbrev pub IsPlanOf : PrefixValue → List ℕ → Plan → Type 0
@@ -71,14 +66,14 @@ IsPlanOf pool text p = Plans (plan_network pool) 1 (lines_of text) p
 -- ---- one line
 
 -- the network is unchanged, and refuses the key; if memory ran out, this says nothing
-abbrev pub Refuses : NetworkValue → Key → NetworkValue → ActFault → Type 0
-Refuses n key n' (Refused why) = (n' ≡ n) × (outcome_of n 0 (joining key) ≡ Err why)
-Refuses n key n' NoMemory = Unit {0}
+abbrev pub RefusesKey : NetworkValue → Key → NetworkValue → ActFault → Type 0
+RefusesKey n key n' (Refused why) = (n' ≡ n) × (outcome_of n 0 (joining key) ≡ Err why)
+RefusesKey n key n' NoMemory = Unit {0}
 
 -- the line is refused: no key, or one that the network refuses
 pub data RefusesLine : NetworkValue → List ℕ → RowFault → Type 0 where
-  spells_no_key : (n : NetworkValue) (text : List ℕ) → ((key : List ℕ) → length key ≡ 32 → IsBytes key → text ≢ key_text key) → RefusesLine n text fault.NoKey
-  network_refuses : (n : NetworkValue) (text : List ℕ) (key : Key) (why : Refusal) → SpellsKey text key → outcome_of n 0 (joining key) ≡ Err why → RefusesLine n text (fault.Refused why)
+  spells_no_key : (n : NetworkValue) (text : List ℕ) → ((key : Key) → ¬ (SpellsKey text key)) → RefusesLine n text fault.NoKey
+  network_refuses : (n : NetworkValue) (text : List ℕ) (key : Key) (why : CommandRefusal) → SpellsKey text key → outcome_of n 0 (joining key) ≡ Err why → RefusesLine n text (fault.Refused why)
 
 -- the line's peer joins, and its row is printed
 pub record JoinsLine (n : NetworkValue) (text printed : List ℕ) (n' : NetworkValue) (printed' : List ℕ) : Type 0 where

@@ -6,4 +6,4 @@ use Rattle.wgr_plan.specs.declared.row_fault.RowFault.TheVariants as fault
 
 abbrev pub row_fault_name : RowFault → List ℕ
 row_fault_name fault.NoKey = codes "bad_field"
-row_fault_name (fault.Refused why) = refusal_name why
+row_fault_name (fault.Refused refused) = refusal_name refused.why

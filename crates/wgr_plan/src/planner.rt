@@ -1,11 +1,9 @@
 //! The planner: keys in, addresses out.
-ghost use Rattle.base64.specs.GeneralPurpose.{IsBytes};
-ghost use Rattle.std.specs.Prelude.{◌≡◌, ◌≢◌, ◌++◌, ℕ, List, Ok, length, IfOk, IfErr, IfSome, IfNone, OnOk};
+ghost use Rattle.std.specs.Prelude.{◌≡◌, ◌++◌, Ok, IfOk, IfErr, OnOk};
 ghost use Rattle.wgr_core.specs.Outcome.{outcome_of};
 ghost use Rattle.wgr_core.specs.declared.reply.Reply.TheVariants as reply;
-ghost use Rattle.wgr_plan.specs.Plan.{AddsLine, IsPlanOf, Refuses, SpellsKey, joining, plan_network, row_text};
+ghost use Rattle.wgr_plan.specs.Plan.{AddsLine, IsPlanOf, RefusesKey, joining, plan_network, row_text};
 ghost use Rattle.wgr_plan.specs.PlanFault.{HasPlanned};
-ghost use Rattle.wgr_text.specs.KeyText.{key_text};
 
 use crate::row_fault::RowFault;
 use std::alloc::{AllocError, Global};
@@ -13,7 +11,7 @@ use wgr_core::{
     ActFault, Capacity, Command, Host, Label, LeaseEnd, Network, Peer, PeerView, Pool, Port, Reply,
 };
 use wgr_io::{Read, ReadFault, Write, read_to_end, write_all};
-use wgr_text::{Key, Prefix, TextLines, are_bytes, write_key, write_prefix};
+use wgr_text::{Key, Prefix, TextLines, write_key, write_prefix};
 
 /// Why a plan ended early.
 #[derive(Clone, Copy, Debug, PartialEq, Eq)]
@@ -108,7 +106,7 @@ fn add_line(
 ) -> Result<Option<RowFault>, AllocError>
     ensures { IfOk result (AddsLine network.old line.now printed.old.items network.new printed.new.items) }
 {
-    let Some(key) = read_key(line) else {
+    let Some(key) = Key::read(line) else {
         return Ok(Some(RowFault::NoKey));
     };
     match join(alloc, network, key) {
@@ -121,20 +119,10 @@ fn add_line(
     }
 }
 
-// The key that a line spells.
-fn read_key(line: &[u8]) -> Option<Key>
-    ensures spelled { IfSome result (SpellsKey line.now) }
-    ensures none { IfNone result ((key : List ℕ) → length key ≡ 32 → IsBytes key → line.now ≢ key_text key) }
-{
-    let key = Key::read(line)?;
-    are_bytes(&key.0);
-    Some(key)
-}
-
 // A peer with this key joins at the lowest free address.
 fn join(alloc: Global, network: &mut Network, key: Key) -> Result<PeerView, ActFault>
     ensures joined { IfOk result (λ view. outcome_of network.old 0 (joining key) ≡ Ok (reply.Peer view, network.new)) }
-    ensures refused { IfErr result (Refuses network.old key network.new) }
+    ensures refused { IfErr result (RefusesKey network.old key network.new) }
 {
     let command = Command::Add {
         key,

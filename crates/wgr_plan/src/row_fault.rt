@@ -3,7 +3,7 @@ ghost use Rattle.std.specs.Prelude.{◌≡◌};
 ghost use Rattle.wgr_plan.specs.RowFaultNames.{row_fault_name};
 
 use std::fmt;
-use wgr_core::Refusal;
+use wgr_core::CommandRefusal;
 
 /// Why a line of the input gets no row.
 #[derive(Clone, Copy, Debug, Drop, PartialEq, Eq)]
@@ -11,7 +11,7 @@ pub enum RowFault {
     /// The line isn't the text of a key.
     NoKey,
     /// The network refuses the key.
-    Refused(Refusal),
+    Refused(CommandRefusal),
 }
 
 impl RowFault {

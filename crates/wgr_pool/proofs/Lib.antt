@@ -10,3 +10,4 @@ pub mod RunLists
 pub mod Joining
 pub mod Parting
 pub mod Merging
+pub mod Skipped

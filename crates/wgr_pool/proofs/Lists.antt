@@ -1,6 +1,8 @@
 -- Lists: pairs, filters and tests.
-use Rattle.std.proofs.Common.{◌≡◌, ℕ, zero, suc, ◌+◌, ◌<◌, inl, inr, Bool, true, false, ◌&&◌, ◌||◌, cond, List, [], ◌∷◌, ◌++◌, length, get_or, drop, drop-cons, add-one, refl, sym, ap, ◌∙◌, arith}
+use Rattle.std.proofs.Common.{◌≡◌, ℕ, zero, suc, ◌+◌, ◌<◌, ◌≤◌, nat_lt, nat_le, inl, inr, Bool, true, false, ◌&&◌, ◌||◌, cond, List, [], ◌∷◌, ◌++◌, length, get_or, take, drop, drop-cons, add-one, refl, sym, ap, ◌∙◌, arith}
 use Rattle.std.specs.List.{All, AllPairs, filter, list_any}
+use Rattle.std.specs.List.Sorted.{IsPartitionPoint}
+use Rattle.std.proofs.lemmas.Bool.Decides.{nat_tests}
 use Rattle.wgr_pool.proofs.Bools.{decide}
 use Rattle.std.proofs.lemmas.List.Elements.{All-cons, All-head, All-tail, All-filter}
 
@@ -92,3 +94,27 @@ filter_twice p q both same (x ∷ xs) =
       | true ↦ (λ e. ap (λ b. cond b (x ∷ filter both xs) (filter both xs)) e ∙ ap (λ ys. cond (q x) (x ∷ ys) ys) rest)
       | false ↦ (λ e. ap (λ b. cond b (x ∷ filter both xs) (filter both xs)) e ∙ rest)
     ] (same x)
+
+not_below : (n t : ℕ) → nat_lt n t ≡ false → nat_le t n ≡ true
+not_below n t h = grind (arith, nat_tests)
+
+below : (n t : ℕ) → nat_lt n t ≡ true → nat_le t n ≡ false
+below n t h = grind (arith, nat_tests)
+
+-- behind those whose number is below one are those whose number isn't
+pub drop_below : {X : Type 0} (n : X → ℕ) (t : ℕ) (xs : List X) (i : ℕ) → IsPartitionPoint (λ x. nat_lt (n x) t ≡ true) (λ x. nat_lt (n x) t ≡ false) xs i → i ≤ length xs → drop i xs ≡ filter (λ x. nat_le t (n x)) xs
+drop_below n t [] zero point fits = refl
+drop_below n t [] (suc i) point fits = absurd (omega (arith, fits))
+drop_below n t (x ∷ xs) zero point fits = sym (filter_each (λ y. nat_le t (n y)) (x ∷ xs) (λ k d l. not_below _ t (point.1 k d (omega arith) l)))
+drop_below n t (x ∷ xs) (suc i) point fits =
+    rw (below (n x) t (point.0 0 x (omega arith) (omega arith)))
+    (drop_below n t xs i ((λ k d from to. point.0 (suc k) d (omega arith) (omega (arith, to))), (λ k d from to. point.1 (suc k) d (omega (arith, from)) (omega (arith, to)))) (omega (arith, fits)))
+
+-- and before those whose number is above one are those whose number isn't
+pub take_above : {X : Type 0} (n : X → ℕ) (t : ℕ) (xs : List X) (i : ℕ) → IsPartitionPoint (λ x. nat_le (n x) t ≡ true) (λ x. nat_le (n x) t ≡ false) xs i → i ≤ length xs → take i xs ≡ filter (λ x. nat_le (n x) t) xs
+take_above n t [] zero point fits = refl
+take_above n t [] (suc i) point fits = absurd (omega (arith, fits))
+take_above n t (x ∷ xs) zero point fits = sym (filter_none (λ y. nat_le (n y) t) (x ∷ xs) (λ k d l. point.1 k d (omega arith) l))
+take_above n t (x ∷ xs) (suc i) point fits =
+    rw (point.0 0 x (omega arith) (omega arith))
+    (ap (λ ys. x ∷ ys) (take_above n t xs i ((λ k d from to. point.0 (suc k) d (omega arith) (omega (arith, to))), (λ k d from to. point.1 (suc k) d (omega (arith, from)) (omega (arith, to)))) (omega (arith, fits))))

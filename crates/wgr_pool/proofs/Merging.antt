@@ -20,10 +20,10 @@ pub rises_from : (floor low : ℕ) (spans : List Span) → low ≤ floor → Ris
 rises_from floor low [] l r = tt
 rises_from floor low (s ∷ spans) l r = (omega (arith, l, r.0), r.1)
 
-nat_lt_is : (a b : ℕ) → nat_lt a b ≡ true → a < b
+pub nat_lt_is : (a b : ℕ) → nat_lt a b ≡ true → a < b
 nat_lt_is a b e = grind (arith, nat_tests)
 
-nat_lt_not : (a b : ℕ) → nat_lt a b ≡ false → b ≤ a
+pub nat_lt_not : (a b : ℕ) → nat_lt a b ≡ false → b ≤ a
 nat_lt_not a b e = grind (arith, nat_tests)
 
 pub rises_put : (floor : ℕ) (s : Span) (spans : List Span) → floor ≤ rank s.lo → RisesFrom floor spans → RisesFrom floor (put_span s spans)
@@ -129,7 +129,7 @@ routed pool (r ∷ routes) a is fits prefixes a_fits =
           ((λ h. test ∙ more.0 h), (λ t. more.1 (sym test ∙ t)))
     ]
 
-before_rank : (p q : PrefixValue) → is_before p q ≡ true → rank p.address ≤ rank q.address
+pub before_rank : (p q : PrefixValue) → is_before p q ≡ true → rank p.address ≤ rank q.address
 before_rank p q e = grind (arith, nat_tests)
 
 -- the routes' spans begin in the order of the routes

@@ -45,6 +45,14 @@ runs_order floor (x ∷ runs) zero (suc j) d r o l = let more = run_at (rank x.h
 runs_order floor (x ∷ runs) (suc i) zero d r o l = absurd (omega (arith, o))
 runs_order floor (x ∷ runs) (suc i) (suc j) d r o l = runs_order (rank x.hi + 1) runs i j d r.2 (omega (arith, o)) (omega (arith, l))
 
+-- and so they end
+pub ends_order : (floor : ℕ) (runs : List Span) (i j : ℕ) (d : Span) → AreRunsFrom floor runs → i ≤ j → j < length runs → rank (slice_index_or runs i d).hi ≤ rank (slice_index_or runs j d).hi
+ends_order floor [] i j d r o l = absurd (omega arith)
+ends_order floor (x ∷ runs) zero zero d r o l = omega arith
+ends_order floor (x ∷ runs) zero (suc j) d r o l = let more = run_at (rank x.hi + 1) runs j d r.2 (omega (arith, l)) in omega (arith, more)
+ends_order floor (x ∷ runs) (suc i) zero d r o l = absurd (omega (arith, o))
+ends_order floor (x ∷ runs) (suc i) (suc j) d r o l = ends_order (rank x.hi + 1) runs i j d r.2 (omega (arith, o)) (omega (arith, l))
+
 -- what runs have is from their start on
 pub held_from : (floor : ℕ) (runs : List Span) (a : AddrValue) → AreRunsFrom floor runs → IsHeld runs a → floor ≤ rank a
 held_from floor [] a r h = absurd h

@@ -1,5 +1,5 @@
 -- The spans of a network's held addresses: its peers' runs and the routes in its pool.
-use Rattle.std.specs.Prelude.{ℕ, ◌+◌, ◌-◌, Bool, not, ◌&&◌, nat_lt, if◌then◌else◌, List, [], ◌∷◌, Option, Some, None}
+use Rattle.std.specs.Prelude.{ℕ, ◌+◌, ◌-◌, Bool, not, ◌&&◌, nat_lt, nat_le, if◌then◌else◌, List, [], ◌∷◌, Option, Some, None}
 use Rattle.std.specs.List.{filter, list_any}
 use Rattle.wgr_text.specs.declared.prefix.Span.{Span}
 use Rattle.wgr_text.specs.Prefix.{AddrValue, PrefixValue, block, rank}
@@ -17,6 +17,10 @@ is_routed pool routes a = list_any (λ r. covers pool r.0 && has r.0 a) routes
 abbrev pub route_spans : PrefixValue → List (PrefixValue × ℕ) → List Span
 route_spans pool [] = []
 route_spans pool (r ∷ routes) = if covers pool r.0 then span_of r.0 ∷ route_spans pool routes else route_spans pool routes
+
+-- the routes that begin in the pool: no other lies wholly in it
+abbrev pub routes_in : PrefixValue → List (PrefixValue × ℕ) → List (PrefixValue × ℕ)
+routes_in pool routes = filter (λ r. nat_le (rank (span_of pool).lo) (rank r.0.address) && nat_le (rank r.0.address) (rank (span_of pool).hi)) routes
 
 -- the routes to peers that aren't expired
 abbrev pub standing : (ℕ → Bool) → List (PrefixValue × ℕ) → List (PrefixValue × ℕ)

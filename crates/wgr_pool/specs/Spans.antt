@@ -1,6 +1,6 @@
 -- Spans of held addresses, and the lowest address that is free of them.
-use Rattle.std.specs.Prelude.{◌≡◌, ℕ, ◌≤◌, ◌⊎◌, List, [], ◌∷◌, ◌++◌, length, Option, Some, None}
-use Rattle.std.specs.List.{All}
+use Rattle.std.specs.Prelude.{◌≡◌, ℕ, ◌≤◌, ◌⊎◌, List, [], ◌∷◌, ◌++◌, length, Option, Some, None, nat_le}
+use Rattle.std.specs.List.{All, filter}
 use Rattle.wgr_text.specs.declared.prefix.Span.{Span}
 use Rattle.wgr_text.specs.Prefix.{AddrValue, PrefixValue, IsAddr, rank}
 use Rattle.wgr_pool.specs.Pool.{IsAssignable}
@@ -14,15 +14,19 @@ abbrev pub IsHeld : List Span → AddrValue → Type 0
 IsHeld [] a = ⊥
 IsHeld (s ∷ spans) a = IsWithin s a ⊎ IsHeld spans a
 
+-- the spans that end no lower than the address
+abbrev pub spans_from : AddrValue → List Span → List Span
+spans_from a spans = filter (λ s. nat_le (rank a) (rank s.hi)) spans
+
 -- no span begins below this place or below the span before it
 abbrev pub RisesFrom : ℕ → List Span → Type 0
 RisesFrom floor [] = Unit {0}
 RisesFrom floor (s ∷ spans) = (floor ≤ rank s.lo) × RisesFrom (rank s.lo) spans
 
 -- where the span that was returned last begins, or 0 if none was
-abbrev pub reached : Option AddrValue → ℕ
-reached None = 0
-reached (Some a) = rank a
+abbrev pub reached_after : Option AddrValue → ℕ
+reached_after None = 0
+reached_after (Some a) = rank a
 
 -- a call that returned `given` took the first of the remaining spans
 abbrev pub Takes : List Span → Option Span → List Span → Type 0

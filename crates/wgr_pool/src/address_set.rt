@@ -4,7 +4,7 @@ ghost use Rattle.std.specs.List.{list_any};
 ghost use Rattle.wgr_text.specs.Prefix.{AddrValue, IsAddr, rank};
 ghost use Rattle.wgr_text.specs.declared.prefix.Span.{Span, Span as SpanValue};
 ghost use Rattle.wgr_pool.specs.PrefixTests.{same_address};
-ghost use Rattle.wgr_pool.specs.Spans.{IsWithin, IsHeld, RisesFrom};
+ghost use Rattle.wgr_pool.specs.Spans.{IsWithin, IsHeld, RisesFrom, spans_from};
 ghost use Rattle.std.specs.Vec.{vec_len, vec_capacity};
 ghost use Rattle.wgr_pool.specs.Runs.{AreRunsFrom, IsGapAt, IsJoined, IsParted, IsPartBelow, IsPartAbove, places};
 
@@ -62,6 +62,16 @@ impl AddressSet {
         ensures in_order { RisesFrom 0 self.now }
     {
         self.runs.as_slice()
+    }
+
+    /// The runs that end no lower than the address, in the order of their addresses.
+    pub fn spans_from(&self, address: &Addr) -> &[Span]
+        ensures value { result.now ≡ spans_from address.now self.now }
+        ensures in_order { RisesFrom 0 result.now }
+    {
+        let runs = self.runs.as_slice();
+        let below = runs.partition_point(|run| !address.is_at_most(&run.hi));
+        &runs[below..]
     }
 
     /// Whether the set has the address.

@@ -27,7 +27,7 @@ pub trait Holds {
     ghost honest: { Self → Type 0 };
 
     /// No span that it returns from now on begins below this place, which never decreases.
-    ghost floor: { Self → ℕ };
+    ghost reached: { Self → ℕ };
 
     /// How many more spans it can return at most.
     ghost left: { Self → ℕ };
@@ -40,14 +40,14 @@ pub trait Holds {
 
     fn next_hold(&mut self) -> Result<Option<Span>, Stop>
         ensures falls { IfOk result (λ given. IfSome given (λ _. left self.new < left self.old)) }
-        ensures floor { floor self.old ≤ floor self.new }
-        ensures rises { IfOk result (λ given. IfSome given (λ s. (floor self.old ≤ rank s.lo) × (floor self.new ≡ rank s.lo))) }
+        ensures reached { reached self.old ≤ reached self.new }
+        ensures rises { IfOk result (λ given. IfSome given (λ s. (reached self.old ≤ rank s.lo) × (reached self.new ≡ rank s.lo))) }
         ensures first { honest self.new → IfOk result (λ given. Takes (rest self.old) given (rest self.new)) }
         ensures stops { IfErr result (λ why. stopped self.new why) }
         ensures was_honest { honest self.new → OnOk result (honest self.old) }
         ensures keeps { keeps self.old self.new };
 
-    ghost in_order: { (s : Self) → honest s → RisesFrom (floor s) (rest s) };
+    ghost in_order: { (s : Self) → honest s → RisesFrom (reached s) (rest s) };
 
     ghost keeps_itself: { (s : Self) → keeps s s };
 

@@ -7,9 +7,9 @@ ghost use Rattle.wgr_text.specs.declared.prefix.Span.{Span, Span as SpanValue};
 ghost use Rattle.wgr_pool.specs.PrefixTests.{is_before, covers};
 ghost use Rattle.wgr_pool.specs.Allot.{lowest_where};
 ghost use Rattle.wgr_pool.specs.Pool.{IsPool};
-ghost use Rattle.wgr_pool.specs.Spans.{IsHeld, RisesFrom, Takes, reached};
+ghost use Rattle.wgr_pool.specs.Spans.{IsHeld, RisesFrom, Takes, reached_after};
 ghost use Rattle.wgr_pool.specs.Rising.{RisesFrom-prop};
-ghost use Rattle.wgr_pool.specs.HeldSpans.{span_of, is_routed, standing, standing_spans, merged};
+ghost use Rattle.wgr_pool.specs.HeldSpans.{span_of, is_routed, routes_in, standing, standing_spans, merged};
 ghost use Rattle.wgr_pool.specs.Waiting.{BeginLater, to_come, waiting};
 
 use crate::address_set::AddressSet;
@@ -51,9 +51,9 @@ pub struct HeldSpans<'a> {
     routes: RouteSpans<'a>,
     // Where the span that was returned last begins: later ones begin no lower.
     last: Option<Addr>,
-    ghost runs_rise: { RisesFrom (reached last) runs.now } by { RisesFrom-prop (reached last) runs.now },
-    ghost routes_rise: { RisesFrom (reached last) (waiting route routes) } by { RisesFrom-prop (reached last) (waiting route routes) },
-    ghost all_rise: { RisesFrom (reached last) (merged runs.now (waiting route routes)) } by { RisesFrom-prop (reached last) (merged runs.now (waiting route routes)) },
+    ghost runs_rise: { RisesFrom (reached_after last) runs.now } by { RisesFrom-prop (reached_after last) runs.now },
+    ghost routes_rise: { RisesFrom (reached_after last) (waiting route routes) } by { RisesFrom-prop (reached_after last) (waiting route routes) },
+    ghost all_rise: { RisesFrom (reached_after last) (merged runs.now (waiting route routes)) } by { RisesFrom-prop (reached_after last) (merged runs.now (waiting route routes)) },
 }
 
 impl<'a> HeldSpans<'a> {
@@ -102,7 +102,7 @@ impl Holds for HeldSpans<'_> {
 
     ghost honest = { λ s. Unit {0} };
 
-    ghost floor = { λ s. reached s.last };
+    ghost reached = { λ s. reached_after s.last };
 
     ghost left = { λ s. length (merged s.runs.now (waiting s.route s.routes)) };
 
@@ -133,11 +133,23 @@ impl Holds for HeldSpans<'_> {
     ghost keeps_on = { λ a b c one other. tt };
 }
 
-// The route's span.
-fn whole(route: &Prefix) -> Span
-    ensures { result ≡ span_of route.now }
+// The prefix's span.
+fn whole(prefix: &Prefix) -> Span
+    ensures { result ≡ span_of prefix.now }
 {
-    route.span()
+    prefix.span()
+}
+
+// The routes that begin in the pool.
+fn routes_in<'a>(pool: &Pool, routes: &'a [(Prefix, u32)]) -> &'a [(Prefix, u32)]
+    requires { AllPairs (λ r s. is_before r.0 s.0 ≡ true) routes.now }
+    ensures { result.now ≡ routes_in pool.now routes.now }
+{
+    let Span { lo, hi } = whole(&pool.prefix());
+    let start = routes.partition_point(|route| !lo.is_at_most(&route.0.address()));
+    let rest = &routes[start..];
+    let count = rest.partition_point(|route| route.0.address().is_at_most(&hi));
+    &rest[..count]
 }
 
 /// The lowest address of the pool that may be given and that neither the set has nor a route that
@@ -152,7 +164,8 @@ pub fn lowest_address(
     requires prefixes { All (λ r. IsPrefix r.0) routes.now }
     ensures { (taken : AddrValue → Bool) → ((b : AddrValue) → IsAddr b → (taken b ≡ true) ↔ (IsHeld addresses.now b ⊎ (is_routed pool.now (standing (contains nat_eq expired.now) routes.now) b ≡ true))) → result ≡ lowest_where pool.now taken }
 {
-    let mut holds = HeldSpans::new(pool, addresses.spans(), routes, expired);
+    let runs = addresses.spans_from(&pool.prefix().address());
+    let mut holds = HeldSpans::new(pool, runs, routes_in(pool, routes), expired);
     match lowest_free(pool, &mut holds) {
         Ok(found) => found,
         // A source in memory never stops.

@@ -2,7 +2,7 @@
 ghost use Rattle.std.specs.Prelude.{◌≡◌, ℕ, ◌+◌, ◌-◌, ◌<◌, ◌≤◌, List, length, ◌↔◌};
 ghost use Rattle.wgr_text.specs.Prefix.{rank};
 ghost use Rattle.wgr_text.specs.declared.prefix.Span.{Span, Span as SpanValue};
-ghost use Rattle.wgr_pool.specs.Spans.{RisesFrom, reached};
+ghost use Rattle.wgr_pool.specs.Spans.{RisesFrom, reached_after};
 ghost use Rattle.wgr_pool.specs.Rising.{RisesFrom-prop};
 
 use crate::allot::{Holds, Stop};
@@ -14,7 +14,7 @@ pub struct SortedSpans<'a> {
     spans: &'a [Span],
     // Where the span that was returned last begins: later ones begin no lower.
     last: Option<Addr>,
-    ghost in_order: { RisesFrom (reached last) spans.now } by { RisesFrom-prop (reached last) spans.now },
+    ghost in_order: { RisesFrom (reached_after last) spans.now } by { RisesFrom-prop (reached_after last) spans.now },
 }
 
 impl<'a> SortedSpans<'a> {
@@ -32,7 +32,7 @@ impl Holds for SortedSpans<'_> {
 
     ghost honest = { λ s. Unit {0} };
 
-    ghost floor = { λ s. reached s.last };
+    ghost reached = { λ s. reached_after s.last };
 
     ghost left = { λ s. length s.spans.now };
 

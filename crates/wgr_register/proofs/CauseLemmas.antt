@@ -5,6 +5,8 @@ use Rattle.std.specs.declared.vec.Vec.{Vec}
 use Rattle.std.specs.declared.alloc.Global.{Global}
 use Rattle.sqlite.specs.Order.{Row}
 use Rattle.sqlite.specs.State.{State, HasCleanDisk, Survives}
+use Rattle.sqlite.specs.Store.{Ghosts}
+use Rattle.sqlite.specs.Held.{Held, state}
 use Rattle.wgr_core.specs.Network.{NetworkValue}
 use Rattle.wgr_core.specs.declared.fault.ActFault.{ActFault}
 use Rattle.wgr_core.specs.declared.fault.ActFault.TheVariants as act_fault
@@ -12,7 +14,7 @@ use Rattle.wgr_model.specs.Consistent.{IsDigest, IsTenant, has_tenant}
 use Rattle.wgr_model.specs.Laws.{Has}
 use Rattle.wgr_model.specs.Register.{Bytes, Tenant, Token}
 use Rattle.wgr_model.specs.RowLaws.{AreConsistent}
-use Rattle.wgr_model.specs.Rows.{NetworkRow, Tables, holding_of}
+use Rattle.wgr_model.specs.Rows.{NetworkRow, Tables, network_entry_of}
 use Rattle.wgr_model.proofs.CollectLemmas.{has_map}
 use Rattle.wgr_model.proofs.GatherLemmas.{eqb_self}
 use Rattle.wgr_model.proofs.HolderLemmas.{one_or_apart}
@@ -32,15 +34,17 @@ use Rattle.wgr_sql.specs.declared.fault.Fault.{Fault}
 use Rattle.wgr_sql.specs.declared.fault.Fault.TheVariants.{NoMemory, Store}
 use Rattle.wgr_columns.specs.Decode.{network_in}
 use Rattle.wgr_columns.specs.Stored.{AreSettings, AreStored, IsKeptNetwork, stored_network}
+use Rattle.wgr_tables.specs.Standing.{MayWrite, OnlyReads}
 use Rattle.wgr_tables.specs.Stored.{IsStored}
 use Rattle.wgr_entries.specs.Kept.{AreOf, IsKeptToken}
 use Rattle.wgr_entries.proofs.KeptLemmas as kept
 use Rattle.wgr_tables.proofs.ToldLemmas.{told_settings}
-use Rattle.wgr_opening.proofs.ConsistentLemmas.{consistent_is_whole, holding}
+use Rattle.wgr_opening.proofs.ConsistentLemmas.{consistent_is_whole, network_entry}
 use Rattle.wgr_register.specs.Causes.{AskStops, IfFault, StopsIf}
 use Rattle.wgr_rows.specs.Act.{IfFails}
 use Rattle.wgr_rows.specs.declared.fault.RowFault.{RowFault}
 use Rattle.wgr_rows.specs.declared.fault.RowFault.TheVariants as on_rows
+use Rattle.wgr_core.specs.Refusals.{of_command}
 use Rattle.wgr_register.specs.Ends.{IsFound, ask_fault, row_fault}
 use Rattle.wgr_entries.specs.Lookups.{ShowNetworksOf}
 use Rattle.wgr_register.specs.declared.fault.AskFault.{AskFault}
@@ -78,7 +82,7 @@ row_handed P (Ok text) (on_rows.Refused why) is h = tt
 row_handed P (Err (fault.Refused other)) (on_rows.Refused why) is h = tt
 row_handed P (Err fault.UnknownToken) (on_rows.Refused why) is h = tt
 row_handed P (Err fault.NoSuchNetwork) (on_rows.Refused why) is h = tt
-row_handed P (Err (fault.Fault other)) (on_rows.Refused why) is h = absurd (let e : fault.Fault other ≡ fault.Refused why = is in cc)
+row_handed P (Err (fault.Fault other)) (on_rows.Refused why) is h = absurd (let e : fault.Fault other ≡ fault.Refused (of_command why) = is in cc)
 
 pub row_weaker : (P : Type 0) (old new : State) (why : RowFault) → IfFails (HasCause old new) why → IfFails (HasCauseOr P old new) why
 row_weaker P old new (on_rows.Refused why) h = tt
@@ -129,14 +133,17 @@ memory_stops P old new (Err fault.NoSuchNetwork) h = tt
 memory_stops P old new (Err (fault.Fault NoMemory)) h = tt
 memory_stops P old new (Err (fault.Fault Store)) h = absurd (let e = h in cc)
 
-pub survives_as_is : (a : State) → Survives a a (λ _. ⊤)
-survives_as_is a = survives_weaker a a (λ _. ⊥) (λ _. ⊤) (λ _ trees none. tt) (survives_still a)
+-- a call that writes nothing
+pub writes_nothing : {S : Type 0} (g : Ghosts S) (conn : Held S) → conn.in_transaction ≡ false → MayWrite g conn conn
+writes_nothing g conn idle = record { idle = idle; clean = λ clean. clean; survives = survives_weaker (state g conn) (state g conn) (λ _. ⊥) (λ _. ⊤) (λ _ trees none. tt) (survives_still (state g conn)) }
 
-pub survives_any : (a b : State) → Survives a b (λ _. ⊥) → Survives a b (λ _. ⊤)
-survives_any a b s = survives_weaker a b (λ _. ⊥) (λ _. ⊤) (λ _ trees none. tt) s
-
-pub survives_on : (a b c : State) → Survives a b (λ _. ⊥) → Survives b c (λ _. ⊤) → Survives a c (λ _. ⊤)
-survives_on a b c p q = survives_then a b c (λ _. ⊥) (λ _. ⊤) (λ _. ⊤) (λ _ trees none. tt) (λ _ trees any. tt) p q
+-- a call that only reads, and one that may write
+pub reads_and_writes : {S : Type 0} {g : Ghosts S} {old mid new : Held S} → OnlyReads g old mid → MayWrite g mid new → MayWrite g old new
+reads_and_writes {g = g} {old = old} {mid = mid} {new = new} reads writes = record {
+  idle = writes.idle;
+  clean = λ clean. reads.clean (writes.clean clean);
+  survives = survives_then (state g old) (state g mid) (state g new) (λ _. ⊥) (λ _. ⊤) (λ _. ⊤) (λ _ trees none. tt) (λ _ trees any. tt) reads.survives writes.survives;
+}
 
 pub ask_stops : (t : Tables) (digest name : Bytes) (now : ℕ) (command : Command) (id : ℕ) (network : NetworkValue) (found : IsFound t digest name id network) (reply : Reply) (change : Option Change)
     → Meets network (Ok (reply, change)) (outcome_of network now command) → is_some change ≡ not (is_reading command) → StopsIf id change t → AskStops t digest name now command
@@ -179,11 +186,11 @@ module _ (t : Tables) (good : AreConsistent t) where
 
   pub network_kept : (w : NetworkRow) → Has t.networks w → IsKeptNetwork w
   network_kept w here =
-      let it = holding t good w here in
+      let it = network_entry t good w here in
       record {
         settings = settings_at w here;
         id = omega (arith, it.id.1);
-        tenant = holder_low t.tenants w.tenant good.consistent.tenants (at_has (λ x. has_tenant t.tenants x.tenant ≡ true) (map (holding_of t) t.networks) (holding_of t w) good.consistent.network_tenants (has_map (holding_of t) t.networks w here));
+        tenant = holder_low t.tenants w.tenant good.consistent.tenants (at_has (λ x. has_tenant t.tenants x.tenant ≡ true) (map (network_entry_of t) t.networks) (network_entry_of t w) good.consistent.network_tenants (has_map (network_entry_of t) t.networks w here));
         name = it.name;
       }
 

@@ -7,14 +7,15 @@ use Rattle.wgr_core.specs.Change.{Meets, applied_if}
 use Rattle.wgr_core.specs.declared.change.Change.{Change}
 use Rattle.wgr_core.specs.declared.command.Command.{Command}
 use Rattle.wgr_core.specs.declared.command.Command.TheVariants as command
-use Rattle.wgr_core.specs.declared.refusal.LineRefusal.{LineRefusal}
+use Rattle.wgr_core.specs.declared.refusal.Refusal.{Refusal}
 use Rattle.wgr_core.specs.declared.reply.Reply.{Reply}
 use Rattle.wgr_core.specs.Network.{NetworkValue, live_at}
-use Rattle.wgr_core.specs.Outcome.{Outcome, adopted, is_reading, join_refusal, lease_refusal, live_outcome, outcome_of, place, route_refusal, server_refusal, vacated}
+use Rattle.wgr_core.specs.Outcome.{Outcome, adopted, is_reading, lease_refusal, live_outcome, outcome_of, server_refusal, vacated}
+use Rattle.wgr_core.specs.Refusals.{join_refusal, place, route_refusal}
 use Rattle.wgr_core.specs.Owner.{owner_of}
 use Rattle.wgr_peers.specs.Peers.{peer_of}
 use Rattle.wgr_peers.specs.Routes.{route_of}
-use Rattle.wgr_conf.specs.Files.{peer_text}
+use Rattle.wgr_conf.specs.Files.{peer_config_text}
 use Rattle.wgr_core.proofs.OutcomeCases.{kept_if_reading, owner_if, place_if, routed_if, stands_if, unless_if}
 use Rattle.wgr_register.specs.Given.{OfFile, reply_given}
 
@@ -22,17 +23,17 @@ use Rattle.wgr_register.specs.Given.{OfFile, reply_given}
 abbrev IsGiven : NetworkValue → ℕ → Command → Reply × NetworkValue → Type 0
 IsGiven n now asked done = (is_some (reply_given now n done.0) ≡ true) × (is_reading asked ≡ false → (m : NetworkValue) → reply_given now m done.0 ≡ reply_given now n done.0)
 
-adopted_if : (n : NetworkValue) (now : ℕ) (asked : Command) (r : Result Adoption (ℕ × LineRefusal)) → IfOk (adopted r) (IsGiven n now asked)
+adopted_if : (n : NetworkValue) (now : ℕ) (asked : Command) (r : Result Adoption (ℕ × Refusal)) → IfOk (adopted r) (IsGiven n now asked)
 adopted_if n now asked (Err e) = tt
 adopted_if n now asked (Ok s) = (refl, λ changes m. refl)
 
 live_given : (n : NetworkValue) (now : ℕ) (asked : Command) → IfOk (live_outcome (live_at n now) now asked) (IsGiven n now asked)
 live_given n now (command.Add key label wanted until keepalive) =
     let P = IsGiven n now (command.Add key label wanted until keepalive) in
-    unless_if P (join_refusal (live_at n now) now key until) _ (λ admitted. place_if P (place (live_at n now) wanted) _ (λ a placed. (refl, λ changes m. refl)))
+    unless_if P (join_refusal (live_at n now) now key until) _ (λ admitted. place_if P (place (live_at n now) n.pool wanted) _ (λ a placed. (refl, λ changes m. refl)))
 live_given n now (command.Move number wanted) =
     let P = IsGiven n now (command.Move number wanted) in
-    stands_if P (peer_of (live_at n now).peers number) _ (λ p found. place_if P (place (vacated (live_at n now) (Some number)) wanted) _ (λ a placed. (refl, λ changes m. refl)))
+    stands_if P (peer_of (live_at n now).peers number) _ (λ p found. place_if P (place (vacated (live_at n now) (Some number)) n.pool wanted) _ (λ a placed. (refl, λ changes m. refl)))
 live_given n now (command.Revoke number) = stands_if (IsGiven n now (command.Revoke number)) (peer_of (live_at n now).peers number) _ (λ p found. (refl, λ changes m. refl))
 live_given n now (command.Route number prefix) =
     let P = IsGiven n now (command.Route number prefix) in
@@ -49,7 +50,7 @@ live_given n now (command.Owner address) = owner_if (IsGiven n now (command.Owne
 live_given n now (command.ServerFile form) = (refl, λ changes m. let bad : true ≡ false = changes in cc)
 live_given n now (command.PeerFile number form) =
     stands_if (IsGiven n now (command.PeerFile number form)) (peer_of (live_at n now).peers number) _
-    (λ p found. (ap (λ o. is_some (option_map OfFile (option_map (peer_text (live_at n now) form) o))) found, λ changes m. let bad : true ≡ false = changes in cc))
+    (λ p found. (ap (λ o. is_some (option_map OfFile (option_map (peer_config_text (live_at n now) form) o))) found, λ changes m. let bad : true ≡ false = changes in cc))
 
 abbrev IsGivenAfter : NetworkValue → ℕ → Reply × NetworkValue → Type 0
 IsGivenAfter n now done = (is_some (reply_given now n done.0) ≡ true) × (reply_given now done.1 done.0 ≡ reply_given now n done.0)

@@ -2,7 +2,7 @@
 use Rattle.std.proofs.Common.{◌≡◌, ℕ, false, cond, Option, Some, None, nat_eq, sym, ap, subst, ◌∙◌}
 use Rattle.wgr_core.specs.Network.{IsNetwork, NetworkValue}
 use Rattle.wgr_model.specs.RowLaws.{AreConsistent}
-use Rattle.wgr_model.specs.Rows.{IsFormed, Tables, holding_of}
+use Rattle.wgr_model.specs.Rows.{IsFormed, Tables, network_entry_of}
 use Rattle.wgr_model.proofs.RuleLemmas.{rules}
 use Rattle.wgr_opening.specs.Outlines.{AreOutlines}
 use Rattle.wgr_opening.proofs.OutlineLemmas.{put_in}
@@ -20,7 +20,7 @@ pub found_outline : (t : Tables) → AreConsistent t → (known : ℕ → Option
 found_outline t is known are id outline found n formed =
     let it = are id outline found in
     let same = one_row t is it.1.0 formed.0 it.1.1 formed.1 (it.1.2 ∙ sym formed.2) in
-    subst (IsOutline outline) (it.1.3 ∙ ap (λ w. (holding_of t w).network) same ∙ sym formed.3) it.2
+    subst (IsOutline outline) (it.1.3 ∙ ap (λ w. (network_entry_of t w).network) same ∙ sym formed.3) it.2
 
 pub put_known : (known known' : ℕ → Option Outline) (t : Tables) (id : ℕ) (outline : Outline) (n : NetworkValue) → ((other : ℕ) → known' other ≡ cond (nat_eq id other) (Some outline) (known other)) → AreOtherOutlines id known t → IsFormed t id n → IsOutline outline n
     → AreOutlines known' t

@@ -10,9 +10,9 @@ use Rattle.wgr_core.specs.Network.{NetworkValue}
 use Rattle.wgr_model.specs.Consistent.{same_slot, slot}
 use Rattle.wgr_model.specs.Laws.{Has}
 use Rattle.wgr_model.specs.Listing.{put_entry}
-use Rattle.wgr_model.specs.Register.{Bytes, Holding, Register, is_same, view_at}
+use Rattle.wgr_model.specs.Register.{Bytes, NetworkEntry, Register, is_same, view_at}
 use Rattle.wgr_model.specs.RowLaws.{AreConsistent, IsRowStep}
-use Rattle.wgr_model.specs.Rows.{NetworkRow, Tables, holding_of, register_of}
+use Rattle.wgr_model.specs.Rows.{NetworkRow, Tables, network_entry_of, register_of}
 use Rattle.wgr_model.specs.Steps.{Listed, Networks, UnknownToken, new_network, tenant_of_token}
 use Rattle.wgr_model.proofs.CallLemmas.{stranger_lists, tenant_lists}
 use Rattle.wgr_model.proofs.CollectLemmas.{from_map, has_map}
@@ -35,8 +35,8 @@ step_back xs rest x some within at =
 pub none_by_name : [] ≡ by_name []
 none_by_name = none_listed [] 0 [] refl refl
 
-pub one_by_name : (h : Holding) (hs : List Holding) → put_entry h.name h.network (by_name hs) ≡ by_name (h ∷ hs)
-one_by_name h hs = sym (map_.entries-insert nat_list_cmp_total (map_.from_entries {R = slice_cmp nat_cmp} (map (λ (x : Holding). (x.name, x.network)) hs)) h.name h.network)
+pub one_by_name : (h : NetworkEntry) (hs : List NetworkEntry) → put_entry h.name h.network (by_name hs) ≡ by_name (h ∷ hs)
+one_by_name h hs = sym (map_.entries-insert nat_list_cmp_total (map_.from_entries {R = slice_cmp nat_cmp} (map (λ (x : NetworkEntry). (x.name, x.network)) hs)) h.name h.network)
 
 -- ---- as they were added
 
@@ -50,11 +50,11 @@ put_added name n (e ∷ es) = by_case (slice_cmp nat_cmp name e.0) (put_added na
   by_case Equal rest = refl
   by_case Greater rest = ap (λ xs. as_added e ∷ xs) rest
 
-all_added : (t : Tables) (ws : List NetworkRow) → map as_added (by_name (map (holding_of t) ws)) ≡ by_name (map settled ws)
+all_added : (t : Tables) (ws : List NetworkRow) → map as_added (by_name (map (network_entry_of t) ws)) ≡ by_name (map settled ws)
 all_added t [] = ap (map as_added) (sym none_by_name) ∙ none_by_name
 all_added t (w ∷ ws) =
-    ap (map as_added) (sym (one_by_name (holding_of t w) (map (holding_of t) ws)))
-    ∙ put_added w.name (holding_of t w).network (by_name (map (holding_of t) ws))
+    ap (map as_added) (sym (one_by_name (network_entry_of t w) (map (network_entry_of t) ws)))
+    ∙ put_added w.name (network_entry_of t w).network (by_name (map (network_entry_of t) ws))
     ∙ ap (put_entry w.name (new_network (settings_of w))) (all_added t ws)
     ∙ one_by_name (settled w) (map settled ws)
 
@@ -92,30 +92,30 @@ first_true false b e = e
 -- ---- one tenant's networks, in whatever order
 
 module _ (t : Tables) (is : AreConsistent t) (id : ℕ) (ws : List NetworkRow) (read : IsPermutation (filter (λ w. nat_eq w.tenant id) t.networks) ws) where
-  abbrev whole : List Holding
-  whole = map (holding_of t) t.networks
+  abbrev whole : List NetworkEntry
+  whole = map (network_entry_of t) t.networks
 
-  abbrev own : List Holding
-  own = map (holding_of t) ws
+  abbrev own : List NetworkEntry
+  own = map (network_entry_of t) ws
 
   inside : (w : NetworkRow) → Has ws w → Has t.networks w × (nat_eq w.tenant id ≡ true)
   inside w h = filter_has (λ (x : NetworkRow). nat_eq x.tenant id) t.networks w (has_permutation ws (filter (λ x. nat_eq x.tenant id) t.networks) w (IsPermutation-sym (filter (λ x. nat_eq x.tenant id) t.networks) ws read) h)
 
-  into : (h : Holding) → Has own h → Has whole h
-  into h here = let row = from_map (holding_of t) ws h here in subst (Has whole) row.2 (has_map (holding_of t) t.networks row.0 (inside row.0 row.1).0)
+  into : (h : NetworkEntry) → Has own h → Has whole h
+  into h here = let row = from_map (network_entry_of t) ws h here in subst (Has whole) row.2 (has_map (network_entry_of t) t.networks row.0 (inside row.0 row.1).0)
 
-  back : (h : Holding) → Has whole h → nat_eq h.tenant id ≡ true → Has own h
+  back : (h : NetworkEntry) → Has whole h → nat_eq h.tenant id ≡ true → Has own h
   back h here mine =
-      let row = from_map (holding_of t) t.networks h here in
-      let passes : nat_eq row.0.tenant id ≡ true = ap (λ (x : Holding). nat_eq x.tenant id) row.2 ∙ mine in
-      subst (Has own) row.2 (has_map (holding_of t) ws row.0 (has_permutation (filter (λ x. nat_eq x.tenant id) t.networks) ws row.0 read (has_filter (λ (x : NetworkRow). nat_eq x.tenant id) t.networks row.0 row.1 passes)))
+      let row = from_map (network_entry_of t) t.networks h here in
+      let passes : nat_eq row.0.tenant id ≡ true = ap (λ (x : NetworkEntry). nat_eq x.tenant id) row.2 ∙ mine in
+      subst (Has own) row.2 (has_map (network_entry_of t) ws row.0 (has_permutation (filter (λ x. nat_eq x.tenant id) t.networks) ws row.0 read (has_filter (λ (x : NetworkRow). nat_eq x.tenant id) t.networks row.0 row.1 passes)))
 
-  abbrev fits : Bytes → Holding → Bool
+  abbrev fits : Bytes → NetworkEntry → Bool
   fits q h = nat_eq h.tenant id && is_same q h.name
 
   alike : (q : Bytes) → find (fits q) whole ≡ find (fits q) own
   alike q = by_found (find (fits q) whole) (find (fits q) own) refl refl where
-    by_found : (a b : Option Holding) → find (fits q) whole ≡ a → find (fits q) own ≡ b → a ≡ b
+    by_found : (a b : Option NetworkEntry) → find (fits q) whole ≡ a → find (fits q) own ≡ b → a ≡ b
     by_found None None g h = refl
     by_found a (Some y) g h =
         let there = find_has (fits q) slot same_slot (slot_tells id q) own y h in
@@ -129,13 +129,13 @@ module _ (t : Tables) (is : AreConsistent t) (id : ℕ) (ws : List NetworkRow) (
 
   same_map : (view_at (register_of t) id).networks ≡ (view_at alone id).networks
   same_map = same_networks (view_at (register_of t) id).networks (view_at alone id).networks
-      (λ q. get_view (register_of t) id q ∙ network_found whole id q ∙ ap (option_map (λ (h : Holding). h.network)) (alike q) ∙ sym (network_found own id q) ∙ sym (get_view alone id q))
+      (λ q. get_view (register_of t) id q ∙ network_found whole id q ∙ ap (option_map (λ (h : NetworkEntry). h.network)) (alike q) ∙ sym (network_found own id q) ∙ sym (get_view alone id q))
 
-  all_pass : (xs : List NetworkRow) → ((w : NetworkRow) → Has xs w → nat_eq w.tenant id ≡ true) → filter (λ (h : Holding). nat_eq h.tenant id) (map (holding_of t) xs) ≡ map (holding_of t) xs
+  all_pass : (xs : List NetworkRow) → ((w : NetworkRow) → Has xs w → nat_eq w.tenant id ≡ true) → filter (λ (h : NetworkEntry). nat_eq h.tenant id) (map (network_entry_of t) xs) ≡ map (network_entry_of t) xs
   all_pass [] passes = refl
   all_pass (w ∷ xs) passes =
-      let rest = filter (λ (h : Holding). nat_eq h.tenant id) (map (holding_of t) xs) in
-      ap (λ b. cond b (holding_of t w ∷ rest) rest) (passes w (inl refl)) ∙ ap (λ hs. holding_of t w ∷ hs) (all_pass xs (λ x here. passes x (inr here)))
+      let rest = filter (λ (h : NetworkEntry). nat_eq h.tenant id) (map (network_entry_of t) xs) in
+      ap (λ b. cond b (network_entry_of t w ∷ rest) rest) (passes w (inl refl)) ∙ ap (λ hs. network_entry_of t w ∷ hs) (all_pass xs (λ x here. passes x (inr here)))
 
   pub networks_added : by_name (map settled ws) ≡ map as_added (seen_by t id)
   networks_added = sym (all_added t ws) ∙ ap (map as_added) (ap by_name (sym (all_pass ws (λ w here. (inside w here).1))) ∙ ap map_.entries (sym same_map))

@@ -17,10 +17,10 @@ use Rattle.wgr_core.specs.declared.command.Command.{Command}
 use Rattle.wgr_core.specs.declared.reply.Reply.{Reply}
 use Rattle.wgr_model.specs.Consistent.{same_slot, slot}
 use Rattle.wgr_model.specs.Laws.{Has}
-use Rattle.wgr_model.specs.Register.{Bytes, Holding}
+use Rattle.wgr_model.specs.Register.{Bytes, NetworkEntry}
 use Rattle.wgr_model.specs.RowLaws.{AreConsistent}
-use Rattle.wgr_model.specs.Rows.{IsFormed, NetworkRow, Replaces, Tables, holding_of, register_of}
-use Rattle.wgr_model.specs.Steps.{Ask, IsProperCommand, Outcome, Replied, act, outcome, put_network, tenant_of_token, with_network}
+use Rattle.wgr_model.specs.Rows.{IsFormed, NetworkRow, Replaces, Tables, network_entry_of, register_of}
+use Rattle.wgr_model.specs.Steps.{Ask, IsProperCommand, EventOutcome, Replied, act, outcome, put_network, tenant_of_token, with_network}
 use Rattle.wgr_model.proofs.AskRowLemmas.{asked_at}
 use Rattle.wgr_model.proofs.CollectLemmas.{from_map, has_map}
 use Rattle.wgr_model.proofs.CommitLemmas.{put_has, put_other}
@@ -60,52 +60,52 @@ none_formed t id n found = cc
 -- ---- the rows change
 
 -- a network among those of a register that rows are of is formed by them
-pub formed_in : (u : Tables) (hs : List Holding) → IsPermutation hs (register_of u).networks → (h : Holding) → Has hs h → IsFormed u h.id h.network
+pub formed_in : (u : Tables) (hs : List NetworkEntry) → IsPermutation hs (register_of u).networks → (h : NetworkEntry) → Has hs h → IsFormed u h.id h.network
 formed_in u hs same h there =
-    let row = from_map (holding_of u) u.networks h (has_permutation hs (map (holding_of u) u.networks) h same there) in
+    let row = from_map (network_entry_of u) u.networks h (has_permutation hs (map (network_entry_of u) u.networks) h same there) in
     (row.0, row.1, ap (λ k. k.id) row.2, sym (ap (λ k. k.network) row.2))
 
 module _ (t u : Tables) (is : AreConsistent t) (digest name : Bytes) (now : ℕ) (command : Command) (proper : IsProperCommand command) (id : ℕ) (n : NetworkValue) (found : IsFound t digest name id n)
-    (reply : Reply) (change : Change) (meets : Meets n (Ok (reply, Some change)) (outcome_of n now command)) (replaces : Replaces id (applied change (holding_of t found.row).network) t u) where
+    (reply : Reply) (change : Change) (meets : Meets n (Ok (reply, Some change)) (outcome_of n now command)) (replaces : Replaces id (applied change (network_entry_of t found.row).network) t u) where
   abbrev w : NetworkRow
   w = found.row
 
-  abbrev held : List Holding
-  held = map (holding_of t) t.networks
+  abbrev held : List NetworkEntry
+  held = map (network_entry_of t) t.networks
 
   abbrev after : NetworkValue
-  after = applied change (holding_of t w).network
+  after = applied change (network_entry_of t w).network
 
-  is_held : (v : NetworkRow) → Has t.networks v → Has held (holding_of t v)
-  is_held v there = has_map (holding_of t) t.networks v there
+  is_held : (v : NetworkRow) → Has t.networks v → Has held (network_entry_of t v)
+  is_held v there = has_map (network_entry_of t) t.networks v there
 
-  acts : act (holding_of t w).network now command ≡ Ok (reply, after)
+  acts : act (network_entry_of t w).network now command ≡ Ok (reply, after)
   acts = subst (λ m. act m now command ≡ Ok (reply, applied change m)) found.value (act_done n now command reply (Some change) meets)
 
-  same_networks : IsPermutation (with_network held w.tenant w.name after) (map (holding_of u) u.networks)
+  same_networks : IsPermutation (with_network held w.tenant w.name after) (map (network_entry_of u) u.networks)
   same_networks =
       let step = changed_rows t is digest name now command id n found u reply change meets replaces in
       let law = row_step t u (Ask digest name now command) (Replied reply (applied change n)) is proper step in
       let put = subst (λ x. outcome (register_of t) (Ask digest x now command) 0 ≡ (Replied reply after, put_network (register_of t) w.tenant w.name after)) found.named (asked_at t is w found.there digest now command (reply, after) found.tenant acts) in
-      subst (λ (o : Outcome). IsPermutation o.1.networks (register_of u).networks) put law.1.rows.networks
+      subst (λ (o : EventOutcome). IsPermutation o.1.networks (register_of u).networks) put law.1.rows.networks
 
-  formed_after : (h : Holding) → Has (with_network held w.tenant w.name after) h → IsFormed u h.id h.network
+  formed_after : (h : NetworkEntry) → Has (with_network held w.tenant w.name after) h → IsFormed u h.id h.network
   formed_after = formed_in u (with_network held w.tenant w.name after) same_networks
 
   -- the network of this id is as the change leaves it
   pub changed_own : IsFormed u id (applied change n)
   changed_own =
-      let own = formed_after (record (holding_of t w) { network = after }) (put_has (holding_of t w) after held is.consistent.slots (is_held w found.there)) in
+      let own = formed_after (record (network_entry_of t w) { network = after }) (put_has (network_entry_of t w) after held is.consistent.slots (is_held w found.there)) in
       subst (λ i. IsFormed u i (applied change n)) found.at (subst (IsFormed u w.id) (ap (applied change) (sym found.value)) own)
 
   -- each other is as it was
   pub changed_other : (other : ℕ) (m : NetworkValue) → nat_eq id other ≡ false → IsFormed t other m → IsFormed u other m
   changed_other other m off v =
-      let apart : same_slot (slot (holding_of t w)) (slot (holding_of t v.0)) ≡ false = elim (one_or_apart slot same_slot slot_sym held (holding_of t w) (holding_of t v.0) is.consistent.slots (is_held w found.there) (is_held v.0 v.1)) [
+      let apart : same_slot (slot (network_entry_of t w)) (slot (network_entry_of t v.0)) ≡ false = elim (one_or_apart slot same_slot slot_sym held (network_entry_of t w) (network_entry_of t v.0) is.consistent.slots (is_held w found.there) (is_held v.0 v.1)) [
         | inl same ↦ let ids : id ≡ other = sym found.at ∙ ap (λ h. h.id) same ∙ v.2 in absurd (true≢false (sym (eqb_self id) ∙ ap (nat_eq id) ids ∙ off))
         | inr is ↦ is
       ] in
-      let formed = formed_after (holding_of t v.0) (put_other (holding_of t w) after held (holding_of t v.0) (is_held v.0 v.1) apart) in
+      let formed = formed_after (network_entry_of t v.0) (put_other (network_entry_of t w) after held (network_entry_of t v.0) (is_held v.0 v.1) apart) in
       subst (λ i. IsFormed u i m) v.2 (subst (IsFormed u v.0.id) (sym v.3) formed)
 
 pub found_formed : (t : Tables) (digest name : Bytes) (id : ℕ) (n : NetworkValue) → IsFound t digest name id n → IsFormed t id n
@@ -115,7 +115,7 @@ pub found_so : (t : Tables) (digest name : Bytes) (tenant id : ℕ) (n : Network
     → ((w : NetworkRow) × Has t.networks w × IsSlotOf w tenant name × (w.id ≡ id)) → IsFormed t id n → IsFound t digest name id n
 found_so t digest name tenant id n is known named formed =
     let same = one_row t is formed.0 named.0 formed.1 named.1 (formed.2 ∙ sym named.3) in
-    record { row = named.0; there = named.1; tenant = known ∙ ap Some (sym named.2.0); named = named.2.1; at = named.3; value = formed.3 ∙ ap (λ w. (holding_of t w).network) same }
+    record { row = named.0; there = named.1; tenant = known ∙ ap Some (sym named.2.0); named = named.2.1; at = named.3; value = formed.3 ∙ ap (λ w. (network_entry_of t w).network) same }
 
 -- ---- unless a fault ended the ask
 

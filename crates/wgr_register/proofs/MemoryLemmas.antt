@@ -12,7 +12,7 @@ use Rattle.wgr_core.specs.declared.command.Command.{Command}
 use Rattle.wgr_core.specs.declared.reply.Reply.{Reply}
 use Rattle.wgr_model.specs.Register.{Bytes}
 use Rattle.wgr_model.specs.RowLaws.{AreConsistent}
-use Rattle.wgr_model.specs.Rows.{IsFormed, Tables, holding_of}
+use Rattle.wgr_model.specs.Rows.{IsFormed, Tables, network_entry_of}
 use Rattle.wgr_model.specs.Steps.{IsProperCommand}
 use Rattle.wgr_tables.specs.Writes.{Written}
 use Rattle.wgr_register.specs.Cached.{AreCurrent, AreOthersCurrent, Cached, files_of}
@@ -52,7 +52,7 @@ files_so None id n m kept t u is after drops stay = subst (λ (l : Cached). AreC
 module _ {S : Type 0} (g : Ghosts S) (conn : Held S) (db : Database) (pending : List Written) (consistent : AreConsistent (tables_of db)) (digest name : Bytes) (now : ℕ) (command : Command) (proper : IsProperCommand command) (id : ℕ) (n : NetworkValue)
     (found : IsFound (tables_of db) digest name id n) (reply : Reply) (m : Memory) where
   -- what stays once the change, if there is one, is committed
-  pub memory_so : (change : Option Change) → Meets n (Ok (reply, change)) (outcome_of n now command) → CommitsIf g conn db pending id (holding_of (tables_of db) found.row).network change
+  pub memory_so : (change : Option Change) → Meets n (Ok (reply, change)) (outcome_of n now command) → CommitsIf g conn db pending id (network_entry_of (tables_of db) found.row).network change
       → ((u : Tables) → IsAfter id n change (tables_of db) u → IsMemoryOf m u) → Shows g conn (IsMemoryOf m)
   memory_so None meets stands holds =
       shown_so g conn db pending (IsMemoryOf m) stands (holds (tables_of db) (record { own = found_formed (tables_of db) digest name id n found; others = λ other k off formed. formed; same = λ none. refl }))

@@ -7,7 +7,7 @@ use Rattle.std.proofs.lemmas.List.Sorted.{IsPermutation-refl, length_permutation
 use Rattle.wgr_model.specs.Laws.{Has}
 use Rattle.wgr_model.specs.Register.{Bytes, Register, id_of, is_same}
 use Rattle.wgr_model.specs.RowLaws.{AreConsistent, IsRowStep}
-use Rattle.wgr_model.specs.Rows.{AreRowsOf, NetworkRow, Tables, holding_of, register_of}
+use Rattle.wgr_model.specs.Rows.{AreRowsOf, NetworkRow, Tables, network_entry_of, register_of}
 use Rattle.wgr_model.specs.RowRules.{Removes}
 use Rattle.wgr_model.specs.Steps.{AddTenant, DigestHeld, Done, EndNetwork, EndToken, Grant, NameHeld, NoNetwork, NoSuchTenant, NoSuchToken, Refused, RegisterFull, granted, is_full, network_at, ordered, refuse, tenant_of_token, with_tenant, with_token, without_network, without_token}
 use Rattle.wgr_model.proofs.AskRowLemmas.{networks_are_found}
@@ -44,7 +44,7 @@ module _ (t : Tables) (is : AreConsistent t) where
         let there : is_some (network_at (register_of t).networks id name) ≡ true = subst (λ x. is_some (network_at (register_of t).networks x name) ≡ true) of
         (subst (λ x. is_some (network_at (register_of t).networks w.tenant x) ≡ true) named (ap is_some (networks_are_found t w is here))) in
         let rows : AreRowsOf (without_network (register_of t) w.tenant w.name) u =
-        networks_lose (register_of t) t u (holding_of t w) is.rows is.consistent (has_map (holding_of t) t.networks w here) (subst (λ i. Removes i t u) (sym at) made) in
+        networks_lose (register_of t) t u (network_entry_of t w) is.rows is.consistent (has_map (network_entry_of t) t.networks w here) (subst (λ i. Removes i t u) (sym at) made) in
         record {
           after = without_network (register_of t) id name;
           step = network_gone (register_of t) tenant name id known there (without_network (register_of t) id name) refl;

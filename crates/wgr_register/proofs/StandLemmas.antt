@@ -10,7 +10,9 @@ use Rattle.sqlite.specs.Held.{Held, state}
 use Rattle.sqlite_trees.specs.View.{doubt}
 use Rattle.wgr_core.specs.declared.fault.ActFault.{ActFault}
 use Rattle.wgr_core.specs.declared.fault.ActFault.TheVariants as act_fault
+use Rattle.wgr_core.specs.declared.refusal.CommandRefusal.{CommandRefusal}
 use Rattle.wgr_core.specs.declared.refusal.Refusal.{Refusal}
+use Rattle.wgr_core.specs.Refusals.{of_command}
 use Rattle.wgr_model.specs.Register.{Bytes}
 use Rattle.wgr_model.specs.RowLaws.{AreConsistent, IsRowStep}
 use Rattle.wgr_model.specs.Rows.{Tables}
@@ -125,7 +127,7 @@ module _ {S : Type 0} (g : Ghosts S) where
 
   -- a command that isn't done
   pub undone_ends : (shown : GivenValue → Bytes) (conn : Held S) (db : Database) (late : List Event) (event : Event) (now : ℕ) (r : Result (Vec ℕ Global) AskFault) (why : ActFault) → IsErrAnd r (λ e. e ≡ ask_fault why)
-      → StandsAt g conn db late → ((refusal : Refusal) → why ≡ act_fault.Refused refusal → IsRowStep (tables_of db) event (Declined refusal) (tables_of db)) → AskEnds g shown conn db late event now r
+      → StandsAt g conn db late → ((refusal : CommandRefusal) → why ≡ act_fault.Refused refusal → IsRowStep (tables_of db) event (Declined refusal) (tables_of db)) → AskEnds g shown conn db late event now r
   undone_ends shown conn db late event now r (act_fault.NoMemory) is at refuses = late_ends shown conn db late event now r NoMemory is (at_more conn db late event at)
   undone_ends shown conn db late event now (Ok text) (act_fault.Refused why) is at refuses = absurd is
   undone_ends shown conn db late event now (Err (fault.Refused other)) (act_fault.Refused why) is at refuses =
@@ -137,9 +139,9 @@ module _ {S : Type 0} (g : Ghosts S) where
 
   -- a command on rows that isn't done
   pub rows_undone_ends : (shown : GivenValue → Bytes) (conn : Held S) (db : Database) (late : List Event) (event : Event) (now : ℕ) (r : Result (Vec ℕ Global) AskFault) (why : RowFault) → IsErrAnd r (λ e. e ≡ row_fault why)
-      → StandsAt g conn db late → ((refusal : Refusal) → why ≡ on_rows.Refused refusal → IsRowStep (tables_of db) event (Declined refusal) (tables_of db)) → AskEnds g shown conn db late event now r
+      → StandsAt g conn db late → ((refusal : Refusal) → why ≡ on_rows.Refused refusal → IsRowStep (tables_of db) event (Declined (of_command refusal)) (tables_of db)) → AskEnds g shown conn db late event now r
   rows_undone_ends shown conn db late event now r (on_rows.Fault failed) is at refuses = late_ends shown conn db late event now r failed is (at_more conn db late event at)
-  rows_undone_ends shown conn db late event now r (on_rows.Refused why) is at refuses = undone_ends shown conn db late event now r (act_fault.Refused why) is at (λ refusal same. refuses refusal (let e : why ≡ refusal = cc in ap on_rows.Refused e))
+  rows_undone_ends shown conn db late event now r (on_rows.Refused why) is at refuses = undone_ends shown conn db late event now r (act_fault.Refused (of_command why)) is at (λ refusal same. let e : of_command why ≡ refusal = cc in subst (λ x. IsRowStep (tables_of db) event (Declined x) (tables_of db)) e (refuses why refl))
 
   -- however a call ends, the register is at rest
   with_somewhere : (conn : Held S) (db : Database) (late : List Event) (event : Event) (P : Answer → Type 0) → EndsWith g conn db late event P → HasCleanDisk (state g conn) → (next : Database) × (others : List Event) × StandsAt g conn next others

@@ -7,9 +7,9 @@ use Rattle.sqlite.specs.Store.{Ghosts}
 use Rattle.wgr_core.specs.Network.{NetworkValue}
 use Rattle.wgr_model.specs.Consistent.{same_slot, slot}
 use Rattle.wgr_model.specs.Laws.{Has}
-use Rattle.wgr_model.specs.Register.{Bytes, Holding, Register, id_of}
+use Rattle.wgr_model.specs.Register.{Bytes, NetworkEntry, Register, id_of}
 use Rattle.wgr_model.specs.RowLaws.{AreConsistent, IsRowStep}
-use Rattle.wgr_model.specs.Rows.{IsFormed, NetworkRow, Tables, holding_of, register_of}
+use Rattle.wgr_model.specs.Rows.{IsFormed, NetworkRow, Tables, network_entry_of, register_of}
 use Rattle.wgr_model.specs.Steps.{AddNetwork, AddTenant, Answer, EndNetwork, EndToken, Event, Grant, IsProper, NoNetwork, NoSuchToken, OrderRefusal}
 use Rattle.wgr_model.specs.Steps.{first_refusal, given, grant_checks, granted, has_digest, has_slot, network_added, network_checks, network_ended, new_network, outcome, refuse, tenant_checks, with_new_network, with_tenant, with_token, without_network, without_token}
 use Rattle.wgr_model.proofs.CollectLemmas.{has_map}
@@ -52,11 +52,11 @@ undone_then (Err (order_fault.Fault why)) P Q next holds = tt
 
 -- ---- which networks an order leaves
 
-either : (o : Option OrderRefusal) (r s : Register) (h : Holding) → Has r.networks h → Has s.networks h → Has (given o r s).1.networks h
+either : (o : Option OrderRefusal) (r s : Register) (h : NetworkEntry) → Has r.networks h → Has s.networks h → Has (given o r s).1.networks h
 either (Some why) r s h before after = before
 either None r s h before after = after
 
-left_by : (r : Register) (event : Event) (new : ℕ) → EndsNone event → (h : Holding) → Has r.networks h → Has (outcome r event new).1.networks h
+left_by : (r : Register) (event : Event) (new : ℕ) → EndsNone event → (h : NetworkEntry) → Has r.networks h → Has (outcome r event new).1.networks h
 left_by r (AddTenant name) new none h there = either (first_refusal (tenant_checks r name)) r (with_tenant r name new) h there there
 left_by r (Grant tenant digest) new none h there = on (id_of r.tenants tenant) where
   on : (o : Option ℕ) → Has (granted r digest o).1.networks h
@@ -69,7 +69,7 @@ left_by r (AddNetwork tenant name s) new none h there = on (id_of r.tenants tena
   on (Some id) = either (first_refusal (network_checks r id name s)) r (with_new_network r new id name (new_network s)) h there (inr there)
 left_by r event new none h there = absurd none
 
-others_left_by : (r : Register) (tenant name : Bytes) (new id : ℕ) → id_of r.tenants tenant ≡ Some id → (h : Holding) → Has r.networks h → same_slot (id, name) (slot h) ≡ false → Has (outcome r (EndNetwork tenant name) new).1.networks h
+others_left_by : (r : Register) (tenant name : Bytes) (new id : ℕ) → id_of r.tenants tenant ≡ Some id → (h : NetworkEntry) → Has r.networks h → same_slot (id, name) (slot h) ≡ false → Has (outcome r (EndNetwork tenant name) new).1.networks h
 others_left_by r tenant name new id known h there apart =
     subst (λ o. Has (network_ended r name o).1.networks h) (sym known)
     (either (first_refusal (refuse (not (has_slot r.networks id name)) NoNetwork ∷ [])) r (without_network r id name) h there (in_filter (λ k. not (same_slot (id, name) (slot k))) r.networks h there (ap not apart)))
@@ -78,28 +78,28 @@ others_left_by r tenant name new id known h there apart =
 
 module _ (t u : Tables) (is : AreConsistent t) (event : Event) (proper : IsProper event) (answer : Answer) (step : IsRowStep t event answer u) where
   -- a network that the order leaves
-  formed_still : (v : NetworkRow) → ((new : ℕ) → Has (outcome (register_of t) event new).1.networks (holding_of t v)) → (n : NetworkValue) → n ≡ (holding_of t v).network → IsFormed u v.id n
+  formed_still : (v : NetworkRow) → ((new : ℕ) → Has (outcome (register_of t) event new).1.networks (network_entry_of t v)) → (n : NetworkValue) → n ≡ (network_entry_of t v).network → IsFormed u v.id n
   formed_still v left n value =
       let after = (row_step t u event answer is proper step).1 in
-      subst (IsFormed u v.id) (sym value) (formed_in u (outcome (register_of t) event after.new).1.networks after.rows.networks (holding_of t v) (left after.new))
+      subst (IsFormed u v.id) (sym value) (formed_in u (outcome (register_of t) event after.new).1.networks after.rows.networks (network_entry_of t v) (left after.new))
 
   pub one_stays : EndsNone event → (other : ℕ) (n : NetworkValue) → IsFormed t other n → IsFormed u other n
-  one_stays none other n it = subst (λ i. IsFormed u i n) it.2 (formed_still it.0 (λ new. left_by (register_of t) event new none (holding_of t it.0) (has_map (holding_of t) t.networks it.0 it.1)) n it.3)
+  one_stays none other n it = subst (λ i. IsFormed u i n) it.2 (formed_still it.0 (λ new. left_by (register_of t) event new none (network_entry_of t it.0) (has_map (network_entry_of t) t.networks it.0 it.1)) n it.3)
 
 module _ (t u : Tables) (is : AreConsistent t) (tenant name : Bytes) (answer : Answer) (step : IsRowStep t (EndNetwork tenant name) answer u) (id : ℕ) (known : id_of t.tenants tenant ≡ Some id)
     (w : NetworkRow) (there : Has t.networks w) (its : IsSlotOf w id name) where
   -- and each but the one that ends
   pub other_stays : (other : ℕ) (n : NetworkValue) → nat_eq w.id other ≡ false → IsFormed t other n → IsFormed u other n
   other_stays other n off it =
-      let held : List Holding = map (holding_of t) t.networks in
-      let apart : same_slot (slot (holding_of t w)) (slot (holding_of t it.0)) ≡ false = elim (one_or_apart slot same_slot slot_sym held (holding_of t w) (holding_of t it.0) is.consistent.slots (has_map (holding_of t) t.networks w there) (has_map (holding_of t) t.networks it.0 it.1)) [
+      let held : List NetworkEntry = map (network_entry_of t) t.networks in
+      let apart : same_slot (slot (network_entry_of t w)) (slot (network_entry_of t it.0)) ≡ false = elim (one_or_apart slot same_slot slot_sym held (network_entry_of t w) (network_entry_of t it.0) is.consistent.slots (has_map (network_entry_of t) t.networks w there) (has_map (network_entry_of t) t.networks it.0 it.1)) [
         | inl same ↦ let ids : w.id ≡ other = ap (λ h. h.id) same ∙ it.2 in absurd (true≢false (sym (eqb_self w.id) ∙ ap (nat_eq w.id) ids ∙ off))
         | inr is_apart ↦ is_apart
       ] in
-      let named : same_slot (id, name) (slot (holding_of t it.0)) ≡ false = subst (λ s. same_slot s (slot (holding_of t it.0)) ≡ false) (its_slot) apart in
-      subst (λ i. IsFormed u i n) it.2 (formed_still t u is (EndNetwork tenant name) tt answer step it.0 (λ new. others_left_by (register_of t) tenant name new id known (holding_of t it.0) (has_map (holding_of t) t.networks it.0 it.1) named) n it.3)
+      let named : same_slot (id, name) (slot (network_entry_of t it.0)) ≡ false = subst (λ s. same_slot s (slot (network_entry_of t it.0)) ≡ false) (its_slot) apart in
+      subst (λ i. IsFormed u i n) it.2 (formed_still t u is (EndNetwork tenant name) tt answer step it.0 (λ new. others_left_by (register_of t) tenant name new id known (network_entry_of t it.0) (has_map (network_entry_of t) t.networks it.0 it.1) named) n it.3)
     where
-      its_slot : slot (holding_of t w) ≡ (id, name)
+      its_slot : slot (network_entry_of t w) ≡ (id, name)
       its_slot = λ k. (its.0 k, its.1 k)
 
 -- ---- what the connection shows

@@ -1,14 +1,14 @@
 -- All entries of a register, as its rows have them.
 use Rattle.std.specs.Prelude.{◌≡◌, List, map, IsPermutation}
-use Rattle.wgr_model.specs.Register.{Holding}
+use Rattle.wgr_model.specs.Register.{NetworkEntry}
 use Rattle.wgr_model.specs.Rows.{NetworkRow, Tables}
 use Rattle.wgr_entries.specs.Lookups.{peer_count, route_count, settled}
 use Rattle.wgr_orders.specs.declared.census.Census.{Census}
 use Rattle.wgr_orders.specs.declared.census.Counted.{Counted}
 
 -- the network, with how many peers and how many routes there are in rows of its id
-abbrev pub with_counts : Tables → Holding → Counted
-with_counts t h = record { holding = h; peers = peer_count t h.id; routes = route_count t h.id }
+abbrev pub with_counts : Tables → NetworkEntry → Counted
+with_counts t h = record { network_entry = h; peers = peer_count t h.id; routes = route_count t h.id }
 
 -- Each tenant, each token and each network has one place, in some order. A network is there as it was
 -- added, with its counts.

@@ -9,6 +9,7 @@ use Rattle.sqlite.specs.Held.{Held, state}
 use Rattle.wgr_core.specs.Change.{applied}
 use Rattle.wgr_core.specs.Network.{NetworkValue}
 use Rattle.wgr_core.specs.Outcome.{is_reading}
+use Rattle.wgr_core.specs.Refusals.{of_command}
 use Rattle.wgr_core.specs.declared.change.Change.{Change}
 use Rattle.wgr_core.specs.declared.fault.ActFault.{ActFault}
 use Rattle.wgr_core.specs.declared.fault.ActFault.TheVariants as act_fault
@@ -16,7 +17,7 @@ use Rattle.wgr_orders.specs.Orders.{IsAdmitted, refusal_of}
 use Rattle.wgr_model.specs.Laws.{Has}
 use Rattle.wgr_model.specs.Register.{Bytes, Register}
 use Rattle.wgr_model.specs.RowLaws.{IsRowStep}
-use Rattle.wgr_model.specs.Rows.{NetworkRow, Tables, holding_of}
+use Rattle.wgr_model.specs.Rows.{NetworkRow, Tables, network_entry_of}
 use Rattle.wgr_model.specs.Steps.{Answer, Ask, Declined, Event, NoSuchNetwork, Replied, Settings, UnknownToken, tenant_of_token}
 use Rattle.wgr_model.specs.Steps as answered
 use Rattle.wgr_sql.specs.declared.fault.Fault.TheVariants.{NoMemory}
@@ -82,7 +83,7 @@ ask_fault (act_fault.Refused why) = fault.Refused why
 ask_fault act_fault.NoMemory = fault.Fault NoMemory
 
 abbrev pub row_fault : RowFault → AskFault
-row_fault (on_rows.Refused why) = fault.Refused why
+row_fault (on_rows.Refused why) = fault.Refused (of_command why)
 row_fault (on_rows.Fault why) = fault.Fault why
 
 -- the change, if there is one, is committed
@@ -102,4 +103,4 @@ pub record IsFound (t : Tables) (digest name : Bytes) (id : ℕ) (network : Netw
   pub tenant : tenant_of_token t.tokens digest ≡ Some row.tenant
   pub named : row.name ≡ name
   pub at : row.id ≡ id
-  pub value : network ≡ (holding_of t row).network
+  pub value : network ≡ (network_entry_of t row).network

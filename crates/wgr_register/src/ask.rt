@@ -1,19 +1,19 @@
 //! Requests of tenants.
-ghost use Rattle.std.specs.Prelude.{◌≡◌, ℕ, List, true, false, None, IfErr, IfOk, IfSome, IfNone, OnErr, OnOk, is_some, nat_eq, ⊤};
+ghost use Rattle.std.specs.Prelude.{◌≡◌, ℕ, List, true, false, None, IfErr, IfOk, IfSome, IfNone, OnErr, OnOk, is_some, nat_eq};
 ghost use Rattle.sqlite.specs.Effect.{Database};
-ghost use Rattle.sqlite.specs.State.{HasCleanDisk, Survives};
+ghost use Rattle.sqlite.specs.State.{HasCleanDisk};
 ghost use Rattle.sqlite.specs.Held.{state};
 ghost use Rattle.wgr_core.specs.Outcome.{is_reading};
 ghost use Rattle.wgr_model.specs.Laws.{Has};
 ghost use Rattle.wgr_model.specs.Register.{Bytes};
 ghost use Rattle.wgr_model.specs.RowLaws.{AreConsistent};
-ghost use Rattle.wgr_model.specs.Rows.{IsFormed, NetworkRow, Tables, holding_of, register_of};
+ghost use Rattle.wgr_model.specs.Rows.{IsFormed, NetworkRow, Tables, network_entry_of, register_of};
 ghost use Rattle.wgr_model.specs.Steps.{Ask, Event, network_at};
 ghost use Rattle.wgr_sql.specs.Causes.{HasCause, HasCauseOr};
 ghost use Rattle.wgr_sql.specs.declared.fault.Fault.TheVariants.{NoMemory};
 ghost use Rattle.wgr_columns.specs.Decode.{tables_of};
 ghost use Rattle.wgr_entries.specs.Lookups.{IsSlotOf};
-ghost use Rattle.wgr_tables.specs.Standing.{OnlyReads, Stands};
+ghost use Rattle.wgr_tables.specs.Standing.{MayWrite, OnlyReads, Stands};
 ghost use Rattle.wgr_tables.specs.Writes.{Written};
 ghost use Rattle.wgr_conf.specs.Files.{server_config};
 ghost use Rattle.wgr_core.specs.Network.{NetworkValue};
@@ -33,7 +33,7 @@ use std::alloc::Global;
 use wgr_core::{Change, Command, Form, Name, Network};
 use wgr_entries::{network_id, tenant_of_token};
 use wgr_rows::row_act;
-use wgr_tables::{Fault, commit_change, load_network};
+use wgr_tables::{Fault, NetworkChange, commit, load_network};
 
 // The network whose row has this id: the kept one, which is taken out, or else the one that its rows form.
 fn take_network<S: Alter>(
@@ -85,22 +85,20 @@ fn find_id<S: Alter>(
 // Commits the change of the network whose row has this id, if there is one.
 fn commit_if<S: Alter>(
     conn: &mut Connection<S>,
-    id: u32,
+    network: u32,
     change: &Option<Change>,
 ) -> Result<(), Fault>
     requires idle { conn.old.in_transaction ≡ false }
-    ensures idle { conn.new.in_transaction ≡ false }
-    ensures clean { HasCleanDisk (state S.Store conn.new) → HasCleanDisk (state S.Store conn.old) }
-    ensures done { (db : Database) (pending : List Written) (w : NetworkRow) → Stands S.Store conn.old db pending → AreConsistent (tables_of db) → Has (tables_of db).networks w → w.id ≡ id → HasCleanDisk (state S.Store conn.new)
-        → OnOk result (CommitsIf S.Store conn.new db pending id (holding_of (tables_of db) w).network change.now) }
-    ensures fault { (db : Database) (pending : List Written) (w : NetworkRow) → Stands S.Store conn.old db pending → AreConsistent (tables_of db) → Has (tables_of db).networks w → w.id ≡ id
-        → OnErr result (FailsIf S.Store conn.new db pending id (holding_of (tables_of db) w).network change.now) }
+    ensures keeps { MayWrite S.Store conn.old conn.new }
+    ensures done { (db : Database) (pending : List Written) (w : NetworkRow) → Stands S.Store conn.old db pending → AreConsistent (tables_of db) → Has (tables_of db).networks w → w.id ≡ network → HasCleanDisk (state S.Store conn.new)
+        → OnOk result (CommitsIf S.Store conn.new db pending network (network_entry_of (tables_of db) w).network change.now) }
+    ensures fault { (db : Database) (pending : List Written) (w : NetworkRow) → Stands S.Store conn.old db pending → AreConsistent (tables_of db) → Has (tables_of db).networks w → w.id ≡ network
+        → OnErr result (FailsIf S.Store conn.new db pending network (network_entry_of (tables_of db) w).network change.now) }
     ensures changes { OnErr result (is_some change.now ≡ true) }
-    ensures survives { Survives (state S.Store conn.old) (state S.Store conn.new) (λ _. ⊤) }
-    ensures cause { (db : Database) (pending : List Written) → Stands S.Store conn.old db pending → IfErr result (HasCauseOr (StopsIf id change.now (tables_of db)) (state S.Store conn.old) (state S.Store conn.new)) }
+    ensures cause { (db : Database) (pending : List Written) → Stands S.Store conn.old db pending → IfErr result (HasCauseOr (StopsIf network change.now (tables_of db)) (state S.Store conn.old) (state S.Store conn.new)) }
 {
     match change {
-        Some(change) => commit_change(conn, id, change),
+        Some(change) => commit(conn, &NetworkChange { network, change }),
         None => Ok(()),
     }
 }
@@ -118,14 +116,12 @@ fn act_on<S: Alter, R: Render>(
     render: &R,
 ) -> Result<Vec<u8>, AskFault>
     requires idle { conn.old.in_transaction ≡ false }
-    ensures idle { conn.new.in_transaction ≡ false }
-    ensures clean { HasCleanDisk (state S.Store conn.new) → HasCleanDisk (state S.Store conn.old) }
+    ensures keeps { MayWrite S.Store conn.old conn.new }
     ensures ends { (db : Database) (late : List Event) (digest name : Bytes) → StandsAt S.Store conn.old db late → IsFound (tables_of db) digest name id network
         → AskEnds S.Store R.shown conn.new db late (Ask digest name now command.now) now result }
     ensures memory { (db : Database) (late : List Event) (digest name : Bytes) → StandsAt S.Store conn.old db late → IsFound (tables_of db) digest name id network → IsMemoryOf memory.old (tables_of db)
         → UnlessFault result (Shows S.Store conn.new (IsMemoryOf memory.new)) }
     ensures reading { is_reading command.now ≡ true → IfFault (λ why. why ≡ NoMemory) result }
-    ensures survives { Survives (state S.Store conn.old) (state S.Store conn.new) (λ _. ⊤) }
     ensures stops { (db : Database) (late : List Event) (digest name : Bytes) → StandsAt S.Store conn.old db late → IsFound (tables_of db) digest name id network → IfFault (HasCauseOr (AskStops (tables_of db) digest name now command.now) (state S.Store conn.old) (state S.Store conn.new)) result }
 {
     command.forms_hold();
@@ -158,14 +154,12 @@ fn act_on_rows<S: Alter, R: Render>(
 ) -> Result<Vec<u8>, AskFault>
     requires idle { conn.old.in_transaction ≡ false }
     requires directed { is_directed command.now ≡ true }
-    ensures idle { conn.new.in_transaction ≡ false }
-    ensures clean { HasCleanDisk (state S.Store conn.new) → HasCleanDisk (state S.Store conn.old) }
+    ensures keeps { MayWrite S.Store conn.old conn.new }
     ensures ends { (db : Database) (late : List Event) (digest name : Bytes) (n : NetworkValue) → StandsAt S.Store conn.old db late → IsFound (tables_of db) digest name id n → IsMemoryOf memory.old (tables_of db)
         → AskEnds S.Store R.shown conn.new db late (Ask digest name now command.now) now result }
     ensures memory { (db : Database) (late : List Event) (digest name : Bytes) (n : NetworkValue) → StandsAt S.Store conn.old db late → IsFound (tables_of db) digest name id n → IsMemoryOf memory.old (tables_of db)
         → UnlessFault result (Shows S.Store conn.new (IsMemoryOf memory.new)) }
     ensures cause { (db : Database) (late : List Event) (digest name : Bytes) (n : NetworkValue) → StandsAt S.Store conn.old db late → IsFound (tables_of db) digest name id n → is_reading command.now ≡ true → IfFault (HasCause (state S.Store conn.old) (state S.Store conn.new)) result }
-    ensures survives { Survives (state S.Store conn.old) (state S.Store conn.new) (λ _. ⊤) }
     ensures stops { (db : Database) (late : List Event) (digest name : Bytes) (n : NetworkValue) → StandsAt S.Store conn.old db late → IsFound (tables_of db) digest name id n → IsMemoryOf memory.old (tables_of db) → IfFault (HasCauseOr (AskStops (tables_of db) digest name now command.now) (state S.Store conn.old) (state S.Store conn.new)) result }
 {
     command.forms_hold();

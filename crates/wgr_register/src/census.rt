@@ -14,21 +14,24 @@ ghost use Rattle.wgr_register.specs.Census.{IsCensus, with_counts};
 use sqlite::{Alter, Connection};
 use std::alloc::Global;
 use wgr_entries::{count_peers, count_routes, settled_networks, tenants, tokens};
-use wgr_orders::{Census, Counted, Holding};
+use wgr_orders::{Census, Counted, NetworkEntry};
 use wgr_tables::Fault;
 
 // The network, with how many peers and routes its rows have.
-fn counted<S: Alter>(conn: &mut Connection<S>, holding: Holding) -> Result<Counted, Fault>
+fn counted<S: Alter>(
+    conn: &mut Connection<S>,
+    network_entry: NetworkEntry,
+) -> Result<Counted, Fault>
     requires idle { conn.old.in_transaction ≡ false }
     ensures reads { OnlyReads S.Store conn.old conn.new }
     ensures counted { (db : Database) (pending : List Written) → Stands S.Store conn.old db pending → HasCleanDisk (state S.Store conn.new)
-        → IfOk result (λ network. network ≡ with_counts (tables_of db) holding) }
+        → IfOk result (λ network. network ≡ with_counts (tables_of db) network_entry) }
     ensures cause { (db : Database) (pending : List Written) → Stands S.Store conn.old db pending → IfErr result (HasCause (state S.Store conn.old) (state S.Store conn.new)) }
 {
-    let peers = count_peers(conn, holding.id)?;
-    let routes = count_routes(conn, holding.id)?;
+    let peers = count_peers(conn, network_entry.id)?;
+    let routes = count_routes(conn, network_entry.id)?;
     Ok(Counted {
-        holding,
+        network_entry,
         peers,
         routes,
     })
@@ -49,17 +52,17 @@ fn keep(networks: &mut Vec<Counted>, network: Counted) -> Result<(), Fault>
 fn all_counted<S: Alter>(
     alloc: Global,
     conn: &mut Connection<S>,
-    holdings: Vec<Holding>,
+    network_entries: Vec<NetworkEntry>,
 ) -> Result<Vec<Counted>, Fault>
     requires idle { conn.old.in_transaction ≡ false }
     ensures reads { OnlyReads S.Store conn.old conn.new }
     ensures counted { (db : Database) (pending : List Written) → Stands S.Store conn.old db pending → HasCleanDisk (state S.Store conn.new)
-        → IfOk result (λ networks. networks.items ≡ map (with_counts (tables_of db)) holdings.items) }
+        → IfOk result (λ networks. networks.items ≡ map (with_counts (tables_of db)) network_entries.items) }
     ensures cause { (db : Database) (pending : List Written) → Stands S.Store conn.old db pending → IfErr result (HasCause (state S.Store conn.old) (state S.Store conn.new)) }
 {
     let mut networks = Vec::new(alloc);
-    for holding in holdings {
-        let network = counted(conn, holding)?;
+    for network_entry in network_entries {
+        let network = counted(conn, network_entry)?;
         keep(&mut networks, network)?;
     }
     Ok(networks)
@@ -76,8 +79,8 @@ pub(crate) fn census<S: Alter>(alloc: Global, conn: &mut Connection<S>) -> Resul
 {
     let tenants = tenants(alloc, conn)?;
     let tokens = tokens(alloc, conn)?;
-    let holdings = settled_networks(alloc, conn)?;
-    let networks = all_counted(alloc, conn, holdings)?;
+    let network_entries = settled_networks(alloc, conn)?;
+    let networks = all_counted(alloc, conn, network_entries)?;
     Ok(Census {
         tenants,
         tokens,

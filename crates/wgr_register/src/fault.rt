@@ -1,7 +1,7 @@
 //! Why a call on a register fails.
 use sqlite::{Alter, Connection};
 use std::alloc::AllocError;
-use wgr_core::{ActFault, Refusal};
+use wgr_core::{ActFault, CommandRefusal};
 use wgr_orders::OrderRefusal;
 use wgr_rows::RowFault;
 use wgr_schema::RegisterFault;
@@ -41,7 +41,7 @@ impl From<Fault> for OrderFault {
 #[derive(Clone, Copy, Debug, Drop, PartialEq, Eq)]
 pub enum AskFault {
     /// The network refuses the command.
-    Refused(Refusal),
+    Refused(CommandRefusal),
     /// No tenant has the token.
     UnknownToken,
     /// The tenant has no network of the name.
@@ -95,7 +95,7 @@ impl From<RowFault> for AskFault {
 
     fn from(why: RowFault) -> AskFault {
         match why {
-            RowFault::Refused(why) => AskFault::Refused(why),
+            RowFault::Refused(why) => AskFault::Refused(CommandRefusal::from(why)),
             RowFault::Fault(why) => AskFault::Fault(why),
         }
     }

@@ -27,7 +27,7 @@ use sqlite::{Alter, Connection, Row};
 use std::alloc::Global;
 use wgr_core::{Name, Network};
 use wgr_entries::{networks_of_tenant, read_settled, tenant_of_token};
-use wgr_orders::{ByName, Holding};
+use wgr_orders::{ByName, NetworkEntry};
 use wgr_tables::Fault;
 
 // Puts a network in the place for its name.
@@ -61,7 +61,7 @@ fn entries_in(alloc: Global, rows: &[Row]) -> Result<Vec<(Name, Network)>, Fault
     let mut rest = rows.len();
     while rest > 0 {
         rest -= 1;
-        let Holding { name, network, .. } = read_settled(alloc, &rows[rest])?;
+        let NetworkEntry { name, network, .. } = read_settled(alloc, &rows[rest])?;
         put(&mut networks, name, network)?;
     }
     entries_of(alloc, networks)

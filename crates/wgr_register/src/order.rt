@@ -20,12 +20,12 @@ use sqlite::{Alter, Connection};
 use std::alloc::Global;
 use wgr_core::Name;
 use wgr_entries::{
-    add_token, count_tokens, network_id, settled_networks, tenant_id, tenant_ids, tenant_of_token,
-    tenants,
+    EndedNetwork, EndedToken, NewNetwork, NewTenant, NewToken, count_tokens, network_id,
+    settled_networks, tenant_id, tenant_ids, tenant_of_token, tenants,
 };
 use wgr_model::MAX_ENTRIES;
-use wgr_orders::{Holding, Order, OrderRefusal, Settings, Tenant, admit_network, unused_id};
-use wgr_tables::Fault;
+use wgr_orders::{NetworkEntry, Order, OrderRefusal, Settings, Tenant, admit_network, unused_id};
+use wgr_tables::{Fault, commit};
 
 // Does the order, or refuses it. What is in memory stays, except what is of a network that ends.
 pub(crate) fn operate<S: Alter>(
@@ -69,7 +69,7 @@ fn end_token<S: Alter>(conn: &mut Connection<S>, digest: &[u8; 32]) -> Result<Do
     let Some(_holder) = tenant_of_token(conn, digest)? else {
         return Err(OrderFault::Refused(OrderRefusal::NoSuchToken));
     };
-    wgr_entries::end_token(conn, digest)?;
+    commit(conn, &EndedToken { digest })?;
     Ok(Done)
 }
 
@@ -94,7 +94,7 @@ fn end_network<S: Alter>(
     let Some(network) = network_id(conn, id, name)? else {
         return Err(OrderFault::Refused(OrderRefusal::NoNetwork));
     };
-    wgr_entries::end_network(conn, network)?;
+    commit(conn, &EndedNetwork { network })?;
     memory.forget(network);
     Ok(Done)
 }
@@ -122,7 +122,7 @@ fn grant<S: Alter>(
     if is_full(count) {
         return Err(OrderFault::Refused(OrderRefusal::RegisterFull));
     }
-    add_token(conn, digest, id)?;
+    commit(conn, &NewToken { digest, tenant: id })?;
     Ok(Done)
 }
 
@@ -146,7 +146,8 @@ fn add_tenant<S: Alter>(
     if is_full(ids.as_slice().len()) {
         return Err(OrderFault::Refused(OrderRefusal::RegisterFull));
     }
-    wgr_entries::add_tenant(conn, unused_id(ids.as_slice()), name)?;
+    let id = unused_id(ids.as_slice());
+    commit(conn, &NewTenant { id, name })?;
     Ok(Done)
 }
 
@@ -179,7 +180,13 @@ fn add_network<S: Alter>(
         name,
         settings,
     )?;
-    wgr_entries::add_network(conn, new, id, name, settings)?;
+    let network = NewNetwork {
+        id: new,
+        tenant: id,
+        name,
+        settings,
+    };
+    commit(conn, &network)?;
     Ok(Done)
 }
 
@@ -187,7 +194,7 @@ fn add_network<S: Alter>(
 fn admit(
     alloc: Global,
     tenants: &[Tenant],
-    networks: &[Holding],
+    networks: &[NetworkEntry],
     id: u32,
     name: &Name,
     settings: &Settings,

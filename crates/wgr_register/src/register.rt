@@ -17,7 +17,8 @@ ghost use Rattle.wgr_sql.specs.Causes.{HasCause, HasCauseOr};
 ghost use Rattle.wgr_sql.specs.declared.fault.Fault.TheVariants.{Store};
 ghost use Rattle.wgr_schema.specs.Faults.{IfStatementFails};
 ghost use Rattle.wgr_schema.specs.Fresh.{IsFresh, LeavesFresh, is_any_taken, no_schema};
-ghost use Rattle.wgr_schema.specs.FirstVersion.{IsFirstVersion};
+ghost use Rattle.wgr_schema.specs.Versions.{IsOfVersion};
+ghost use Rattle.wgr_schema.specs.declared.version.Version.TheVariants.{One};
 ghost use Rattle.wgr_schema.specs.declared.fault.RegisterFault.TheVariants.{NotARegister, NotEmpty, NotGood};
 ghost use Rattle.wgr_columns.specs.Decode.{tables_of};
 ghost use Rattle.wgr_opening.specs.Good.{IsGood};
@@ -107,9 +108,9 @@ impl<S: Alter> Register<S> {
     pub fn open(alloc: Global, mut conn: Connection<S>) -> Result<Register<S>, OpenFault<S>>
         requires idle { conn.in_transaction ≡ false }
         ensures good { IfOk result (λ register. HasCleanDisk (state S.Store register) → IsGood (state S.Store conn).now × StandsAt S.Store register (state S.Store conn).now []) }
-        ensures foreign { IfErr result (λ e. HasCleanDisk (state S.Store e.connection) → e.fault ≡ NotARegister → IsFirstVersion (state S.Store conn).now → ⊥) }
+        ensures foreign { IfErr result (λ e. HasCleanDisk (state S.Store e.connection) → e.fault ≡ NotARegister → IsOfVersion One (state S.Store conn).now → ⊥) }
         ensures bad { IfErr result (λ e. HasCleanDisk (state S.Store e.connection) → e.fault ≡ NotGood → IsGood (state S.Store conn).now → ⊥) }
-        ensures version { IfErr result (λ e. HasCleanDisk (state S.Store e.connection) → e.fault ≡ NotGood → IsFirstVersion (state S.Store conn).now) }
+        ensures version { IfErr result (λ e. HasCleanDisk (state S.Store e.connection) → e.fault ≡ NotGood → IsOfVersion One (state S.Store conn).now) }
         ensures taken { IfErr result (λ e. e.fault ≡ NotEmpty → ⊥) }
         ensures clean { IfOk result (λ register. HasCleanDisk (state S.Store register) → HasCleanDisk (state S.Store conn)) }
         ensures unharmed { IfErr result (λ e. HasCleanDisk (state S.Store e.connection) → HasCleanDisk (state S.Store conn)) }

@@ -22,7 +22,8 @@ use Rattle.sqlite.specs.State.{HasCleanDisk}
 use Rattle.sqlite.specs.Tree.{Trees}
 use Rattle.wgr_model.specs.Steps.{Event}
 use Rattle.wgr_model.specs.Stops.{IsLeft}
-use Rattle.wgr_schema.specs.FirstVersion.{IsFirstVersion}
+use Rattle.wgr_schema.specs.Versions.{IsOfVersion}
+use Rattle.wgr_schema.specs.declared.version.Version.TheVariants.{One}
 use Rattle.wgr_schema.proofs.VersionLemmas.{version_read}
 use Rattle.wgr_columns.specs.Decode.{tables_of}
 use Rattle.wgr_opening.specs.Good.{IsGood}
@@ -32,7 +33,7 @@ use Rattle.wgr_register.proofs.LeftLemmas.{one_database, stop_leaves}
 use Rattle.wgr_reopen.specs.Again.{FailsByFault, HoldsLeft, StandsAgain}
 
 -- a good register is of the first version
-pub good_is_first : (db : Database) → IsGood db → IsFirstVersion db
+pub good_is_first : (db : Database) → IsGood db → IsOfVersion One db
 good_is_first db good = (version_read db good.register).1 good.consistent.rows.meta
 
 -- the database that is found is one that the stop left

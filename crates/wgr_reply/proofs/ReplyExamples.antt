@@ -2,12 +2,12 @@
 use Rattle.std.proofs.Common.{◌≡◌, ℕ, List, [], refl, codes}
 use Rattle.std.specs.Fmt.{digits}
 use Rattle.serde_json.proofs.OnLiterals.{serde_json_on_literals}
-use Rattle.wgr_core.specs.declared.refusal.LineRefusal.TheVariants as line
-use Rattle.wgr_core.specs.declared.refusal.Refusal.{Refusal}
+use Rattle.wgr_core.specs.declared.refusal.CommandRefusal.{CommandRefusal}
 use Rattle.wgr_core.specs.declared.refusal.Refusal.TheVariants as refusal
 use Rattle.wgr_http.specs.Reply.{first_lines, last_lines}
 use Rattle.wgr_http.specs.declared.message.MessageFault.TheVariants.{LengthRequired}
 use Rattle.wgr_core.specs.RefusalNames.{refusal_name}
+use Rattle.wgr_core.specs.Refusals.{of_command, of_line}
 use Rattle.wgr_reply.specs.Refused.{refusal_facts, refusal_status}
 use Rattle.wgr_reply.specs.Response.{fault_shown, problem, shown_bytes}
 use Rattle.wgr_request.specs.declared.fault.RequestFault.TheVariants.{Message, WrongMethod, UnknownToken, BadField, BadDump}
@@ -44,20 +44,20 @@ length_required : shown_bytes (fault_shown (Message LengthRequired))
 unfolding serde_json_on_literals first_lines last_lines digits
 length_required = refl
 
-abbrev refused : Refusal → List ℕ
-refused why = shown_bytes (problem (refusal_status why) [] (refusal_name why) (refusal_facts why))
+abbrev refused : CommandRefusal → List ℕ
+refused r = shown_bytes (problem (refusal_status r) [] (refusal_name r.why) (refusal_facts r))
 
-key_held : refused (refusal.KeyHeld 1)
+key_held : refused (of_command (refusal.KeyHeld 1))
     ≡ codes "HTTP/1.1 409 Conflict\r\nContent-Type: application/json\r\nContent-Length: 31\r\nConnection: close\r\n\r\n{\"error\":\"key_held\",\"number\":1}"
 unfolding serde_json_on_literals first_lines last_lines digits
 key_held = refl
 
-line_refused : refused (refusal.InLine 3 line.AddressHeld)
+line_refused : refused (of_line 3 refusal.AddressHeld)
     ≡ codes "HTTP/1.1 409 Conflict\r\nContent-Type: application/json\r\nContent-Length: 33\r\nConnection: close\r\n\r\n{\"error\":\"address_held\",\"line\":3}"
 unfolding serde_json_on_literals first_lines last_lines digits
 line_refused = refl
 
-nobodys_address : refused refusal.NobodysAddress
+nobodys_address : refused (of_command refusal.NobodysAddress)
     ≡ codes "HTTP/1.1 404 Not Found\r\nContent-Type: application/json\r\nContent-Length: 27\r\nConnection: close\r\n\r\n{\"error\":\"nobodys_address\"}"
 unfolding serde_json_on_literals first_lines last_lines digits
 nobodys_address = refl

@@ -1,9 +1,9 @@
 -- The JSON that shows peers and networks. Numbers are whole, and each text is a string.
 use Rattle.std.specs.Prelude.{ℕ, List, map, codes, Option, Some, None}
 use Rattle.serde_json.specs.Data.{Data, null, string, object, member, no_members}
-use Rattle.wgr_json.specs.Endpoint.{endpoint_text}
 use Rattle.wgr_json.specs.Values.{array_of, count, key_data, prefix_data}
 use Rattle.wgr_peers.specs.declared.peer.Status.{Status}
+use Rattle.wgr_peers.specs.Endpoint.{endpoint_text}
 use Rattle.wgr_pool.specs.PrefixTests.{full}
 use Rattle.wgr_core.specs.Network.{NetworkValue}
 use Rattle.wgr_core.specs.declared.reply.PeerView.{PeerView}

@@ -8,7 +8,7 @@ use crate::bodies::InReply;
 use serde::Serializer;
 use std::alloc::Global;
 use wgr_core::{Name, Network};
-use wgr_json::{ToJson, send_member, send_number, send_text, text_of_endpoint};
+use wgr_json::{ToJson, send_member, send_number, send_text};
 
 // A network under its name.
 impl ToJson<InReply> for (Name, Network) {
@@ -18,8 +18,7 @@ impl ToJson<InReply> for (Name, Network) {
 
     fn send<S: Serializer>(&self, alloc: Global, out: &mut S) -> Result<(), S::Error> {
         let network = &self.1;
-        let port = network.port().number();
-        let Ok(endpoint) = text_of_endpoint(alloc, network.host().as_str(), port) else {
+        let Ok(endpoint) = network.host().endpoint(alloc, network.port()) else {
             return Err(out.custom("no memory"));
         };
         out.begin_map(Some(5))?;

@@ -4,14 +4,14 @@ ghost use Rattle.wgr_reply.specs.Bodies.{fact_members};
 ghost use Rattle.wgr_reply.specs.Refused.{refusal_facts, refusal_status};
 
 use crate::bodies::Fact;
-use wgr_core::Refusal;
+use wgr_core::{CommandRefusal, Refusal};
 use wgr_http::StatusCode;
 
 // The status of the reply.
-pub(crate) fn status_of(why: Refusal) -> StatusCode
-    ensures { result ≡ refusal_status why }
+pub(crate) fn status_of(refused: CommandRefusal) -> StatusCode
+    ensures { result ≡ refusal_status refused }
 {
-    match why {
+    match refused.why {
         Refusal::NoSuchPeer | Refusal::NoSuchRoute | Refusal::NobodysAddress =>
             StatusCode::NotFound,
         Refusal::KeyHeld { .. }
@@ -24,18 +24,19 @@ pub(crate) fn status_of(why: Refusal) -> StatusCode
         | Refusal::RoutesFull
         | Refusal::LeaseOver
         | Refusal::ServerKey
-        | Refusal::WrongServer
-        | Refusal::InLine { .. } => StatusCode::Conflict,
+        | Refusal::WrongServer => StatusCode::Conflict,
     }
 }
 
-// The fact that the refusal carries.
-pub(crate) fn fact_of(why: Refusal) -> Fact<'static>
-    ensures { fact_members result ≡ refusal_facts why }
+// The fact that the refusal carries: of a line, its number.
+pub(crate) fn fact_of(refused: CommandRefusal) -> Fact<'static>
+    ensures { fact_members result ≡ refusal_facts refused }
 {
-    match why {
+    if let Some(line) = refused.line {
+        return Fact::Line(line);
+    }
+    match refused.why {
         Refusal::KeyHeld { number } => Fact::Number(number),
-        Refusal::InLine { line, .. } => Fact::Line(line),
         Refusal::NoSuchPeer
         | Refusal::AddressHeld
         | Refusal::OutsidePool

@@ -8,7 +8,7 @@ ghost use Rattle.wgr_reply.specs.StatusLine.{IsOfStatus, IsReply};
 use crate::bodies::{Adopted, Fact, InReply, Networks, Owner, Peers, Problem, Revoked};
 use crate::refused::{fact_of, status_of};
 use std::alloc::{AllocError, Global};
-use wgr_core::{Name, Network, PeerView, Refusal};
+use wgr_core::{CommandRefusal, Name, Network, PeerView};
 use wgr_http::{Kind, StatusCode, write_reply};
 use wgr_json::{ToJson, to_json};
 use wgr_request::RequestFault;
@@ -31,7 +31,7 @@ pub enum Response<'a> {
     /// The text of a configuration file.
     File(&'a [u8]),
     /// The network refuses the command.
-    Refused(Refusal),
+    Refused(CommandRefusal),
     /// The tenant has no network of the name.
     NoSuchNetwork,
     /// The request is refused by its bytes, or no tenant has its token.

@@ -3,7 +3,7 @@ use crate::{Response, unavailable, write_response};
 use std::alloc::AllocGlobal;
 use std::process::Abort;
 use wgr_core::{
-    Capacity, Count, Host, Items, Label, LeaseEnd, LineRefusal, Name, Network, Peer, PeerView,
+    Capacity, CommandRefusal, Count, Host, Items, Label, LeaseEnd, Name, Network, Peer, PeerView,
     Pool, Port, Refusal, Status,
 };
 use wgr_http::MessageFault;
@@ -178,23 +178,29 @@ fn refusals(rt: HostRuntime) {
     ];
     for (why, status, name) in rows {
         let body = format!(in rt.alloc(); "{{\"error\":\"{name}\"}}").expect(&rt, "memory");
-        check(&rt, Response::Refused(why), status, "", &body);
+        check(
+            &rt,
+            Response::Refused(CommandRefusal::from(why)),
+            status,
+            "",
+            &body,
+        );
     }
-    let held = LineRefusal::AddressHeld;
     let rows = [
         (
             Refusal::KeyHeld { number: 7 },
-            CONFLICT,
+            None,
             r#"{"error":"key_held","number":7}"#,
         ),
         (
-            Refusal::InLine { line: 3, why: held },
-            CONFLICT,
+            Refusal::AddressHeld,
+            Some(3),
             r#"{"error":"address_held","line":3}"#,
         ),
     ];
-    for (why, status, body) in rows {
-        check(&rt, Response::Refused(why), status, "", body);
+    for (why, line, body) in rows {
+        let refused = CommandRefusal { why, line };
+        check(&rt, Response::Refused(refused), CONFLICT, "", body);
     }
 }
 

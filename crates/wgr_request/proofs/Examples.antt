@@ -19,7 +19,7 @@ use Rattle.wgr_request.specs.Digest.{digest_of}
 use Rattle.wgr_request.specs.Request.{Judged, MessageAsks}
 use Rattle.wgr_request.specs.Request as request
 use Rattle.wgr_request.specs.Paths.{route_rows}
-use Rattle.wgr_request.specs.Target.{TargetValue, networks, peers, peer, address, routes, lease, peer_file, unroute, dump, owner, server_file, number_of, resolved}
+use Rattle.wgr_request.specs.Target.{TargetValue, networks, peers, peer, address, routes, lease, peer_file, unroute, dump, owner, server_file, peer_number_of, resolved}
 use Rattle.wgr_request.specs.declared.fault.RequestFault.{RequestFault}
 use Rattle.wgr_request.specs.declared.fault.RequestFault.TheVariants.{BadField, Message, NoSuchPath, UnknownToken, WrongMethod}
 use Rattle.wgr_request.specs.declared.fault.RequestField.TheVariants.{Body, End}
@@ -124,23 +124,23 @@ unfolding matchit_on_literals route_rows
 reading_a_dump = refl
 
 -- numbers
-the_last : number_of (codes "1000000") ≡ Some 1000000
+the_last : peer_number_of (codes "1000000") ≡ Some 1000000
 unfolding digits
 the_last = refl
 
-zero_is_none : number_of (codes "0") ≡ None
+zero_is_none : peer_number_of (codes "0") ≡ None
 unfolding digits
 zero_is_none = refl
 
-above_the_last : number_of (codes "1000001") ≡ None
+above_the_last : peer_number_of (codes "1000001") ≡ None
 unfolding digits
 above_the_last = refl
 
-sign : number_of (codes "+1") ≡ None
+sign : peer_number_of (codes "+1") ≡ None
 unfolding digits
 sign = refl
 
-letters : number_of (codes "1a") ≡ None
+letters : peer_number_of (codes "1a") ≡ None
 unfolding digits
 letters = refl
 

@@ -14,7 +14,7 @@ use Rattle.wgr_request.specs.Adopting.{adoption_asked}
 use Rattle.wgr_request.specs.Bodies.{ReadCommand, IsBody, OrBody, or_bad, AddFields, MoveFields, RouteFields, UnrouteFields, RenewFields, IsAdd, IsMove, IsRouteBody, IsUnroute, IsRenew}
 use Rattle.wgr_request.specs.Commands.{IsAdoption, IsCommand, IsOwner, IsPeers}
 use Rattle.wgr_request.specs.Fields.{end_value, field_value, keepalive_value}
-use Rattle.wgr_request.specs.Laws.{IsAddition, Makes, PathsMakeCommands, network_of}
+use Rattle.wgr_request.specs.Laws.{IsAddition, MakesCommand, PathsMakeCommands, named_network}
 use Rattle.wgr_request.specs.Paths.{has_method, methods}
 use Rattle.wgr_request.specs.Request.{On, Asks, Follows, ask, digest_given}
 use Rattle.wgr_request.specs.Target.{TargetValue, resolved}
@@ -107,7 +107,7 @@ said digest name d n Is c (Ok asked, is, e) =
 said digest name d n Is c (Err why, is, e) = cc e
 
 peers_made : (name : List ℕ) (m : MessageView) (c : Command) → has_method GetOrPost m.method ≡ true → IsPeers (bytes_eq m.method (codes "POST")) m.body (Ok c)
-    → Makes (target.peers name) m c
+    → MakesCommand (target.peers name) m c
 peers_made name m c by is = elim (listed_or_added (bytes_eq m.method (codes "POST")) m.body c is) [
   | inl list ↦ elim (is_get_or_post m.method by) [
     | inl get ↦ inl (get, list.1)
@@ -117,7 +117,7 @@ peers_made name m c by is = elim (listed_or_added (bytes_eq m.method (codes "POS
 ]
 
 asked_made : (t : TargetValue) (m : MessageView) (digest name d : List ℕ) (c : Command) → has_method (methods (place_of t)) m.method ≡ true → Asks d t m (ask digest name c)
-    → (d ≡ digest) × (network_of t ≡ Some name) × Makes t m c
+    → (d ≡ digest) × (named_network t ≡ Some name) × MakesCommand t m c
 asked_made target.networks m digest name d c by e = cc e
 asked_made (target.peers n) m digest name d c by on =
     let s = said digest name d n (IsPeers (bytes_eq m.method (codes "POST")) m.body) c on in (s.0, s.1, peers_made n m c by s.2)
@@ -141,13 +141,13 @@ asked_made (target.server_file n form) m digest name d c by on =
     let s = said digest name d n (IsCommand (command.ServerFile form)) c on in (s.0, s.1, (is_get m.method by, made (command.ServerFile form) c s.2))
 
 follows_made : (given : Option (List ℕ)) (t : TargetValue) (m : MessageView) (digest name : List ℕ) (c : Command) → has_method (methods (place_of t)) m.method ≡ true
-    → Follows (Ok t) given m (ask digest name c) → (given ≡ Some digest) × (network_of t ≡ Some name) × Makes t m c
+    → Follows (Ok t) given m (ask digest name c) → (given ≡ Some digest) × (named_network t ≡ Some name) × MakesCommand t m c
 follows_made None t m digest name c by e = cc e
 follows_made (Some d) t m digest name c by asks =
     let is = asked_made t m digest name d c by asks in (ap (λ x. Some x) is.0, is.1, is.2)
 
 followed : (x : Result TargetValue RequestFault) (m : MessageView) (digest name : List ℕ) (c : Command) → resolved m.method m.target ≡ x → Follows x (digest_given m) m (ask digest name c)
-    → (t : TargetValue) × (resolved m.method m.target ≡ Ok t) × (digest_given m ≡ Some digest) × (network_of t ≡ Some name) × Makes t m c
+    → (t : TargetValue) × (resolved m.method m.target ≡ Ok t) × (digest_given m ≡ Some digest) × (named_network t ≡ Some name) × MakesCommand t m c
 followed (Err why) m digest name c at e = cc e
 followed (Ok t) m digest name c at asks =
     let is = follows_made (digest_given m) t m digest name c (by_its_method m.method m.target t at) asks in (t, at, is.0, is.1, is.2)

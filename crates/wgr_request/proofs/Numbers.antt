@@ -6,7 +6,7 @@ use Rattle.std.proofs.lemmas.Bool.{cases_lt, leb-true, le-leb}
 use Rattle.std.proofs.lemmas.Fmt.{decimal_digit, first_decimal, decimal-digits_value, parse-decimal}
 use Rattle.std.proofs.lemmas.Slice.Eq.{bytes_eq-Decides}
 use Rattle.std.proofs.lemmas.Str.Parse.{numerals_by_value, tells_digits, without_leading_plus_none}
-use Rattle.wgr_request.specs.Target.{number_of}
+use Rattle.wgr_request.specs.Target.{peer_number_of}
 
 -- nothing is chosen unless all three tests hold
 none_unless : (a b c : Bool) (n : ℕ) → (a ≡ true → b ≡ true → c ≡ true → ⊥) → None ≡ cond (a && b && c) (Some n) None
@@ -19,7 +19,7 @@ chosen : (a b c : Bool) (n : ℕ) → a ≡ true → b ≡ true → c ≡ true �
 chosen a b c n x y z = rw (x, y, z) refl
 
 -- no number begins with a byte up to `0`
-pub no_number : (text : List ℕ) → get_or text 0 0 ≤ 48 → None ≡ number_of text
+pub no_number : (text : List ℕ) → get_or text 0 0 ≤ 48 → None ≡ peer_number_of text
 no_number text low =
     let n = digits_value 10 text in
     none_unless (nat_le 1 n) (nat_le n 1000000) (bytes_eq text (decimal n)) n λ least most same.
@@ -28,7 +28,7 @@ no_number text low =
     absurd (omega (arith, low, first, ap (λ t. get_or t 0 0) written))
 
 -- what isn't read is no number
-pub unread : {E : Type 0} (text : List ℕ) (e : E) → ParsesUnsigned 32 10 text (Err e) → None ≡ number_of text
+pub unread : {E : Type 0} (text : List ℕ) (e : E) → ParsesUnsigned 32 10 text (Err e) → None ≡ peer_number_of text
 unread text e parsed =
     let n = digits_value 10 text in
     none_unless (nat_le 1 n) (nat_le n 1000000) (bytes_eq text (decimal n)) n λ least most same.
@@ -50,7 +50,7 @@ read_as text k high h =
     let back = decimal-digits_value (numerals_by_value _ tells_digits) text number.0.0.1 number.0.0.0 alone (omega (arith, number.0.1)) in
     (sym back ∙ ap decimal (sym number.1), number.1)
 
-pub number_read : (text : List ℕ) (k : ℕ) → 48 < get_or text 0 0 → Spells text k → k ≤ 1000000 → Some k ≡ number_of text
+pub number_read : (text : List ℕ) (k : ℕ) → 48 < get_or text 0 0 → Spells text k → k ≤ 1000000 → Some k ≡ peer_number_of text
 number_read text k high h most =
     let is = read_as text k high h in
     let some : 1 ≤ k = elim (cases_lt 0 k) [
@@ -59,7 +59,7 @@ number_read text k high h most =
     ] in
     rw (← is.1) (chosen (nat_le 1 k) (nat_le k 1000000) (bytes_eq text (decimal k)) k (le-leb 1 k some) (le-leb k 1000000 most) ((bytes_eq-Decides text (decimal k)).1 is.0))
 
-pub too_great : (text : List ℕ) (k : ℕ) → 48 < get_or text 0 0 → Spells text k → 1000000 < k → None ≡ number_of text
+pub too_great : (text : List ℕ) (k : ℕ) → 48 < get_or text 0 0 → Spells text k → 1000000 < k → None ≡ peer_number_of text
 too_great text k high h more =
     let is = read_as text k high h in
     let n = digits_value 10 text in

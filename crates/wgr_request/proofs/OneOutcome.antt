@@ -7,13 +7,15 @@ use Rattle.wgr_core.specs.declared.command.Command.{Command}
 use Rattle.wgr_core.specs.declared.command.Command.TheVariants.{Adopt}
 use Rattle.wgr_core.specs.declared.command.Command.TheVariants as command
 use Rattle.wgr_dump.specs.Dump.{DumpValue}
-use Rattle.wgr_dump.specs.Unique.{one_dump, one_key, one_masked}
+use Rattle.wgr_dump.specs.Unique.{one_dump, one_masked}
 use Rattle.wgr_dump.proofs.LawLemmas.{one_fault, not_both}
 use Rattle.wgr_text.specs.Prefix.{width}
 use Rattle.wgr_text.specs.PrefixText.{SpellsAddr}
+use Rattle.wgr_text.proofs.KeyLemmas.{one_key}
 use Rattle.wgr_text.proofs.RoundTrips.{Spells_unique}
 use Rattle.wgr_text.proofs.Spelled.{SpellsAddr_unique}
-use Rattle.wgr_dump.specs.Fields.{SpellsKey, SpellsMasked}
+use Rattle.wgr_dump.specs.Fields.{SpellsMasked}
+use Rattle.wgr_text.specs.KeyText.{SpellsKey}
 use Rattle.wgr_request.specs.Adopting.{adoption_asked, seen_peer}
 use Rattle.wgr_request.specs.Bodies.{ReadCommand, With, IsJson, IsObject, OrBody, IsBody, has_only, AddFields, MoveFields, RouteFields, UnrouteFields, RenewFields, IsAdd, IsMove, IsRouteBody, IsUnroute, IsRenew}
 use Rattle.wgr_request.specs.Commands.{IsCommand, IsPeers, IsAdoption, IsOwner}

@@ -6,7 +6,7 @@ use Rattle.std.proofs.lemmas.Slice.Eq.{bytes_eq-Decides}
 use Rattle.matchit.specs.Router.{RouteOf}
 use Rattle.matchit.specs.Seek.{first}
 use Rattle.wgr_request.specs.Paths.{has_method, methods, route_rows}
-use Rattle.wgr_request.specs.Target.{TargetValue, PathParts, as_ascii, at_route, both, form_of, found_at, number_of, numbered, parts_at, resolved, target_of, with_method}
+use Rattle.wgr_request.specs.Target.{TargetValue, PathParts, as_ascii, at_route, both, form_of, found_at, peer_number_of, numbered, parts_at, resolved, target_of, with_method}
 use Rattle.wgr_request.specs.Target as target
 use Rattle.wgr_request.specs.declared.fault.RequestFault.{RequestFault}
 use Rattle.wgr_request.specs.declared.fault.RequestFault.TheVariants.{WrongMethod}
@@ -46,13 +46,13 @@ place_of (target.server_file name form) = place.ServerFile
 placed : (at : Place) (p : PathParts) (t : TargetValue) → target_of at p ≡ Some t → place_of t ≡ at
 placed place.Networks p t e = let is : t ≡ target.networks = cc e in ap place_of is
 placed place.Peers p t e = ap place_of (mapped target.peers p.name t e).1
-placed place.Peer p t e = ap place_of (paired target.peer p.name (option_and_then number_of p.number) t e).2
-placed place.Address p t e = ap place_of (paired target.address p.name (option_and_then number_of p.number) t e).2
-placed place.Routes p t e = ap place_of (paired target.routes p.name (option_and_then number_of p.number) t e).2
-placed place.Lease p t e = ap place_of (paired target.lease p.name (option_and_then number_of p.number) t e).2
+placed place.Peer p t e = ap place_of (paired target.peer p.name (option_and_then peer_number_of p.number) t e).2
+placed place.Address p t e = ap place_of (paired target.address p.name (option_and_then peer_number_of p.number) t e).2
+placed place.Routes p t e = ap place_of (paired target.routes p.name (option_and_then peer_number_of p.number) t e).2
+placed place.Lease p t e = ap place_of (paired target.lease p.name (option_and_then peer_number_of p.number) t e).2
 placed place.PeerFile p t e =
     let form = bound (λ form. numbered (λ name number. target.peer_file name number form) p) (option_and_then form_of p.form) t e in
-    ap place_of (paired (λ name number. target.peer_file name number form.0) p.name (option_and_then number_of p.number) t form.1).2
+    ap place_of (paired (λ name number. target.peer_file name number form.0) p.name (option_and_then peer_number_of p.number) t form.1).2
 placed place.Unroute p t e = ap place_of (mapped target.unroute p.name t e).1
 placed place.Dump p t e = ap place_of (mapped target.dump p.name t e).1
 placed place.Owner p t e = ap place_of (paired target.owner p.name p.address t e).2

@@ -5,7 +5,8 @@ use Rattle.serde_json.specs.Find.{as_number, as_str, as_u64, get}
 use Rattle.wgr_text.specs.declared.key.Key.{Key}
 use Rattle.wgr_text.specs.Prefix.{AddrValue, PrefixValue, width}
 use Rattle.wgr_text.specs.PrefixText.{Spells}
-use Rattle.wgr_dump.specs.Fields.{SpellsKey, SpellsMasked}
+use Rattle.wgr_dump.specs.Fields.{SpellsMasked}
+use Rattle.wgr_text.specs.KeyText.{SpellsKey}
 use Rattle.wgr_peers.specs.Label.{IsLabel}
 
 -- a field that may be absent: the value that is used then, or none

@@ -44,41 +44,41 @@ SecretsAreUnasked = (m : MessageView) (other name : List ℕ) (r : RequestView) 
     → DifferInSecrets m.body other → MessageAsks m r ↔ MessageAsks (record m { body = other }) r
 
 -- the network that a target names
-abbrev pub network_of : TargetValue → Option (List ℕ)
-network_of target.networks = None
-network_of (target.peers name) = Some name
-network_of (target.peer name number) = Some name
-network_of (target.address name number) = Some name
-network_of (target.routes name number) = Some name
-network_of (target.lease name number) = Some name
-network_of (target.peer_file name number form) = Some name
-network_of (target.unroute name) = Some name
-network_of (target.dump name) = Some name
-network_of (target.owner name text) = Some name
-network_of (target.server_file name form) = Some name
+abbrev pub named_network : TargetValue → Option (List ℕ)
+named_network target.networks = None
+named_network (target.peers name) = Some name
+named_network (target.peer name number) = Some name
+named_network (target.address name number) = Some name
+named_network (target.routes name number) = Some name
+named_network (target.lease name number) = Some name
+named_network (target.peer_file name number form) = Some name
+named_network (target.unroute name) = Some name
+named_network (target.dump name) = Some name
+named_network (target.owner name text) = Some name
+named_network (target.server_file name form) = Some name
 
 abbrev pub IsAddition : Command → Type 0
 IsAddition c =
     (key : Key) × (label : List ℕ) × (address : Option AddrValue) × (until : ℕ) × (keepalive : ℕ) × (c ≡ command.Add key label address until keepalive)
 
 -- the method of a target's path, and the command that it makes
-abbrev pub Makes : TargetValue → MessageView → Command → Type 0
-Makes target.networks m c = ⊥
-Makes (target.peers name) m c = ((m.method ≡ codes "GET") × (c ≡ command.List)) ⊎ ((m.method ≡ codes "POST") × IsAddition c)
-Makes (target.peer name number) m c = (m.method ≡ codes "DELETE") × (c ≡ command.Revoke number)
-Makes (target.address name number) m c = (m.method ≡ codes "POST") × (address : Option AddrValue) × (c ≡ command.Move number address)
-Makes (target.routes name number) m c = (m.method ≡ codes "POST") × (prefix : PrefixValue) × (c ≡ command.Route number prefix)
-Makes (target.lease name number) m c = (m.method ≡ codes "POST") × (until : ℕ) × (c ≡ command.Renew number until)
-Makes (target.peer_file name number form) m c = (m.method ≡ codes "GET") × (c ≡ command.PeerFile number form)
-Makes (target.unroute name) m c = (m.method ≡ codes "POST") × (prefix : PrefixValue) × (c ≡ command.Unroute prefix)
-Makes (target.dump name) m c = (m.method ≡ codes "POST") × (dump : DumpValue) × IsDump m.body dump.interface dump.lines × (c ≡ adoption_asked dump)
-Makes (target.owner name text) m c = (m.method ≡ codes "GET") × (address : AddrValue) × SpellsAddr text address × (c ≡ command.Owner address)
-Makes (target.server_file name form) m c = (m.method ≡ codes "GET") × (c ≡ command.ServerFile form)
+abbrev pub MakesCommand : TargetValue → MessageView → Command → Type 0
+MakesCommand target.networks m c = ⊥
+MakesCommand (target.peers name) m c = ((m.method ≡ codes "GET") × (c ≡ command.List)) ⊎ ((m.method ≡ codes "POST") × IsAddition c)
+MakesCommand (target.peer name number) m c = (m.method ≡ codes "DELETE") × (c ≡ command.Revoke number)
+MakesCommand (target.address name number) m c = (m.method ≡ codes "POST") × (address : Option AddrValue) × (c ≡ command.Move number address)
+MakesCommand (target.routes name number) m c = (m.method ≡ codes "POST") × (prefix : PrefixValue) × (c ≡ command.Route number prefix)
+MakesCommand (target.lease name number) m c = (m.method ≡ codes "POST") × (until : ℕ) × (c ≡ command.Renew number until)
+MakesCommand (target.peer_file name number form) m c = (m.method ≡ codes "GET") × (c ≡ command.PeerFile number form)
+MakesCommand (target.unroute name) m c = (m.method ≡ codes "POST") × (prefix : PrefixValue) × (c ≡ command.Unroute prefix)
+MakesCommand (target.dump name) m c = (m.method ≡ codes "POST") × (dump : DumpValue) × IsDump m.body dump.interface dump.lines × (c ≡ adoption_asked dump)
+MakesCommand (target.owner name text) m c = (m.method ≡ codes "GET") × (address : AddrValue) × SpellsAddr text address × (c ≡ command.Owner address)
+MakesCommand (target.server_file name form) m c = (m.method ≡ codes "GET") × (c ≡ command.ServerFile form)
 
 -- what is asked of a network is a command of the target's path, with the token's digest and the path's name
 abbrev pub PathsMakeCommands : Type 0
 PathsMakeCommands = (m : MessageView) (digest name : List ℕ) (c : Command) → MessageAsks m (ask digest name c)
-    → (t : TargetValue) × (resolved m.method m.target ≡ Ok t) × (digest_given m ≡ Some digest) × (network_of t ≡ Some name) × Makes t m c
+    → (t : TargetValue) × (resolved m.method m.target ≡ Ok t) × (digest_given m ≡ Some digest) × (named_network t ≡ Some name) × MakesCommand t m c
 
 -- and the list of networks has its own path
 abbrev pub OnePathListsNetworks : Type 0

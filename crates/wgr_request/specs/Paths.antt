@@ -48,14 +48,14 @@ method_names Delete = codes "DELETE" ∷ []
 abbrev pub has_method : Methods → List ℕ → Bool
 has_method methods name = list_any (bytes_eq name) (method_names methods)
 
-abbrev pub joined : List (List ℕ) → List ℕ
-joined [] = []
-joined (name ∷ []) = name
-joined (name ∷ other ∷ names) = name ++ codes ", " ++ joined (other ∷ names)
+abbrev pub joined_names : List (List ℕ) → List ℕ
+joined_names [] = []
+joined_names (name ∷ []) = name
+joined_names (name ∷ other ∷ names) = name ++ codes ", " ++ joined_names (other ∷ names)
 
 -- the value of the field Allow (RFC 9110 section 10.2.1)
 abbrev pub allow_text : Methods → List ℕ
-allow_text methods = joined (method_names methods)
+allow_text methods = joined_names (method_names methods)
 
 -- ---- the router
 

@@ -75,8 +75,8 @@ abbrev pub parts_at : List ℕ → RouteOf Place → PathParts
 parts_at path r = parts_in r.pattern r.text path r.names
 
 -- the number of a peer: 1 to 1,000,000 in decimal, without leading zeros
-abbrev pub number_of : List ℕ → Option ℕ
-number_of text =
+abbrev pub peer_number_of : List ℕ → Option ℕ
+peer_number_of text =
     let n = digits_value 10 text in
     cond (nat_le 1 n && nat_le n max_number && bytes_eq text (decimal n)) (Some n) None
 
@@ -88,7 +88,7 @@ both make None b = None
 both make (Some a) b = option_map (make a) b
 
 abbrev pub numbered : (List ℕ → ℕ → TargetValue) → PathParts → Option TargetValue
-numbered make p = both make p.name (option_and_then number_of p.number)
+numbered make p = both make p.name (option_and_then peer_number_of p.number)
 
 -- what the parts name, if the number and the form are of their forms
 abbrev pub target_of : Place → PathParts → Option TargetValue

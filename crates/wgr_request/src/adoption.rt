@@ -3,7 +3,7 @@ ghost use Rattle.std.specs.Prelude.{◌≡◌, IfOk};
 ghost use Rattle.wgr_request.specs.Adopting.{adoption_asked, seen_peer};
 
 use std::alloc::{AllocError, Global};
-use wgr_core::{Command, Count, Items, SeenPeer, Status};
+use wgr_core::{Command, Items, SeenPeer, Status};
 use wgr_dump::{Dump, PeerLine};
 
 /// The command by which a network takes over the peers that the dump shows.
@@ -28,17 +28,10 @@ fn seen_peer(alloc: Global, line: &PeerLine<'_>) -> Result<SeenPeer, AllocError>
         key: line.key(),
         allowed: Items::of(line.allowed().collect(alloc)?),
         status: Status {
-            handshake: kept(line.handshake()),
-            received: kept(line.received()),
-            sent: kept(line.sent()),
+            handshake: line.handshake().value(),
+            received: line.received().value(),
+            sent: line.sent().value(),
         },
         keepalive: line.keepalive(),
     })
-}
-
-// The count, which is within its limit already.
-fn kept(count: &wgr_dump::WrittenCount<'_>) -> Count
-    ensures { result ≡ count.now.value }
-{
-    Count::new(count.value())
 }

@@ -2,13 +2,14 @@
 ghost use Rattle.std.specs.Prelude.{◌≡◌, codes, Some, option_map, IfOk};
 ghost use Rattle.serde_json.specs.Find.{as_str, get};
 ghost use Rattle.serde_json.specs.View.{view};
-ghost use Rattle.wgr_dump.specs.Fields.{SpellsKey, SpellsMasked};
+ghost use Rattle.wgr_dump.specs.Fields.{SpellsMasked};
+ghost use Rattle.wgr_text.specs.KeyText.{SpellsKey};
 ghost use Rattle.wgr_request.specs.Fields.{IsText, KeyField, LabelField, NamedField, PrefixField, SpellsFull, SpellsLabel, end_value, field_value, keepalive_value};
 
 use serde_json::Value;
 use std::alloc::{AllocError, Global};
 use wgr_core::{Label, LeaseEnd};
-use wgr_text::{Addr, Key, Prefix, are_bytes, read_loose};
+use wgr_text::{Addr, Key, Prefix, read_loose};
 
 // The key that a peer has to have.
 pub(crate) fn key_field(body: &Value) -> Option<Key>
@@ -54,7 +55,7 @@ fn key_of(value: &Value) -> Option<Key>
     ensures { IsText SpellsKey (as_str (view value.now)) result }
 {
     match value.as_str() {
-        Some(text) => read_key(text.as_bytes()),
+        Some(text) => Key::read(text.as_bytes()),
         None => None,
     }
 }
@@ -82,18 +83,6 @@ fn prefix_of(value: &Value) -> Option<Prefix>
 {
     match value.as_str() {
         Some(text) => read_masked(text.as_bytes()),
-        None => None,
-    }
-}
-
-fn read_key(text: &[u8]) -> Option<Key>
-    ensures { IsText SpellsKey (Some text.now) result }
-{
-    match Key::read(text) {
-        Some(key) => {
-            are_bytes(&key.0);
-            Some(key)
-        }
         None => None,
     }
 }

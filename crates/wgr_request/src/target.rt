@@ -2,7 +2,7 @@
 ghost use Rattle.std.specs.Prelude.{◌≡◌, ◌<◌, Some, codes, option_map};
 ghost use Rattle.std.specs.Str.{IsAscii};
 ghost use Rattle.wgr_request.specs.Paths.{route_rows};
-ghost use Rattle.wgr_request.specs.Target.{ArePartsTexts, all_ascii, as_ascii, form_of, found_at, found_view, number_of, parts_in, parts_view, resolved, resolved_view, target_of, target_view};
+ghost use Rattle.wgr_request.specs.Target.{ArePartsTexts, all_ascii, as_ascii, form_of, found_at, found_view, peer_number_of, parts_in, parts_view, resolved, resolved_view, target_of, target_view};
 
 use crate::fault::RequestFault;
 use crate::paths::{Paths, Place};
@@ -143,7 +143,7 @@ fn target_of<'t>(place: Place, parts: PathTexts<'t>) -> Option<Target<'t>>
 
 // The number of a peer: 1 to 1,000,000 in decimal, without leading zeros.
 fn number_of(text: &str) -> Option<u32>
-    ensures { result ≡ number_of text.now }
+    ensures { result ≡ peer_number_of text.now }
 {
     let first = *text.as_bytes().first()?;
     // `parse` accepts a sign and leading zeros too.

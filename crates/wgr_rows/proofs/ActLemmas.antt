@@ -18,12 +18,14 @@ use Rattle.wgr_core.specs.declared.change.Change.{Change}
 use Rattle.wgr_core.specs.declared.command.Command.TheVariants as command
 use Rattle.wgr_core.specs.declared.fault.ActFault.TheVariants as act
 use Rattle.wgr_core.specs.declared.refusal.Refusal.{Refusal}
-use Rattle.wgr_core.specs.declared.refusal.Refusal.TheVariants.{AddressHeld, CapacityReached, KeyHeld, LeaseOver, NobodysAddress, NumbersSpent, OutsidePool, ServerKey}
+use Rattle.wgr_core.specs.declared.joining.Joining.{Joining}
+use Rattle.wgr_core.specs.declared.refusal.Refusal.TheVariants.{NobodysAddress}
 use Rattle.wgr_core.specs.declared.reply.Reply.{Reply}
 use Rattle.wgr_core.specs.declared.reply.Reply.TheVariants as reply
 use Rattle.wgr_core.specs.Change.{Meets, MeetsLive}
 use Rattle.wgr_core.specs.Network.{IsNetwork, NetworkValue, live_at}
-use Rattle.wgr_core.specs.Outcome.{Outcome, add, at_place, held_or, join_refusal, joined, kept_if, or_nobodys, outcome_of, place, unless, address_unless}
+use Rattle.wgr_core.specs.Outcome.{Outcome, add, at_place, joined, kept_if, or_nobodys, outcome_of, unless}
+use Rattle.wgr_core.specs.Refusals.{is_address_taken, join_refusal, joining_of, of_command, place}
 use Rattle.wgr_core.specs.Owner.{owner_of}
 use Rattle.wgr_core.proofs.CommandLemmas.{meets_from_live, none_to_next, put_peer_above}
 use Rattle.wgr_core.proofs.LiveLemmas.{live_is_network}
@@ -41,42 +43,18 @@ use Rattle.wgr_rows.proofs.LeadLemmas.{full_held}
 
 -- ---- whether a peer may join
 
-abbrev refused_by : Bool → Option ℕ → Bool → Bool → Bool → Option Refusal
-refused_by server holder over room spent = cond server (Some ServerKey) (held_or holder (cond over (Some LeaseOver) (cond (not room) (Some CapacityReached) (cond spent (Some NumbersSpent) None))))
-
-module _ (n : NetworkValue) (now : ℕ) (key : Key) (until : ℕ) where
-  abbrev live : NetworkValue
-  live = live_at n now
-
-  abbrev Joins : Option Refusal → Type 0
-  Joins why = join_refusal live now key until ≡ why
-
-  abbrev has_room : Bool
-  has_room = nat_lt (length live.peers) n.capacity
-
-  pub is_servers : same_key key n.server ≡ true → Joins (Some ServerKey)
-  is_servers s k = refused_by (s k) (key_holder live.peers key) (is_expired now until) has_room (nat_lt max_number n.next)
-
-  pub is_held : (number : ℕ) → same_key key n.server ≡ false → Some number ≡ key_holder live.peers key → Joins (Some (KeyHeld number))
-  is_held number s h k = refused_by (s k) (sym h k) (is_expired now until) has_room (nat_lt max_number n.next)
-
-  pub is_over : same_key key n.server ≡ false → None ≡ key_holder live.peers key → is_expired now until ≡ true → Joins (Some LeaseOver)
-  is_over s h o k = refused_by (s k) (sym h k) (o k) has_room (nat_lt max_number n.next)
-
-  pub is_full : same_key key n.server ≡ false → None ≡ key_holder live.peers key → is_expired now until ≡ false → has_room ≡ false → Joins (Some CapacityReached)
-  is_full s h o r k = refused_by (s k) (sym h k) (o k) (r k) (nat_lt max_number n.next)
-
-  pub is_spent : same_key key n.server ≡ false → None ≡ key_holder live.peers key → is_expired now until ≡ false → has_room ≡ true → max_number < n.next → Joins (Some NumbersSpent)
-  is_spent s h o r l k = refused_by (s k) (sym h k) (o k) (r k) (above k)
-    where
-      above : nat_lt max_number n.next ≡ true
-      above = grind (arith, nat_tests)
-
-  pub is_admitted : same_key key n.server ≡ false → None ≡ key_holder live.peers key → is_expired now until ≡ false → has_room ≡ true → n.next ≤ max_number → Joins None
-  is_admitted s h o r l k = refused_by (s k) (sym h k) (o k) (r k) (within k)
-    where
-      within : nat_lt max_number n.next ≡ false
-      within = grind (arith, nat_tests)
+-- what was read of the rows is what decides on the live network
+pub joining_is : (n : NetworkValue) (now : ℕ) (key server : Key) (holder : Option ℕ) (room : Bool) (next : ℕ)
+    → server ≡ n.server → holder ≡ key_holder (live_at n now).peers key → room ≡ nat_lt (length (live_at n now).peers) n.capacity → next ≡ n.next
+    → record { server = server; key_holder = holder; has_room = room; next = next } ≡ joining_of (live_at n now) key
+joining_is n now key server holder room next servers holders rooms nexts =
+    let live = live_at n now in
+    let j : Joining = record { server = server; key_holder = holder; has_room = room; next = next } in
+    let same_server : j ≡ record j { server = n.server } = ap (λ (k : Key). record j { server = k }) servers in
+    let same_holder : record j { server = n.server } ≡ record j { server = n.server; key_holder = key_holder live.peers key } = ap (λ (h : Option ℕ). record j { server = n.server; key_holder = h }) holders in
+    let same_room : record j { server = n.server; key_holder = key_holder live.peers key } ≡ record (joining_of live key) { next = next } = ap (λ (b : Bool). record (joining_of live key) { has_room = b; next = next }) rooms in
+    let same_next : record (joining_of live key) { next = next } ≡ joining_of live key = ap (λ (m : ℕ). record (joining_of live key) { next = m }) nexts in
+    same_server ∙ same_holder ∙ same_room ∙ same_next
 
 -- ---- room
 
@@ -116,43 +94,17 @@ room_by_count n now over is = same (length n.peers) (length (live_at n now).peer
 
 -- ---- the address
 
--- a named address is held where the prefix at full length leads to a peer, and there alone
-module _ (m : NetworkValue) (a : AddrValue) (given : is_assignable m.pool a ≡ true) where
-  abbrev own : Bool
-  own = is_own m.peers a
-
-  abbrev routed : Bool
-  routed = is_some (route_of m.routes (full a))
-
-  place_by : (why : Option Refusal) → cond own (Some AddressHeld) (cond routed (Some AddressHeld) None) ≡ why → place m (Some a) ≡ address_unless a why
-  place_by why is = ap (λ b. address_unless a (cond (not b) (Some OutsidePool) (cond own (Some AddressHeld) (cond routed (Some AddressHeld) None)))) given ∙ ap (address_unless a) is
-
-  pub place_held : (number : ℕ) → Some number ≡ prefix_holder m (full a) → place m (Some a) ≡ Err AddressHeld
-  place_held number found = place_by (Some AddressHeld) (either own routed (sym (full_held m a) ∙ ap is_some (sym found)))
-    where
-      either : (b c : Bool) → (b || c) ≡ true → cond b (Some AddressHeld) (cond c (Some AddressHeld) None) ≡ Some AddressHeld
-      either true c is = refl
-      either false true is = refl
-      either false false is = cc
-
-  pub place_free : None ≡ prefix_holder m (full a) → place m (Some a) ≡ Ok a
-  place_free found = place_by None (neither own routed (sym (full_held m a) ∙ ap is_some (sym found)))
-    where
-      neither : (b c : Bool) → (b || c) ≡ false → cond b (Some AddressHeld) (cond c (Some AddressHeld) None) ≡ None
-      neither true c is = cc
-      neither false true is = cc
-      neither false false is = refl
-
-pub place_outside : (m : NetworkValue) (a : AddrValue) → is_assignable m.pool a ≡ false → place m (Some a) ≡ Err OutsidePool
-place_outside m a out = ap (λ b. address_unless a (cond (not b) (Some OutsidePool) (cond (is_own m.peers a) (Some AddressHeld) (cond (is_some (route_of m.routes (full a))) (Some AddressHeld) None)))) out
+-- a named address is taken where the prefix at full length leads to a peer, and there alone
+pub taken_is : (m : NetworkValue) (a : AddrValue) (holder : Option ℕ) → holder ≡ prefix_holder m (full a) → is_address_taken m a ≡ is_some holder
+taken_is m a holder found = sym (full_held m a) ∙ ap is_some (sym found)
 
 -- ---- the outcome
 
 -- the new peer's view, and the change by which it joins
-abbrev pub joining : Peer → List ℕ → Reply × Option Change
-joining p removed = (reply.Peer (record { peer = p; routes = [] }), Some (record { removed = removed; peers = p ∷ []; routes_put = []; routes_gone = []; next = p.number + 1 }))
+abbrev pub joined_by : Peer → List ℕ → Reply × Option Change
+joined_by p removed = (reply.Peer (record { peer = p; routes = [] }), Some (record { removed = removed; peers = p ∷ []; routes_put = []; routes_gone = []; next = p.number + 1 }))
 
-joins : (n : NetworkValue) (p : Peer) (removed : List ℕ) → IsNetwork n → p.number ≡ n.next → MeetsLive false None n removed (Ok (joining p removed)) (joined n p)
+joins : (n : NetworkValue) (p : Peer) (removed : List ℕ) → IsNetwork n → p.number ≡ n.next → MeetsLive false None n removed (Ok (joined_by p removed)) (joined n p)
 joins n p removed is next =
     let none : routes_to n.routes p.number ≡ [] = ap (routes_to n.routes) next ∙ none_to_next n is in
     let above : All (λ q. q.number < p.number) n.peers = λ k d h. omega (arith, (is.members k d h).numbered.1, next) in (
@@ -168,22 +120,22 @@ module _ (n : NetworkValue) (is : IsNetwork n) (now : ℕ) where
     abbrev after : AddrValue → Outcome
     after a = joined (live_at n now) (record { number = n.next; key = key; label = label; address = a; until = until; keepalive = keepalive; status = None })
 
-    meets_refused : (why : Refusal) → add (live_at n now) now key label wanted until keepalive ≡ Err why → Meets n (Err (act.Refused why)) (outcome_of n now (command.Add key label wanted until keepalive))
-    meets_refused why so = subst (λ o. Meets n (Err (act.Refused why)) (kept_if false n o)) (sym so) refl
+    meets_refused : (why : Refusal) → add (live_at n now) now key label wanted until keepalive ≡ Err (of_command why) → Meets n (Err (act.Refused (of_command why))) (outcome_of n now (command.Add key label wanted until keepalive))
+    meets_refused why so = subst (λ o. Meets n (Err (act.Refused (of_command why))) (kept_if false n o)) (sym so) refl
 
-    pub not_admitted : (why : Refusal) → join_refusal (live_at n now) now key until ≡ Some why → Meets n (Err (act.Refused why)) (outcome_of n now (command.Add key label wanted until keepalive))
-    not_admitted why so = meets_refused why (ap (λ o. unless o (at_place (place (live_at n now) wanted) after)) so)
+    pub not_admitted : (why : Refusal) → join_refusal (live_at n now) now key until ≡ Some why → Meets n (Err (act.Refused (of_command why))) (outcome_of n now (command.Add key label wanted until keepalive))
+    not_admitted why so = meets_refused why (ap (λ o. unless o (at_place (place (live_at n now) n.pool wanted) after)) so)
 
-    pub not_placed : (why : Refusal) → join_refusal (live_at n now) now key until ≡ None → place (live_at n now) wanted ≡ Err why → Meets n (Err (act.Refused why)) (outcome_of n now (command.Add key label wanted until keepalive))
-    not_placed why none so = meets_refused why (ap (λ o. unless o (at_place (place (live_at n now) wanted) after)) none ∙ ap (λ o. at_place o after) so)
+    pub not_placed : (why : Refusal) → join_refusal (live_at n now) now key until ≡ None → place (live_at n now) n.pool wanted ≡ Err why → Meets n (Err (act.Refused (of_command why))) (outcome_of n now (command.Add key label wanted until keepalive))
+    not_placed why none so = meets_refused why (ap (λ o. unless o (at_place (place (live_at n now) n.pool wanted) after)) none ∙ ap (λ o. at_place o after) so)
 
-    pub is_added : (a : AddrValue) (p : Peer) (removed : List ℕ) → join_refusal (live_at n now) now key until ≡ None → place (live_at n now) wanted ≡ Ok a
+    pub is_added : (a : AddrValue) (p : Peer) (removed : List ℕ) → join_refusal (live_at n now) now key until ≡ None → place (live_at n now) n.pool wanted ≡ Ok a
         → p ≡ record { number = n.next; key = key; label = label; address = a; until = until; keepalive = keepalive; status = None } → removed ≡ expired now n.peers
-        → Meets n (Ok (joining p removed)) (outcome_of n now (command.Add key label wanted until keepalive))
+        → Meets n (Ok (joined_by p removed)) (outcome_of n now (command.Add key label wanted until keepalive))
     is_added a p removed none placed peer over =
-        let so : add (live_at n now) now key label wanted until keepalive ≡ joined (live_at n now) p = ap (λ o. unless o (at_place (place (live_at n now) wanted) after)) none ∙ ap (λ o. at_place o after) placed ∙ ap (joined (live_at n now)) (sym peer) in
-        meets_from_live n (live_at n now) now (command.Add key label wanted until keepalive) removed (Ok (joining p removed)) is refl over
-        (subst (λ o. MeetsLive false None (live_at n now) removed (Ok (joining p removed)) o) (sym so) (joins (live_at n now) p removed (live_is_network n now is) (ap (λ (q : Peer). q.number) peer)))
+        let so : add (live_at n now) now key label wanted until keepalive ≡ joined (live_at n now) p = ap (λ o. unless o (at_place (place (live_at n now) n.pool wanted) after)) none ∙ ap (λ o. at_place o after) placed ∙ ap (joined (live_at n now)) (sym peer) in
+        meets_from_live n (live_at n now) now (command.Add key label wanted until keepalive) removed (Ok (joined_by p removed)) is refl over
+        (subst (λ o. MeetsLive false None (live_at n now) removed (Ok (joined_by p removed)) o) (sym so) (joins (live_at n now) p removed (live_is_network n now is) (ap (λ (q : Peer). q.number) peer)))
 
     pub unadmitted : (r : Result (Reply × Option Change) RowFault) (why : RowFault) → IsErrAnd r (λ e. e ≡ why) → Admits n now key until (Err why) → Meets n (as_acted r) (outcome_of n now (command.Add key label wanted until keepalive))
     unadmitted (Ok given) why is told = absurd is
@@ -193,20 +145,20 @@ module _ (n : NetworkValue) (is : IsNetwork n) (now : ℕ) where
         by (fault.Refused refusal) so = not_admitted refusal so
         by (fault.Fault failed) so = tt
 
-    pub unplaced : (r : Result (Reply × Option Change) RowFault) (why : RowFault) → IsErrAnd r (λ e. e ≡ why) → join_refusal (live_at n now) now key until ≡ None → IsPlaced (place (live_at n now) wanted) (Err why)
+    pub unplaced : (r : Result (Reply × Option Change) RowFault) (why : RowFault) → IsErrAnd r (λ e. e ≡ why) → join_refusal (live_at n now) now key until ≡ None → IsPlaced (place (live_at n now) n.pool wanted) (Err why)
         → Meets n (as_acted r) (outcome_of n now (command.Add key label wanted until keepalive))
     unplaced (Ok given) why is none told = absurd is
     unplaced (Err e) why is none told = subst (λ x. Meets n (as_acted (Err x)) (outcome_of n now (command.Add key label wanted until keepalive))) (sym is) (by why told)
       where
-        by : (x : RowFault) → IsPlaced (place (live_at n now) wanted) (Err x) → Meets n (as_acted (Err x)) (outcome_of n now (command.Add key label wanted until keepalive))
+        by : (x : RowFault) → IsPlaced (place (live_at n now) n.pool wanted) (Err x) → Meets n (as_acted (Err x)) (outcome_of n now (command.Add key label wanted until keepalive))
         by (fault.Refused refusal) so = not_placed refusal none so
         by (fault.Fault failed) so = tt
 
   pub is_owner : (a : AddrValue) (number : ℕ) → Some number ≡ owner_of (live_at n now) a → Meets n (Ok (reply.Owner number, None)) (outcome_of n now (command.Owner a))
   is_owner a number so = subst (λ o. Meets n (Ok (reply.Owner number, None)) (kept_if true n (or_nobodys (live_at n now) o))) so (refl, refl)
 
-  pub is_nobodys : (a : AddrValue) → None ≡ owner_of (live_at n now) a → Meets n (Err (act.Refused NobodysAddress)) (outcome_of n now (command.Owner a))
-  is_nobodys a so = subst (λ o. Meets n (Err (act.Refused NobodysAddress)) (kept_if true n (or_nobodys (live_at n now) o))) so refl
+  pub is_nobodys : (a : AddrValue) → None ≡ owner_of (live_at n now) a → Meets n (Err (act.Refused (of_command NobodysAddress))) (outcome_of n now (command.Owner a))
+  is_nobodys a so = subst (λ o. Meets n (Err (act.Refused (of_command NobodysAddress))) (kept_if true n (or_nobodys (live_at n now) o))) so refl
 
 -- ---- faults
 

@@ -16,7 +16,7 @@ use Rattle.wgr_text.specs.declared.addr.Family.{Family}
 use Rattle.wgr_text.specs.declared.addr.Family.TheVariants.{V4, V6}
 use Rattle.wgr_text.specs.declared.prefix.Span.{Span}
 use Rattle.wgr_text.specs.Prefix.{AddrValue, PrefixValue, IsAddr, IsPrefix, rank, first_rank, width}
-use Rattle.wgr_pool.specs.Spans.{RisesFrom, reached}
+use Rattle.wgr_pool.specs.Spans.{RisesFrom, reached_after}
 use Rattle.wgr_model.specs.Rows.{AllowedRow, AreKeyed, Tables, family_number, prefix_cmp, prefix_key}
 use Rattle.std.specs.List.Sorted.{IsPermutation}
 use Rattle.std.proofs.lemmas.List.Sorted.{IsPermutation-sym}
@@ -28,10 +28,10 @@ use Rattle.wgr_model.specs.Laws.{Has}
 use Rattle.wgr_model.proofs.OrderLemmas.{from_filter}
 use Rattle.wgr_model.proofs.SameLemmas.{has_permutation}
 use Rattle.wgr_columns.specs.Decode.{IsRegister, allowed_in, tables_of}
-use Rattle.wgr_rows.specs.Holding.{Hold, brief, hold_params, holds_in, holds_text, is_hold, is_passed_over, last_number, staying, to_come}
+use Rattle.wgr_rows.specs.HeldRows.{HeldSpan, brief, hold_params, holds_in, holds_text, is_hold, is_passed_over, last_number, staying, rows_to_come}
 use Rattle.wgr_rows.specs.declared.progress.Progress.{Progress}
 use Rattle.wgr_rows.specs.declared.progress.Progress.TheVariants.{Running}
-use Rattle.wgr_rows.specs.Telling.{IsGood, IsToldTo, begin_of}
+use Rattle.wgr_rows.specs.Telling.{ShowsGoodRows, IsToldTo, begin_of}
 use Rattle.wgr_rows.specs.Rising.{from_lower}
 use Rattle.wgr_rows.proofs.Meaning.{query_ends}
 use Rattle.wgr_rows.proofs.HoldLemmas.{held, held_read, holds_are, holds_sorted, holds_listed}
@@ -71,7 +71,7 @@ later family a (b ∷ bs) is same up =
     let begin = ap first_rank alike in
     (omega (arith, low, begin), later family a bs is same.1 up.1)
 
-abbrev pub spans : List Hold → List Span
+abbrev pub spans : List HeldSpan → List Span
 spans holds = map (λ x. x.0) holds
 
 rises_from : (shows_peers : Bool) (network : ℕ) (family : Family) (floor : ℕ) (rows : List AllowedRow) → AllByRecursion (λ a. a.prefix.address.family ≡ family) rows → AllByRecursion (λ a. floor ≤ rank a.prefix.address) rows
@@ -107,10 +107,10 @@ module _ {S : Type 0} (g : Ghosts S) (h : Held S) (shows_peers : Bool) (register
   abbrev params : Row
   params = hold_params network pool start
 
-  abbrev read : Row → Hold
+  abbrev read : Row → HeldSpan
   read row = brief shows_peers network (allowed_in row)
 
-  abbrev holds : List Hold
+  abbrev holds : List HeldSpan
   holds = map (brief shows_peers network) (holds_in (tables_of (state g h).now) network pool start)
 
   holds_read : (new : State) (rows : List Row) → Shown text params (state g h) new rows → holds ≡ map read rows
@@ -157,18 +157,18 @@ module _ {S : Type 0} (g : Ghosts S) (h : Held S) (shows_peers : Bool) (register
 
 -- ---- one row more
 
-pub good_back : (a b : State) → Survives a b (λ _. ⊥) → IsUnchanged a b → IsGood b → IsGood a
+pub good_back : (a b : State) → Survives a b (λ _. ⊥) → IsUnchanged a b → ShowsGoodRows b → ShowsGoodRows a
 good_back a b survives same good = (omega (arith, survives.clean, good.0), λ live. subst (λ (d : Database). IsRegister d × AreKeyed (tables_of d)) same.0.now_is (good.1 same.0.is_open))
 
-module _ {S : Type 0} (g : Ghosts S) (old new : Held S) (same : IsUnchanged (state g old) (state g new)) (good : IsGood (state g new)) (shows_peers : Bool) (network : ℕ) (pool : PrefixValue) (start : ℕ) (is : IsPrefix pool) (fits : IsAddr pool.address) (low : start < 2 ^ 128) (taken : ℕ) (first : Option Span) (last : Option AddrValue) (told : IsToldTo g old shows_peers network pool start taken first last) where
-  abbrev holds_of : Database → List Hold
+module _ {S : Type 0} (g : Ghosts S) (old new : Held S) (same : IsUnchanged (state g old) (state g new)) (good : ShowsGoodRows (state g new)) (shows_peers : Bool) (network : ℕ) (pool : PrefixValue) (start : ℕ) (is : IsPrefix pool) (fits : IsAddr pool.address) (low : start < 2 ^ 128) (taken : ℕ) (first : Option Span) (last : Option AddrValue) (told : IsToldTo g old shows_peers network pool start taken first last) where
+  abbrev holds_of : Database → List HeldSpan
   holds_of d = map (brief shows_peers network) (holds_in (tables_of d) network pool start)
 
-  abbrev had : List Hold
+  abbrev had : List HeldSpan
   had = drop taken (holds_of (state g old).now)
 
   -- what is left after one row more
-  abbrev left : List Hold
+  abbrev left : List HeldSpan
   left = drop (taken + 1) (holds_of (state g new).now)
 
   abbrev HaveGiven : Row → Type 0
@@ -184,15 +184,15 @@ module _ {S : Type 0} (g : Ghosts S) (old new : Held S) (same : IsUnchanged (sta
       (subst (λ n. drop taken (holds_of (state g new).now) ≡ first ∷ drop n (holds_of (state g new).now)) one
       (subst (λ n. drop n (holds_of (state g new).now) ≡ first ∷ drop (suc n) (holds_of (state g new).now)) told.count it))
 
-  pub first_is : (row : Row) (hold : Hold) → HaveGiven row → hold ≡ brief shows_peers network (allowed_in row) → had ≡ hold ∷ left
+  pub first_is : (row : Row) (hold : HeldSpan) → HaveGiven row → hold ≡ brief shows_peers network (allowed_in row) → had ≡ hold ∷ left
   first_is row hold given is = parts row given ∙ ap (λ x. x ∷ left) (sym is)
 
-  pub told_next : (row : Row) (hold : Hold) → HaveGiven row → hold ≡ brief shows_peers network (allowed_in row) → IsToldTo g new shows_peers network pool start (taken + 1) first (Some hold.0.lo)
+  pub told_next : (row : Row) (hold : HeldSpan) → HaveGiven row → hold ≡ brief shows_peers network (allowed_in row) → IsToldTo g new shows_peers network pool start (taken + 1) first (Some hold.0.lo)
   told_next row hold given is = record {
     given = told.given ++ row ∷ [];
     runs = given;
     count = longer told.given row ∙ ap (λ n. n + 1) told.count;
-    rises = subst (λ (x : Hold). RisesFrom (rank x.0.lo) (spans left)) (sym is) (subst (λ l. RisesFrom (reached last) (spans l)) (parts row given) told.rises).1;
+    rises = subst (λ (x : HeldSpan). RisesFrom (rank x.0.lo) (spans left)) (sym is) (subst (λ l. RisesFrom (reached_after last) (spans l)) (parts row given) told.rises).1;
     after = let it = subst (λ l. RisesFrom (begin_of first) (spans l)) (parts row given) told.after in from_lower (begin_of first) _ (spans left) it.0 it.1;
   }
     where
@@ -210,15 +210,15 @@ module _ {S : Type 0} (g : Ghosts S) (old new : Held S) (same : IsUnchanged (sta
 pub first_given : {S : Type 0} (g : Ghosts S) (h : Held S) (shows_peers : Bool) (network : ℕ) (pool : PrefixValue) (start taken : ℕ) (first : Option Span) (last : Option AddrValue) (s : Span) → first ≡ Some s → IsToldTo g h shows_peers network pool start taken first last
     → IsToldTo g h shows_peers network pool start taken None (Some s.lo)
 first_given g h shows_peers network pool start taken first last s is told =
-    let up = subst (λ (f : Option Span). RisesFrom (begin_of f) (spans (to_come shows_peers Running (tables_of (state g h).now) network pool start taken))) is told.after in
+    let up = subst (λ (f : Option Span). RisesFrom (begin_of f) (spans (rows_to_come shows_peers Running (tables_of (state g h).now) network pool start taken))) is told.after in
     record { given = told.given; runs = told.runs; count = told.count; rises = up; after = from_lower 0 (rank s.lo) _ (omega arith) up }
 
 -- what is to come of a reading that runs
-pub come_as : (shows_peers : Bool) (at : Progress) (t : Tables) (network : ℕ) (pool : PrefixValue) (start taken : ℕ) (ys : List Hold) → at ≡ Running → to_come shows_peers Running t network pool start taken ≡ ys → to_come shows_peers at t network pool start taken ≡ ys
-come_as shows_peers at t network pool start taken ys is come = subst (λ (a : Progress). to_come shows_peers a t network pool start taken ≡ ys) (sym is) come
+pub come_as : (shows_peers : Bool) (at : Progress) (t : Tables) (network : ℕ) (pool : PrefixValue) (start taken : ℕ) (ys : List HeldSpan) → at ≡ Running → rows_to_come shows_peers Running t network pool start taken ≡ ys → rows_to_come shows_peers at t network pool start taken ≡ ys
+come_as shows_peers at t network pool start taken ys is come = subst (λ (a : Progress). rows_to_come shows_peers a t network pool start taken ≡ ys) (sym is) come
 
 -- one that leads to an expired peer adds nothing
-pub passed_over : (expired : ℕ → Bool) (xs ys : List Hold) (h : Hold) → xs ≡ h ∷ ys → is_passed_over expired h.1 ≡ true → staying expired xs ≡ staying expired ys
+pub passed_over : (expired : ℕ → Bool) (xs ys : List HeldSpan) (h : HeldSpan) → xs ≡ h ∷ ys → is_passed_over expired h.1 ≡ true → staying expired xs ≡ staying expired ys
 passed_over expired xs ys h is gone = ap (staying expired) is ∙ ap (λ b. if b then staying expired ys else h.0 ∷ staying expired ys) gone
 
 -- ---- the start
@@ -229,14 +229,14 @@ is_open g h query values front given = given.0.is_open
 
 -- a query that has given nothing yet has all to give
 pub told_first : {S : Type 0} (g : Ghosts S) (h : Held S) (shows_peers : Bool) (network : ℕ) (pool : PrefixValue) (start : ℕ) → IsPrefix pool → IsAddr pool.address → start < 2 ^ 128 → pool.address.number ≤ start → (first : Option Span) → begin_of first ≤ rank pool.address
-    → HasGiven g (holds_text shows_peers) (hold_params network pool start) h [] → IsGood (state g h) → IsToldTo g h shows_peers network pool start 0 first None
+    → HasGiven g (holds_text shows_peers) (hold_params network pool start) h [] → ShowsGoodRows (state g h) → IsToldTo g h shows_peers network pool start 0 first None
 told_first g h shows_peers network pool start is fits low from first early given good =
     let r = good.1 (is_open g h (holds_text shows_peers) (hold_params network pool start) [] given) in
     let up = begins g h shows_peers r.0 r.1 network pool start low (pool_high pool is fits) from given in
     record { given = []; runs = given; count = refl; rises = from_lower 0 (rank pool.address) _ (omega arith) up; after = from_lower (begin_of first) (rank pool.address) _ early up }
 
 -- the holding rows are those of the table, in their order
-pub holds_moved : {S : Type 0} (g : Ghosts S) (h : Held S) (shows_peers : Bool) (network : ℕ) (pool : PrefixValue) (start : ℕ) → IsPrefix pool → IsAddr pool.address → start < 2 ^ 128 → HasGiven g (holds_text shows_peers) (hold_params network pool start) h [] → IsGood (state g h)
+pub holds_moved : {S : Type 0} (g : Ghosts S) (h : Held S) (shows_peers : Bool) (network : ℕ) (pool : PrefixValue) (start : ℕ) → IsPrefix pool → IsAddr pool.address → start < 2 ^ 128 → HasGiven g (holds_text shows_peers) (hold_params network pool start) h [] → ShowsGoodRows (state g h)
     → IsPermutation (filter (is_hold network pool start) (tables_of (state g h).now).allowed) (holds_in (tables_of (state g h).now) network pool start)
 holds_moved g h shows_peers network pool start is fits low given good =
     let r = good.1 (is_open g h (holds_text shows_peers) (hold_params network pool start) [] given) in

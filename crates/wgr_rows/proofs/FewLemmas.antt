@@ -7,13 +7,13 @@ use Rattle.std.proofs.Math.ListN.{length-map}
 use Rattle.wgr_text.specs.Prefix.{PrefixValue}
 use Rattle.wgr_pool.proofs.Bools.{and_true}
 use Rattle.wgr_model.specs.Laws.{Has}
-use Rattle.wgr_model.specs.Rows.{AllowedRow, Tables, address_row, allowed_key, holding_of, route_row, same_allowed}
+use Rattle.wgr_model.specs.Rows.{AllowedRow, Tables, address_row, allowed_key, network_entry_of, route_row, same_allowed}
 use Rattle.wgr_model.proofs.CollectLemmas.{has_left, has_map, has_right}
 use Rattle.wgr_model.proofs.KeptLemmas.{distinct_filter}
 use Rattle.wgr_model.proofs.OrderLemmas.{from_filter}
 use Rattle.wgr_model.proofs.RuleLemmas.{rules}
 use Rattle.wgr_tables.proofs.RouteRests.{allowed_self}
-use Rattle.wgr_rows.specs.Holding.{is_hold, max_holds}
+use Rattle.wgr_rows.specs.HeldRows.{is_hold, max_holds}
 use Rattle.wgr_rows.specs.Stopping.{HavePool}
 use Rattle.wgr_rows.proofs.NetworkRows.{row_from}
 
@@ -59,7 +59,7 @@ module _ {A : Type 0} where
 pub few_holds : (t : Tables) (network : ℕ) (pool : PrefixValue) (start : ℕ) → HavePool t network pool → (rows : List AllowedRow) → IsPermutation (filter (is_hold network pool start) t.allowed) rows → length rows ≤ max_holds
 few_holds t network pool start have rows same =
     let w = have.row in
-    let n = (holding_of t w).network in
+    let n = (network_entry_of t w).network in
     let is = rules t have.consistent w have.there in
     let held = filter (is_hold network pool start) t.allowed in
     let own = map (address_row w.id) n.peers in

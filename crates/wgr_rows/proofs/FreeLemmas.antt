@@ -24,10 +24,10 @@ use Rattle.wgr_columns.specs.Layout.{schema_with}
 use Rattle.wgr_columns.specs.Decode.{IsRegister, bytes_of, tables_of}
 use Rattle.wgr_tables.specs.Writes.{Written, Writes}
 use Rattle.wgr_tables.specs.Standing.{OnlyReads, Stands}
-use Rattle.wgr_rows.specs.Holding.{below, coming, hold_params, holds_text, last_number}
+use Rattle.wgr_rows.specs.HeldRows.{below, coming, hold_params, holds_text, last_number}
 use Rattle.wgr_rows.specs.Staying.{IsQuiet, Stays}
 use Rattle.wgr_rows.specs.Stopping.{HavePool, IsSound}
-use Rattle.wgr_rows.specs.Telling.{IsGood, begin_of}
+use Rattle.wgr_rows.specs.Telling.{ShowsGoodRows, begin_of}
 use Rattle.wgr_rows.proofs.Meaning.{holds_ask}
 use Rattle.wgr_rows.proofs.SelectLemmas.{begun, commits_nothing}
 
@@ -55,7 +55,7 @@ module _ {S : Type 0} (g : Ghosts S) (old : Held S) (db : Database) (pending : L
   stays_stands new quiet stays = stands_kept IsRegister Writes g old new db pending stood (λ clean live. let it = stays.2 quiet clean live in (it.0, it.1)) (stays.0 stood.idle) stays.1
 
   -- and shows good rows
-  pub stands_good : AreKeyed (tables_of db) → HasCleanDisk (state g old) → IsGood (state g old)
+  pub stands_good : AreKeyed (tables_of db) → HasCleanDisk (state g old) → ShowsGoodRows (state g old)
   stands_good keyed clean = (clean, λ live. subst (λ (d : Database). IsRegister d × AreKeyed (tables_of d)) (sym (stood.shows clean live)) (stood.sound, keyed))
 
 module _ {S : Type 0} (g : Ghosts S) (old : Held S) where

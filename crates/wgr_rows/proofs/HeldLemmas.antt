@@ -28,7 +28,7 @@ use Rattle.wgr_core.proofs.MoveLemmas.{first_agrees}
 use Rattle.wgr_core.proofs.OwnerLemmas.{full_has_own}
 use Rattle.wgr_model.specs.Laws.{Has}
 use Rattle.wgr_model.specs.RowLaws.{AreConsistent}
-use Rattle.wgr_model.specs.Rows.{AllowedRow, NetworkRow, Tables, address_row, family_number, holding_of, number_in, peer_id, route_row}
+use Rattle.wgr_model.specs.Rows.{AllowedRow, NetworkRow, Tables, address_row, family_number, network_entry_of, number_in, peer_id, route_row}
 use Rattle.wgr_model.proofs.GatherLemmas.{eqb_self, in_filter, number_back}
 use Rattle.wgr_model.proofs.HolderLemmas.{member}
 use Rattle.wgr_model.proofs.RuleLemmas.{address_there, rules}
@@ -38,7 +38,7 @@ use Rattle.wgr_columns.specs.Stored.{IsKeptRoute}
 use Rattle.wgr_tables.proofs.ArrangeLemmas.{kept_routes}
 use Rattle.wgr_outline.specs.Outline.{EndsBelow, IsFloor}
 use Rattle.wgr_outline.proofs.FloorLemmas.{given_above}
-use Rattle.wgr_rows.specs.Holding.{behind, below, brief, coming, holds_in, is_hold, last_number, staying}
+use Rattle.wgr_rows.specs.HeldRows.{behind, below, brief, coming, holds_in, is_hold, last_number, staying}
 use Rattle.sqlite.specs.Effect.{Database}
 use Rattle.wgr_columns.specs.Decode.{tables_of}
 use Rattle.wgr_rows.proofs.Coming.{le_of, one_family}
@@ -153,7 +153,7 @@ held_below pool start b spans family from = go (nat_lt pool.address.number start
 
 module _ (t : Tables) (is : AreConsistent t) (w : NetworkRow) (hw : Has t.networks w) where
   abbrev n : NetworkValue
-  n = (holding_of t w).network
+  n = (network_entry_of t w).network
 
   own_rules : IsNetwork n
   own_rules = rules t is w hw
@@ -207,7 +207,7 @@ module _ (t : Tables) (is : AreConsistent t) (w : NetworkRow) (hw : Has t.networ
     lasts : (i : ℕ) → not (is_among removed i) ≡ true → ex i ≡ false
     lasts i e = tells i ∙ not_true (is_among removed i) e
 
-    to_held : IsHeld spans b → is_held left b ≡ true
+    to_held : IsHeld spans b → is_held left left.pool b ≡ true
     to_held h =
         let q = is_hold w.id w.pool start.number in
         let a = held_some ex w.id rows b h in
@@ -249,7 +249,7 @@ module _ (t : Tables) (is : AreConsistent t) (w : NetworkRow) (hw : Has t.networ
     floor_left = subst (λ (m : NetworkValue). IsFloor m start.number) (sym (without_expired n now own_rules)) floor
 
     -- what is held has a row from the start on, or lies below it
-    of_held : is_held left b ≡ true → (is_below w.pool start b ≡ true) ⊎ IsHeld spans b
+    of_held : is_held left left.pool b ≡ true → (is_below w.pool start b ≡ true) ⊎ IsHeld spans b
     of_held h = elim (or_cases (is_own left.peers b) (list_any in_route left.routes) h) [
       | inl own ↦
           let x = any_has (λ p. same_address p.address b) left.peers own in
@@ -279,10 +279,10 @@ module _ (t : Tables) (is : AreConsistent t) (w : NetworkRow) (hw : Has t.networ
     ]
 
     -- the spans have just the addresses below the start and those that the live network holds
-    pub holds_are_held : (is_below w.pool start b || is_held (live_at n now) b ≡ true) ↔ IsHeld (behind (below w.pool start) spans) b
-    holds_are_held = subst (λ (m : NetworkValue). (is_below w.pool start b || is_held m b ≡ true) ↔ IsHeld (behind (below w.pool start) spans) b) (without_expired n now own_rules) (
-      (λ h. elim (or_cases (is_below w.pool start b) (is_held left b) h) [ inl low ↦ below_held.1 (inl low) | inr held ↦ below_held.1 (of_held held) ]),
-      (λ h. elim (below_held.0 h) [ inl low ↦ or_left (is_below w.pool start b) (is_held left b) low | inr rest ↦ or_right (is_below w.pool start b) (is_held left b) (to_held rest) ]),
+    pub holds_are_held : (is_below w.pool start b || is_held (live_at n now) n.pool b ≡ true) ↔ IsHeld (behind (below w.pool start) spans) b
+    holds_are_held = subst (λ (m : NetworkValue). (is_below w.pool start b || is_held m m.pool b ≡ true) ↔ IsHeld (behind (below w.pool start) spans) b) (without_expired n now own_rules) (
+      (λ h. elim (or_cases (is_below w.pool start b) (is_held left left.pool b) h) [ inl low ↦ below_held.1 (inl low) | inr held ↦ below_held.1 (of_held held) ]),
+      (λ h. elim (below_held.0 h) [ inl low ↦ or_left (is_below w.pool start b) (is_held left left.pool b) low | inr rest ↦ or_right (is_below w.pool start b) (is_held left left.pool b) (to_held rest) ]),
     )
       where
         below_held : IsHeld (behind (below w.pool start) spans) b ↔ ((is_below w.pool start b ≡ true) ⊎ IsHeld spans b)
@@ -297,21 +297,21 @@ staying_as false ex none network (a ∷ rows) =
     ap (λ l. span_of a.prefix ∷ l) (staying_as false ex none network rows) ∙ ap (λ b. if b then rest else span_of a.prefix ∷ rest) (sym (none refl (number_in network a.peer)))
 
 -- what is lowest of the free addresses by the rows is so of the live network
-lowest_is : (shows_peers : Bool) (t : Tables) (is : AreConsistent t) (w : NetworkRow) (hw : Has t.networks w) (now : ℕ) (ex : ℕ → Bool) → (shows_peers ≡ false → (i : ℕ) → ex i ≡ false) → ((i : ℕ) → ex i ≡ is_among (expired now (holding_of t w).network.peers) i)
-    → (start : AddrValue) → start.family ≡ w.pool.address.family → w.pool.address.number ≤ start.number → IsFloor (live_at (holding_of t w).network now) start.number
+lowest_is : (shows_peers : Bool) (t : Tables) (is : AreConsistent t) (w : NetworkRow) (hw : Has t.networks w) (now : ℕ) (ex : ℕ → Bool) → (shows_peers ≡ false → (i : ℕ) → ex i ≡ false) → ((i : ℕ) → ex i ≡ is_among (expired now (network_entry_of t w).network.peers) i)
+    → (start : AddrValue) → start.family ≡ w.pool.address.family → w.pool.address.number ≤ start.number → IsFloor (live_at (network_entry_of t w).network now) start.number
     → IsPermutation (filter (is_hold w.id w.pool start.number) t.allowed) (holds_in t w.id w.pool start.number) → (o : Option AddrValue)
-    → MatchOption o (IsFull w.pool (coming shows_peers ex t w.id w.pool start)) (IsLowestFree w.pool (coming shows_peers ex t w.id w.pool start)) → o ≡ lowest_free (live_at (holding_of t w).network now)
+    → MatchOption o (IsFull w.pool (coming shows_peers ex t w.id w.pool start)) (IsLowestFree w.pool (coming shows_peers ex t w.id w.pool start)) → o ≡ lowest_free (live_at (network_entry_of t w).network now) w.pool
 lowest_is shows_peers t is w hw now ex none tells start family from floor same o found =
-    let m = live_at (holding_of t w).network now in
+    let m = live_at (network_entry_of t w).network now in
     let rows = holds_in t w.id w.pool start.number in
     let all = behind (below w.pool start) (staying ex (map (brief true w.id) rows)) in
-    let taken : AddrValue → Bool = λ b. is_below w.pool start b || is_held m b in
+    let taken : AddrValue → Bool = λ b. is_below w.pool start b || is_held m m.pool b in
     let found' = subst (λ l. MatchOption o (IsFull w.pool (behind (below w.pool start) l)) (IsLowestFree w.pool (behind (below w.pool start) l))) (staying_as shows_peers ex none w.id rows) found in
     found_is w.pool taken all o (rules t is w hw).pool (λ b fits. holds_are_held t is w hw now ex tells start family from floor rows same b fits) found'
-    ∙ first_agrees w.pool.address.family (λ b. is_assignable w.pool b && not (taken b)) (λ b. is_assignable w.pool b && not (is_held m b)) w.pool.address.number (block w.pool.address.family w.pool.length) (λ b. alike b (is_assignable w.pool b) refl (is_below w.pool start b) refl)
+    ∙ first_agrees w.pool.address.family (λ b. is_assignable w.pool b && not (taken b)) (λ b. is_assignable w.pool b && not (is_held m m.pool b)) w.pool.address.number (block w.pool.address.family w.pool.length) (λ b. alike b (is_assignable w.pool b) refl (is_below w.pool start b) refl)
   where
     -- what may be given below the start is held
-    alike : (b : AddrValue) (given : Bool) → is_assignable w.pool b ≡ given → (low : Bool) → is_below w.pool start b ≡ low → (given && not (low || is_held (live_at (holding_of t w).network now) b)) ≡ (given && not (is_held (live_at (holding_of t w).network now) b))
+    alike : (b : AddrValue) (given : Bool) → is_assignable w.pool b ≡ given → (low : Bool) → is_below w.pool start b ≡ low → (given && not (low || is_held (live_at (network_entry_of t w).network now) w.pool b)) ≡ (given && not (is_held (live_at (network_entry_of t w).network now) w.pool b))
     alike b false g low l = refl
     alike b true g false l = refl
     alike b true g true l =
@@ -321,10 +321,10 @@ lowest_is shows_peers t is w hw now ex none tells start family from floor same o
         sym (ap not (floor.held b g (omega (arith, it.1, one))))
 
 pub lowest_at : (shows_peers : Bool) (ex : ℕ → Bool) → (shows_peers ≡ false → (i : ℕ) → ex i ≡ false) → (shown db : Database) → shown ≡ db → (network : ℕ) (p pool : PrefixValue) → p ≡ pool → (w : NetworkRow) → w.id ≡ network → w.pool ≡ pool → (is : AreConsistent (tables_of db)) → Has (tables_of db).networks w → (now : ℕ)
-    → ((i : ℕ) → ex i ≡ is_among (expired now (holding_of (tables_of db) w).network.peers) i)
-    → (start : AddrValue) → start.family ≡ p.address.family → p.address.number ≤ start.number → IsFloor (live_at (holding_of (tables_of db) w).network now) start.number
+    → ((i : ℕ) → ex i ≡ is_among (expired now (network_entry_of (tables_of db) w).network.peers) i)
+    → (start : AddrValue) → start.family ≡ p.address.family → p.address.number ≤ start.number → IsFloor (live_at (network_entry_of (tables_of db) w).network now) start.number
     → IsPermutation (filter (is_hold network p start.number) (tables_of shown).allowed) (holds_in (tables_of shown) network p start.number) → (o : Option AddrValue)
-    → MatchOption o (IsFull pool (coming shows_peers ex (tables_of db) network pool start)) (IsLowestFree pool (coming shows_peers ex (tables_of db) network pool start)) → o ≡ lowest_free (live_at (holding_of (tables_of db) w).network now)
+    → MatchOption o (IsFull pool (coming shows_peers ex (tables_of db) network pool start)) (IsLowestFree pool (coming shows_peers ex (tables_of db) network pool start)) → o ≡ lowest_free (live_at (network_entry_of (tables_of db) w).network now) w.pool
 lowest_at shows_peers ex none shown db shows network p pool same w id is_pool is here now tells start family from floor moved o found =
     let n = start.number in
     let moved' = subst (λ (d : Database). IsPermutation (filter (is_hold network p n) (tables_of d).allowed) (holds_in (tables_of d) network p n)) shows moved in

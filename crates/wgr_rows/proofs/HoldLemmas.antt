@@ -43,7 +43,7 @@ use Rattle.wgr_columns.specs.Decode.{IsRegister, allowed_in, bytes_at, bytes_of,
 use Rattle.wgr_columns.proofs.Statements.{rising}
 use Rattle.wgr_tables.proofs.RouteRests.{allowed_sym}
 use Rattle.wgr_checks.proofs.TenantLemmas.{as_naturals}
-use Rattle.wgr_rows.specs.Holding.{brief, hold_params, holds_in, holds_text, is_hold, last_number}
+use Rattle.wgr_rows.specs.HeldRows.{brief, hold_params, holds_in, holds_text, is_hold, last_number}
 use Rattle.wgr_rows.proofs.Meaning.{hold_places, holds_ask, of_holds}
 use Rattle.wgr_rows.proofs.Spelled.{at_least, from_spelled, read_small, spelled_cmp, to_spelled}
 

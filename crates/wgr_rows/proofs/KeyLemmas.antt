@@ -29,7 +29,7 @@ use Rattle.wgr_core.proofs.LiveLooks.{holder_out}
 use Rattle.wgr_model.specs.Laws.{Has}
 use Rattle.wgr_model.specs.Register.{Bytes, is_same}
 use Rattle.wgr_model.specs.RowLaws.{AreConsistent}
-use Rattle.wgr_model.specs.Rows.{NetworkRow, PeerRow, Tables, holding_of, peer_id, peer_row, same_pair}
+use Rattle.wgr_model.specs.Rows.{NetworkRow, PeerRow, Tables, network_entry_of, peer_id, peer_row, same_pair}
 use Rattle.wgr_model.proofs.GatherLemmas.{eqb_self, in_filter}
 use Rattle.wgr_model.proofs.LookLemmas.{is_same_refl}
 use Rattle.wgr_model.proofs.OrderLemmas.{from_filter}
@@ -39,7 +39,7 @@ use Rattle.wgr_sql.specs.Causes.{IsAnswered}
 use Rattle.wgr_sql.specs.Effects.{plain_query}
 use Rattle.wgr_sql.proofs.RowLemmas.{equal_nats}
 use Rattle.wgr_sql.proofs.Values.{and_true, blob_at}
-use Rattle.wgr_columns.specs.Layout.{Others, schema_with, peer_at}
+use Rattle.wgr_columns.specs.Layout.{Others, schema_with, peer_table_at}
 use Rattle.wgr_columns.specs.Decode.{IsNumberAt, IsRegister, bytes_at, number_at, peer_in, tables_of}
 use Rattle.wgr_columns.specs.Fields.{IsLeaseEndAt, IsPeerIdAt}
 use Rattle.wgr_columns.proofs.Statements.{Asks, equal_to, never_refused}
@@ -75,7 +75,7 @@ module _ (old new : State) (register : IsRegister old.now) (rows : List Row) (ne
       listed old new register key_text (Int (pos network) ∷ Blob key ∷ []) 8 of_key peer_places [] _ (key_asks register.others) rows shown peer_in (has_key network key) (λ r. refl)
       (λ r here. ap₂ (λ x y. x && y)
       (ap (λ v. is_true (binary (Compare Eq Binary) v (Int (pos network)))) (register.written.peers.numbers_are r here 2 (inr (inl refl))) ∙ equal_nats (number_at r 2) network)
-      (and_true _ ∙ ap (λ v. is_true (binary (Compare Eq Binary) v (Blob key))) (blob_at (schema_with register.others) old.now.trees sound (peer_at 8) (inr (inr (inr (inr (inl refl))))) r here 2 _ refl refl refl refl refl)
+      (and_true _ ∙ ap (λ v. is_true (binary (Compare Eq Binary) v (Blob key))) (blob_at (schema_with register.others) old.now.trees sound (peer_table_at 8) (inr (inr (inr (inr (inl refl))))) r here 2 _ refl refl refl refl refl)
       ∙ same_blobs (bytes_at r 3) key))
 
   pub key_numbers : HaveNumbers rows
@@ -130,7 +130,7 @@ no_holder now (p ∷ peers) key none =
 
 module _ (t : Tables) (is : AreConsistent t) (w : NetworkRow) (hw : Has t.networks w) (key : Key) (rows : List Row) (shown : ShowKey w.id key.0 t rows) where
   abbrev n : NetworkValue
-  n = (holding_of t w).network
+  n = (network_entry_of t w).network
 
   abbrev q : PeerRow → Bool
   q = has_key w.id key.0

@@ -13,17 +13,16 @@ use Rattle.wgr_peers.specs.declared.peer.Peer.{Peer}
 use Rattle.wgr_peers.specs.Limits.{IsLeaseEnd, is_expired}
 use Rattle.wgr_peers.specs.Peers.{is_live, is_own}
 use Rattle.wgr_peers.specs.Routes.{Routes, route_of}
-use Rattle.wgr_core.specs.Forms.{IsFormed}
+use Rattle.wgr_core.specs.Forms.{IsPeerFormed}
 use Rattle.wgr_core.specs.Network.{IsNetwork, NetworkValue, live_at}
-use Rattle.wgr_core.specs.Outcome.{address_refusal}
-use Rattle.wgr_core.specs.declared.refusal.Refusal.TheVariants.{AddressHeld, OutsidePool}
+use Rattle.wgr_core.specs.Refusals.{is_address_taken}
 use Rattle.wgr_core.specs.Owner.{allowed, own_prefixes}
 use Rattle.wgr_model.specs.Laws.{Has}
 use Rattle.wgr_model.specs.RowLaws.{AreConsistent}
-use Rattle.wgr_model.specs.Rows.{AllowedRow, NetworkRow, PeerRow, Tables, allowed_key, holding_of, ids_per_network, number_in, peer_id, peer_row, same_allowed, same_pair}
+use Rattle.wgr_model.specs.Rows.{AllowedRow, NetworkRow, PeerRow, Tables, allowed_key, network_entry_of, ids_per_network, number_in, peer_id, peer_row, same_allowed, same_pair}
 use Rattle.wgr_model.proofs.GatherLemmas.{eqb_self, in_filter}
 use Rattle.wgr_model.proofs.OrderLemmas.{from_filter}
-use Rattle.wgr_model.proofs.RuleLemmas.{holding, peer_there, rules}
+use Rattle.wgr_model.proofs.RuleLemmas.{network_entry, peer_there, rules}
 use Rattle.wgr_model.proofs.SameLemmas.{at_has, has_permutation}
 use Rattle.wgr_columns.specs.Decode.{AreNatural, allowed_in, number_at, peer_in}
 use Rattle.wgr_tables.proofs.FewRows.{few_rows}
@@ -77,16 +76,8 @@ full_among (p ∷ peers) routes a = go (same_prefix (full p.address) (full a)) (
     go false true same later = absurd (true≢false (sym same))
 
 -- an address is a peer's own or at full length a route exactly where that prefix leads to somebody
-pub full_held : (n : NetworkValue) (a : AddrValue) → is_some (prefix_holder n (full a)) ≡ (is_own n.peers a || is_some (route_of n.routes (full a)))
+pub full_held : (n : NetworkValue) (a : AddrValue) → is_some (prefix_holder n (full a)) ≡ is_address_taken n a
 full_held n a = full_among n.peers n.routes a
-
--- so that prefix tells whether a named address may be taken
-pub refusal_is : (n : NetworkValue) (a : AddrValue) → address_refusal n a ≡ cond (not (is_assignable n.pool a)) (Some OutsidePool) (cond (is_some (prefix_holder n (full a))) (Some AddressHeld) None)
-refusal_is n a = ap (cond (not (is_assignable n.pool a)) (Some OutsidePool)) (joined (is_own n.peers a) (is_some (route_of n.routes (full a))) ∙ ap (λ b. cond b (Some AddressHeld) None) (sym (full_held n a)))
-  where
-    joined : (x y : Bool) → cond x (Some AddressHeld) (cond y (Some AddressHeld) None) ≡ cond (x || y) (Some AddressHeld) None
-    joined true y = refl
-    joined false y = refl
 
 -- ---- by the rows
 
@@ -102,7 +93,7 @@ prefix_keys network p a b x y =
 
 module _ (t : Tables) (is : AreConsistent t) (w : NetworkRow) (hw : Has t.networks w) (p : PrefixValue) (rows : List Row) (shown : ShowPrefix w.id p t rows) where
   abbrev n : NetworkValue
-  n = (holding_of t w).network
+  n = (network_entry_of t w).network
 
   abbrev q : AllowedRow → Bool
   q = is_allowed w.id p
@@ -200,7 +191,7 @@ module _ (t : Tables) (is : AreConsistent t) (w : NetworkRow) (hw : Has t.networ
         go : (l : List Row) → others ≡ l → HasEnd l
         go [] same = elim (subst (λ l. Has (map peer_in l) (peer_row w.id leader.0)) same hers_shown) [ ]
         go (r ∷ []) same =
-            let formed = at_has IsFormed n.peers leader.0 (recursion_from_All IsFormed n.peers (holding t is w hw).forms.1) leader.1 in
+            let formed = at_has IsPeerFormed n.peers leader.0 (recursion_from_All IsPeerFormed n.peers (network_entry t is w hw).forms.1) leader.1 in
             (subst (λ l. AreNatural (5 ∷ []) l) same numbers r (inl refl) 5 (inl refl), subst IsLeaseEnd (sym (until_is r same)) formed.until)
         go (r ∷ s ∷ more) same = absurd (let l = subst (λ l. length l ≤ 1) same few_others in omega (arith, l))
 
@@ -239,7 +230,7 @@ module _ (t : Tables) (is : AreConsistent t) (w : NetworkRow) (hw : Has t.networ
   pub lead_there : AreNatural (6 ∷ []) rows → HasLead rows network
   lead_there numbers = subst (HasLead rows) id_is (has_lead t is w hw p rows shown numbers)
 
-  pub led_nowhere : (now : ℕ) → IsLed rows network None → prefix_holder (live_at (holding_of t w).network now) p ≡ None
+  pub led_nowhere : (now : ℕ) → IsLed rows network None → prefix_holder (live_at (network_entry_of t w).network now) p ≡ None
   led_nowhere now none = nobody t is w hw p rows shown now none
 
   module _ (number : ℕ) (led : IsLed rows network (Some number)) (others : List Row) (told : ShowPeer (peer_id network number) t others) where
@@ -252,5 +243,5 @@ module _ (t : Tables) (is : AreConsistent t) (w : NetworkRow) (hw : Has t.networ
     pub end_there : AreNatural (5 ∷ []) others → HasEnd others
     end_there = has_end t is w hw p rows shown number led_here others told_here
 
-    pub led_to : (now : ℕ) (lasts : Bool) → IsLasting others now lasts → prefix_holder (live_at (holding_of t w).network now) p ≡ cond lasts (Some number) None
+    pub led_to : (now : ℕ) (lasts : Bool) → IsLasting others now lasts → prefix_holder (live_at (network_entry_of t w).network now) p ≡ cond lasts (Some number) None
     led_to = somebody t is w hw p rows shown number led_here others told_here

@@ -16,7 +16,7 @@ use Rattle.wgr_sql.specs.Effects.{plain_query}
 use Rattle.wgr_columns.specs.Layout.{Others, schema_with}
 use Rattle.wgr_columns.proofs.Statements.{Asks, equal_to, rising}
 use Rattle.wgr_tables.proofs.Meanings.{allowed_places, compared_to}
-use Rattle.wgr_rows.specs.Holding.{holds_text}
+use Rattle.wgr_rows.specs.HeldRows.{holds_text}
 
 abbrev pub of_holds : List Term
 of_holds = equal_to 1 0 ∷ equal_to 2 1 ∷ compared_to Ge 3 2 ∷ compared_to Le 3 3 ∷ compared_to Ge 4 4 ∷ []

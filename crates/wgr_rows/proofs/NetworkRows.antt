@@ -10,7 +10,7 @@ use Rattle.wgr_core.specs.Owner.{allowed, own_prefixes}
 use Rattle.wgr_core.proofs.LiveLemmas.{peer_stands}
 use Rattle.wgr_model.specs.Laws.{Has}
 use Rattle.wgr_model.specs.RowLaws.{AreConsistent}
-use Rattle.wgr_model.specs.Rows.{AllowedRow, NetworkRow, PeerRow, Tables, address_row, allowed_rows, holding_of, ids_per_network, peer_id, register_of, route_row}
+use Rattle.wgr_model.specs.Rows.{AllowedRow, NetworkRow, PeerRow, Tables, address_row, allowed_rows, network_entry_of, ids_per_network, peer_id, register_of, route_row}
 use Rattle.wgr_model.proofs.CollectLemmas.{from_append, from_map, has_flat, has_left, has_map, has_right}
 use Rattle.wgr_model.proofs.GatherLemmas.{in_filter}
 use Rattle.wgr_model.proofs.HolderLemmas.{member, one_or_related}
@@ -78,7 +78,7 @@ module _ (n : NetworkValue) (is : IsNetwork n) where
 
 module _ (t : Tables) (is : AreConsistent t) (w : NetworkRow) (hw : Has t.networks w) where
   abbrev n : NetworkValue
-  n = (holding_of t w).network
+  n = (network_entry_of t w).network
 
   -- a row of the network is that of one of its peers' addresses or of one of its routes
   pub row_from : (a : AllowedRow) → Has t.allowed a → a.network ≡ w.id → IsOf t is a w
@@ -91,7 +91,7 @@ module _ (t : Tables) (is : AreConsistent t) (w : NetworkRow) (hw : Has t.networ
       network_of u (inr x) = ap (λ z. z.network) (sym x.2)
 
   pub route_there : (r : PrefixValue × ℕ) → Has n.routes r → Has t.allowed (route_row w.id r)
-  route_there r hr = (is.rows.allowed (route_row w.id r)).0 (has_flat allowed_rows (register_of t).networks (holding_of t w) (route_row w.id r) (here t is w hw)
+  route_there r hr = (is.rows.allowed (route_row w.id r)).0 (has_flat allowed_rows (register_of t).networks (network_entry_of t w) (route_row w.id r) (here t is w hw)
       (has_right (map (address_row w.id) n.peers) (map (route_row w.id) n.routes) (route_row w.id r) (has_map (route_row w.id) n.routes r hr)))
 
   -- the row allows the prefix of the entry, and leads where the entry leads
@@ -113,10 +113,10 @@ module _ (t : Tables) (is : AreConsistent t) (w : NetworkRow) (hw : Has t.networ
   ]
 
   -- a peer's number is below 2 ^ 20, so its id tells its network
-  pub low : (u : NetworkRow) → Has t.networks u → (v : Peer) → Has (holding_of t u).network.peers v → v.number < ids_per_network
+  pub low : (u : NetworkRow) → Has t.networks u → (v : Peer) → Has (network_entry_of t u).network.peers v → v.number < ids_per_network
   low u hu v hv =
       let kept = rules t is u hu in
-      let given = (member (holding_of t u).network v kept hv).numbered.1 in
+      let given = (member (network_entry_of t u).network v kept hv).numbered.1 in
       let next = kept.next.1 in
       omega (arith, given, next)
 

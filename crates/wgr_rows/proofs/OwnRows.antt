@@ -13,12 +13,12 @@ use Rattle.sqlite_rules.specs.Lists as rules
 use Rattle.wgr_peers.specs.declared.peer.Peer.{Peer}
 use Rattle.wgr_peers.specs.Limits.{IsLeaseEnd, max_number}
 use Rattle.wgr_peers.specs.Peers.{peer_of}
-use Rattle.wgr_core.specs.Forms.{IsFormed}
+use Rattle.wgr_core.specs.Forms.{IsPeerFormed}
 use Rattle.wgr_core.specs.Network.{NetworkValue}
 use Rattle.wgr_core.proofs.KeptLemmas.{kept_is_network}
 use Rattle.wgr_model.specs.Laws.{Has}
 use Rattle.wgr_model.specs.RowLaws.{AreConsistent}
-use Rattle.wgr_model.specs.Rows.{HaveSame, NetworkRow, PeerRow, Tables, holding_of, number_in, peer_id, peer_row, same_pair}
+use Rattle.wgr_model.specs.Rows.{HaveSame, NetworkRow, PeerRow, Tables, network_entry_of, number_in, peer_id, peer_row, same_pair}
 use Rattle.wgr_model.proofs.CollectLemmas.{from_map, has_map}
 use Rattle.wgr_model.proofs.ExistLemmas.{peers_apart}
 use Rattle.wgr_model.proofs.GatherLemmas.{eqb_self, in_filter, map_map}
@@ -26,7 +26,7 @@ use Rattle.wgr_model.proofs.HolderLemmas.{member}
 use Rattle.wgr_model.proofs.KeptLemmas.{distinct_filter}
 use Rattle.wgr_model.proofs.MemberLemmas.{permuted}
 use Rattle.wgr_model.proofs.OrderLemmas.{from_filter}
-use Rattle.wgr_model.proofs.RuleLemmas.{from_peer, holding, one_network, peer_there}
+use Rattle.wgr_model.proofs.RuleLemmas.{from_peer, network_entry, one_network, peer_there}
 use Rattle.wgr_model.proofs.SameLemmas.{at_has, has_permutation}
 use Rattle.wgr_sql.proofs.RowLemmas.{map_filter}
 use Rattle.wgr_columns.specs.Decode.{peer_in}
@@ -61,7 +61,7 @@ among f (x ∷ xs) a (inr h) = inr (among f xs a h)
 
 module _ (t : Tables) (is : AreConsistent t) where
   pub ids : IsDistinct nat_eq (map (λ w. w.id) t.networks)
-  ids = subst (IsDistinct nat_eq) (map_map (holding_of t) (λ h. h.id) t.networks) is.consistent.network_ids
+  ids = subst (IsDistinct nat_eq) (map_map (network_entry_of t) (λ h. h.id) t.networks) is.consistent.network_ids
 
   -- a query shows one row at most where the rows that pass agree in their keys
   pub few_peers : (q : PeerRow → Bool) (rows : List Row) → IsPermutation (filter q t.peers) (map peer_in rows) → ((a b : PeerRow) → Has (filter q t.peers) a → Has (filter q t.peers) b → same_pair (peer_key a) (peer_key b) ≡ true) → length rows ≤ 1
@@ -72,14 +72,14 @@ module _ (t : Tables) (is : AreConsistent t) where
 
   module _ (w : NetworkRow) (here : Has t.networks w) where
     abbrev n : NetworkValue
-    n = (holding_of t w).network
+    n = (network_entry_of t w).network
 
     -- a row of the network is that of one of its peers
     pub peer_from : (p : PeerRow) → Has t.peers p → p.network ≡ w.id → (v : Peer) × Has n.peers v × (peer_row w.id v ≡ p)
     peer_from p h e =
         let f = from_peer t is p h in
         let one = one_network t is f.0 w f.2 here (ap (λ (z : PeerRow). z.network) f.4 ∙ e) in
-        (f.1, subst (λ z. Has (holding_of t z).network.peers f.1) one f.3, subst (λ z. peer_row z.id f.1 ≡ p) one f.4)
+        (f.1, subst (λ z. Has (network_entry_of t z).network.peers f.1) one f.3, subst (λ z. peer_row z.id f.1 ≡ p) one f.4)
 
     -- ---- rows that a query shows of those that pass
 
@@ -92,9 +92,9 @@ module _ (t : Tables) (is : AreConsistent t) where
           let p = passed r h in
           let v = peer_from (peer_in r) p.0 (own (peer_in r) p.1) in
           let k = numbers r h in
-          let given = member n v.0 (holding t is w here).rules v.1 in
-          let low : v.0.number < 4294967296 = omega (arith, given.numbered.1, (holding t is w here).rules.next.1) in
-          let form = at_has IsFormed n.peers v.0 (recursion_from_All IsFormed n.peers (holding t is w here).forms.1) v.1 in (
+          let given = member n v.0 (network_entry t is w here).rules v.1 in
+          let low : v.0.number < 4294967296 = omega (arith, given.numbered.1, (network_entry t is w here).rules.next.1) in
+          let form = at_has IsPeerFormed n.peers v.0 (recursion_from_All IsPeerFormed n.peers (network_entry t is w here).forms.1) v.1 in (
             (v.0.number, low, k.0 ∙ ap (λ (z : PeerRow). Int (pos z.id)) (sym v.2)),
             (k.1, subst IsLeaseEnd (ap (λ (z : PeerRow). z.until) v.2) form.until),
           )
@@ -107,9 +107,9 @@ module _ (t : Tables) (is : AreConsistent t) where
 
       owned : (v : Peer) → Has n.peers v → test v.until ≡ true → is_owned w.id test (peer_row w.id v) ≡ true
       owned v h passes =
-          let given = (member n v (holding t is w here).rules h).numbered in
+          let given = (member n v (network_entry t is w here).rules h).numbered in
           let low = le_is (peer_id w.id 1) (peer_id w.id v.number) (omega (arith, given.0)) in
-          let high = le_is (peer_id w.id v.number) (peer_id w.id max_number) (omega (arith, given.1, (holding t is w here).rules.next.1)) in
+          let high = le_is (peer_id w.id v.number) (peer_id w.id max_number) (omega (arith, given.1, (network_entry t is w here).rules.next.1)) in
           λ k. eqb_self w.id k && (low k && (high k && passes k))
 
       same : HaveSame (filter (is_owned w.id test) t.peers) (filter (λ (p : PeerRow). test p.until) (map (peer_row w.id) n.peers))
@@ -132,9 +132,9 @@ module _ (t : Tables) (is : AreConsistent t) where
       own_rows =
           subst (IsPermutation (filter (is_owned w.id test) t.peers)) (sym (map_filter (peer_row w.id) (λ v. test v.until) (λ (p : PeerRow). test p.until) n.peers (λ v h. refl)))
           (permuted peer_key same_pair pair_self pair_sym (filter (is_owned w.id test) t.peers) (filter (λ (p : PeerRow). test p.until) (map (peer_row w.id) n.peers)) (distinct_filter same_pair peer_key (is_owned w.id test) t.peers is.rows.keyed.peer_keys)
-          (distinct_filter same_pair peer_key (λ (p : PeerRow). test p.until) (map (peer_row w.id) n.peers) (peers_apart (holding_of t w) (holding t is w here).rules)) same)
+          (distinct_filter same_pair peer_key (λ (p : PeerRow). test p.until) (map (peer_row w.id) n.peers) (peers_apart (network_entry_of t w) (network_entry t is w here).rules)) same)
 
       -- and in the order of their ids
       pub own_arranged : (rows : List Row) → ShowOwned w.id test t rows → AreRising (λ p. p.id) peer_in rows → map peer_in rows ≡ map (peer_row w.id) ending
       own_arranged rows listed up =
-          arranged_peers w.id _ (kept_is_network n (λ v. test v.until) (λ r. is_some (peer_of ending r.1)) (holding t is w here).rules (λ r stands leads. leads)) (peer_row w.id) (λ (p : PeerRow). p.id) (λ p. refl) (map peer_in rows) (filter (is_owned w.id test) t.peers) own_rows listed up
+          arranged_peers w.id _ (kept_is_network n (λ v. test v.until) (λ r. is_some (peer_of ending r.1)) (network_entry t is w here).rules (λ r stands leads. leads)) (peer_row w.id) (λ (p : PeerRow). p.id) (λ p. refl) (map peer_in rows) (filter (is_owned w.id test) t.peers) own_rows listed up

@@ -26,8 +26,8 @@ use Rattle.wgr_peers.specs.Peers.{expired, is_live}
 use Rattle.wgr_core.specs.Network.{NetworkValue}
 use Rattle.wgr_model.specs.Laws.{Has}
 use Rattle.wgr_model.specs.RowLaws.{AreConsistent}
-use Rattle.wgr_model.specs.Rows.{NetworkRow, PeerRow, Tables, holding_of, peer_id, peer_row}
-use Rattle.wgr_model.proofs.RuleLemmas.{holding}
+use Rattle.wgr_model.specs.Rows.{NetworkRow, PeerRow, Tables, network_entry_of, peer_id, peer_row}
+use Rattle.wgr_model.proofs.RuleLemmas.{network_entry}
 use Rattle.wgr_sql.specs.Causes.{IsAnswered}
 use Rattle.wgr_sql.specs.Effects.{passing, plain_query}
 use Rattle.wgr_sql.proofs.Answers.{answers, map-both}
@@ -162,7 +162,7 @@ same_numbers id (x ∷ xs) (y ∷ ys) is =
 
 module _ (t : Tables) (is : AreConsistent t) (w : NetworkRow) (here : Has t.networks w) where
   abbrev n : NetworkValue
-  n = (holding_of t w).network
+  n = (network_entry_of t w).network
 
   pub count_is : owned_count w.id any_end t ≡ length n.peers
   count_is = sym (length_permutation _ _ (own_rows t is w here any_end)) ∙ length-map (filter (λ (v : Peer). true) n.peers) (peer_row w.id) ∙ ap length (filter_all n.peers)
@@ -174,7 +174,7 @@ module _ (t : Tables) (is : AreConsistent t) (w : NetworkRow) (here : Has t.netw
       sym (map-both peer_in (λ (p : PeerRow). p.id) rows) ∙ ap (map (λ (p : PeerRow). p.id)) (own_arranged t is w here (is_over now) rows listed up) ∙ map-both (peer_row w.id) (λ (p : PeerRow). p.id) gone
       ∙ sym (map-both (λ (v : Peer). v.number) (peer_id w.id) gone) in
       same_numbers w.id numbers (map (λ (v : Peer). v.number) gone) (read ∙ shown)
-      ∙ ap (map (λ (v : Peer). v.number)) (filter_agree_on (λ (v : Peer). is_over now v.until) (λ v. not (is_live now v)) n.peers (λ k d low. over_is now (get_or n.peers k d).until ((holding t is w here).forms.1 k d low).until))
+      ∙ ap (map (λ (v : Peer). v.number)) (filter_agree_on (λ (v : Peer). is_over now v.until) (λ v. not (is_live now v)) n.peers (λ k d low. over_is now (get_or n.peers k d).until ((network_entry t is w here).forms.1 k d low).until))
 
   pub ids_there : (now : ℕ) (rows : List Row) → ShowOwned w.id (is_over now) t rows → HaveNumbers rows → All (λ r. IsPeerIdAt r 0 w.id) rows
   ids_there now rows listed numbers k d low =

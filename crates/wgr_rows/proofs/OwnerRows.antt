@@ -6,17 +6,17 @@ use Rattle.wgr_core.specs.Owner.{allowed, owner_of}
 use Rattle.wgr_core.proofs.LiveLemmas.{live_is_network}
 use Rattle.wgr_model.specs.Laws.{Has}
 use Rattle.wgr_model.specs.RowLaws.{AreConsistent}
-use Rattle.wgr_model.specs.Rows.{NetworkRow, Tables, holding_of}
+use Rattle.wgr_model.specs.Rows.{NetworkRow, Tables, network_entry_of}
 use Rattle.wgr_model.proofs.RuleLemmas.{rules}
 use Rattle.wgr_rows.specs.Holder.{prefix_holder}
 use Rattle.wgr_rows.proofs.MatchLemmas.{HasNoneFrom, no_owner, none_here, none_yet, owner_here}
 
 module _ (t : Tables) (is : AreConsistent t) (w : NetworkRow) (hw : Has t.networks w) (now : ℕ) (a : AddrValue) where
   abbrev live : NetworkValue
-  live = live_at (holding_of t w).network now
+  live = live_at (network_entry_of t w).network now
 
   kept : IsNetwork live
-  kept = live_is_network (holding_of t w).network now (rules t is w hw)
+  kept = live_is_network (network_entry_of t w).network now (rules t is w hw)
 
   pub begins : (top : ℕ) → top ≡ width a.family → HasNoneFrom (allowed live) a (top + 1)
   begins top is_top = subst (λ m. HasNoneFrom (allowed live) a (m + 1)) (sym is_top) (none_yet live kept a)

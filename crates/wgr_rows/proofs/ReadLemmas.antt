@@ -15,7 +15,7 @@ use Rattle.wgr_model.specs.Laws.{Has}
 use Rattle.wgr_model.specs.Rows.{peer_id}
 use Rattle.wgr_columns.specs.Decode.{IsRegister, allowed_in, number_at, tables_of}
 use Rattle.wgr_columns.specs.Fields.{IsPeerIdAt, IsPrefixAt}
-use Rattle.wgr_rows.specs.Holding.{hold_params, holds_text, last_number, max_holds}
+use Rattle.wgr_rows.specs.HeldRows.{hold_params, holds_text, last_number, max_holds}
 use Rattle.wgr_rows.specs.Stopping.{HavePool}
 use Rattle.wgr_rows.proofs.HoldLemmas.{IsChosen, as_many, chosen_each, held, holds_listed}
 use Rattle.wgr_rows.proofs.Meaning.{hold_places}

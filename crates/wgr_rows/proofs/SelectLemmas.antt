@@ -10,7 +10,7 @@ use Rattle.sqlite_resolve.specs.Compile.{first, returning}
 use Rattle.sqlite_resolve.specs.Lowering.{and_then}
 use Rattle.sqlite_tied.specs.Compute.{everything}
 use Rattle.wgr_checks.proofs.SelectLemmas.{text_begun, text_commits_nothing}
-use Rattle.wgr_rows.specs.Holding.{holds_text}
+use Rattle.wgr_rows.specs.HeldRows.{holds_text}
 
 asks_none : (shows_peers : Bool) (s : Schema) (n : ℕ) → and_then (first (holds_text shows_peers)) (λ p. returning s n p.statement) ≡ Ok None
 unfolding first returning everything

@@ -17,7 +17,7 @@ use Rattle.sqlite_rules.proofs.ListLemmas.{has_right}
 use Rattle.sqlite_tied.specs.Compute.{everything}
 use Rattle.wgr_text.specs.declared.prefix.Span.{Span}
 use Rattle.wgr_text.specs.Prefix.{AddrValue, PrefixValue, IsAddr, IsPrefix, rank}
-use Rattle.wgr_pool.specs.Spans.{RisesFrom, reached}
+use Rattle.wgr_pool.specs.Spans.{RisesFrom, reached_after}
 use Rattle.wgr_pool.specs.declared.allot.Stop.{Stop}
 use Rattle.wgr_model.specs.Rows.{AreKeyed}
 use Rattle.wgr_sql.specs.Causes.{HasCause, IsAnswered, IsHindered}
@@ -28,9 +28,9 @@ use Rattle.wgr_columns.specs.Decode.{IsRegister, allowed_in, tables_of}
 use Rattle.wgr_columns.specs.Fields.{IsPeerIdAt, IsPrefixAt}
 use Rattle.wgr_columns.specs.Layout.{Others, schema_with}
 use Rattle.wgr_columns.proofs.Statements.{never_refused}
-use Rattle.wgr_rows.specs.Holding.{Hold, brief, hold_params, holds_text, max_holds}
+use Rattle.wgr_rows.specs.HeldRows.{HeldSpan, brief, hold_params, holds_text, max_holds}
 use Rattle.wgr_rows.specs.Stopping.{Blames, HavePool, IsSound, fault_at}
-use Rattle.wgr_rows.specs.Telling.{IsGood, IsToldTo, Tells}
+use Rattle.wgr_rows.specs.Telling.{ShowsGoodRows, IsToldTo, Tells}
 use Rattle.wgr_rows.specs.declared.progress.Progress.{Progress}
 use Rattle.wgr_rows.specs.declared.progress.Progress.TheVariants.{Running, Stopped}
 use Rattle.wgr_rows.proofs.Coming.{is_open, parts, spans}
@@ -70,7 +70,7 @@ for_cause network pool old new at why cause other is =
 no_two : (x y : ⊥) → x ≡ y
 no_two x y = absurd x
 
-good_of : (network : ℕ) (pool : PrefixValue) (s : State) → HasCleanDisk s → IsSound network pool s → IsGood s
+good_of : (network : ℕ) (pool : PrefixValue) (s : State) → HasCleanDisk s → IsSound network pool s → ShowsGoodRows s
 good_of network pool s clean sound = (clean, λ live. let it = sound.1 live in (it.0, it.1.consistent.rows.keyed))
 
 -- ---- the query is answered
@@ -143,12 +143,12 @@ module _ {S : Type 0} (g : Ghosts S) (shows_peers : Bool) (network : ℕ) (pool 
           refused read.0 read.1))
 
       -- and none begins below the one before it
-      pub order_cause : (hold : Hold) → hold ≡ brief shows_peers network (allowed_in row) → (reached last ≤ rank hold.0.lo → ⊥) → (HasCleanDisk (state g new) → IsSound network pool (state g old)) → HasCause (state g old) (state g new) Store
+      pub order_cause : (hold : HeldSpan) → hold ≡ brief shows_peers network (allowed_in row) → (reached_after last ≤ rank hold.0.lo → ⊥) → (HasCleanDisk (state g new) → IsSound network pool (state g old)) → HasCause (state g old) (state g new) Store
       order_cause hold hold_is below known = cause_unless (state g old) (state g new) Store (λ _ clean free.
           let sound = known clean in
           with_told (clean_before clean) sound (λ told.
           let it = sound.1 (live_given old told.given told.runs) in
           let now_is = (same clean).0.now_is in
-          let good : IsGood (state g new) = (clean, λ live. subst (λ (d : Database). IsRegister d × AreKeyed (tables_of d)) (sym now_is) (it.0, it.1.consistent.rows.keyed)) in
-          let up = (subst (λ l. RisesFrom (reached last) (spans l)) (parts g old new (same clean) good shows_peers network pool start is fits low taken first last told row (gives clean told.given told.runs)) told.rises).0 in
-          below (subst (λ (x : Hold). reached last ≤ rank x.0.lo) (sym hold_is) up)))
+          let good : ShowsGoodRows (state g new) = (clean, λ live. subst (λ (d : Database). IsRegister d × AreKeyed (tables_of d)) (sym now_is) (it.0, it.1.consistent.rows.keyed)) in
+          let up = (subst (λ l. RisesFrom (reached_after last) (spans l)) (parts g old new (same clean) good shows_peers network pool start is fits low taken first last told row (gives clean told.given told.runs)) told.rises).0 in
+          below (subst (λ (x : HeldSpan). reached_after last ≤ rank x.0.lo) (sym hold_is) up)))

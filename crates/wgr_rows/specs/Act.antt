@@ -11,13 +11,13 @@ use Rattle.wgr_core.specs.declared.refusal.Refusal.{Refusal}
 use Rattle.wgr_core.specs.declared.reply.Reply.{Reply}
 use Rattle.wgr_core.specs.declared.reply.Reply.TheVariants as reply
 use Rattle.wgr_core.specs.Network.{NetworkValue, live_at}
-use Rattle.wgr_core.specs.Outcome.{join_refusal}
+use Rattle.wgr_core.specs.Refusals.{join_refusal, of_command}
 use Rattle.wgr_peers.specs.Peers.{expired}
 use Rattle.wgr_sql.specs.declared.fault.Fault.{Fault}
 use Rattle.wgr_rows.specs.declared.act.Admission.{Admission}
 use Rattle.wgr_rows.specs.declared.fault.RowFault.{RowFault}
 use Rattle.wgr_rows.specs.declared.fault.RowFault.TheVariants as fault
-use Rattle.wgr_rows.specs.Heads.{IsHead}
+use Rattle.wgr_rows.specs.Settings.{AreSettingsOf}
 
 -- a network that isn't in memory is asked these on its rows, and loaded for the others
 abbrev pub is_directed : Command → Bool
@@ -46,7 +46,7 @@ is_plain (reply.File number form) = false
 -- the answer of a command on rows, as one on a network in memory
 abbrev pub as_acted : Result (Reply × Option Change) RowFault → Result (Reply × Option Change) ActFault
 as_acted (Ok given) = Ok given
-as_acted (Err (fault.Refused why)) = Err (act.Refused why)
+as_acted (Err (fault.Refused why)) = Err (act.Refused (of_command why))
 as_acted (Err (fault.Fault why)) = Err act.NoMemory
 
 -- this holds for the fault, if it is one of memory or of the store
@@ -56,7 +56,7 @@ IfFails P (fault.Fault why) = P why
 
 -- what the network has for a new peer with this key and this end of its lease, or why none may join
 abbrev pub Admits : NetworkValue → ℕ → Key → ℕ → Result Admission RowFault → Type 0
-Admits n now key until (Ok found) = (join_refusal (live_at n now) now key until ≡ None) × IsHead found.head n × (found.expired.items ≡ expired now n.peers)
+Admits n now key until (Ok found) = (join_refusal (live_at n now) now key until ≡ None) × AreSettingsOf n found.head × (found.expired.items ≡ expired now n.peers)
 Admits n now key until (Err (fault.Refused why)) = join_refusal (live_at n now) now key until ≡ Some why
 Admits n now key until (Err (fault.Fault why)) = Unit {0}
 

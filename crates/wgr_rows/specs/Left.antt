@@ -10,11 +10,11 @@ use Rattle.wgr_sql.specs.Causes.{HasCause}
 use Rattle.wgr_sql.specs.declared.fault.Fault.{Fault}
 use Rattle.wgr_sql.proofs.CauseLemmas.{cause_after, cause_before, cause_if}
 use Rattle.wgr_columns.specs.Decode.{IsRegister, tables_of}
-use Rattle.wgr_rows.specs.Staying.{IsQuiet, IsStill, stays_itself, stays_on}
+use Rattle.wgr_rows.specs.Staying.{IsQuiet, IsStillOnClean, stays_itself, stays_on}
 use Rattle.wgr_rows.specs.Stopping.{Blames, HavePool, IsSound, Leaves, fault_at}
 use Rattle.wgr_rows.specs.declared.progress.Progress.{Progress}
 
-module _ (network : ℕ) (pool : PrefixValue) (a b c : State) (one : Survives a b (λ _. ⊥)) (two : Survives b c (λ _. ⊥)) (still : IsQuiet a → IsStill a b) where
+module _ (network : ℕ) (pool : PrefixValue) (a b c : State) (one : Survives a b (λ _. ⊥)) (two : Survives b c (λ _. ⊥)) (still : IsQuiet a → IsStillOnClean a b) where
   sound_next : HasCleanDisk b → IsSound network pool a → IsSound network pool b
   sound_next clean sound = (
     (λ live. let it = still sound.0 clean live in it.1 ∙ sound.0 it.0 ∙ sym it.2),

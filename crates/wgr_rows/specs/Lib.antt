@@ -1,12 +1,12 @@
 -- One network, and its own row.
 pub mod Directed
-pub mod Heads
+pub mod Settings
 -- Its peers.
 pub mod Keyed
 pub mod Owned
 -- Its prefixes.
 pub mod Holder
-pub mod Holding
+pub mod HeldRows
 pub mod Telling
 pub mod Staying
 pub mod Stopping

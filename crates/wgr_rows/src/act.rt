@@ -8,27 +8,29 @@ ghost use Rattle.wgr_peers.specs.PeerIndex.{EndsFrom};
 ghost use Rattle.wgr_peers.specs.Peers.{expired};
 ghost use Rattle.wgr_core.specs.Change.{Meets};
 ghost use Rattle.wgr_core.specs.Network.{live_at};
-ghost use Rattle.wgr_core.specs.Outcome.{is_reading, outcome_of, place};
+ghost use Rattle.wgr_core.specs.Outcome.{is_reading, outcome_of};
+ghost use Rattle.wgr_core.specs.Refusals.{place};
 ghost use Rattle.wgr_outline.specs.Outline.{IsFloor, IsOutline};
 ghost use Rattle.wgr_sql.specs.Causes.{HasCause};
 ghost use Rattle.wgr_tables.specs.Standing.{OnlyReads};
 ghost use Rattle.wgr_rows.specs.Act.{Admits, IfFails, IsPlaced, as_acted, is_directed, is_plain};
 ghost use Rattle.wgr_rows.specs.Directed.{OnNetwork};
-ghost use Rattle.wgr_rows.specs.Heads.{IsHead};
+ghost use Rattle.wgr_rows.specs.Settings.{AreSettingsOf};
 
 use crate::allowed::allowed_row;
 use crate::count::count_rows;
 use crate::expired::expired_rows;
 use crate::fault::RowFault;
 use crate::free::free_row;
-use crate::head::{Head, head_row};
+use crate::head::head_row;
 use crate::key::key_row;
 use crate::owner::owner_row;
 use sqlite::{Alter, Connection};
 use std::alloc::{AllocError, Global};
-use wgr_core::{Change, Command, PeerView, Refusal, Reply, number_set};
+use wgr_columns::NetworkSettings;
+use wgr_core::{Change, Command, Joining, PeerView, Refusal, Reply, address_refusal, number_set};
 use wgr_outline::Outline;
-use wgr_peers::{Items, LeaseEnd, MAX_NUMBER, Peer};
+use wgr_peers::{Items, LeaseEnd, Peer};
 use wgr_sql::Fault;
 use wgr_text::{Addr, Key, Prefix};
 
@@ -42,7 +44,7 @@ pub fn is_directed(command: &Command) -> bool
 // What a network has for a new peer: its own row, and the numbers of the peers whose leases are over.
 #[derive(Drop)]
 struct Admission {
-    head: Head,
+    head: NetworkSettings,
     expired: Vec<u32>,
 }
 
@@ -51,12 +53,12 @@ struct Admission {
 fn has_room<S: Alter>(
     conn: &mut Connection<S>,
     network: u32,
-    head: &Head,
+    head: &NetworkSettings,
     over: &[u32],
 ) -> Result<bool, Fault>
     requires idle { conn.old.in_transaction ≡ false }
     ensures reads { OnlyReads S.Store conn.old conn.new }
-    ensures found { OnNetwork S.Store conn.old network (λ n. HasCleanDisk (state S.Store conn.new) → (now : ℕ) → IsHead head.now n → over.now ≡ expired now n.peers → IfOk result (λ has. has ≡ nat_lt (length (live_at n now).peers) n.capacity)) }
+    ensures found { OnNetwork S.Store conn.old network (λ n. HasCleanDisk (state S.Store conn.new) → (now : ℕ) → AreSettingsOf n head.now → over.now ≡ expired now n.peers → IfOk result (λ has. has ≡ nat_lt (length (live_at n now).peers) n.capacity)) }
     ensures cause { OnNetwork S.Store conn.old network (λ n. IfErr result (HasCause (state S.Store conn.old) (state S.Store conn.new))) }
 {
     let most = u32::from(head.capacity.peers());
@@ -81,28 +83,24 @@ fn admit_row<S: Alter>(
     requires idle { conn.old.in_transaction ≡ false }
     ensures reads { OnlyReads S.Store conn.old conn.new }
     ensures found { OnNetwork S.Store conn.old network (λ n. HasCleanDisk (state S.Store conn.new) → All (EndsFrom soonest) n.peers → Admits n now key.now until result) }
-    ensures head { OnNetwork S.Store conn.old network (λ n. HasCleanDisk (state S.Store conn.new) → IfOk result (λ admission. IsHead admission.head n)) }
+    ensures head { OnNetwork S.Store conn.old network (λ n. HasCleanDisk (state S.Store conn.new) → IfOk result (λ admission. AreSettingsOf n admission.head)) }
     ensures left { IfOk result (λ admission. admission.head.next ≤ max_number) }
     ensures cause { OnNetwork S.Store conn.old network (λ n. IfErr result (IfFails (HasCause (state S.Store conn.old) (state S.Store conn.new)))) }
 {
-    let head = head_row(conn, network)?;
-    if *key == head.server {
-        return Err(RowFault::Refused(Refusal::ServerKey));
-    }
-    if let Some(number) = key_row(conn, network, now, key)? {
-        return Err(RowFault::Refused(Refusal::KeyHeld { number }));
-    }
-    if until.is_expired(now) {
-        return Err(RowFault::Refused(Refusal::LeaseOver));
-    }
+    let head = head_row(alloc, conn, network)?;
+    let key_holder = key_row(conn, network, now, key)?;
     let expired = expired_rows(alloc, conn, network, now, soonest)?;
-    if !has_room(conn, network, &head, expired.as_slice())? {
-        return Err(RowFault::Refused(Refusal::CapacityReached));
+    let has_room = has_room(conn, network, &head, expired.as_slice())?;
+    let joining = Joining {
+        server: head.server,
+        key_holder,
+        has_room,
+        next: head.next,
+    };
+    match joining.refusal(now, key, until) {
+        Some(why) => Err(RowFault::Refused(why)),
+        None => Ok(Admission { head, expired }),
     }
-    if head.next > MAX_NUMBER {
-        return Err(RowFault::Refused(Refusal::NumbersSpent));
-    }
-    Ok(Admission { head, expired })
 }
 
 // The address that a new peer gets: the named one, if it may, or the lowest that is free. None is free
@@ -118,16 +116,14 @@ fn place_row<S: Alter>(
 ) -> Result<Addr, RowFault>
     requires idle { conn.old.in_transaction ≡ false }
     ensures reads { OnlyReads S.Store conn.old conn.new }
-    ensures found { OnNetwork S.Store conn.old network (λ n. HasCleanDisk (state S.Store conn.new) → IsHead admission.now.head n → admission.now.expired.items ≡ expired now n.peers → IsFloor (live_at n now) floor → IsPlaced (place (live_at n now) wanted) result) }
-    ensures cause { OnNetwork S.Store conn.old network (λ n. (HasCleanDisk (state S.Store conn.new) → IsHead admission.now.head n) → IfErr result (IfFails (HasCause (state S.Store conn.old) (state S.Store conn.new)))) }
+    ensures found { OnNetwork S.Store conn.old network (λ n. HasCleanDisk (state S.Store conn.new) → AreSettingsOf n admission.now.head → admission.now.expired.items ≡ expired now n.peers → IsFloor (live_at n now) floor → IsPlaced (place (live_at n now) n.pool wanted) result) }
+    ensures cause { OnNetwork S.Store conn.old network (λ n. (HasCleanDisk (state S.Store conn.new) → AreSettingsOf n admission.now.head) → IfErr result (IfFails (HasCause (state S.Store conn.old) (state S.Store conn.new)))) }
 {
     let pool = &admission.head.pool;
     if let Some(address) = wanted {
-        if !pool.gives(&address) {
-            return Err(RowFault::Refused(Refusal::OutsidePool));
-        }
-        return match allowed_row(conn, network, now, &Prefix::full(address))? {
-            Some(_) => Err(RowFault::Refused(Refusal::AddressHeld)),
+        let holder = allowed_row(conn, network, now, &Prefix::full(address))?;
+        return match address_refusal(pool, &address, holder.is_some()) {
+            Some(why) => Err(RowFault::Refused(why)),
             None => Ok(address),
         };
     }

@@ -9,7 +9,7 @@ ghost use Rattle.wgr_outline.specs.Outline.{IsFloor};
 ghost use Rattle.wgr_sql.specs.Causes.{HasCause};
 ghost use Rattle.wgr_tables.specs.Standing.{OnlyReads};
 ghost use Rattle.wgr_rows.specs.Directed.{OnNetwork};
-ghost use Rattle.wgr_rows.specs.Holding.{holds_text};
+ghost use Rattle.wgr_rows.specs.HeldRows.{holds_text};
 
 use crate::holds::lowest_in;
 use sqlite::types::ValueRef;
@@ -57,7 +57,7 @@ pub fn free_row<S: Alter>(
     requires idle { conn.old.in_transaction ≡ false }
     ensures reads { OnlyReads S.Store conn.old conn.new }
     ensures found { OnNetwork S.Store conn.old network (λ n. HasCleanDisk (state S.Store conn.new) → IfOk result (λ found. (now : ℕ) → pool.now ≡ n.pool
-        → ((i : ℕ) → contains nat_eq expired.now i ≡ is_among (ended now n.peers) i) → IsFloor (live_at n now) floor → found ≡ lowest_free (live_at n now))) }
+        → ((i : ℕ) → contains nat_eq expired.now i ≡ is_among (ended now n.peers) i) → IsFloor (live_at n now) floor → found ≡ lowest_free (live_at n now) n.pool)) }
     ensures cause { OnNetwork S.Store conn.old network (λ n. pool.now ≡ n.pool → IfErr result (HasCause (state S.Store conn.old) (state S.Store conn.new))) }
 {
     let prefix = pool.prefix();

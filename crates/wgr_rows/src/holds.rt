@@ -3,18 +3,18 @@ ghost use Rattle.std.specs.Prelude.{◌≡◌, ◌≤◌, ◌<◌, ◌+◌, ◌-
 ghost use Rattle.std.specs.HashSet.{contains};
 ghost use Rattle.std.proofs.Common.{refl, ◌∙◌};
 ghost use Rattle.wgr_text.specs.Prefix.{rank};
-ghost use Rattle.wgr_pool.specs.Spans.{IsFilledBy, IsFull, IsLowestFree, StopsAt, reached};
+ghost use Rattle.wgr_pool.specs.Spans.{IsFilledBy, IsFull, IsLowestFree, StopsAt, reached_after};
 ghost use Rattle.sqlite.specs.State.{HasCleanDisk};
 ghost use Rattle.sqlite.specs.Held.{state};
 ghost use Rattle.wgr_sql.specs.Causes.{HasCause};
 ghost use Rattle.wgr_columns.specs.Decode.{tables_of};
 ghost use Rattle.wgr_rows.specs.declared.progress.Progress.TheVariants.{Running, Stopped};
-ghost use Rattle.wgr_rows.specs.Holding.{TakesFirst, below, coming, is_passed_over, max_holds, rest, to_come};
+ghost use Rattle.wgr_rows.specs.HeldRows.{TakesFirst, below, coming, is_passed_over, max_holds, rest, rows_to_come};
 ghost use Rattle.wgr_rows.specs.Rising.{next_from, told_rise};
 ghost use Rattle.wgr_rows.specs.Staying.{Stays};
 ghost use Rattle.wgr_rows.specs.Stopping.{Blames, IsSound, Leaves, fault_at};
 ghost use Rattle.wgr_rows.specs.Left.{leaves_itself, leaves_on};
-ghost use Rattle.wgr_rows.specs.Telling.{IsGood, Tells};
+ghost use Rattle.wgr_rows.specs.Telling.{ShowsGoodRows, Tells};
 
 use crate::progress::Progress;
 use crate::row::{hold_in, is_from};
@@ -69,11 +69,11 @@ impl<'r, 'conn, 'a, S: Alter> HoldRows<'r, 'conn, 'a, S> {
         ensures stays { Stays S.Store self.old.rows.now.conn.now self.new.rows.now.conn.now }
         ensures settings { (self.new.network ≡ self.old.network) × (self.new.pool ≡ self.old.pool) × (self.new.start ≡ self.old.start) × (self.new.first ≡ self.old.first) × (self.new.expired.now ≡ self.old.expired.now) }
         ensures falls { IfOk result (λ given. IfSome given (λ _. self.old.taken < self.new.taken)) }
-        ensures floor { reached self.old.last ≤ reached self.new.last }
-        ensures rises { IfOk result (λ given. IfSome given (λ h. (reached self.old.last ≤ rank h.0.lo) × (reached self.new.last ≡ rank h.0.lo))) }
-        ensures first { IsGood (state S.Store self.new.rows.now.conn.now) → IfOk result (λ given. TakesFirst (to_come self.old.shows_peers self.old.at (tables_of (state S.Store self.old.rows.now.conn.now).now) self.old.network self.old.pool self.old.start.number self.old.taken) given (to_come self.new.shows_peers self.new.at (tables_of (state S.Store self.new.rows.now.conn.now).now) self.new.network self.new.pool self.new.start.number self.new.taken)) }
+        ensures reached { reached_after self.old.last ≤ reached_after self.new.last }
+        ensures rises { IfOk result (λ given. IfSome given (λ h. (reached_after self.old.last ≤ rank h.0.lo) × (reached_after self.new.last ≡ rank h.0.lo))) }
+        ensures first { ShowsGoodRows (state S.Store self.new.rows.now.conn.now) → IfOk result (λ given. TakesFirst (rows_to_come self.old.shows_peers self.old.at (tables_of (state S.Store self.old.rows.now.conn.now).now) self.old.network self.old.pool self.old.start.number self.old.taken) given (rows_to_come self.new.shows_peers self.new.at (tables_of (state S.Store self.new.rows.now.conn.now).now) self.new.network self.new.pool self.new.start.number self.new.taken)) }
         ensures stops { IfErr result (λ why. self.new.at ≡ Stopped why) }
-        ensures was_good { IsGood (state S.Store self.new.rows.now.conn.now) → OnOk result (IsGood (state S.Store self.old.rows.now.conn.now)) }
+        ensures was_good { ShowsGoodRows (state S.Store self.new.rows.now.conn.now) → OnOk result (ShowsGoodRows (state S.Store self.old.rows.now.conn.now)) }
         ensures blames { Blames self.old.network self.old.pool (state S.Store self.old.rows.now.conn.now) self.old.at (state S.Store self.new.rows.now.conn.now) self.new.at }
     {
         match self.at {
@@ -123,9 +123,9 @@ impl<'r, 'conn, 'a, S: Alter> HoldRows<'r, 'conn, 'a, S> {
 impl<S: Alter> Holds for HoldRows<'_, '_, '_, S> {
     ghost rest = { λ s. rest s.first (contains nat_eq s.expired.now) s.shows_peers s.at (tables_of (state S.Store s.rows.now.conn.now).now) s.network s.pool s.start.number s.taken };
 
-    ghost honest = { λ s. IsGood (state S.Store s.rows.now.conn.now) };
+    ghost honest = { λ s. ShowsGoodRows (state S.Store s.rows.now.conn.now) };
 
-    ghost floor = { λ s. next_from s.first s.last };
+    ghost reached = { λ s. next_from s.first s.last };
 
     ghost left = { λ s. max_holds + 1 - s.taken + length (option_to_list s.first) };
 
@@ -189,7 +189,7 @@ pub(crate) fn lowest_in<S: Alter>(
     requires told { Tells S.Store rows.old.conn.now shows_peers network pool.now start.number 0 (below pool.now start) None Running }
     ensures same_reference { rows.new.conn.ghost_name ≡ rows.old.conn.ghost_name }
     ensures stays { Stays S.Store rows.old.conn.now rows.new.conn.now }
-    ensures lowest { IsGood (state S.Store rows.new.conn.now)
+    ensures lowest { ShowsGoodRows (state S.Store rows.new.conn.now)
         → IfOk result (λ found. MatchOption found (IsFull pool.now (coming shows_peers (contains nat_eq expired.now) (tables_of (state S.Store rows.old.conn.now).now) network pool.now start))
         (IsLowestFree pool.now (coming shows_peers (contains nat_eq expired.now) (tables_of (state S.Store rows.old.conn.now).now) network pool.now start))) }
     ensures cause { (HasCleanDisk (state S.Store rows.new.conn.now) → IsSound network pool.now (state S.Store rows.old.conn.now)) → IfErr result (HasCause (state S.Store rows.old.conn.now) (state S.Store rows.new.conn.now)) }
@@ -221,12 +221,12 @@ fn lowest_held<S: Alter>(
     ensures same_rows { holds.new.rows.ghost_name ≡ holds.old.rows.ghost_name }
     ensures same_reference { holds.new.rows.now.conn.ghost_name ≡ holds.old.rows.now.conn.ghost_name }
     ensures stays { Stays S.Store holds.old.rows.now.conn.now holds.new.rows.now.conn.now }
-    ensures lowest { IsGood (state S.Store holds.new.rows.now.conn.now)
+    ensures lowest { ShowsGoodRows (state S.Store holds.new.rows.now.conn.now)
         → IfOk result (λ found. MatchOption found (IsFull pool.now (rest holds.old.first (contains nat_eq holds.old.expired.now) holds.old.shows_peers holds.old.at (tables_of (state S.Store holds.old.rows.now.conn.now).now) holds.old.network holds.old.pool holds.old.start.number holds.old.taken))
         (IsLowestFree pool.now (rest holds.old.first (contains nat_eq holds.old.expired.now) holds.old.shows_peers holds.old.at (tables_of (state S.Store holds.old.rows.now.conn.now).now) holds.old.network holds.old.pool holds.old.start.number holds.old.taken))) }
-    ensures taken { IsGood (state S.Store holds.new.rows.now.conn.now)
+    ensures taken { ShowsGoodRows (state S.Store holds.new.rows.now.conn.now)
         → IfOk result (λ found. IfSome found (StopsAt (rest holds.old.first (contains nat_eq holds.old.expired.now) holds.old.shows_peers holds.old.at (tables_of (state S.Store holds.old.rows.now.conn.now).now) holds.old.network holds.old.pool holds.old.start.number holds.old.taken) (rest holds.new.first (contains nat_eq holds.new.expired.now) holds.new.shows_peers holds.new.at (tables_of (state S.Store holds.new.rows.now.conn.now).now) holds.new.network holds.new.pool holds.new.start.number holds.new.taken))) }
-    ensures filled { IsGood (state S.Store holds.new.rows.now.conn.now)
+    ensures filled { ShowsGoodRows (state S.Store holds.new.rows.now.conn.now)
         → IfOk result (λ found. IfNone found (IsFilledBy pool.now (rest holds.old.first (contains nat_eq holds.old.expired.now) holds.old.shows_peers holds.old.at (tables_of (state S.Store holds.old.rows.now.conn.now).now) holds.old.network holds.old.pool holds.old.start.number holds.old.taken) (rest holds.new.first (contains nat_eq holds.new.expired.now) holds.new.shows_peers holds.new.at (tables_of (state S.Store holds.new.rows.now.conn.now).now) holds.new.network holds.new.pool holds.new.start.number holds.new.taken))) }
     ensures cause { holds.old.at ≡ Running → (HasCleanDisk (state S.Store holds.new.rows.now.conn.now) → IsSound holds.old.network holds.old.pool (state S.Store holds.old.rows.now.conn.now)) → IfErr result (HasCause (state S.Store holds.old.rows.now.conn.now) (state S.Store holds.new.rows.now.conn.now)) }
 {

@@ -20,7 +20,7 @@ pub use count::count_rows;
 pub use expired::expired_rows;
 pub use fault::RowFault;
 pub use free::free_row;
-pub use head::{Head, head_row};
+pub use head::head_row;
 pub use key::key_row;
 pub use owner::owner_row;
 pub use wgr_sql::Fault;

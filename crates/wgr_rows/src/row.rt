@@ -1,11 +1,11 @@
 //! What is read of the row of an allowed prefix.
 ghost use Rattle.std.specs.Prelude.{◌≡◌, ◌≤◌, ◌↔◌, IsTrue, IfSome, IfNone, true};
 ghost use Rattle.wgr_text.specs.Prefix.{rank};
-ghost use Rattle.wgr_pool.specs.Spans.{reached};
+ghost use Rattle.wgr_pool.specs.Spans.{reached_after};
 ghost use Rattle.wgr_columns.specs.Decode.{allowed_in};
 ghost use Rattle.wgr_columns.specs.Fields.{IsPeerIdAt, IsPrefixAt};
 ghost use Rattle.wgr_columns.specs.declared.columns.allowed.TheConstants as allowed;
-ghost use Rattle.wgr_rows.specs.Holding.{brief};
+ghost use Rattle.wgr_rows.specs.HeldRows.{brief};
 
 use sqlite::Row;
 use wgr_columns::{allowed, peer_number_at, prefix_in};
@@ -27,7 +27,7 @@ pub(crate) fn hold_in(row: &Row, network: u32, shows_peer: bool) -> Option<(Span
 
 /// Whether the address isn't below the one before it, if there is one.
 pub(crate) fn is_from(last: Option<Addr>, address: &Addr) -> bool
-    ensures { IsTrue result ↔ (reached last ≤ rank address.now) }
+    ensures { IsTrue result ↔ (reached_after last ≤ rank address.now) }
 {
     match last {
         Some(last) => last.is_at_most(address),

@@ -3,7 +3,7 @@ use Rattle.std.proofs.Common.{◌≡◌, ℕ, ◌+◌, ◌<◌, ◌≤◌, List,
 use Rattle.std.proofs.lemmas.List.{get_or-map, take_more, take_all, map-append}
 use Rattle.sqlite.specs.Table.{Table}
 use Rattle.sqlite_value.specs.Keys.{plain}
-use Rattle.wgr_schema.specs.Forms.{IsHead, IsBare, table_as, column_as}
+use Rattle.wgr_schema.specs.Forms.{IsTableHead, IsBare, table_as, column_as}
 use Rattle.wgr_schema.specs.declared.form.TableForm.{TableForm}
 
 pub grown : {X Y : Type 0} (f : Y → X) (xs : List X) (ys : List Y) (at : ℕ) (x : X) (d : Y) → at < length xs → at < length ys → take at xs ≡ map f (take at ys) → x ≡ slice_index_or xs at x
@@ -28,7 +28,7 @@ pub alike_at : {X Y : Type 0} (f : Y → X) (xs : List X) (ys : List Y) (at : �
 alike_at f xs ys at e d below same = ap (λ l. slice_index_or l at e) same ∙ get_or-map f ys at d e below
 
 -- a table is its parts
-pub table_is : (t : Table) (f : TableForm) → IsHead t f → IsBare t → t.stamps ≡ record { places = []; terms = []; formats = [] } → t.columns ≡ map column_as f.columns.now → t.uniques ≡ map (λ p. p.now) f.uniques.now
+pub table_is : (t : Table) (f : TableForm) → IsTableHead t f → IsBare t → t.stamps ≡ record { places = []; terms = []; formats = [] } → t.columns ≡ map column_as f.columns.now → t.uniques ≡ map (λ p. p.now) f.uniques.now
     → t.orders ≡ map (λ _. plain) f.uniques.now → t ≡ table_as f
 table_is t f h b stamps columns uniques orders = λ k. record {
   name = h.name k;
@@ -46,7 +46,7 @@ table_is t f h b stamps columns uniques orders = λ k. record {
 }
 
 -- and its parts are those of the form
-pub head_of : (t : Table) (f : TableForm) → t ≡ table_as f → IsHead t f
+pub head_of : (t : Table) (f : TableForm) → t ≡ table_as f → IsTableHead t f
 head_of t f e = record { name = ap (λ (x : Table). x.name) e; tree = ap (λ (x : Table). x.tree) e; key = ap (λ (x : Table). x.key) e; primary = ap (λ (x : Table). x.primary) e }
 
 pub bare_of : (t : Table) (f : TableForm) → t ≡ table_as f → IsBare t

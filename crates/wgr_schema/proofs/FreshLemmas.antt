@@ -14,7 +14,7 @@ use Rattle.sqlite_rules.specs.Lists.{Has}
 use Rattle.wgr_model.specs.RowLaws.{no_rows}
 use Rattle.wgr_sql.proofs.RowLemmas.{inserted}
 use Rattle.wgr_sql.proofs.TableLemmas.{cast_null, cast_int, apart}
-use Rattle.wgr_columns.specs.Layout.{meta_at, schema_with}
+use Rattle.wgr_columns.specs.Layout.{meta_table_at, schema_with}
 use Rattle.wgr_columns.specs.Decode.{AreWritten, AreTrees, tables_of, number_at, network_numbers, peer_numbers, allowed_numbers, allowed_addresses, meta_in, tenant_in, token_in, network_in, peer_in, allowed_in}
 use Rattle.wgr_tables.proofs.WrittenLemmas.{written_put}
 use Rattle.wgr_schema.specs.Fresh.{HasBlank, IsFresh, no_others, whole_schema}
@@ -23,7 +23,7 @@ use Rattle.wgr_schema.proofs.Meanings.{version_text, version_values, version_mea
 abbrev pub meta_row : Row
 meta_row = Int (pos 1) ∷ Null ∷ []
 
-pub version_row : (db : Trees) → db 0 ≡ [] → (edit_of db (meta_at 0) [] Chosen 0 (value_rows (stamped (meta_at 0) []) 2 1 version_values)).news ≡ meta_row ∷ []
+pub version_row : (db : Trees) → db 0 ≡ [] → (edit_of db (meta_table_at 0) [] Chosen 0 (value_rows (stamped (meta_table_at 0) []) 2 1 version_values)).news ≡ meta_row ∷ []
 version_row db none = rw (none, cast_null, cast_int (pos 1))
 
 none_written : (numbers addresses families : List ℕ) → AreWritten numbers addresses families []
@@ -73,7 +73,7 @@ pub fresh_made : (old new : State) → HasBlank whole_schema old.now → (count 
 fresh_made old new was count ran =
     let schema = schema_with no_others in
     let b = was.blank in
-    let done = inserted old new schema (was.schema_is ∙ whole_is) version_text [] version_means.plain 0 (meta_at 0) refl count ran version_values 2 version_means.command_is refl (λ news. refl) meta_row (version_row old.now.trees b.0) in
+    let done = inserted old new schema (was.schema_is ∙ whole_is) version_text [] version_means.plain 0 (meta_table_at 0) refl count ran version_values 2 version_means.command_is refl (λ news. refl) meta_row (version_row old.now.trees b.0) in
     let stays = done.0.edits.others in
     let rows : Rows new.now = record {
       meta = done.0.edits.rows ∙ ap (put_row meta_row) b.0;

@@ -31,7 +31,7 @@ use Rattle.sqlite_rules.specs.declared.error.Refusal.{Refusal}
 use Rattle.sqlite_rules.specs.declared.error.Refusal.TheVariants.{Violates, Mismatch, NoRowid, BadReference, TooDeep}
 use Rattle.sqlite_rules.proofs.ListLemmas.{all_has}
 use Rattle.wgr_sql.specs.Causes.{Refuses, usual}
-use Rattle.wgr_columns.specs.Layout.{allowed_at, meta_at, network_at, peer_at, schema_with, tenant_at, token_at}
+use Rattle.wgr_columns.specs.Layout.{allowed_table_at, meta_table_at, network_table_at, peer_table_at, schema_with, tenant_table_at, token_table_at}
 use Rattle.wgr_schema.specs.Fresh.{HasBlank, no_others, whole_schema}
 use Rattle.wgr_schema.proofs.FreshLemmas.{meta_row, version_row}
 use Rattle.wgr_schema.proofs.Meanings.{version_means, version_text, version_values, whole_is}
@@ -41,7 +41,7 @@ abbrev schema : Schema
 schema = schema_with no_others
 
 abbrev meta : Table
-meta = meta_at 0
+meta = meta_table_at 0
 
 -- the edit that puts the row in
 abbrev put : Trees → Edit
@@ -80,7 +80,7 @@ module _ (limit : Option ℕ) (db : Trees) (blank : AllByRecursion (λ (t : Tabl
       let next = with_tree db 0 (edited db (put db)) in
       let none = λ (t : Table) (e : db t.tree ≡ []). subst (AllByRecursion (λ row. passes Unique schema next t row ≡ true)) (sym e) tt in
       let b = blank.1 in
-      broken (all_so _ (λ row. refl) (next 0), (none (tenant_at 1) b.0, (none (token_at 3) b.1.0, (none (network_at 5) b.1.1.0, (none (peer_at 8) b.1.1.1.0, (none (allowed_at 10) b.1.1.1.1.0, tt))))))
+      broken (all_so _ (λ row. refl) (next 0), (none (tenant_table_at 1) b.0, (none (token_table_at 3) b.1.0, (none (network_table_at 5) b.1.1.0, (none (peer_table_at 8) b.1.1.1.0, (none (allowed_table_at 10) b.1.1.1.1.0, tt))))))
   unrefused (Violates ForeignKey) none = none
   unrefused Mismatch wrong = true≢false (subst (λ l. list_all (λ r. is_int (rowid r)) l ≡ false) news wrong)
   unrefused NoRowid wrong = true≢false (subst (λ l. list_all (λ r. fits_i64 (id_in (rowid r))) l ≡ false) news wrong)

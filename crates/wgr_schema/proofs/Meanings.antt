@@ -12,7 +12,7 @@ use Rattle.sqlite_tied.specs.Compute.{everything}
 use Rattle.sqlite.specs.Listing.{understood}
 use Rattle.sqlite.proofs.Callers.{IsPlain, command_of, statement_of}
 use Rattle.wgr_sql.specs.Causes.{IsWriting}
-use Rattle.wgr_columns.specs.Layout.{schema_with, allowed_at}
+use Rattle.wgr_columns.specs.Layout.{schema_with, allowed_table_at}
 use Rattle.wgr_columns.specs.Texts.{meta_text, tenant_text, token_text, network_text, peer_text, allowed_text, allowed_peer_text}
 use Rattle.wgr_schema.specs.Fresh.{no_others, no_schema, meta_schema, tenant_schema, entries_schema, network_schema, peer_schema, tables_schema, whole_schema, peer_index}
 
@@ -50,7 +50,7 @@ pub index_means : Means tables_schema allowed_peer_text (CreateIndex 5)
 unfolding understood everything
 index_means = record { command_is = refl; text_is = refl; plain = (refl, refl) }
 
-pub index_defined : index_defined_by (allowed_at 10) allowed_peer_text ≡ Ok peer_index
+pub index_defined : index_defined_by (allowed_table_at 10) allowed_peer_text ≡ Ok peer_index
 unfolding everything
 index_defined = refl
 

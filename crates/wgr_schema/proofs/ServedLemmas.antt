@@ -5,14 +5,14 @@ use Rattle.sqlite_value.specs.Order.{value_cmp}
 use Rattle.sqlite_schema.specs.Names.{same_name as same_word}
 use Rattle.sqlite_tied.specs.Compute.{everything}
 use Rattle.sqlite_trees.specs.Sound.{begins, fits_kind, is_free_name, same_name}
-use Rattle.wgr_columns.specs.Layout.{meta_at, tenant_at, token_at, network_at, peer_at, allowed_at}
+use Rattle.wgr_columns.specs.Layout.{meta_table_at, tenant_table_at, token_table_at, network_table_at, peer_table_at, allowed_table_at}
 use Rattle.wgr_columns.specs.Texts.{meta_text, tenant_text, token_text, network_text, peer_text, allowed_text, allowed_peer_text}
 use Rattle.wgr_columns.proofs.DefinedLemmas.{defined}
 use Rattle.wgr_schema.specs.Fresh.{no_schema, meta_schema, tenant_schema, entries_schema, network_schema, peer_schema, tables_schema, peer_index}
 use Rattle.wgr_schema.proofs.Meanings.{index_defined}
 use Rattle.wgr_schema.proofs.RefusalLemmas.{IsIndexFor, IsTableFor}
 
-pub meta_served : IsTableFor no_schema meta_text (meta_at 0)
+pub meta_served : IsTableFor no_schema meta_text (meta_table_at 0)
 unfolding everything digits begins fits_kind is_free_name same_name same_word value_cmp lib.Ieee.is_nan lib.Ieee.lt lib.Utf8.encode
 meta_served = record {
   defined = defined.0;
@@ -30,7 +30,7 @@ meta_served = record {
   uncounted = refl;
 }
 
-pub tenant_served : IsTableFor meta_schema tenant_text (tenant_at 0)
+pub tenant_served : IsTableFor meta_schema tenant_text (tenant_table_at 0)
 unfolding everything digits begins fits_kind is_free_name same_name same_word value_cmp lib.Ieee.is_nan lib.Ieee.lt lib.Utf8.encode
 tenant_served = record {
   defined = defined.1;
@@ -48,7 +48,7 @@ tenant_served = record {
   uncounted = refl;
 }
 
-pub token_served : IsTableFor tenant_schema token_text (token_at 0)
+pub token_served : IsTableFor tenant_schema token_text (token_table_at 0)
 unfolding everything digits begins fits_kind is_free_name same_name same_word value_cmp lib.Ieee.is_nan lib.Ieee.lt lib.Utf8.encode
 token_served = record {
   defined = defined.2;
@@ -66,7 +66,7 @@ token_served = record {
   uncounted = refl;
 }
 
-pub network_served : IsTableFor entries_schema network_text (network_at 0)
+pub network_served : IsTableFor entries_schema network_text (network_table_at 0)
 unfolding everything digits begins fits_kind is_free_name same_name same_word value_cmp lib.Ieee.is_nan lib.Ieee.lt lib.Utf8.encode
 network_served = record {
   defined = defined.3;
@@ -84,7 +84,7 @@ network_served = record {
   uncounted = refl;
 }
 
-pub peer_served : IsTableFor network_schema peer_text (peer_at 0)
+pub peer_served : IsTableFor network_schema peer_text (peer_table_at 0)
 unfolding everything digits begins fits_kind is_free_name same_name same_word value_cmp lib.Ieee.is_nan lib.Ieee.lt lib.Utf8.encode
 peer_served = record {
   defined = defined.4;
@@ -102,7 +102,7 @@ peer_served = record {
   uncounted = refl;
 }
 
-pub allowed_served : IsTableFor peer_schema allowed_text (allowed_at 0)
+pub allowed_served : IsTableFor peer_schema allowed_text (allowed_table_at 0)
 unfolding everything digits begins fits_kind is_free_name same_name same_word value_cmp lib.Ieee.is_nan lib.Ieee.lt lib.Utf8.encode
 allowed_served = record {
   defined = defined.5;
@@ -120,7 +120,7 @@ allowed_served = record {
   uncounted = refl;
 }
 
-pub index_served : IsIndexFor tables_schema 5 allowed_peer_text (allowed_at 10) peer_index
+pub index_served : IsIndexFor tables_schema 5 allowed_peer_text (allowed_table_at 10) peer_index
 unfolding everything digits begins fits_kind is_free_name same_name same_word value_cmp lib.Ieee.is_nan lib.Ieee.lt lib.Utf8.encode
 index_served = record {
   defined = index_defined;

@@ -24,7 +24,9 @@ use Rattle.wgr_columns.specs.Decode.{IsRegister, tables_of, meta_in, number_at}
 use Rattle.wgr_columns.proofs.Statements.{Asks}
 use Rattle.wgr_columns.proofs.Statements.{never_refused}
 use Rattle.wgr_columns.specs.LaidOut.{IsLaidOut}
-use Rattle.wgr_schema.specs.FirstVersion.{SaysFirst, IsFirstVersion}
+use Rattle.wgr_schema.specs.Versions.{IsOfVersion, SaysVersion, version_number}
+use Rattle.wgr_schema.specs.declared.version.Version.{Version}
+use Rattle.wgr_schema.specs.declared.version.Version.TheVariants.{One}
 
 abbrev pub version_query : List ℕ
 version_query = codes "SELECT version FROM meta"
@@ -41,15 +43,15 @@ all_kept : {X : Type 0} (xs : List X) → xs ≡ filter (λ x. true) xs
 all_kept [] = refl
 all_kept (x ∷ xs) = ap (λ l. x ∷ l) (all_kept xs)
 
-pub version_found : (old new : State) → IsLaidOut old.now.schema → (rows : List Row) → Shown version_query [] old new rows → SaysFirst rows ↔ SaysFirst (old.now.trees 0)
-version_found old new laid rows h =
+pub version_found : (version : Version) (old new : State) → IsLaidOut old.now.schema → (rows : List Row) → Shown version_query [] old new rows → SaysVersion version rows ↔ SaysVersion version (old.now.trees 0)
+version_found version old new laid rows h =
     let asks = version_asks laid.others in
     let read = reads_as version_query [] old new (schema_with laid.others) laid.schema_is _ asks.means.command_is asks.means.plain asks.unlisted rows h in
     let l = answers 0 [] (col 1 0 ∷ []) [] old.now.trees [] rows read.answer in
     let same : IsPermutation (old.now.trees 0) l.chosen = subst (λ t. IsPermutation t l.chosen) (sym (all_kept (old.now.trees 0))) l.same in
     let values : IsPermutation (map (λ r. column r 0) (old.now.trees 0)) (map (λ r. column r 0) l.chosen) = IsPermutation-map (λ r. column r 0) _ _ same in
     let shown : map (λ r. column r 0) rows ≡ map (λ r. column r 0) l.chosen = ap (map (λ r. column r 0)) l.shown ∙ map-both _ (λ r. column r 0) l.chosen in
-    ((λ is. one_order (Int (pos 1)) _ _ (IsPermutation-sym _ _ values) (sym shown ∙ is)), (λ is. shown ∙ one_order (Int (pos 1)) _ _ values is))
+    ((λ is. one_order (Int (pos (version_number version))) _ _ (IsPermutation-sym _ _ values) (sym shown ∙ is)), (λ is. shown ∙ one_order (Int (pos (version_number version))) _ _ values is))
 
 pub query_is_plain : (s : Schema) → IsLaidOut s → IsPlain (understood s version_query)
 query_is_plain s laid = subst (λ x. IsPlain (understood x version_query)) (sym laid.schema_is) (version_asks laid.others).means.plain
@@ -64,16 +66,16 @@ version_answered s laid = subst (λ x. IsAnswered x version_query []) (sym laid.
 
 -- ---- the version of a register's rows
 
-pub version_read : (db : Database) → IsRegister db → IsFirstVersion db ↔ ((tables_of db).meta ≡ first_version)
+pub version_read : (db : Database) → IsRegister db → IsOfVersion One db ↔ ((tables_of db).meta ≡ first_version)
 version_read db is = (there, back)
   where
     read : Value → MetaRow
     read v = record { version = unsigned_abs (id_in v) }
 
-    there : IsFirstVersion db → (tables_of db).meta ≡ first_version
+    there : IsOfVersion One db → (tables_of db).meta ≡ first_version
     there first = sym (map-both (λ r. column r 0) read (db.trees 0)) ∙ ap (map read) first.1
 
-    back : (tables_of db).meta ≡ first_version → IsFirstVersion db
+    back : (tables_of db).meta ≡ first_version → IsOfVersion One db
     back meta = (
       record { others = is.others; schema_is = is.schema_is; apart = is.apart },
       map_alike (λ r. column r 0) (λ r. Int (pos (number_at r 0))) (db.trees 0) (λ r here. is.written.meta.numbers_are r here 0 (inl refl)) ∙ sym (map-both meta_in (λ m. Int (pos m.version)) (db.trees 0))

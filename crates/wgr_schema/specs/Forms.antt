@@ -12,7 +12,7 @@ column_as f = column_of f.0.now f.1 f.2
 abbrev pub table_as : TableForm → Table
 table_as f = table_of f.name.now f.tree f.key f.primary.now (map (λ p. p.now) f.uniques.now) (map column_as f.columns.now)
 
-pub record IsHead (table : Table) (f : TableForm) : Type 0 where
+pub record IsTableHead (table : Table) (f : TableForm) : Type 0 where
   pub name : table.name ≡ f.name.now
   pub tree : table.tree ≡ f.tree
   pub key : table.key ≡ f.key

@@ -13,7 +13,7 @@ use Rattle.wgr_sql.specs.Causes.{HasCause}
 use Rattle.wgr_sql.specs.Steps.{StepsOn}
 use Rattle.wgr_sql.specs.declared.fault.Fault.{Fault}
 use Rattle.wgr_columns.specs.declared.columns.allowed.TheConstants as allowed
-use Rattle.wgr_columns.specs.Layout.{Others, schema_with, index_of, meta_at, tenant_at, token_at, network_at, peer_at, allowed_at}
+use Rattle.wgr_columns.specs.Layout.{Others, schema_with, index_of, meta_table_at, tenant_table_at, token_table_at, network_table_at, peer_table_at, allowed_table_at}
 use Rattle.wgr_columns.specs.Decode.{IsRegister, tables_of}
 
 abbrev pub no_others : Others
@@ -57,25 +57,25 @@ no_schema = record { tables = []; indexes = []; views = [] }
 
 -- a new table or index gets its tree when it is created
 abbrev pub meta_schema : Schema
-meta_schema = created no_schema (meta_at 0)
+meta_schema = created no_schema (meta_table_at 0)
 
 abbrev pub tenant_schema : Schema
-tenant_schema = created meta_schema (tenant_at 0)
+tenant_schema = created meta_schema (tenant_table_at 0)
 
 abbrev pub entries_schema : Schema
-entries_schema = created tenant_schema (token_at 0)
+entries_schema = created tenant_schema (token_table_at 0)
 
 abbrev pub network_schema : Schema
-network_schema = created entries_schema (network_at 0)
+network_schema = created entries_schema (network_table_at 0)
 
 abbrev pub peer_schema : Schema
-peer_schema = created network_schema (peer_at 0)
+peer_schema = created network_schema (peer_table_at 0)
 
 abbrev pub tables_schema : Schema
-tables_schema = created peer_schema (allowed_at 0)
+tables_schema = created peer_schema (allowed_table_at 0)
 
 abbrev pub peer_index : Index
 peer_index = index_of (codes "allowed_peer") 0 10 (allowed.NETWORK ∷ allowed.PEER ∷ []) false
 
 abbrev pub whole_schema : Schema
-whole_schema = indexed tables_schema (allowed_at 10) peer_index
+whole_schema = indexed tables_schema (allowed_table_at 10) peer_index

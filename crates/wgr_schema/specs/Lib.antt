@@ -1,5 +1,5 @@
 pub mod Forms
 pub mod Fresh
-pub mod FirstVersion
+pub mod Versions
 pub mod Laws
 pub mod Faults

@@ -2,7 +2,7 @@
 ghost use Rattle.std.specs.Prelude.{◌≡◌, [], IsTrue, map};
 ghost use Rattle.sqlite_value.specs.Keys.{plain};
 ghost use Rattle.wgr_columns.specs.Layout.{index_of};
-ghost use Rattle.wgr_schema.specs.Forms.{column_as, table_as, IsHead, IsBare};
+ghost use Rattle.wgr_schema.specs.Forms.{column_as, table_as, IsTableHead, IsBare};
 
 use sqlite_items::Items;
 use sqlite_schema::schema::{Column, Index, Kind, Table};
@@ -53,8 +53,8 @@ fn are_columns(columns: &[Column], forms: &[ColumnForm<'_>]) -> bool
 
 // Whether the table has this name, tree, rowid column and primary key.
 fn is_head(table: &Table, form: &TableForm<'_>) -> bool
-    ensures is { IsTrue result → IsHead table.now form.now }
-    ensures only { IsHead table.now form.now → IsTrue result }
+    ensures is { IsTrue result → IsTableHead table.now form.now }
+    ensures only { IsTableHead table.now form.now → IsTrue result }
 {
     table.name.as_slice() == form.name
         && table.tree == form.tree

@@ -15,4 +15,4 @@ pub use fault::{RegisterFault, register_fault};
 pub use laws::{fresh_is_consistent, version_is_read};
 pub use layout::holds_register;
 pub use making::make;
-pub use version::check_layout;
+pub use version::{Version, check_layout};

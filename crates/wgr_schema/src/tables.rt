@@ -1,13 +1,13 @@
 //! Whether tables are the register's.
 ghost use Rattle.std.specs.Prelude.{◌≡◌, IsTrue};
-ghost use Rattle.wgr_columns.specs.Layout.{register_tables, meta_at, tenant_at, token_at, network_at, peer_at, allowed_at};
+ghost use Rattle.wgr_columns.specs.Layout.{register_tables, meta_table_at, tenant_table_at, token_table_at, network_table_at, peer_table_at, allowed_table_at};
 
 use crate::form::{ColumnForm, TableForm, is_table};
 use sqlite_schema::schema::{Kind, Table};
 
 fn is_meta(table: &Table) -> bool
-    ensures is { IsTrue result → table.now ≡ meta_at 0 }
-    ensures only { table.now ≡ meta_at 0 → IsTrue result }
+    ensures is { IsTrue result → table.now ≡ meta_table_at 0 }
+    ensures only { table.now ≡ meta_table_at 0 → IsTrue result }
 {
     is_table(
         table,
@@ -23,8 +23,8 @@ fn is_meta(table: &Table) -> bool
 }
 
 fn is_tenant(table: &Table) -> bool
-    ensures is { IsTrue result → table.now ≡ tenant_at 1 }
-    ensures only { table.now ≡ tenant_at 1 → IsTrue result }
+    ensures is { IsTrue result → table.now ≡ tenant_table_at 1 }
+    ensures only { table.now ≡ tenant_table_at 1 → IsTrue result }
 {
     is_table(
         table,
@@ -43,8 +43,8 @@ fn is_tenant(table: &Table) -> bool
 }
 
 fn is_token(table: &Table) -> bool
-    ensures is { IsTrue result → table.now ≡ token_at 3 }
-    ensures only { table.now ≡ token_at 3 → IsTrue result }
+    ensures is { IsTrue result → table.now ≡ token_table_at 3 }
+    ensures only { table.now ≡ token_table_at 3 → IsTrue result }
 {
     is_table(
         table,
@@ -63,8 +63,8 @@ fn is_token(table: &Table) -> bool
 }
 
 fn is_network(table: &Table) -> bool
-    ensures is { IsTrue result → table.now ≡ network_at 5 }
-    ensures only { table.now ≡ network_at 5 → IsTrue result }
+    ensures is { IsTrue result → table.now ≡ network_table_at 5 }
+    ensures only { table.now ≡ network_table_at 5 → IsTrue result }
 {
     is_table(
         table,
@@ -92,8 +92,8 @@ fn is_network(table: &Table) -> bool
 }
 
 fn is_peer(table: &Table) -> bool
-    ensures is { IsTrue result → table.now ≡ peer_at 8 }
-    ensures only { table.now ≡ peer_at 8 → IsTrue result }
+    ensures is { IsTrue result → table.now ≡ peer_table_at 8 }
+    ensures only { table.now ≡ peer_table_at 8 → IsTrue result }
 {
     is_table(
         table,
@@ -119,8 +119,8 @@ fn is_peer(table: &Table) -> bool
 }
 
 fn is_allowed(table: &Table) -> bool
-    ensures is { IsTrue result → table.now ≡ allowed_at 10 }
-    ensures only { table.now ≡ allowed_at 10 → IsTrue result }
+    ensures is { IsTrue result → table.now ≡ allowed_table_at 10 }
+    ensures only { table.now ≡ allowed_table_at 10 → IsTrue result }
 {
     is_table(
         table,

@@ -15,7 +15,7 @@ use Rattle.wgr_orders.specs.declared.census.Census.{Census}
 use Rattle.wgr_orders.specs.declared.census.Counted.{Counted}
 use Rattle.wgr_show.specs.Entries.{entry_of}
 use Rattle.wgr_show.specs.Owned.{network_cmp, owned_cmp, token_cmp}
-use Rattle.wgr_show.specs.Shown.{IsSortedOf, ShowsEach, asked, is_asked, is_there}
+use Rattle.wgr_show.specs.Shown.{IsSortedOf, ShowsEach, asked_tenants, is_asked, is_there}
 use Rattle.wgr_show.proofs.Permuted.{filter_permuted}
 use Rattle.wgr_show.proofs.Rising.{rises_from, rises_owned, sorted_from}
 
@@ -61,7 +61,7 @@ module _ (c : Census) (tokens : List (Bor Token)) (networks : List (Bor Counted)
     record {
       name = refl;
       tokens = owned_sorted (λ x. x.tenant) (λ x. x.digest) c.tokens.items tokens same_tokens token_order t.now.id;
-      networks = owned_sorted (λ n. n.holding.tenant) (λ n. n.holding.name) c.networks.items networks same_networks network_order t.now.id;
+      networks = owned_sorted (λ n. n.network_entry.tenant) (λ n. n.network_entry.name) c.networks.items networks same_networks network_order t.now.id;
     },
     shows_each ts,
   )
@@ -79,7 +79,7 @@ any_left p (x ∷ xs) =
     cases (p x)
 
 pub there_unless_missing : (name : Option (Bor Bytes)) (tenants : List Tenant) (found : List (Bor Tenant))
-    → IsPermutation (asked (option_map (λ n. n.now) name) tenants) (map (λ r. r.now) found)
+    → IsPermutation (asked_tenants (option_map (λ n. n.now) name) tenants) (map (λ r. r.now) found)
     → is_there (option_map (λ n. n.now) name) tenants ≡ not (is_some name && (length found == 0))
 there_unless_missing None tenants found same = refl
 there_unless_missing (Some name) tenants found same =

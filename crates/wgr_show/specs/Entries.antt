@@ -14,5 +14,5 @@ abbrev pub entry_of : List (Bor Token) → List (Bor Counted) → Tenant → Sho
 entry_of tokens networks t = record {
   name = t.name;
   tokens = map (λ x. x.now) (filter (λ x. nat_eq x.now.tenant t.id) tokens);
-  networks = map (λ n. n.now) (filter (λ n. nat_eq n.now.holding.tenant t.id) networks);
+  networks = map (λ n. n.now) (filter (λ n. nat_eq n.now.network_entry.tenant t.id) networks);
 }

@@ -15,12 +15,12 @@ token_data t = string (encode_lower t.digest)
 
 abbrev pub counted_data : Counted → Data
 counted_data n =
-    object (member (codes "name") (string n.holding.name)
-    (member (codes "pool") (prefix_data n.holding.network.pool)
-    (member (codes "host") (string n.holding.network.host)
-    (member (codes "port") (count n.holding.network.port)
-    (member (codes "server") (key_data n.holding.network.server)
-    (member (codes "capacity") (count n.holding.network.capacity)
+    object (member (codes "name") (string n.network_entry.name)
+    (member (codes "pool") (prefix_data n.network_entry.network.pool)
+    (member (codes "host") (string n.network_entry.network.host)
+    (member (codes "port") (count n.network_entry.network.port)
+    (member (codes "server") (key_data n.network_entry.network.server)
+    (member (codes "capacity") (count n.network_entry.network.capacity)
     (member (codes "peers") (count n.peers)
     (member (codes "routes") (count n.routes) no_members))))))))
 

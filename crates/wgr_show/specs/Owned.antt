@@ -14,4 +14,4 @@ abbrev pub token_cmp : Token → Token → Ordering
 token_cmp = owned_cmp (λ t. t.tenant) (λ t. t.digest)
 
 abbrev pub network_cmp : Counted → Counted → Ordering
-network_cmp = owned_cmp (λ n. n.holding.tenant) (λ n. n.holding.name)
+network_cmp = owned_cmp (λ n. n.network_entry.tenant) (λ n. n.network_entry.name)

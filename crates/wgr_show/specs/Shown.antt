@@ -13,8 +13,8 @@ abbrev pub is_asked : Option Bytes → Tenant → Bool
 is_asked None t = true
 is_asked (Some name) t = is_same name t.name
 
-abbrev pub asked : Option Bytes → List Tenant → List Tenant
-asked name tenants = filter (is_asked name) tenants
+abbrev pub asked_tenants : Option Bytes → List Tenant → List Tenant
+asked_tenants name tenants = filter (is_asked name) tenants
 
 -- whether there is what is asked for: all tenants, or one of the name
 abbrev pub is_there : Option Bytes → List Tenant → Bool
@@ -36,7 +36,7 @@ pub record ShownTenant : Type 0 where
 pub record ShowsTenant (c : Census) (t : Tenant) (s : ShownTenant) : Type 0 where
   pub name : s.name ≡ t.name
   pub tokens : IsSortedOf (λ x. x.digest) (filter (λ x. nat_eq x.tenant t.id) c.tokens.items) s.tokens
-  pub networks : IsSortedOf (λ n. n.holding.name) (filter (λ n. nat_eq n.holding.tenant t.id) c.networks.items) s.networks
+  pub networks : IsSortedOf (λ n. n.network_entry.name) (filter (λ n. nat_eq n.network_entry.tenant t.id) c.networks.items) s.networks
 
 -- that for each of the tenants
 abbrev pub ShowsEach : Census → List Tenant → List ShownTenant → Type 0
@@ -48,5 +48,5 @@ ShowsEach c (t ∷ ts) [] = ⊥
 -- the tenants that are asked for, by name
 pub record IsListing (c : Census) (name : Option Bytes) (shown : List ShownTenant) : Type 0 where
   pub tenants : List Tenant
-  pub asked : IsSortedOf (λ t. t.name) (asked name c.tenants.items) tenants
+  pub asked_tenants : IsSortedOf (λ t. t.name) (asked_tenants name c.tenants.items) tenants
   pub each : ShowsEach c tenants shown

@@ -5,7 +5,7 @@ ghost use Rattle.std.specs.List.Sorted.{IsSortedByKey};
 ghost use Rattle.std.specs.Option.{option_map};
 ghost use Rattle.wgr_show.specs.Entries.{entry_of, shown_of};
 ghost use Rattle.wgr_show.specs.Owned.{network_cmp, token_cmp};
-ghost use Rattle.wgr_show.specs.Shown.{IsSortedOf, asked, is_asked};
+ghost use Rattle.wgr_show.specs.Shown.{IsSortedOf, asked_tenants, is_asked};
 
 use crate::owned::owned_by;
 use std::alloc::{AllocError, Global};
@@ -25,7 +25,7 @@ pub(crate) fn asked_tenants<'c>(
     tenants: &'c [Tenant],
     name: Option<&str>,
 ) -> Result<Vec<&'c Tenant>, AllocError>
-    ensures { IfOk result (λ v. IsSortedOf (λ t. t.name) (asked (option_map (λ n. n.now) name.entry) tenants.now) (map (λ r. r.now) v.items)) }
+    ensures { IfOk result (λ v. IsSortedOf (λ t. t.name) (asked_tenants (option_map (λ n. n.now) name.entry) tenants.now) (map (λ r. r.now) v.items)) }
 {
     let mut found = Vec::new(alloc);
     for tenant in tenants {

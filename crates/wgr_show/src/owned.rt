@@ -39,16 +39,16 @@ impl Owned for Token {
 }
 
 impl Owned for Counted {
-    ghost owner_of = { λ n. n.holding.tenant };
+    ghost owner_of = { λ n. n.network_entry.tenant };
 
-    ghost label_of = { λ n. n.holding.name };
+    ghost label_of = { λ n. n.network_entry.name };
 
     fn owner(&self) -> u32 {
-        self.holding.tenant
+        self.network_entry.tenant
     }
 
     fn label(&self) -> &[u8] {
-        self.holding.name.as_bytes()
+        self.network_entry.name.as_bytes()
     }
 }
 

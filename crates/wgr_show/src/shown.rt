@@ -65,9 +65,9 @@ impl<'a> ToJson<InListing> for &'a Counted {
     ghost whole = { λ n. refl };
 
     fn send<S: Serializer>(&self, alloc: Global, out: &mut S) -> Result<(), S::Error> {
-        let network = &self.holding.network;
+        let network = &self.network_entry.network;
         out.begin_map(Some(8))?;
-        send_text("name", self.holding.name.as_str(), out)?;
+        send_text("name", self.network_entry.name.as_str(), out)?;
         send_member::<InListing, _, _>(alloc, "pool", &network.pool().prefix(), out)?;
         send_text("host", network.host().as_str(), out)?;
         send_number("port", u64::from(network.port().number()), out)?;

@@ -2,7 +2,7 @@
 use crate::columns::aligned;
 use crate::entries::Entry;
 use std::alloc::{AllocError, Global};
-use wgr_json::{text_of_endpoint, text_of_prefix};
+use wgr_json::text_of_prefix;
 use wgr_orders::{Counted, Token};
 
 /// A table of networks, and one of tokens where there is one.
@@ -50,10 +50,10 @@ fn write_network(
     counted: &Counted,
     out: &mut String,
 ) -> Result<(), AllocError> {
-    let name = counted.holding.name.as_str();
-    let network = &counted.holding.network;
+    let name = counted.network_entry.name.as_str();
+    let network = &counted.network_entry.network;
     let pool = text_of_prefix(alloc, &network.pool().prefix())?;
-    let endpoint = text_of_endpoint(alloc, network.host().as_str(), network.port().number())?;
+    let endpoint = network.host().endpoint(alloc, network.port())?;
     let capacity = network.capacity().peers();
     let peers = counted.peers;
     let routes = counted.routes;

@@ -3,7 +3,7 @@ use crate::{Figures, figures_of, metrics_text, show_text};
 use std::alloc::AllocGlobal;
 use std::process::Abort;
 use wgr_core::{Capacity, Host, Name, Network, Pool, Port};
-use wgr_orders::{Census, Counted, Holding, Tenant, Token};
+use wgr_orders::{Census, Counted, NetworkEntry, Tenant, Token};
 use wgr_text::{Key, read_loose};
 
 fn name(rt: &(impl Abort + AllocGlobal), text: &str) -> Name {
@@ -43,7 +43,7 @@ fn add_network(
     routes: usize,
 ) {
     let counted = Counted {
-        holding: Holding {
+        network_entry: NetworkEntry {
             id: 1,
             tenant,
             name: name(rt, text),

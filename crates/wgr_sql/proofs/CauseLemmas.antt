@@ -15,7 +15,7 @@ use Rattle.sqlite.specs.Effect.{Database, RefusesToRead}
 use Rattle.sqlite.specs.Listing.{understood, IsSourceOf}
 use Rattle.sqlite.specs.Steps.{FailsToCommit}
 use Rattle.sqlite.specs.State.{State, HasCleanDisk, Survives, Fails, IsNoStatement, IsNotRun, IsMisplaced, FailsToQuery, FailsToShow, IsTooLate, RunsCommand, ExecutesIn, ExecutesInside, EndsScope, Escapes}
-use Rattle.wgr_sql.specs.Causes.{IsHindered, HasCause, HasCauseOr, IsGiven, AsksPlainly, IsAnswered, WritesPlainly, IsWriting, Refuses, RefusesAs}
+use Rattle.wgr_sql.specs.Causes.{IsHindered, HasCause, HasCauseOr, IsOneStatement, AsksPlainly, IsAnswered, WritesPlainly, IsWriting, Refuses, RefusesAs}
 use Rattle.wgr_sql.specs.declared.fault.Fault.{Fault}
 use Rattle.wgr_sql.specs.declared.fault.Fault.TheVariants.{NoMemory, Store}
 
@@ -96,14 +96,14 @@ module _ (sql : List ℕ) (params : Row) (old new : State) where
   stored e Big (why.Broken, is, cause, back, tells) = inr (inl (inr (inl cause)))
   stored e Big (why.Unstorable, is, cause, back, tells) = inr (inr cause)
 
-  given_is : (r : Result Compiled _) (c : Compiled) → r ≡ Ok c → IsGiven sql params r → IsGiven sql params (Ok c)
-  given_is r c is given = subst (IsGiven sql params) is given
+  given_is : (r : Result Compiled _) (c : Compiled) → r ≡ Ok c → IsOneStatement sql params r → IsOneStatement sql params (Ok c)
+  given_is r c is given = subst (IsOneStatement sql params) is given
 
-  never_unread : (e : Error) → IsGiven sql params (understood old.now.schema sql) → IsNoStatement old sql params e → ⊥
-  never_unread e given (inl (fault, is, same)) = subst (IsGiven sql params) is given
-  never_unread e given (inr (c, is, inl (long, same))) = long (subst (IsGiven sql params) is given).2
-  never_unread e given (inr (c, is, inr (inl (other, same)))) = other (subst (IsGiven sql params) is given).3
-  never_unread e given (inr (c, is, inr (inr (reads, same)))) = reads (subst (IsGiven sql params) is given).1
+  never_unread : (e : Error) → IsOneStatement sql params (understood old.now.schema sql) → IsNoStatement old sql params e → ⊥
+  never_unread e given (inl (fault, is, same)) = subst (IsOneStatement sql params) is given
+  never_unread e given (inr (c, is, inl (long, same))) = long (subst (IsOneStatement sql params) is given).2
+  never_unread e given (inr (c, is, inr (inl (other, same)))) = other (subst (IsOneStatement sql params) is given).3
+  never_unread e given (inr (c, is, inr (inr (reads, same)))) = reads (subst (IsOneStatement sql params) is given).1
 
   -- why a query isn't answered that no database refuses
   pub query_hindered : IsAnswered old.now.schema sql params → (e : Error) → FailsToQuery sql params old new e ⊎ IsTooLate sql params old new e → (e ≡ SqliteFailure OutOfMemory) ⊎ IsHindered old new
@@ -111,13 +111,13 @@ module _ (sql : List ℕ) (params : Row) (old new : State) where
   query_hindered answered e (inl (inl (inl (none, same)))) = absurd (never_unread e answered.given none)
   query_hindered answered e (inl (inl (inr failed))) = elim (stored e ⊥ failed) [ inl memory ↦ inl memory | inr (inl hindered) ↦ inr hindered | inr (inr big) ↦ absurd big ]
   query_hindered answered e (inl (inr (c, it, fails))) =
-      let given = subst (IsGiven sql params) it.is answered.given in
+      let given = subst (IsOneStatement sql params) it.is answered.given in
       let shown = subst (FailsToShow old new sql c (timed params c.formats it.now) e) given.0 fails in
       let source : shown.0 ≡ old.now = subst (λ b. IsSourceOf b old.now shown.0) answered.unlisted shown.1 in
       let bare : timed params c.formats it.now ≡ params = ap (λ fs. timed params fs it.now) given.1 ∙ append-nil params in
       let asked = subst (λ (d : Database). RefusesToRead old.step_limit c.command d params e) source (subst (λ p. RefusesToRead old.step_limit c.command shown.0 p e) bare shown.2) in
       inr (inr (inr (subst (AsksPlainly old.now.schema params) it.is answered.plain old.step_limit old.now.trees e asked)))
-  query_hindered answered e (inr (c, it, returns, outside, late, same)) = absurd (let e = subst IsSome (subst (IsGiven sql params) it.is answered.given).0 returns in cc)
+  query_hindered answered e (inr (c, it, returns, outside, late, same)) = absurd (let e = subst IsSome (subst (IsOneStatement sql params) it.is answered.given).0 returns in cc)
 
   -- it may be taken as open, since one that is shut is a cause
   pub if_open : (P : Type 0) (e : Error) (end : State) → (IsTrue old.is_open → (e ≡ SqliteFailure OutOfMemory) ⊎ (IsHindered old end ⊎ P)) → (e ≡ SqliteFailure OutOfMemory) ⊎ (IsHindered old end ⊎ P)
@@ -160,7 +160,7 @@ module _ (sql : List ℕ) (params : Row) (old new : State) where
   write_hindered writing e (inl (inl (inl (none, same)), after)) = absurd (never_unread e writing.given none)
   write_hindered writing e (inl (inl (inr failed), after)) = elim (stored e ⊥ failed) [ inl memory ↦ inl memory | inr (inl hindered) ↦ inr (inl hindered) | inr (inr big) ↦ absurd big ]
   write_hindered writing e (inl (inr (c, it, ran), after)) =
-      let given = subst (IsGiven sql params) it.is writing.given in
+      let given = subst (IsOneStatement sql params) it.is writing.given in
       let plain = subst WritesPlainly it.is writing.plain in
       let bare : timed params c.formats it.now ≡ params = ap (λ fs. timed params fs it.now) given.1 ∙ append-nil params in
       go (subst (λ p. RunsCommand old new sql c p (Err e)) bare (rw plain.1 at ran))

@@ -36,9 +36,9 @@ HasCause = HasCauseOr ⊥
 
 -- The text is one statement without RETURNING that doesn't read the time, and as many values are
 -- given as it has parameters.
-abbrev pub IsGiven : List ℕ → Row → Result Compiled CompileError → Type 0
-IsGiven sql params (Ok c) = (c.returning ≡ None) × (c.formats ≡ []) × (length sql ≤ c.tail) × (length params ≡ length c.names)
-IsGiven sql params (Err e) = ⊥
+abbrev pub IsOneStatement : List ℕ → Row → Result Compiled CompileError → Type 0
+IsOneStatement sql params (Ok c) = (c.returning ≡ None) × (c.formats ≡ []) × (length sql ≤ c.tail) × (length params ≡ length c.names)
+IsOneStatement sql params (Err e) = ⊥
 
 -- It is a query that only a limit on steps can refuse, whatever rows there are.
 abbrev pub AsksPlainly : Schema → Row → Result Compiled CompileError → Type 0
@@ -47,7 +47,7 @@ AsksPlainly schema params (Err e) = ⊥
 
 -- A query that returns its rows, whatever they are, unless something hinders it.
 pub record IsAnswered (schema : Schema) (sql : List ℕ) (params : Row) : Type 0 where
-  pub given : IsGiven sql params (understood schema sql)
+  pub given : IsOneStatement sql params (understood schema sql)
   pub unlisted : reads_listing schema sql ≡ false
   pub plain : AsksPlainly schema params (understood schema sql)
 
@@ -57,7 +57,7 @@ WritesPlainly (Err e) = ⊥
 
 -- A statement that writes, and returns no rows.
 pub record IsWriting (schema : Schema) (sql : List ℕ) (params : Row) : Type 0 where
-  pub given : IsGiven sql params (understood schema sql)
+  pub given : IsOneStatement sql params (understood schema sql)
   pub plain : WritesPlainly (understood schema sql)
 
 -- how a connection runs its statements

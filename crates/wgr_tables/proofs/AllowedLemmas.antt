@@ -30,7 +30,7 @@ use Rattle.sqlite_schema.specs.Rules.{agree, differ}
 use Rattle.wgr_tables.proofs.UniqueLemmas.{from_model, differ_ints, allowed_apart, agree_four, four}
 use Rattle.sqlite.specs.Command.TheVariants.{Insert}
 use Rattle.sqlite.specs.Source.TheVariants.{Values}
-use Rattle.wgr_columns.specs.Layout.{Others, schema_with, allowed_at}
+use Rattle.wgr_columns.specs.Layout.{Others, schema_with, allowed_table_at}
 use Rattle.wgr_columns.specs.Decode.{IsKindAt, IsRegister, tables_of, allowed_in, number_at, bytes_at, bytes_of, number_of, family_of, address_kind, route_kind, allowed_numbers, allowed_addresses}
 use Rattle.wgr_tables.specs.TableSteps.{AllowedComes, RouteGoes, is_route_at}
 use Rattle.wgr_columns.proofs.ByteLemmas.{number_back}
@@ -117,7 +117,7 @@ pub route_gone : (old new : State) (register : IsRegister old.now) (network : �
 route_gone old new register network p count low ran =
     let rows = old.now.trees 10 in
     let q = λ (r : Row). list_all (holds (params ∷ r ∷ [])) of_route in
-    let done = rows_deleted old new register drop_route_text params count ran 5 (allowed_at 10) refl refl of_route (drop_route_means register.others) register.written.allowed.keyed in
+    let done = rows_deleted old new register drop_route_text params count ran 5 (allowed_table_at 10) refl refl of_route (drop_route_means register.others) register.written.allowed.keyed in
     record {
       sound = register_allowed old.now new.now _ register done.sound done.edits (written_filter allowed_numbers allowed_addresses (2 ∷ []) (λ r. not (q r)) rows register.written.allowed)
           (each_filter (λ r. IsKindAt r 7) (λ r. not (q r)) rows register.written.kinds);
@@ -132,7 +132,7 @@ route_gone old new register network p count low ran =
     sound = subst (λ s. IsDatabase (record { schema = s; trees = old.now.trees })) register.schema_is register.sound
 
     kind_is : (r : Row) → Has (old.now.trees 10) r → is_true (binary (Compare Eq Binary) (column r 7) (Text route_kind)) ≡ bytes_eq (bytes_at r 7) route_kind
-    kind_is r here = ap (λ v. is_true (binary (Compare Eq Binary) v (Text route_kind))) (text_at (schema_with register.others) old.now.trees sound (allowed_at 10) (inr (inr (inr (inr (inr (inl refl)))))) r here 6 _ refl refl refl refl refl) ∙ equal_texts (bytes_at r 7) route_kind
+    kind_is r here = ap (λ v. is_true (binary (Compare Eq Binary) v (Text route_kind))) (text_at (schema_with register.others) old.now.trees sound (allowed_table_at 10) (inr (inr (inr (inr (inr (inl refl)))))) r here 6 _ refl refl refl refl refl) ∙ equal_texts (bytes_at r 7) route_kind
 
     passes : (r : Row) → Has (old.now.trees 10) r → list_all (holds (params ∷ r ∷ [])) of_route ≡ is_route_at network p (allowed_in r)
     passes r here =
@@ -166,9 +166,9 @@ allowed_came kind text is_kind means old new register network p hi number count 
     let peer = peer_id network number in
     let rows = old.now.trees 10 in
     let row = stored_allowed rows kind network p hi peer in
-    let news : (edit_of old.now.trees (allowed_at 10) [] Chosen 0 (value_rows (stamped (allowed_at 10) (allowed_params network p hi peer)) 8 1 (allowed_values kind))).news ≡ row ∷ [] =
+    let news : (edit_of old.now.trees (allowed_table_at 10) [] Chosen 0 (value_rows (stamped (allowed_table_at 10) (allowed_params network p hi peer)) 8 1 (allowed_values kind))).news ≡ row ∷ [] =
     rw (cast_null, cast_int (pos network), cast_int (pos (family_number p.address.family)), cast_int (pos p.length), cast_int (pos peer)) in
-    let done = row_inserted old new register text (allowed_params network p hi peer) count ran 5 (allowed_at 10) refl refl (allowed_values kind) 8 (means register.others) refl row news in
+    let done = row_inserted old new register text (allowed_params network p hi peer) count ran 5 (allowed_table_at 10) refl refl (allowed_values kind) 8 (means register.others) refl row news in
     let same = stored_is rows kind network p hi number low high last in
     record {
       sound = register_allowed old.now new.now _ register done.0.sound done.0.edits (written_put allowed_numbers allowed_addresses (2 ∷ []) row rows refl done.1 (stored_written rows kind network p hi peer low high) register.written.allowed)

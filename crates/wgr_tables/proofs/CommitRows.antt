@@ -3,11 +3,11 @@ use Rattle.std.proofs.Common.{◌≡◌, ℕ, ◌⊎◌, ◌↔◌, List, [], �
 use Rattle.wgr_core.specs.Network.{NetworkValue, without_peers}
 use Rattle.wgr_core.specs.Change.{applied, put_peers, assign_routes, without_routes}
 use Rattle.wgr_core.specs.declared.change.Change.{Change}
-use Rattle.wgr_model.specs.Consistent.{IsHolding}
+use Rattle.wgr_model.specs.Consistent.{IsNetworkEntry}
 use Rattle.wgr_model.specs.Laws.{Has}
-use Rattle.wgr_model.specs.Register.{Holding}
+use Rattle.wgr_model.specs.Register.{NetworkEntry}
 use Rattle.wgr_model.specs.RowLaws.{AreConsistent}
-use Rattle.wgr_model.specs.Rows.{NetworkRow, PeerRow, AllowedRow, Tables, Replaces, holding_of, register_of, peer_rows, allowed_rows, with_next}
+use Rattle.wgr_model.specs.Rows.{NetworkRow, PeerRow, AllowedRow, Tables, Replaces, network_entry_of, register_of, peer_rows, allowed_rows, with_next}
 use Rattle.wgr_model.proofs.CollectLemmas.{from_flat, has_flat, has_map}
 use Rattle.wgr_model.proofs.CommitLemmas.{own_peers, own_allowed}
 use Rattle.wgr_model.proofs.HolderLemmas.{one_or_apart}
@@ -29,8 +29,8 @@ use Rattle.wgr_core.specs.Network.{IsNetwork, is_among}
 use Rattle.wgr_model.proofs.SameLemmas.{at_has}
 
 -- the rows of one kind are those of this network, and those of others
-module _ {A : Type 0} (rows_in : Holding → List A) (id_in : A → ℕ) (own : (k : Holding) (a : A) → Has (rows_in k) a → id_in a ≡ k.id) (networks : List Holding) (h : Holding) (held : Has networks h) where
-  pub parted : ((a b : Holding) → Has networks a → Has networks b → (a ≡ b) ⊎ (nat_eq a.id b.id ≡ false)) → (rows : List A) → ((a : A) → Has (flat_map rows_in networks) a ↔ Has rows a)
+module _ {A : Type 0} (rows_in : NetworkEntry → List A) (id_in : A → ℕ) (own : (k : NetworkEntry) (a : A) → Has (rows_in k) a → id_in a ≡ k.id) (networks : List NetworkEntry) (h : NetworkEntry) (held : Has networks h) where
+  pub parted : ((a b : NetworkEntry) → Has networks a → Has networks b → (a ≡ b) ⊎ (nat_eq a.id b.id ≡ false)) → (rows : List A) → ((a : A) → Has (flat_map rows_in networks) a ↔ Has rows a)
       → (a : A) → Has rows a ↔ (Has (rows_in h) a ⊎ (Has rows a × (nat_eq (id_in a) h.id ≡ false)))
   parted apart rows are a = (there, back)
     where
@@ -47,17 +47,17 @@ module _ {A : Type 0} (rows_in : Holding → List A) (id_in : A → ℕ) (own : 
       back (inr other) = other.0
 
 -- at the beginning
-pub rests_at : (t : Tables) (w : NetworkRow) → AreConsistent t → Has t.networks w → Rests w.id t (holding_of t w).network t
+pub rests_at : (t : Tables) (w : NetworkRow) → AreConsistent t → Has t.networks w → Rests w.id t (network_entry_of t w).network t
 rests_at t w good here =
-    let held = has_map (holding_of t) t.networks w here in
-    let apart = λ (a b : Holding) (x : Has (register_of t).networks a) (y : Has (register_of t).networks b). one_or_apart (λ (k : Holding). k.id) nat_eq eqb_sym (register_of t).networks a b good.consistent.network_ids x y in
+    let held = has_map (network_entry_of t) t.networks w here in
+    let apart = λ (a b : NetworkEntry) (x : Has (register_of t).networks a) (y : Has (register_of t).networks b). one_or_apart (λ (k : NetworkEntry). k.id) nat_eq eqb_sym (register_of t).networks a b good.consistent.network_ids x y in
     record {
       meta = refl;
       tenants = refl;
       tokens = refl;
       networks = refl;
-      peers = parted peer_rows (λ (a : PeerRow). a.network) own_peers (register_of t).networks (holding_of t w) held apart t.peers good.rows.peers;
-      allowed = parted allowed_rows (λ (a : AllowedRow). a.network) own_allowed (register_of t).networks (holding_of t w) held apart t.allowed good.rows.allowed;
+      peers = parted peer_rows (λ (a : PeerRow). a.network) own_peers (register_of t).networks (network_entry_of t w) held apart t.peers good.rows.peers;
+      allowed = parted allowed_rows (λ (a : AllowedRow). a.network) own_allowed (register_of t).networks (network_entry_of t w) held apart t.allowed good.rows.allowed;
       keyed = good.rows.keyed;
     }
 
@@ -80,10 +80,10 @@ still_good (p ∷ ps) routes ordered real =
     let stay = λ (r : PrefixValue × ℕ). not (same_prefix r.0 p) in
     still_good ps (without_route routes p) (AllPairs-filter ComesBefore stay routes ordered) (All-filter stay HasAddr routes real)
 
-pub change_replaces : (c : Change) (t u : Tables) (w : NetworkRow) → AreConsistent t → Has t.networks w → ChangeMakes w.id c t u → Replaces w.id (applied c (holding_of t w).network) t u
+pub change_replaces : (c : Change) (t u : Tables) (w : NetworkRow) → AreConsistent t → Has t.networks w → ChangeMakes w.id c t u → Replaces w.id (applied c (network_entry_of t w).network) t u
 change_replaces c t u w good here (first, removed, (second, gone, (third, peers, (fourth, routes, next)))) =
-    let n = (holding_of t w).network in
-    let rules : IsNetwork n = (at_has IsHolding (register_of t).networks (holding_of t w) good.consistent.networks (has_map (holding_of t) t.networks w here)).rules in
+    let n = (network_entry_of t w).network in
+    let rules : IsNetwork n = (at_has IsNetworkEntry (register_of t).networks (network_entry_of t w) good.consistent.networks (has_map (network_entry_of t) t.networks w here)).rules in
     let left = without_peers n c.removed in
     let fewer : NetworkValue = record left { routes = without_routes left.routes c.routes_gone } in
     let put : NetworkValue = record fewer { peers = put_peers left.peers c.peers } in

@@ -1,9 +1,9 @@
 -- What a call that writes in one commit leaves, where the register stood.
-use Rattle.std.proofs.Common.{◌≡◌, ◌∷◌, List, true, false, IsTrue, Result, Ok}
+use Rattle.std.proofs.Common.{◌≡◌, ◌∷◌, List, true, false, IsTrue, Result, Ok, Err, sym, subst}
 use Rattle.sqlite.specs.Tree.{Trees}
 use Rattle.sqlite.specs.Effect.{Database}
 use Rattle.sqlite.specs.declared.error.Error.{Error}
-use Rattle.sqlite.specs.State.{HasCleanDisk, Survives, Shows, IsRolledBack}
+use Rattle.sqlite.specs.State.{HasCleanDisk, State, Survives, Shows, IsRolledBack}
 use Rattle.sqlite.specs.Steps.{FailsToCommit}
 use Rattle.sqlite.specs.Store.{Ghosts}
 use Rattle.sqlite.specs.Held.{Held, state}
@@ -12,9 +12,19 @@ use Rattle.wgr_sql.specs.declared.fault.Fault.{Fault}
 use Rattle.wgr_sql.proofs.CommitLemmas.{stands_undone, stands_done, stands_left, step_keeps}
 use Rattle.wgr_sql.proofs.StandingLemmas.{stands_more}
 use Rattle.wgr_columns.specs.Decode.{IsRegister, tables_of}
-use Rattle.wgr_tables.specs.Writes.{Written, Writes, Changes}
+use Rattle.wgr_tables.specs.Writes.{Written, Writes, Changes, ChangesAs}
 use Rattle.wgr_tables.specs.Standing.{IsDone, Stands, StepsOn}
 use Rattle.wgr_tables.proofs.Made.{Made}
+
+-- a step that makes the write which `writes` tells
+pub steps_as : {X : Type 0} (P : Tables → Tables → Type 0) (writes : Tables → Written → Type 0) → ((t u : Tables) (one : Written) → P t u → writes t one → Changes one t u)
+    → (a b : State) (r : Result X Fault) → StepsOn P a b r → StepsOn (ChangesAs writes) a b r
+steps_as P writes does a b (Ok x) step inside register = let it = step inside register in (it.0, (record { sound = it.1.0.sound; made = λ one told. does _ _ one it.1.0.made told }, it.1.1))
+steps_as P writes does a b (Err e) step inside register = ((step inside register).0, tt)
+
+-- so where it is this write, whatever the rows are
+pub steps_once : {X : Type 0} (one : Written) (a b : State) (r : Result X Fault) → StepsOn (Changes one) a b r → StepsOn (ChangesAs (λ _ other. other ≡ one)) a b r
+steps_once one = steps_as (Changes one) (λ _ other. other ≡ one) (λ t u other made same. subst (λ w. Changes w t u) (sym same) made)
 
 -- The connection is `old` at the call, `mid` after the steps of the transaction, and `end` at the exit.
 module _ {S : Type 0} (g : Ghosts S) (old mid end : Held S) (db : Database) (pending : List Written) (stood : Stands g old db pending) (settled : IsTrue (state g old).is_open → (state g old).now ≡ (state g old).committed)

@@ -15,7 +15,7 @@ use Rattle.sqlite_schema.specs.Rules.{ParentKey, parent_key, key_in, key_places,
 use Rattle.sqlite_rules.specs.declared.action.Deed.{Deed}
 use Rattle.sqlite_rules.specs.Action.{work_by, work_for, works}
 use Rattle.sqlite_rules.specs.Edit.{IsNoIndex}
-use Rattle.wgr_columns.specs.Layout.{register_tables, register_indexes, Others, schema_with, AreApart, refers, is_apart, is_past}
+use Rattle.wgr_columns.specs.Layout.{register_tables, register_indexes, Others, schema_with, AreOthersApart, refers, is_apart, is_past}
 
 both : (a b : Bool) → (a && b) ≡ true → (a ≡ true) × (b ≡ true)
 both true true h = (refl, refl)
@@ -73,7 +73,7 @@ no_work depth tree moves child ref (Some d) (Some k) low past =
     let other : (k.0 == tree) ≡ false = grind (arith, nat_tests) in
     rw other
 
-module _ (others : Others) (apart : AreApart others) (keys : Keys) (depth tree : ℕ) (low : nat_le 13 tree ≡ false) (olds news : List Row) where
+module _ (others : Others) (apart : AreOthersApart others) (keys : Keys) (depth tree : ℕ) (low : nat_le 13 tree ≡ false) (olds news : List Row) where
   abbrev schema : Schema
   schema = schema_with others
 
@@ -101,7 +101,7 @@ no_index [] tree low past = tt
 no_index (i ∷ more) tree low past = let h = both _ _ past in (λ same. absurd (let one : nat_le 13 i.tree ≡ true = h.0 in grind (arith, nat_tests)), no_index more tree low h.1)
 
 -- one of the trees of the register's tables
-pub is_no_index : (others : Others) → AreApart others → (tree : ℕ) → nat_le 13 tree ≡ false → list_all (λ i. not (i.tree == tree)) register_indexes ≡ true → IsNoIndex (schema_with others) tree
+pub is_no_index : (others : Others) → AreOthersApart others → (tree : ℕ) → nat_le 13 tree ≡ false → list_all (λ i. not (i.tree == tree)) register_indexes ≡ true → IsNoIndex (schema_with others) tree
 is_no_index others apart tree low ours = joined register_indexes others.indexes (first register_indexes ours) (no_index others.indexes tree low apart.indexes)
   where
     first : (xs : List Index) → list_all (λ i. not (i.tree == tree)) xs ≡ true → AllByRecursion (λ (i : Index). i.tree ≢ tree) xs

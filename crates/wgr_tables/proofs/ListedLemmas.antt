@@ -21,13 +21,13 @@ use Rattle.wgr_sql.proofs.Answers.{answers, map-both}
 use Rattle.wgr_sql.proofs.RowLemmas.{equal_nats, map_filter}
 use Rattle.wgr_sql.proofs.TextLemmas.{text_at, equal_texts, differ_texts}
 use Rattle.wgr_sql.proofs.Values.{and_true}
-use Rattle.wgr_columns.specs.Layout.{schema_with, allowed_at}
+use Rattle.wgr_columns.specs.Layout.{schema_with, allowed_table_at}
 use Rattle.wgr_tables.specs.Loads.{ShowAddresses, ShowNetwork, ShowPeers, ShowRoutes}
 use Rattle.wgr_columns.specs.Decode.{IsRegister, tables_of, network_in, peer_in, allowed_in, number_at, bytes_at, route_kind}
 use Rattle.wgr_tables.specs.TableSteps.{HasNoRoute}
 use Rattle.wgr_tables.proofs.FirstRow.{none_passes}
-use Rattle.wgr_tables.proofs.Meanings.{peers_text, peers_asks, peer_places, of_network, addresses_text, addresses_asks, allowed_places, of_addresses, routes_text, routes_asks, of_routes, first_route_text, first_route_asks, route_place, network_text, network_asks, network_places, by_id}
-use Rattle.wgr_columns.proofs.Statements.{Asks, rising}
+use Rattle.wgr_tables.proofs.Meanings.{peers_text, peers_asks, peer_places, of_network, addresses_text, addresses_asks, allowed_places, of_addresses, routes_text, routes_asks, of_routes, first_route_text, first_route_asks, route_place, network_text, network_asks, by_id}
+use Rattle.wgr_columns.proofs.Statements.{Asks, network_places, rising}
 
 -- a query that shows all places of the rows that pass
 module _ (old new : State) (register : IsRegister old.now) (text : List ℕ) (params : Row) (tree : ℕ) (terms places : List Term) (order : List (Term × Key)) (names : List (List ℕ))
@@ -63,7 +63,7 @@ module _ (old new : State) (register : IsRegister old.now) (n : ℕ) (rows : Lis
   owner_is r here = ap (λ v. is_true (binary (Compare Eq Binary) v (Int (pos n)))) (register.written.allowed.numbers_are r here 1 (inl refl)) ∙ equal_nats (number_at r 1) n
 
   kind_at : (r : Row) → Has (old.now.trees 10) r → column r 7 ≡ Text (bytes_at r 7)
-  kind_at r here = text_at (schema_with register.others) old.now.trees sound (allowed_at 10) (inr (inr (inr (inr (inr (inl refl)))))) r here 6 _ refl refl refl refl refl
+  kind_at r here = text_at (schema_with register.others) old.now.trees sound (allowed_table_at 10) (inr (inr (inr (inr (inr (inl refl)))))) r here 6 _ refl refl refl refl refl
 
   pub addresses_listed : Shown addresses_text params old new rows → ShowAddresses n (tables_of old.now) rows
   addresses_listed shown =

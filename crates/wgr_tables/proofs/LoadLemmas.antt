@@ -8,7 +8,7 @@ use Rattle.wgr_text.specs.Prefix.{PrefixValue}
 use Rattle.wgr_peers.specs.declared.peer.Peer.{Peer}
 use Rattle.wgr_core.specs.Network.{NetworkValue, IsNetwork}
 use Rattle.wgr_model.specs.Laws.{Has}
-use Rattle.wgr_model.specs.Rows.{AllowedRow, AreKeyed, NetworkRow, PeerRow, Tables, address_row, allowed_key, holding_of, number_in, peer_id, peer_row, peer_value, peers_of, prefix_cmp, prefix_key, route_row, route_value, routes_of, same_allowed, same_pair}
+use Rattle.wgr_model.specs.Rows.{AllowedRow, AreKeyed, NetworkRow, PeerRow, Tables, address_row, allowed_key, network_entry_of, number_in, peer_id, peer_row, peer_value, peers_of, prefix_cmp, prefix_key, route_row, route_value, routes_of, same_allowed, same_pair}
 use Rattle.wgr_core.specs.declared.parts.Parts.{Parts}
 use Rattle.wgr_core.specs.Parts.{IsNetworkOf, network_of}
 use Rattle.wgr_tables.specs.Loads.{IsMade, network_with}
@@ -56,7 +56,7 @@ module _ (t : Tables) (id : ℕ) (keyed : AreKeyed t) (n : NetworkValue) (rules 
 
 pub network_is_read : (t : Tables) (w : NetworkRow) (id : ℕ) → w.id ≡ id → AreKeyed t → (joined : List Peer) (led : List (PrefixValue × ℕ)) (n : NetworkValue) → IsMade w joined led n
     → IsPermutation (filter (λ p. nat_eq p.network id) t.peers) (map (peer_row id) joined) → IsPermutation (filter (λ a. nat_eq a.network id && not a.is_route) t.allowed) (map (address_row id) joined)
-    → IsPermutation (filter (λ a. a.is_route && nat_eq a.network id) t.allowed) (map (route_row id) led) → n ≡ (holding_of t w).network
+    → IsPermutation (filter (λ a. a.is_route && nat_eq a.network id) t.allowed) (map (route_row id) led) → n ≡ (network_entry_of t w).network
 network_is_read t w id is keyed joined led n made rows addresses ways =
     let peers = IsPermutation-trans _ _ _ rows (IsPermutation-map (peer_row id) joined n.peers made.peers) in
     let own = IsPermutation-trans _ _ _ addresses (IsPermutation-map (address_row id) joined n.peers made.peers) in

@@ -12,7 +12,8 @@ use Rattle.sqlite_tied.specs.Compute.{everything}
 use Rattle.sqlite.specs.Listing.{understood}
 use Rattle.wgr_sql.specs.Effects.{plain_query}
 use Rattle.wgr_columns.specs.Layout.{Others}
-use Rattle.wgr_columns.proofs.Statements.{Asks, Means, equal_to, rising}
+use Rattle.wgr_columns.specs.Texts.{select_networks}
+use Rattle.wgr_columns.proofs.Statements.{Asks, Means, equal_to, network_names, network_places, rising}
 use Rattle.wgr_tables.proofs.FirstRow.{first_of}
 
 -- ---- DELETE
@@ -117,10 +118,7 @@ abbrev pub route_place : List Term
 route_place = col 1 6 ∷ []
 
 abbrev pub network_text : List ℕ
-network_text = codes "SELECT id, NULL, tenant, name, family, lo, length, host, port, server, capacity, next FROM network WHERE id = ?1"
-
-abbrev pub network_places : List Term
-network_places = col 1 0 ∷ lit Null ∷ col 1 2 ∷ col 1 3 ∷ col 1 4 ∷ col 1 5 ∷ col 1 6 ∷ col 1 7 ∷ col 1 8 ∷ col 1 9 ∷ col 1 10 ∷ col 1 11 ∷ []
+network_text = select_networks (codes " WHERE id = ?1")
 
 module _ (others : Others) where
   pub drop_peer_means : Means others drop_peer_text (Delete 4 (record { lets = []; body = plain_query 8 of_peer_row (col 1 0 ∷ []) [] }))
@@ -179,6 +177,6 @@ module _ (others : Others) where
   unfolding understood everything
   first_route_asks = record { means = record { command_is = refl; plain = (refl, refl) }; unlisted = refl }
 
-  pub network_asks : Asks others network_text (Select (record { lets = []; body = plain_query 5 by_id network_places [] }) (codes "id" ∷ codes "NULL" ∷ codes "tenant" ∷ codes "name" ∷ codes "family" ∷ codes "lo" ∷ codes "length" ∷ codes "host" ∷ codes "port" ∷ codes "server" ∷ codes "capacity" ∷ codes "next" ∷ []))
+  pub network_asks : Asks others network_text (Select (record { lets = []; body = plain_query 5 by_id network_places [] }) network_names)
   unfolding understood everything
   network_asks = record { means = record { command_is = refl; plain = (refl, refl) }; unlisted = refl }

@@ -21,7 +21,7 @@ use Rattle.sqlite.specs.Effect.{Database, IsDatabase}
 use Rattle.sqlite.specs.Schema.{Schema}
 use Rattle.sqlite.specs.State.{State, Executes}
 use Rattle.wgr_model.specs.Rows.{with_next, family_number}
-use Rattle.wgr_columns.specs.Layout.{network_at, schema_with}
+use Rattle.wgr_columns.specs.Layout.{network_table_at, schema_with}
 use Rattle.wgr_columns.specs.Decode.{IsRegister, network_in, network_numbers, number_at, bytes_at, number_of, bytes_of, family_of}
 use Rattle.wgr_tables.specs.TableSteps.{NextSets}
 use Rattle.wgr_tables.proofs.Made.{Made}
@@ -50,7 +50,7 @@ module _ (db : Database) (register : IsRegister db) (i n : ℕ) where
   given = Int (pos i) ∷ Int (pos n) ∷ []
 
   abbrev change : Row → Row
-  change r = cast_row (network_at 5) (drop 1 (eval_all project (given ∷ r ∷ [])))
+  change r = cast_row (network_table_at 5) (drop 1 (eval_all project (given ∷ r ∷ [])))
 
   abbrev passes : Row → Bool
   passes r = list_all (holds (given ∷ r ∷ [])) by_id
@@ -61,7 +61,7 @@ module _ (db : Database) (register : IsRegister db) (i n : ℕ) where
   abbrev schema : Schema
   schema = schema_with register.others
 
-  listed : Has schema.tables (network_at 5)
+  listed : Has schema.tables (network_table_at 5)
   listed = inr (inr (inr (inl refl)))
 
   sound : IsDatabase (record { schema = schema; trees = db.trees })
@@ -85,8 +85,8 @@ module _ (db : Database) (register : IsRegister db) (i n : ℕ) where
       let length = number 6 (inr (inr (inr (inl refl)))) in
       let port = number 8 (inr (inr (inr (inr (inl refl))))) in
       let capacity = number 10 (inr (inr (inr (inr (inr (inl refl)))))) in
-      let name = text_same (column r 3) (text_at schema db.trees sound (network_at 5) listed r here 2 _ refl refl refl refl refl) in
-      let host = text_same (column r 7) (text_at schema db.trees sound (network_at 5) listed r here 6 _ refl refl refl refl refl) in
+      let name = text_same (column r 3) (text_at schema db.trees sound (network_table_at 5) listed r here 2 _ refl refl refl refl refl) in
+      let host = text_same (column r 7) (text_at schema db.trees sound (network_table_at 5) listed r here 6 _ refl refl refl refl refl) in
       let next : unsigned_abs (id_in (cast kind.Integer (Int (pos n)))) ≡ n = ap (λ v. unsigned_abs (id_in v)) (cast_int (pos n)) in
       λ k. record {
         id = id k;
@@ -142,7 +142,7 @@ next_set old new register i n count ran =
     let table = old.now.trees 5 in
     let p = passes old.now register i n in
     let to = change old.now register i n in
-    let done = rows_updated old new register set_next_text params count ran 3 (network_at 5) refl refl by_id project (set_next_means register.others) to (λ r. refl) (λ found. map-both _ _ found) register.written.networks.keyed in
+    let done = rows_updated old new register set_next_text params count ran 3 (network_table_at 5) refl refl by_id project (set_next_means register.others) to (λ r. refl) (λ found. map-both _ _ found) register.written.networks.keyed in
     let after = written_revised network_numbers (5 ∷ []) (4 ∷ []) p to table done.0 done.2 (stays old.now register i n) (written_row old.now register i n) register.written.networks in
     record {
       sound = register_networks old.now new.now done.0 register done.1.sound done.1.edits after;

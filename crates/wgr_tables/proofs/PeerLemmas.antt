@@ -20,7 +20,7 @@ use Rattle.wgr_model.specs.Rows.{PeerRow}
 use Rattle.wgr_model.proofs.CollectLemmas.{from_map}
 use Rattle.wgr_sql.proofs.KeyedLemmas.{not_taken}
 use Rattle.wgr_sql.proofs.TableLemmas.{cast_null, cast_int, put_one}
-use Rattle.wgr_columns.specs.Layout.{peer_at}
+use Rattle.wgr_columns.specs.Layout.{peer_table_at}
 use Rattle.wgr_columns.specs.Decode.{IsRegister, IsStatusRow, peer_in, number_at, peer_numbers}
 use Rattle.wgr_columns.specs.Stored.{stored_peer}
 use Rattle.wgr_columns.specs.Parameters.{status_value}
@@ -40,7 +40,7 @@ stored_is : (p : PeerRow) (s : Option Status) → peer_in (stored_peer (record p
 stored_is p None = refl
 stored_is p (Some s) = refl
 
-news_are : (trees : Trees) (p : PeerRow) (s : Option Status) → (edit_of trees (peer_at 8) [] Chosen 0 (value_rows (stamped (peer_at 8) (peer_params (record p { status = s }))) 10 1 peer_values)).news ≡ stored_peer (record p { status = s }) ∷ []
+news_are : (trees : Trees) (p : PeerRow) (s : Option Status) → (edit_of trees (peer_table_at 8) [] Chosen 0 (value_rows (stamped (peer_table_at 8) (peer_params (record p { status = s }))) 10 1 peer_values)).news ≡ stored_peer (record p { status = s }) ∷ []
 news_are trees p None = rw (cast_null, cast_int (pos p.id), cast_int (pos p.network), cast_int (pos p.until), cast_int (pos p.keepalive))
 news_are trees p (Some s) = rw (cast_null, cast_int (pos p.id), cast_int (pos p.network), cast_int (pos p.until), cast_int (pos p.keepalive), cast_int (pos s.handshake), cast_int (pos s.received), cast_int (pos s.sent))
 
@@ -72,7 +72,7 @@ pub peer_came : (old new : State) (register : IsRegister old.now) (p : PeerRow) 
 peer_came old new register p count ran =
     let rows = old.now.trees 8 in
     let row = stored_peer p in
-    let done = row_inserted old new register insert_peer_text (peer_params p) count ran 4 (peer_at 8) refl refl peer_values 10 (insert_peer_means register.others) refl row (news_are old.now.trees p p.status) in
+    let done = row_inserted old new register insert_peer_text (peer_params p) count ran 4 (peer_table_at 8) refl refl peer_values 10 (insert_peer_means register.others) refl row (news_are old.now.trees p p.status) in
     record {
       sound = register_peers old.now new.now _ register done.0.sound done.0.edits (written_put peer_numbers [] [] row rows refl done.1 (stored_written p) register.written.peers)
           (each_put IsStatusRow row rows done.1 (status_written p p.status) register.written.statuses);

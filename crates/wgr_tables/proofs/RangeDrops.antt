@@ -18,7 +18,7 @@ use Rattle.std.specs.Ordering.{int_cmp}
 use Rattle.wgr_sql.proofs.RowLemmas.{equal_nats, map_filter}
 use Rattle.wgr_sql.proofs.TextLemmas.{text_at, differ_texts}
 use Rattle.wgr_sql.proofs.Values.{and_true, truth_of}
-use Rattle.wgr_columns.specs.Layout.{schema_with, peer_at, allowed_at}
+use Rattle.wgr_columns.specs.Layout.{schema_with, peer_table_at, allowed_table_at}
 use Rattle.wgr_columns.specs.Decode.{IsKindAt, IsRegister, IsStatusRow, tables_of, peer_in, allowed_in, number_at, bytes_at, route_kind, peer_numbers, allowed_numbers, allowed_addresses}
 use Rattle.wgr_tables.specs.TableSteps.{PeersGo, AllowedGoes, is_peer_within, is_address_within}
 use Rattle.wgr_tables.proofs.Made.{Made}
@@ -48,7 +48,7 @@ peers_gone old new register network first last count ran =
     let params = Int (pos network) ∷ Int (pos first) ∷ Int (pos last) ∷ [] in
     let rows = old.now.trees 8 in
     let p = λ (r : Row). list_all (holds (params ∷ r ∷ [])) of_peer_range in
-    let done = rows_deleted old new register drop_peer_range_text params count ran 4 (peer_at 8) refl refl of_peer_range (drop_peer_range_means register.others) register.written.peers.keyed in
+    let done = rows_deleted old new register drop_peer_range_text params count ran 4 (peer_table_at 8) refl refl of_peer_range (drop_peer_range_means register.others) register.written.peers.keyed in
     record {
       sound = register_peers old.now new.now _ register done.sound done.edits (written_filter peer_numbers [] [] (λ r. not (p r)) rows register.written.peers)
           (each_filter IsStatusRow (λ r. not (p r)) rows register.written.statuses);
@@ -70,7 +70,7 @@ addresses_gone old new register network first last count ran =
     let params = Int (pos network) ∷ Int (pos first) ∷ Int (pos last) ∷ [] in
     let rows = old.now.trees 10 in
     let p = λ (r : Row). list_all (holds (params ∷ r ∷ [])) of_address_range in
-    let done = rows_deleted old new register drop_address_range_text params count ran 5 (allowed_at 10) refl refl of_address_range (drop_address_range_means register.others) register.written.allowed.keyed in
+    let done = rows_deleted old new register drop_address_range_text params count ran 5 (allowed_table_at 10) refl refl of_address_range (drop_address_range_means register.others) register.written.allowed.keyed in
     record {
       sound = register_allowed old.now new.now _ register done.sound done.edits (written_filter allowed_numbers allowed_addresses (2 ∷ []) (λ r. not (p r)) rows register.written.allowed)
           (each_filter (λ r. IsKindAt r 7) (λ r. not (p r)) rows register.written.kinds);
@@ -82,7 +82,7 @@ addresses_gone old new register network first last count ran =
     sound = subst (λ s. IsDatabase (record { schema = s; trees = old.now.trees })) register.schema_is register.sound
 
     kind_is : (r : Row) → Has (old.now.trees 10) r → is_true (binary (Compare Ne Binary) (column r 7) (Text route_kind)) ≡ not (bytes_eq (bytes_at r 7) route_kind)
-    kind_is r here = ap (λ v. is_true (binary (Compare Ne Binary) v (Text route_kind))) (text_at (schema_with register.others) old.now.trees sound (allowed_at 10) (inr (inr (inr (inr (inr (inl refl)))))) r here 6 _ refl refl refl refl refl) ∙ differ_texts (bytes_at r 7) route_kind
+    kind_is r here = ap (λ v. is_true (binary (Compare Ne Binary) v (Text route_kind))) (text_at (schema_with register.others) old.now.trees sound (allowed_table_at 10) (inr (inr (inr (inr (inr (inl refl)))))) r here 6 _ refl refl refl refl refl) ∙ differ_texts (bytes_at r 7) route_kind
 
     passes : (r : Row) → Has (old.now.trees 10) r → list_all (holds ((Int (pos network) ∷ Int (pos first) ∷ Int (pos last) ∷ []) ∷ r ∷ [])) of_address_range ≡ is_address_within network first last (allowed_in r)
     passes r here =

@@ -16,7 +16,7 @@ use Rattle.wgr_sql.proofs.StepLemmas.{from_step}
 use Rattle.wgr_columns.specs.Decode.{IsRegister, tables_of}
 use Rattle.wgr_columns.specs.Layout.{Others, schema_with}
 use Rattle.wgr_tables.specs.Standing.{StepsFrom, StepsOn}
-use Rattle.wgr_tables.specs.Stops.{FailsBy, IsRefused, OneOfEach, OneOfTwo}
+use Rattle.wgr_tables.specs.Stops.{FailsBy, IsStatementRefused, OneOfEach, OneOfTwo}
 use Rattle.wgr_tables.proofs.Made.{Made}
 use Rattle.wgr_tables.proofs.Meanings.{drop_peer_text, drop_allowed_text, drop_address_text, drop_peer_range_text, drop_address_range_text, drop_route_text, insert_peer_text, insert_address_text, insert_route_text, set_next_text}
 
@@ -64,15 +64,15 @@ module _ (others : Others) where
   insert_route_writes a b c d e f = record { given = (refl, refl, omega arith, refl); plain = (tt, refl) }
 
 module _ (old new : State) (register : IsTrue old.is_open → IsRegister old.now) (text : List ℕ) (params : Row) where
-  refused_at : Refuses old.step_limit old.now text params → IsHindered old new ⊎ IsRefused text params (tables_of old.now)
+  refused_at : Refuses old.step_limit old.now text params → IsHindered old new ⊎ IsStatementRefused text params (tables_of old.now)
   refused_at refuses = go old.is_open refl old.step_limit refl
     where
-      go : (b : Bool) → old.is_open ≡ b → (limit : Option ℕ) → old.step_limit ≡ limit → IsHindered old new ⊎ IsRefused text params (tables_of old.now)
+      go : (b : Bool) → old.is_open ≡ b → (limit : Option ℕ) → old.step_limit ≡ limit → IsHindered old new ⊎ IsStatementRefused text params (tables_of old.now)
       go false shut limit is = inl (inr (inl shut))
       go true live (Some n) is = inl (inr (inr (subst IsSome (sym is) refl)))
       go true live None is = inr (old.now, register live, refl, subst (λ l. Refuses l old.now text params) is refuses)
 
-  refused_so : (f : Fault) → HasCauseOr (Refuses old.step_limit old.now text params) old new f → HasCauseOr (IsRefused text params (tables_of old.now)) old new f
+  refused_so : (f : Fault) → HasCauseOr (Refuses old.step_limit old.now text params) old new f → HasCauseOr (IsStatementRefused text params (tables_of old.now)) old new f
   refused_so NoMemory h = tt
   refused_so Store h = λ clean. elim (h clean) [ inl hindered ↦ inl hindered | inr refuses ↦ refused_at refuses ]
 
@@ -81,7 +81,7 @@ module _ (old new : State) (register : IsTrue old.is_open → IsRegister old.now
 
 -- a statement that fails
 pub written_fails : (old new : State) (text : List ℕ) (params : Row) (r : Result ℕ Fault) → ((others : Others) → IsWriting (schema_with others) text params)
-    → (IsTrue old.in_transaction → (IsTrue old.is_open → HasCleanDisk new → IsWriting old.now.schema text params) → IfErr r (HasCauseOr (Refuses old.step_limit old.now text params) old new)) → FailsBy (IsRefused text params) old new r
+    → (IsTrue old.in_transaction → (IsTrue old.is_open → HasCleanDisk new → IsWriting old.now.schema text params) → IfErr r (HasCauseOr (Refuses old.step_limit old.now text params) old new)) → FailsBy (IsStatementRefused text params) old new r
 written_fails old new text params (Ok count) writes cause inside register = tt
 written_fails old new text params (Err f) writes cause inside register = refused_so old new register text params f (cause inside (λ live clean. here old new register text params writes live))
 

@@ -28,11 +28,11 @@ use Rattle.wgr_sql.proofs.RowLemmas.{map_alike}
 use Rattle.wgr_sql.proofs.TableLemmas.{unmapped}
 use Rattle.wgr_sql.proofs.TextLemmas.{text_at}
 use Rattle.wgr_sql.proofs.Values.{blob_at}
-use Rattle.wgr_columns.specs.Layout.{schema_with, network_at, peer_at}
+use Rattle.wgr_columns.specs.Layout.{schema_with, network_table_at, peer_table_at}
 use Rattle.wgr_columns.specs.Decode.{IsKindAt, IsRegister, IsStatusRow, allowed_in, bytes_at, family_of, network_in, number_at, peer_in, route_kind, status_at}
 use Rattle.wgr_columns.specs.Stored.{AreRising, AreStored, kind_of, status_values, stored_allowed, stored_network, stored_peer}
-use Rattle.wgr_tables.proofs.Meanings.{peers_text, peers_asks, peer_places, of_network, addresses_text, addresses_asks, allowed_places, of_addresses, routes_text, routes_asks, of_routes, network_text, network_asks, network_places, by_id}
-use Rattle.wgr_columns.proofs.Statements.{Asks, rising}
+use Rattle.wgr_tables.proofs.Meanings.{peers_text, peers_asks, peer_places, of_network, addresses_text, addresses_asks, allowed_places, of_addresses, routes_text, routes_asks, of_routes, network_text, network_asks, by_id}
+use Rattle.wgr_columns.proofs.Statements.{Asks, network_places, rising}
 
 has_place : {X : Type 0} (xs : List X) (k : ℕ) (d : X) → k < length xs → Has xs (get_or xs k d)
 has_place [] k d low = absurd (omega (arith, low))
@@ -111,8 +111,8 @@ module _ (old new : State) (register : IsRegister old.now) (n : ℕ) (rows : Lis
       let network = number 2 (inr (inl refl)) in
       let until = number 5 (inr (inr (inl refl))) in
       let keepalive = number 6 (inr (inr (inr (inl refl)))) in
-      let key : column r 3 ≡ Blob (bytes_at r 3) = blob_at (schema_with register.others) old.now.trees sound (peer_at 8) (inr (inr (inr (inr (inl refl))))) r here 2 _ refl refl refl refl refl in
-      let label : column r 4 ≡ Text (bytes_at r 4) = text_at (schema_with register.others) old.now.trees sound (peer_at 8) (inr (inr (inr (inr (inl refl))))) r here 3 _ refl refl refl refl refl in
+      let key : column r 3 ≡ Blob (bytes_at r 3) = blob_at (schema_with register.others) old.now.trees sound (peer_table_at 8) (inr (inr (inr (inr (inl refl))))) r here 2 _ refl refl refl refl refl in
+      let label : column r 4 ≡ Text (bytes_at r 4) = text_at (schema_with register.others) old.now.trees sound (peer_table_at 8) (inr (inr (inr (inr (inl refl))))) r here 3 _ refl refl refl refl refl in
       let status = status_shown r (register.written.statuses r here) in
       λ k. id k ∷ Null ∷ network k ∷ key k ∷ label k ∷ until k ∷ keepalive k ∷ status k
 
@@ -152,9 +152,9 @@ module _ (old new : State) (register : IsRegister old.now) (n : ℕ) (rows : Lis
       let port = number 8 (inr (inr (inr (inr (inl refl))))) in
       let capacity = number 10 (inr (inr (inr (inr (inr (inl refl)))))) in
       let next = number 11 (inr (inr (inr (inr (inr (inr (inl refl))))))) in
-      let name : column r 3 ≡ Text (bytes_at r 3) = text_at (schema_with register.others) old.now.trees sound (network_at 5) (inr (inr (inr (inl refl)))) r here 2 _ refl refl refl refl refl in
-      let host : column r 7 ≡ Text (bytes_at r 7) = text_at (schema_with register.others) old.now.trees sound (network_at 5) (inr (inr (inr (inl refl)))) r here 6 _ refl refl refl refl refl in
-      let server : column r 9 ≡ Blob (bytes_at r 9) = blob_at (schema_with register.others) old.now.trees sound (network_at 5) (inr (inr (inr (inl refl)))) r here 8 _ refl refl refl refl refl in
+      let name : column r 3 ≡ Text (bytes_at r 3) = text_at (schema_with register.others) old.now.trees sound (network_table_at 5) (inr (inr (inr (inl refl)))) r here 2 _ refl refl refl refl refl in
+      let host : column r 7 ≡ Text (bytes_at r 7) = text_at (schema_with register.others) old.now.trees sound (network_table_at 5) (inr (inr (inr (inl refl)))) r here 6 _ refl refl refl refl refl in
+      let server : column r 9 ≡ Blob (bytes_at r 9) = blob_at (schema_with register.others) old.now.trees sound (network_table_at 5) (inr (inr (inr (inl refl)))) r here 8 _ refl refl refl refl refl in
       λ k. id k ∷ Null ∷ tenant k ∷ name k ∷ family k ∷ lo k ∷ long k ∷ host k ∷ port k ∷ server k ∷ capacity k ∷ next k ∷ []
 
   pub network_stored : Shown network_text params old new rows → AreStored stored_network network_in rows

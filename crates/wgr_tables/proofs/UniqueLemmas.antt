@@ -19,7 +19,7 @@ use Rattle.sqlite_rules.proofs.ListLemmas.{all_has, some_from}
 use Rattle.sqlite_schema.specs.declared.schema.Constraint.TheVariants.{Unique}
 use Rattle.sqlite_schema.specs.Rules.{agree, differ, equal, passes, clashes}
 use Rattle.wgr_model.specs.Laws as model
-use Rattle.wgr_columns.specs.Layout.{Others, schema_with, allowed_at}
+use Rattle.wgr_columns.specs.Layout.{Others, schema_with, allowed_table_at}
 use Rattle.wgr_sql.proofs.Values.{truth_of}
 
 ne_of : (o : Ordering) → is_eq o ≡ false → is_ne o ≡ true
@@ -52,7 +52,7 @@ agree_four a b = refl
 pub allowed_apart : (others : Others) (trees : Trees) → IsDatabase (record { schema = schema_with others; trees = trees }) → (new other : Row) → Has (trees 10) new → Has (trees 10) other → differ (rowid other) (rowid new) ≡ true
     → agree plain four other four new ≡ false
 allowed_apart others trees sound new other here there apart =
-    let unique = all_has (λ r. passes Unique (schema_with others) trees (allowed_at 10) r ≡ true) (trees 10) new (all_has (λ (t : Table). AllByRecursion (λ r. passes Unique (schema_with others) trees t r ≡ true) (trees t.tree)) (schema_with others).tables (allowed_at 10) (sound.obeys.rules Unique) (inr (inr (inr (inr (inr (inl refl))))))) here in
+    let unique = all_has (λ r. passes Unique (schema_with others) trees (allowed_table_at 10) r ≡ true) (trees 10) new (all_has (λ (t : Table). AllByRecursion (λ r. passes Unique (schema_with others) trees t r ≡ true) (trees t.tree)) (schema_with others).tables (allowed_table_at 10) (sound.obeys.rules Unique) (inr (inr (inr (inr (inr (inl refl))))))) here in
     let none : clashes plain four (trees 10) new ≡ false = not-true _ (and_parts (not (clashes plain four (trees 10) new)) _ unique).0 in
     false_from_ne_true _ (λ same. true≢false (sym (some_from (λ o. agree plain four o four new && differ (rowid o) (rowid new)) (trees 10) other there (both _ _ same apart)) ∙ none))
   where

@@ -1,12 +1,14 @@
 -- Steps on the rows of the register, and the rows that it is at.
-use Rattle.std.specs.Prelude.{◌≡◌, Result, List, [], false}
+use Rattle.std.specs.Prelude.{◌≡◌, Result, List, [], ◌∷◌, false, IfErr, OnErr, OnOk, ⊤}
 use Rattle.sqlite.specs.Effect.{Database}
 use Rattle.sqlite.specs.State.{HasCleanDisk, State, Survives}
 use Rattle.sqlite.specs.Store.{Ghosts}
 use Rattle.sqlite.specs.Held.{Held, state}
 use Rattle.wgr_model.specs.Rows.{Tables}
+use Rattle.wgr_sql.specs.Causes.{HasCauseOr}
 use Rattle.wgr_sql.specs.Steps as steps
 use Rattle.wgr_sql.specs.Standing as standing
+use Rattle.wgr_sql.specs.declared.fault.Fault.{Fault}
 use Rattle.wgr_columns.specs.Decode.{IsRegister, tables_of}
 use Rattle.wgr_tables.specs.Writes.{Written, Writes}
 
@@ -27,6 +29,21 @@ pub record OnlyReads {S : Type 0} (g : Ghosts S) (old new : Held S) : Type 0 whe
 -- a write was done and acknowledged: the register is in the database after it, and nothing is pending
 abbrev pub IsDone : {S : Type 0} → Ghosts S → Held S → Database → Written → Type 0
 IsDone g conn db one = (next : Database) × Writes one db next × Stands g conn next []
+
+-- What a call that may write keeps: no transaction is open after it, a disk that is clean now was clean
+-- before, and only a fault of the disk shuts the store. A stop may leave what it writes.
+pub record MayWrite {S : Type 0} (g : Ghosts S) (old new : Held S) : Type 0 where
+  pub idle : new.in_transaction ≡ false
+  pub clean : HasCleanDisk (state g new) → HasCleanDisk (state g old)
+  pub survives : Survives (state g old) (state g new) (λ _. ⊤)
+
+-- How a call ends that commits one write; which one, `writes` tells on the rows at which the register is.
+-- The write was done and acknowledged, or the call failed and it is pending. A fault of the store has a
+-- cause, or the write stops on these rows.
+pub record Commits {S X : Type 0} (g : Ghosts S) (writes : Tables → Written → Type 0) (stops : Tables → Type 0) (old new : Held S) (r : Result X Fault) : Type 0 where
+  pub done : (db : Database) (pending : List Written) (one : Written) → Stands g old db pending → writes (tables_of db) one → HasCleanDisk (state g new) → OnOk r (IsDone g new db one)
+  pub fault : (db : Database) (pending : List Written) (one : Written) → Stands g old db pending → writes (tables_of db) one → OnErr r (Stands g new db (one ∷ pending))
+  pub cause : (db : Database) (pending : List Written) → Stands g old db pending → IfErr r (HasCauseOr (stops (tables_of db)) (state g old) (state g new))
 
 -- a step of a transaction changes the rows as `P` says
 abbrev pub StepsOn : {X E : Type 0} → (Tables → Tables → Type 0) → State → State → Result X E → Type 0

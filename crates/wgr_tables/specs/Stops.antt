@@ -18,8 +18,8 @@ use Rattle.wgr_columns.specs.Parameters.{status_value}
 use Rattle.wgr_tables.specs.TableSteps.{AreFrom, PeerGoes, PeerLeaves, PeerComes, PeerRowComes, PeerRowsGo, PeersGo, PeersPut, RouteComes, RouteGoes, RoutePuts}
 
 -- on a register of these rows
-abbrev pub IsRefused : List ℕ → Row → Tables → Type 0
-IsRefused text params t = (db : Database) × IsRegister db × (tables_of db ≡ t) × Refuses None db text params
+abbrev pub IsStatementRefused : List ℕ → Row → Tables → Type 0
+IsStatementRefused text params t = (db : Database) × IsRegister db × (tables_of db ≡ t) × Refuses None db text params
 
 -- If a step of a transaction fails, that has a cause, or the step stops so at the rows that it began with.
 abbrev pub FailsBy : {X : Type 0} → (Tables → Type 0) → State → State → Result X Fault → Type 0
@@ -40,40 +40,40 @@ abbrev pub number : ℕ → Value
 number n = Int (pos n)
 
 abbrev pub PeerRowStays : ℕ → ℕ → Tables → Type 0
-PeerRowStays network id = IsRefused (codes "DELETE FROM peer WHERE network = ?1 AND id = ?2") (number network ∷ number id ∷ [])
+PeerRowStays network id = IsStatementRefused (codes "DELETE FROM peer WHERE network = ?1 AND id = ?2") (number network ∷ number id ∷ [])
 
 abbrev pub AllowedStays : ℕ → ℕ → Tables → Type 0
-AllowedStays network id = IsRefused (codes "DELETE FROM allowed WHERE network = ?1 AND peer = ?2") (number network ∷ number id ∷ [])
+AllowedStays network id = IsStatementRefused (codes "DELETE FROM allowed WHERE network = ?1 AND peer = ?2") (number network ∷ number id ∷ [])
 
 abbrev pub AddressStays : ℕ → ℕ → Tables → Type 0
-AddressStays network id = IsRefused (codes "DELETE FROM allowed WHERE network = ?1 AND peer = ?2 AND kind <> 'route'") (number network ∷ number id ∷ [])
+AddressStays network id = IsStatementRefused (codes "DELETE FROM allowed WHERE network = ?1 AND peer = ?2 AND kind <> 'route'") (number network ∷ number id ∷ [])
 
 abbrev pub PeerRangeStays : ℕ → ℕ → ℕ → Tables → Type 0
-PeerRangeStays network first last = IsRefused (codes "DELETE FROM peer WHERE network = ?1 AND id >= ?2 AND id <= ?3") (number network ∷ number first ∷ number last ∷ [])
+PeerRangeStays network first last = IsStatementRefused (codes "DELETE FROM peer WHERE network = ?1 AND id >= ?2 AND id <= ?3") (number network ∷ number first ∷ number last ∷ [])
 
 abbrev pub AddressRangeStays : ℕ → ℕ → ℕ → Tables → Type 0
-AddressRangeStays network first last = IsRefused (codes "DELETE FROM allowed WHERE network = ?1 AND peer >= ?2 AND peer <= ?3 AND kind <> 'route'") (number network ∷ number first ∷ number last ∷ [])
+AddressRangeStays network first last = IsStatementRefused (codes "DELETE FROM allowed WHERE network = ?1 AND peer >= ?2 AND peer <= ?3 AND kind <> 'route'") (number network ∷ number first ∷ number last ∷ [])
 
 abbrev pub RouteStays : ℕ → PrefixValue → Tables → Type 0
-RouteStays network p = IsRefused (codes "DELETE FROM allowed WHERE network = ?1 AND family = ?2 AND lo = ?3 AND length = ?4 AND kind = 'route'")
+RouteStays network p = IsStatementRefused (codes "DELETE FROM allowed WHERE network = ?1 AND family = ?2 AND lo = ?3 AND length = ?4 AND kind = 'route'")
     (number network ∷ number (family_number p.address.family) ∷ Blob (bytes_of p.address.number) ∷ number p.length ∷ [])
 
 abbrev pub NextStays : ℕ → ℕ → Tables → Type 0
-NextStays network next = IsRefused (codes "UPDATE network SET next = ?2 WHERE id = ?1") (number network ∷ number next ∷ [])
+NextStays network next = IsStatementRefused (codes "UPDATE network SET next = ?2 WHERE id = ?1") (number network ∷ number next ∷ [])
 
 abbrev pub PeerRowStaysOut : PeerRow → Tables → Type 0
-PeerRowStaysOut p = IsRefused (codes "INSERT INTO peer (id, network, key, label, until, keepalive, handshake, received, sent) VALUES (?1, ?2, ?3, ?4, ?5, ?6, ?7, ?8, ?9)")
+PeerRowStaysOut p = IsStatementRefused (codes "INSERT INTO peer (id, network, key, label, until, keepalive, handshake, received, sent) VALUES (?1, ?2, ?3, ?4, ?5, ?6, ?7, ?8, ?9)")
     (number p.id ∷ number p.network ∷ Blob p.key.0 ∷ Text p.label ∷ number p.until ∷ number p.keepalive
     ∷ bound (status_value (λ s. s.handshake) p.status ∷ status_value (λ s. s.received) p.status ∷ status_value (λ s. s.sent) p.status ∷ []))
 
-abbrev pub allowed_values : AllowedRow → Row
-allowed_values a = number a.network ∷ number (family_number a.prefix.address.family) ∷ Blob (bytes_of a.prefix.address.number) ∷ number a.prefix.length ∷ Blob (bytes_of a.last.number) ∷ number a.peer ∷ []
+abbrev pub allowed_parameters : AllowedRow → Row
+allowed_parameters a = number a.network ∷ number (family_number a.prefix.address.family) ∷ Blob (bytes_of a.prefix.address.number) ∷ number a.prefix.length ∷ Blob (bytes_of a.last.number) ∷ number a.peer ∷ []
 
 abbrev pub AddressStaysOut : AllowedRow → Tables → Type 0
-AddressStaysOut a = IsRefused (codes "INSERT INTO allowed (network, family, lo, length, hi, peer, kind) VALUES (?1, ?2, ?3, ?4, ?5, ?6, 'address')") (allowed_values a)
+AddressStaysOut a = IsStatementRefused (codes "INSERT INTO allowed (network, family, lo, length, hi, peer, kind) VALUES (?1, ?2, ?3, ?4, ?5, ?6, 'address')") (allowed_parameters a)
 
 abbrev pub RouteStaysOut : ℕ → PrefixValue × ℕ → Tables → Type 0
-RouteStaysOut network r = IsRefused (codes "INSERT INTO allowed (network, family, lo, length, hi, peer, kind) VALUES (?1, ?2, ?3, ?4, ?5, ?6, 'route')") (allowed_values (route_row network r))
+RouteStaysOut network r = IsStatementRefused (codes "INSERT INTO allowed (network, family, lo, length, hi, peer, kind) VALUES (?1, ?2, ?3, ?4, ?5, ?6, 'route')") (allowed_parameters (route_row network r))
 
 -- ---- steps made of these statements
 

@@ -3,9 +3,13 @@ use Rattle.std.specs.Prelude.{◌≡◌, ℕ, not, List, ◌∷◌}
 use Rattle.std.specs.List.{filter}
 use Rattle.std.specs.List.Sorted.{IsPermutation}
 use Rattle.sqlite.specs.Effect.{Database}
+use Rattle.wgr_core.specs.Change.{applied}
 use Rattle.wgr_core.specs.Network.{NetworkValue}
+use Rattle.wgr_core.specs.declared.change.Change.{Change}
+use Rattle.wgr_model.specs.Laws.{Has}
 use Rattle.wgr_model.specs.Register.{Bytes, Tenant, Token, is_same}
-use Rattle.wgr_model.specs.Rows.{NetworkRow, Tables, Replaces}
+use Rattle.wgr_model.specs.RowLaws.{AreConsistent}
+use Rattle.wgr_model.specs.Rows.{NetworkRow, Tables, Replaces, network_entry_of}
 use Rattle.wgr_model.specs.RowRules.{Removes}
 use Rattle.wgr_sql.specs.Steps as steps
 use Rattle.wgr_columns.specs.Decode.{IsRegister, tables_of}
@@ -40,6 +44,18 @@ Changes (TokenGained token) = TokenComes token
 Changes (TokenLost digest) = TokenGoes digest
 Changes (NetworkGained network) = NetworkComes network
 Changes (NetworkLost network) = Removes network
+
+-- it does so for the write that `writes` tells on the old rows
+abbrev pub ChangesAs : (Tables → Written → Type 0) → Tables → Tables → Type 0
+ChangesAs writes t u = (one : Written) → writes t one → Changes one t u
+
+-- a change of the network of this id replaces its value, on these rows, which are consistent
+pub record IsReplacement (network : ℕ) (change : Change) (t : Tables) (one : Written) : Type 0 where
+  pub consistent : AreConsistent t
+  pub row : NetworkRow
+  pub there : Has t.networks row
+  pub id_is : row.id ≡ network
+  pub replaced : one ≡ Replaced network (applied change (network_entry_of t row).network)
 
 abbrev pub Writes : Written → Database → Database → Type 0
 Writes one = steps.Makes IsRegister tables_of (Changes one)

@@ -7,7 +7,7 @@ ghost use Rattle.sqlite.specs.Held.{state};
 ghost use Rattle.wgr_core.specs.Network.{IsNetwork, NetworkValue};
 ghost use Rattle.wgr_core.specs.Parts.{network_of};
 ghost use Rattle.wgr_model.specs.Laws.{Has};
-ghost use Rattle.wgr_model.specs.Rows.{AreKeyed, NetworkRow, address_row, holding_of, peer_row, route_row};
+ghost use Rattle.wgr_model.specs.Rows.{AreKeyed, NetworkRow, address_row, network_entry_of, peer_row, route_row};
 ghost use Rattle.wgr_sql.specs.Causes.{HasCause};
 ghost use Rattle.wgr_sql.specs.declared.fault.Fault.TheVariants.{Store};
 ghost use Rattle.wgr_columns.specs.Decode.{tables_of, allowed_in, network_in, peer_in};
@@ -21,8 +21,7 @@ use crate::read::{peers_of, routes_of};
 use sqlite::{Alter, Connection, Row};
 use std::alloc::Global;
 use wgr_columns::{
-    allowed, capacity_at, host_at, key_at, magnitude_at, network, number_value, pool_in, port_at,
-    word_at,
+    NetworkSettings, allowed, magnitude_at, number_value, read_settings, select_networks,
 };
 use wgr_core::{Network, Parts};
 use wgr_peers::Peer;
@@ -126,7 +125,7 @@ fn network_rows<S: Alter>(conn: &mut Connection<S>, network: u32) -> Result<Vec<
 {
     query(
         conn,
-        "SELECT id, NULL, tenant, name, family, lo, length, host, port, server, capacity, next FROM network WHERE id = ?1",
+        select_networks!(" WHERE id = ?1"),
         &[number_value(network)],
     )
 }
@@ -177,12 +176,14 @@ fn parts_of(
     ensures value { IfOk result (λ parts. network_of parts ≡ network_with (network_in row.now) peers.items routes.items) }
     ensures only { IfErr result (λ e. e ≡ Store → (w : NetworkRow) → AreSettings w → row.now ≡ stored_network w → ⊥) }
 {
-    let pool = pool_in(row).ok_or(Fault::Store)?;
-    let host = host_at(alloc, row, network::HOST)?.ok_or(Fault::Store)?;
-    let port = port_at(row, network::PORT).ok_or(Fault::Store)?;
-    let server = key_at(row, network::SERVER).ok_or(Fault::Store)?;
-    let capacity = capacity_at(row, network::CAPACITY).ok_or(Fault::Store)?;
-    let next = word_at(row, network::NEXT).ok_or(Fault::Store)?;
+    let NetworkSettings {
+        pool,
+        host,
+        port,
+        server,
+        capacity,
+        next,
+    } = read_settings(alloc, row)?;
     Ok(Parts {
         pool,
         host,
@@ -226,7 +227,7 @@ fn load_row<S: Alter>(
     requires idle { conn.old.in_transaction ≡ false }
     ensures reads { OnlyReads S.Store conn.old conn.new }
     ensures read { (db : Database) (pending : List Written) → Stands S.Store conn.old db pending → AreKeyed (tables_of db) → HasCleanDisk (state S.Store conn.new) → (network_in row.now).id ≡ network
-        → IfOk result (λ n. n ≡ (holding_of (tables_of db) (network_in row.now)).network) }
+        → IfOk result (λ n. n ≡ (network_entry_of (tables_of db) (network_in row.now)).network) }
     ensures cause { (db : Database) (pending : List Written) (n : NetworkValue) → Stands S.Store conn.old db pending → (stored : IsStored (tables_of db) network n) → (HasCleanDisk (state S.Store conn.new) → (network_in row.now ≡ stored.row) × (row.now ≡ stored_network (network_in row.now))) → IfErr result (HasCause (state S.Store conn.old) (state S.Store conn.new)) }
 {
     let peers = load_peers(alloc, conn, network)?;
@@ -262,7 +263,7 @@ pub fn load_network<S: Alter>(
     requires idle { conn.old.in_transaction ≡ false }
     ensures reads { OnlyReads S.Store conn.old conn.new }
     ensures some { (db : Database) (pending : List Written) → Stands S.Store conn.old db pending → AreKeyed (tables_of db) → HasCleanDisk (state S.Store conn.new)
-        → IfOk result (λ found. IfSome found (λ n. (w : NetworkRow) × Has (tables_of db).networks w × (w.id ≡ network) × (n ≡ (holding_of (tables_of db) w).network))) }
+        → IfOk result (λ found. IfSome found (λ n. (w : NetworkRow) × Has (tables_of db).networks w × (w.id ≡ network) × (n ≡ (network_entry_of (tables_of db) w).network))) }
     ensures none { (db : Database) (pending : List Written) → Stands S.Store conn.old db pending → HasCleanDisk (state S.Store conn.new)
         → IfOk result (λ found. IfNone found ((w : NetworkRow) → Has (tables_of db).networks w → nat_eq w.id network ≡ false)) }
     ensures cause { (db : Database) (pending : List Written) (n : NetworkValue) → Stands S.Store conn.old db pending → IsDistinct nat_eq (map (λ w. w.id) (tables_of db).networks) → IsStored (tables_of db) network n → IfErr result (HasCause (state S.Store conn.old) (state S.Store conn.new)) }

@@ -1,5 +1,5 @@
 //! Numbers with limits, labels, names and hosts.
-use crate::fixtures::end;
+use crate::fixtures::{end, host, port};
 use std::alloc::{AllocError, AllocGlobal, Global};
 use std::process::Abort;
 use wgr_peers::{Capacity, Count, Host, Items, Label, LeaseEnd, Name, Port};
@@ -12,6 +12,18 @@ fn keeps_ports(rt: HostRuntime) {
             is_port.then_some(number),
             "{number}"
         );
+    }
+}
+
+#[test]
+fn writes_endpoints(rt: HostRuntime) {
+    for (name, number, wanted) in [
+        ("vpn.example.net", 51820, "vpn.example.net:51820"),
+        ("203.0.113.7", 1, "203.0.113.7:1"),
+        ("2001:db8::1", 65535, "[2001:db8::1]:65535"),
+    ] {
+        let endpoint = host(&rt, name).endpoint(rt.alloc(), port(&rt, number));
+        assert_eq!(rt; endpoint.expect(&rt, "memory").as_str(), wanted);
     }
 }
 

@@ -81,6 +81,45 @@ fn keeps_slots(rt: HostRuntime) {
     assert!(rt; lowest(&rt, &slots).is_none());
 }
 
+// Routes below the pools of the test, in them and above them.
+fn scattered(rt: &(impl Abort + AllocGlobal)) -> RouteSlots {
+    let mut slots = slots(rt);
+    for text in [
+        "10.7.0.0/16",
+        "10.8.0.8/32",
+        "fd00::/48",
+        "fd00::2/128",
+        "fd00::4/126",
+        "fd01::/64",
+    ] {
+        put(rt, &mut slots, text, 1);
+    }
+    slots
+}
+
+fn held(rt: &(impl Abort + AllocGlobal)) -> AddressSet {
+    let mut set = AddressSet::new(rt.alloc());
+    for text in ["10.7.0.2", "10.8.0.2", "10.8.0.3", "fd00::3", "fd02::2"] {
+        set.insert(address(rt, text)).expect(rt, "memory");
+    }
+    set
+}
+
+#[test]
+fn what_lies_outside_a_pool_holds_none_of_it(rt: HostRuntime) {
+    let (routes, held) = (scattered(&rt), held(&rt));
+    for (text, lowest) in [
+        ("10.6.0.0/24", "10.6.0.2"),
+        ("10.8.0.0/24", "10.8.0.9"),
+        ("10.9.0.0/24", "10.9.0.2"),
+        ("fd00::/64", "fd00::8"),
+        ("fd03::/64", "fd03::2"),
+    ] {
+        let found = routes.lowest_free(&pool(&rt, text), &held);
+        assert!(rt; found == Some(address(&rt, lowest)), "{text}");
+    }
+}
+
 fn check_routes(rt: &(impl Abort + AllocGlobal), routes: &[(Prefix, u32)], want: &[(&str, u32)]) {
     assert_eq!(rt; routes.len(), want.len());
     for (route, (text, number)) in routes.iter().zip(want) {

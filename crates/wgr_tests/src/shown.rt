@@ -7,7 +7,7 @@
 //! - a refusal by its text, after `line LINE: ` if a line of an adoption is refused.
 use std::alloc::AllocGlobal;
 use std::process::Abort;
-use wgr_core::{Form, Peer, PeerView, Refusal, Reply, Status};
+use wgr_core::{CommandRefusal, Form, Peer, PeerView, Reply, Status};
 use wgr_text::{Prefix, write_prefix};
 
 /// A text that is being written.
@@ -116,10 +116,10 @@ impl<'a, R: Abort + AllocGlobal> Shown<'a, R> {
         }
     }
 
-    pub(crate) fn put_refusal(&mut self, refusal: &Refusal) {
-        if let Refusal::InLine { line, .. } = refusal {
+    pub(crate) fn put_refusal(&mut self, refusal: &CommandRefusal) {
+        if let Some(line) = refusal.line {
             self.put("line ");
-            self.put_number(*line as u64);
+            self.put_number(line as u64);
             self.put(": ");
         }
         let text = refusal.to_string(self.rt.alloc()).expect(self.rt, "memory");

@@ -11,7 +11,7 @@ use sqlite::{Connection, MemStore};
 use std::alloc::AllocGlobal;
 use std::process::Abort;
 use wgr_core::{Change, Count, Label, Network, Parts, Status};
-use wgr_tables::{Fault, commit_change, load_network};
+use wgr_tables::{Fault, NetworkChange, load_network};
 
 // What the peers of the network 3 have, after a command at a moment.
 const LINES: [Line<'_>; 11] = [
@@ -112,7 +112,7 @@ fn commit(
     change: &Change,
 ) -> Result<(), Fault> {
     assert!(rt; conn.is_autocommit());
-    commit_change(conn, 3, change)
+    wgr_tables::commit(conn, &NetworkChange { network: 3, change })
 }
 
 // Whether the network is loaded as this one.

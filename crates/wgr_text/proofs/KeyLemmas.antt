@@ -1,5 +1,5 @@
 -- What the standard engine of base64 says of key texts.
-use Rattle.std.proofs.Common.{◌≡◌, ℕ, ◌≤◌, List, length, take, refl}
+use Rattle.std.proofs.Common.{◌≡◌, ℕ, ◌≤◌, List, length, take, refl, sym, ap, ◌∙◌}
 use Rattle.std.proofs.lemmas.List.{length-append, length-take-le}
 use Rattle.std.specs.declared.result.Result.TheVariants.{Ok, Err}
 use Rattle.base64.specs.declared.decode.DecodeError.{DecodeError}
@@ -7,7 +7,8 @@ use Rattle.base64.specs.Engines.{standard}
 use Rattle.base64.specs.GeneralPurpose.{IsBytes, decode_of}
 use Rattle.base64.proofs.EngineFacts.{decode_of_strict, decode_of-encode_of}
 use Rattle.base64.proofs.RoundTrip.{length-encode_symbols}
-use Rattle.wgr_text.specs.KeyText.{key_text, symbols}
+use Rattle.wgr_text.specs.declared.key.Key.{Key}
+use Rattle.wgr_text.specs.KeyText.{SpellsKey, key_text, symbols}
 
 -- a key's text has 44 characters
 pub length-key_text : (key : List ℕ) → length key ≡ 32 → length (key_text key) ≡ 44
@@ -40,3 +41,10 @@ key_text_injective one other bytes_one bytes_other same =
     let first = decoded_key_text (key_text one) one bytes_one refl in
     let second = decoded_key_text (key_text one) other bytes_other same in
     cc (first, second)
+
+-- a text spells one key at most
+pub one_key : (text : List ℕ) (one other : Key) → SpellsKey text one → SpellsKey text other → one ≡ other
+one_key text one other s t =
+    let same : one.0 ≡ other.0 = key_text_injective one.0 other.0 s.1 t.1 (sym s.2 ∙ t.2) in
+    let key : List ℕ → Key = λ bytes. record { 0 = bytes } in
+    ap key same

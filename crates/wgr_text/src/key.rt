@@ -1,8 +1,9 @@
 //! Keys, and their texts in base64.
-ghost use Rattle.base64.specs.GeneralPurpose.{IsBytes};
-ghost use Rattle.std.specs.Prelude.{◌≡◌, ◌≢◌, ◌++◌, ℕ, List, length, IfSome, IfNone, OnOk, OnErr};
-ghost use Rattle.wgr_text.specs.KeyText.{key_text};
+ghost use Rattle.std.specs.Prelude.{◌≡◌, ◌++◌, IfSome, IfNone, OnOk, OnErr};
+ghost use Rattle.wgr_text.specs.KeyText.{SpellsKey, key_text};
+ghost use Rattle.wgr_text.specs.declared.key.Key.{Key};
 
+use crate::byte::are_bytes;
 use base64::engine::general_purpose::STANDARD;
 use std::alloc::AllocError;
 
@@ -14,8 +15,8 @@ impl Key {
     /// The key whose base64 text this is (RFC 4648 section 4, with padding). For any other text it
     /// is `None`: a key has one text, of 44 bytes, whose unused bits are zero.
     pub fn read(text: &[u8]) -> Option<Key>
-        ensures spelled { IfSome result (λ key. text.now ≡ key_text key.0) }
-        ensures none { IfNone result ((key : List ℕ) → length key ≡ 32 → IsBytes key → text.now ≢ key_text key) }
+        ensures spelled { IfSome result (SpellsKey text.now) }
+        ensures none { IfNone result ((key : Key) → ¬ (SpellsKey text.now key)) }
     {
         if text.len() != 44 {
             return None;
@@ -29,6 +30,7 @@ impl Key {
         }
         let mut key = [0; 32];
         key.copy_from_slice(&decoded[..32]);
+        are_bytes(&key);
         Some(Key(key))
     }
 }

@@ -3,7 +3,7 @@ use Rattle.std.specs.Prelude.{ℕ, ◌≡◌, ◌⊎◌, Bool, true, false, List
 use Rattle.std.specs.Io.KnownBytes.{Consumes, IsAtEnd}
 use Rattle.wgr_text.specs.PrefixText.{Spells}
 use Rattle.wgr_peers.specs.Host.{IsHostText}
-use Rattle.wgr_dump.specs.Fields.{SpellsKey}
+use Rattle.wgr_text.specs.KeyText.{SpellsKey}
 use Rattle.wgr_model.specs.Steps.{Settings}
 use Rattle.wgr_orders.specs.declared.order.Order.{Order}
 use Rattle.wgr_orders.specs.declared.order.Order.TheVariants as order

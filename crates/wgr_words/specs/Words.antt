@@ -10,7 +10,8 @@ use Rattle.wgr_text.specs.PrefixText.{Spells}
 use Rattle.wgr_peers.specs.Host.{IsHostText}
 use Rattle.wgr_peers.specs.Limits.{IsCapacity, IsCount, IsPort}
 use Rattle.wgr_peers.specs.Name.{is_name}
-use Rattle.wgr_dump.specs.Fields.{SpellsKey, SpellsNumber}
+use Rattle.wgr_dump.specs.Fields.{SpellsDecimal}
+use Rattle.wgr_text.specs.KeyText.{SpellsKey}
 use Rattle.wgr_request.specs.Digest.{digest_of}
 use Rattle.wgr_text.specs.declared.key.Key.{Key}
 use Rattle.wgr_words.specs.declared.field.WordField.{WordField}
@@ -28,7 +29,7 @@ SpellsPlace text place = Spells text place.0 place.1
 
 -- 1 to 19 decimal digits, and their number, which is at most 2 ^ 63 - 1
 abbrev pub SpellsWhole : List ℕ → ℕ → Type 0
-SpellsWhole text n = SpellsNumber 19 text n × IsCount n
+SpellsWhole text n = SpellsDecimal 19 text n × IsCount n
 
 abbrev pub SpellsPortNumber : List ℕ → ℕ → Type 0
 SpellsPortNumber text n = SpellsWhole text n × IsPort n

@@ -1,6 +1,6 @@
 //! The fields of the words, each parsed by its form.
 ghost use Rattle.std.specs.Prelude.{◌≡◌};
-ghost use Rattle.wgr_dump.specs.Fields.{SpellsKey};
+ghost use Rattle.wgr_text.specs.KeyText.{SpellsKey};
 ghost use Rattle.wgr_peers.specs.Host.{IsHostText};
 ghost use Rattle.wgr_words.specs.Words.{IsRead, SpellsCapacity, SpellsDigest, SpellsEndpoint, SpellsName, SpellsPlace, SpellsPortNumber, SpellsToken, SpellsWhole, word_field_name};
 ghost use Rattle.wgr_words.specs.declared.field.WordField.TheVariants as of;
@@ -13,7 +13,7 @@ use std::fmt;
 use std::net::IpAddr;
 use wgr_core::{Capacity, Host, Name, Port};
 use wgr_request::token_digest;
-use wgr_text::{Addr, Key, are_bytes, read_loose};
+use wgr_text::{Addr, Key, read_loose};
 
 /// A field of the words.
 #[derive(Clone, Copy, Debug, PartialEq, Eq)]
@@ -124,10 +124,7 @@ pub(crate) fn read_key(text: &str) -> Result<Key, WordFault>
     ensures { IsRead (SpellsKey text.now) of.Key result }
 {
     match Key::read(text.as_bytes()) {
-        Some(key) => {
-            are_bytes(&key.0);
-            Ok(key)
-        }
+        Some(key) => Ok(key),
         None => Err(WordFault::Field(WordField::Key)),
     }
 }

@@ -210,7 +210,7 @@ fn prefix(text: &str) -> Option<Prefix> {
 
 fn check_count(rt: &impl Abort, count: &WrittenCount<'_>, want: (&str, u64)) {
     assert_eq!(rt; count.digits(), want.0.as_bytes());
-    assert_eq!(rt; count.value(), want.1);
+    assert_eq!(rt; count.value().value(), want.1);
 }
 
 fn check_allowed(rt: &impl Abort, peer: &PeerLine<'_>, row: &Row) {

@@ -35,7 +35,9 @@ fn census(rt: &(impl Abort + AllocGlobal), office: &mut Office<MemStore>) -> Cen
 /// Whether the census has a network of this name with so many peers and routes.
 fn has(census: &Census, name: &str, peers: usize, routes: usize) -> bool {
     census.networks.iter().any(|network| {
-        network.holding.name.as_str() == name && network.peers == peers && network.routes == routes
+        network.network_entry.name.as_str() == name
+            && network.peers == peers
+            && network.routes == routes
     })
 }
 

@@ -1,11 +1,17 @@
 //! The texts of refusals.
 use std::alloc::AllocGlobal;
 use std::process::Abort;
-use wgr_core::{LineRefusal, Refusal};
+use wgr_core::{CommandRefusal, Refusal};
 
-fn check(rt: &(impl Abort + AllocGlobal), refusal: Refusal, text: &str) {
-    let printed = refusal.to_string(rt.alloc()).expect(rt, "memory");
+// The text is that of the refusal, whether of a command or of a line.
+fn check(rt: &(impl Abort + AllocGlobal), why: Refusal, text: &str) {
+    let printed = why.to_string(rt.alloc()).expect(rt, "memory");
     assert_eq!(rt; printed.as_str(), text);
+    for line in [None, Some(2)] {
+        let refused = CommandRefusal { why, line };
+        let printed = refused.to_string(rt.alloc()).expect(rt, "memory");
+        assert_eq!(rt; printed.as_str(), text);
+    }
 }
 
 #[test]
@@ -28,22 +34,5 @@ fn prints_refusals(rt: HostRuntime) {
         (Refusal::WrongServer, "wrong_server"),
     ] {
         check(&rt, refusal, text);
-    }
-}
-
-#[test]
-fn prints_refusals_of_lines(rt: HostRuntime) {
-    for (why, text) in [
-        (LineRefusal::ServerKey, "server_key"),
-        (LineRefusal::CapacityReached, "capacity_reached"),
-        (LineRefusal::NumbersSpent, "numbers_spent"),
-        (LineRefusal::AddressHeld, "address_held"),
-        (LineRefusal::PoolFull, "pool_full"),
-        (LineRefusal::IsAddress, "is_address"),
-        (LineRefusal::RoutesFull, "routes_full"),
-    ] {
-        let printed = why.to_string(rt.alloc()).expect(&rt, "memory");
-        assert_eq!(rt; printed.as_str(), text);
-        check(&rt, Refusal::InLine { line: 2, why }, text);
     }
 }

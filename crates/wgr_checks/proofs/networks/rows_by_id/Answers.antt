@@ -2,7 +2,8 @@ use Rattle.std.proofs.Common.{true}
 use Rattle.sqlite.specs.Held.{state}
 use Rattle.wgr_sql.proofs.ResultLemmas.{if_ok}
 use Rattle.wgr_checks.proofs.Queries.{is_plain}
-use Rattle.wgr_checks.proofs.NetworkQueries.{networks_ask, networks_listed, networks_text, network_places, networks_answered}
+use Rattle.wgr_checks.proofs.NetworkQueries.{networks_ask, networks_listed, networks_text, networks_answered}
+use Rattle.wgr_columns.proofs.Statements.{network_places}
 use Rattle.wgr_checks.proofs.CauseLemmas.{is_answered}
 use Rattle.wgr_checks.proofs.networks.rows_by_id.Goals as goal
 

@@ -2,7 +2,7 @@ use Rattle.std.proofs.Common.{◌≡◌, true, false, [], ◌∷◌, Option, Som
 use Rattle.std.specs.Option.{is_some}
 use Rattle.std.proofs.lemmas.Bool.{false≢true}
 use Rattle.wgr_text.specs.Prefix.{PrefixValue}
-use Rattle.wgr_dump.specs.Fields.{Each, SpellsMasked}
+use Rattle.wgr_dump.specs.Fields.{OneByOne, SpellsMasked}
 use Rattle.wgr_dump.proofs.MeantLemmas.{each_first, each_rest, each_more}
 use Rattle.wgr_dump.proofs.allowed.are_prefixes.Goals as goal
 
@@ -29,4 +29,4 @@ loop-item-preserved c = record {
 }
 
 pub returns : goal.returns
-returns c = c.loop-item.invariant.read [] (subst (λ items. Each SpellsMasked items []) (sym c.in_default.ensures.0) tt)
+returns c = c.loop-item.invariant.read [] (subst (λ items. OneByOne SpellsMasked items []) (sym c.in_default.ensures.0) tt)

@@ -1,5 +1,5 @@
 use Rattle.std.proofs.Common.{◌≡◌, ◌+◌, suc, [], ◌∷◌, length, inl, inr, sym, ap, subst, arith}
-use Rattle.wgr_dump.specs.Fields.{Each}
+use Rattle.wgr_dump.specs.Fields.{OneByOne}
 use Rattle.wgr_dump.specs.Dump.{IsPeerLine}
 use Rattle.wgr_text.specs.Lines.{lines_of}
 use Rattle.wgr_dump.specs.Fault.{IsBadPeer}
@@ -37,4 +37,4 @@ loop-rest-preserved c =
     }
 
 pub returns : goal.returns
-returns c = c.loop-rest.invariant.read [] (subst (λ lines. Each IsPeerLine lines []) (sym (no_lines c.loop-rest.rest.now (sym c.loop-rest-test.ensures))) tt)
+returns c = c.loop-rest.invariant.read [] (subst (λ lines. OneByOne IsPeerLine lines []) (sym (no_lines c.loop-rest.rest.now (sym c.loop-rest-test.ensures))) tt)

@@ -1,7 +1,7 @@
 use Rattle.std.proofs.Common.{◌<◌, ◌≤◌, ℕ, List, true, arith, subst, sym}
 use Rattle.httparse.specs.Grammar.{HasNoRequest, MayBecomeRequest}
 use Rattle.wgr_http.specs.Head.{MayBecomeHead}
-use Rattle.wgr_http.specs.Unfinished.{begun}
+use Rattle.wgr_http.specs.Unfinished.{begun_lines}
 use Rattle.wgr_http.proofs.HeadLemmas.{whole_may}
 use Rattle.wgr_http.proofs.RoomLemmas.{room_never}
 use Rattle.wgr_http.proofs.TargetLemmas.{target_never, unfinished_may}
@@ -17,7 +17,7 @@ pub returns-then-lines_begun-clause-may : goal.returns-then-lines_begun-clause-m
 returns-then-lines_begun-clause-may c is =
     let front : List ℕ = c.front_of-front.result.now in
     let open_yet : MayBecomeRequest front = rw c.in-Ok-Partial.field-0-is at c.in-Ok-Partial.ensures.unfinished in
-    let few : begun true front ≤ 33 = omega (arith, c.lines_begun.ensures, c.if-lines_begun.true) in
+    let few : begun_lines true front ≤ 33 = omega (arith, c.lines_begun.ensures, c.if-lines_begun.true) in
     subst MayBecomeHead c.front_of-front.ensures (unfinished_may front open_yet few (c.target_may_end.ensures.may is))
 
 pub returns-then-lines_begun-clause-never : goal.returns-then-lines_begun-clause-never
@@ -28,5 +28,5 @@ pub returns-else-lines_begun-clause-never : goal.returns-else-lines_begun-clause
 returns-else-lines_begun-clause-never c is may =
     let front : List ℕ = c.front_of-front.result.now in
     let not_yet : HasNoRequest front = rw c.in-Ok-Partial.field-0-is at c.in-Ok-Partial.ensures.partial in
-    let over : 33 < begun true front = omega (arith, c.lines_begun.ensures, c.if-lines_begun.false) in
+    let over : 33 < begun_lines true front = omega (arith, c.lines_begun.ensures, c.if-lines_begun.false) in
     room_never front not_yet over (subst MayBecomeHead (sym c.front_of-front.ensures) may)

@@ -1,6 +1,6 @@
 use Rattle.std.proofs.Common.{◌≡◌, map, take}
-use Rattle.wgr_model.specs.Register.{Holding}
+use Rattle.wgr_model.specs.Register.{NetworkEntry}
 use Rattle.wgr_orders.proofs.look.network_ids.Given as goal
 
-abbrev pub invariant-loop-holding : goal.invariant-loop-holding
-invariant-loop-holding l = l.ids.items ≡ map (λ (h : Holding). h.id) (take l.holding-index l.networks)
+abbrev pub invariant-loop-network_entry : goal.invariant-loop-network_entry
+invariant-loop-network_entry l = l.ids.items ≡ map (λ (h : NetworkEntry). h.id) (take l.network_entry-index l.networks)

@@ -1,7 +1,7 @@
 use Rattle.std.proofs.Common.{Err, None, sym, subst}
 use Rattle.wgr_core.specs.Change.{Meets}
 use Rattle.wgr_core.specs.declared.fault.ActFault.{ActFault}
-use Rattle.wgr_core.specs.declared.refusal.Refusal.{Refusal}
+use Rattle.wgr_core.specs.declared.refusal.CommandRefusal.{CommandRefusal}
 use Rattle.wgr_core.specs.Outcome.{outcome_of}
 use Rattle.wgr_plain.specs.Calls.{IsActed}
 use Rattle.wgr_model.specs.Steps.{Declined, act}
@@ -15,4 +15,4 @@ pub returns-in-Err-Refused : goal.returns-in-Err-Refused
 returns-in-Err-Refused c =
     let n = c.args.network.now in
     let meets = subst (λ (f : ActFault). Meets n (Err f) (outcome_of n c.args.now c.args.command.now)) c.in-Err-Refused.field-0-is c.in-Err-Refused.ensures.outcome in
-    subst (λ (why : Refusal). IsActed (act n c.args.now c.args.command.now) (Declined why) None) (sym c.in-Err-Refused.why-is) (refusal_acted n c.args.now c.args.command.now c.in-Err-Refused.why meets)
+    subst (λ (why : CommandRefusal). IsActed (act n c.args.now c.args.command.now) (Declined why) None) (sym c.in-Err-Refused.why-is) (refusal_acted n c.args.now c.args.command.now c.in-Err-Refused.why meets)

@@ -9,7 +9,7 @@ use Rattle.wgr_register.specs.Memory.{IsMemoryOf}
 use Rattle.wgr_register.proofs.AskLemmas.{acts_done, acts_late, refused_rows}
 use Rattle.wgr_register.proofs.LoadedLemmas.{found_formed, shown_so, unless}
 use Rattle.wgr_register.proofs.StandLemmas.{at_more, late_ends, undone_ends}
-use Rattle.wgr_register.proofs.CauseLemmas.{fault_handed, undone_memory, ask_stops, memory_stops, survives_as_is}
+use Rattle.wgr_register.proofs.CauseLemmas.{fault_handed, undone_memory, ask_stops, memory_stops, writes_nothing}
 use Rattle.sqlite.specs.Held.{state}
 use Rattle.wgr_sql.specs.Causes.{HasCauseOr}
 use Rattle.wgr_register.specs.Causes.{AskStops, StopsIf}
@@ -72,11 +72,11 @@ returns-in_err-commit_if-clause-stops g c db late digest name at found =
     (cause_weaker (StopsIf c.args.id c.in-Ok.done.1 (tables_of db)) (AskStops (tables_of db) digest name c.args.now c.args.command.now) (state g.S.Store c.args.conn.now) (state g.S.Store c.commit_if.new.conn)
     (ask_stops (tables_of db) digest name c.args.now c.args.command.now c.args.id c.args.network found c.in-Ok.done.0 c.in-Ok.done.1 c.in-Ok.ensures.outcome c.in-Ok.ensures.change) why (c.in_err-commit_if.ensures.cause db at.pending at.stands))
 
-pub returns-in-Err-clause-survives : goal.returns-in-Err-clause-survives
-returns-in-Err-clause-survives g c = survives_as_is (state g.S.Store c.args.conn.now)
+pub returns-in-Err-clause-keeps : goal.returns-in-Err-clause-keeps
+returns-in-Err-clause-keeps g c = writes_nothing g.S.Store c.args.conn.now c.requires.idle
 
-pub returns-in_err-text-clause-survives : goal.returns-in_err-text-clause-survives
-returns-in_err-text-clause-survives g c = survives_as_is (state g.S.Store c.args.conn.now)
+pub returns-in_err-text-clause-keeps : goal.returns-in_err-text-clause-keeps
+returns-in_err-text-clause-keeps g c = writes_nothing g.S.Store c.args.conn.now c.requires.idle
 
 -- ---- what stays in memory
 

@@ -1,6 +1,6 @@
 use Rattle.std.proofs.Common.{List, ◌≡◌, None, Some, refl, sym, ap, ◌∙◌}
 use Rattle.wgr_model.specs.Laws.{Has}
-use Rattle.wgr_model.specs.Rows.{IsFormed, NetworkRow, Tables, holding_of}
+use Rattle.wgr_model.specs.Rows.{IsFormed, NetworkRow, Tables, network_entry_of}
 use Rattle.sqlite.specs.Effect.{Database}
 use Rattle.wgr_core.specs.Network.{NetworkValue}
 use Rattle.wgr_model.specs.Steps.{Event, tenant_of_token}
@@ -148,19 +148,19 @@ returns g c =
     let old = state g.S.Store c.args.conn.now in
     let new = state g.S.Store c.act_on.new.conn in
     let Disk : Type 0 = HasCleanDisk new in
-    let named_clean : Disk → HasCleanDisk (state g.S.Store c.find_id.new.conn) = λ clean. c.take_network.ensures.reads.clean (c.act_on.ensures.clean clean) in
+    let named_clean : Disk → HasCleanDisk (state g.S.Store c.find_id.new.conn) = λ clean. c.take_network.ensures.reads.clean (c.act_on.ensures.keeps.clean clean) in
     let taken_at : (db : Database) (late : List Event) → StandsAt g.S.Store c.args.conn.now db late → StandsAt g.S.Store c.take_network.new.conn db late = λ db late at.
     at_read g.S.Store _ _ db late (c.take_network.ensures.reads.stands db) (here g b db late at) in
     let known : (db : Database) (late : List Event) → StandsAt g.S.Store c.args.conn.now db late → Disk → IsMemoryOf c.answers_by_rows.new.self (tables_of db) = λ db late at clean.
     c.answers_by_rows.ensures.rest (tables_of db) (known_then g b db late at (IsMemoryOf c.args.memory.now) c.requires.memory (named_clean clean)) in
     let found : (db : Database) (late : List Event) → StandsAt g.S.Store c.args.conn.now db late → Disk → IsFound (tables_of db) c.args.digest.now c.args.name.now c.in-Some-2.id c.in_ok-network.network = λ db late at clean.
     let stood = here g b db late at in
-    found_there g a db late at (named_clean clean) c.in_ok-network.network (c.in_ok-network.ensures.formed db stood.pending stood.stands at.consistent (known db late at clean) (c.act_on.ensures.clean clean)) in
+    found_there g a db late at (named_clean clean) c.in_ok-network.network (c.in_ok-network.ensures.formed db stood.pending stood.stands at.consistent (known db late at clean) (c.act_on.ensures.keeps.clean clean)) in
     record {
-      idle = c.act_on.ensures.idle;
+      idle = c.act_on.ensures.keeps.idle;
       clean = λ clean. c.tenant_of_token.ensures.reads.clean (c.find_id.ensures.reads.clean (named_clean clean));
       ends = λ db late at.
-          ask_if g.S.Store g.R.Render.shown _ db late _ _ _ c.act_on.ensures.idle at.stands.sound at.consistent
+          ask_if g.S.Store g.R.Render.shown _ db late _ _ _ c.act_on.ensures.keeps.idle at.stands.sound at.consistent
           (λ clean. c.act_on.ensures.ends db late c.args.digest.now c.args.name.now (taken_at db late at) (found db late at clean));
       memory = λ db late at.
           shows_if g.S.Store c.act_on.result c.act_on.new.conn (IsMemoryOf c.act_on.new.memory) (λ clean.
@@ -169,7 +169,7 @@ returns g c =
       stops = λ db late at.
           let survived = survives_next _ _ _ (survives_next _ _ _ c.tenant_of_token.ensures.reads.survives c.find_id.ensures.reads.survives) c.take_network.ensures.reads.survives in
           stopped_clean _ old new c.act_on.result (λ clean.
-          stopped_after _ old (state g.S.Store c.take_network.new.conn) new c.act_on.result survived c.act_on.ensures.survives (c.act_on.ensures.stops db late c.args.digest.now c.args.name.now (taken_at db late at) (found db late at clean)));
+          stopped_after _ old (state g.S.Store c.take_network.new.conn) new c.act_on.result survived c.act_on.ensures.keeps.survives (c.act_on.ensures.stops db late c.args.digest.now c.args.name.now (taken_at db late at) (found db late at clean)));
     }
 
 -- ---- a server's file
@@ -221,19 +221,19 @@ returns-then-answers_by_rows g c =
     let new = state g.S.Store c.act_on_rows.new.conn in
     let a = (goal.at.returns-then-answers_by_rows g c).In-Some-2 in
     let b = (goal.at.returns-then-answers_by_rows g c).In_ok-id in
-    let named_clean : HasCleanDisk new → HasCleanDisk mid = c.act_on_rows.ensures.clean in
+    let named_clean : HasCleanDisk new → HasCleanDisk mid = c.act_on_rows.ensures.keeps.clean in
     let survived = survives_next _ _ _ c.tenant_of_token.ensures.reads.survives c.find_id.ensures.reads.survives in
     let found : (db : Database) (late : List Event) → StandsAt g.S.Store c.args.conn.now db late → HasCleanDisk new → (n : NetworkValue) × IsFound (tables_of db) c.args.digest.now c.args.name.now c.in-Some-2.id n = λ db late at clean.
     let it = named g a db late at (named_clean clean) in
-    let n = (holding_of (tables_of db) it.0).network in
+    let n = (network_entry_of (tables_of db) it.0).network in
     (n, found_there g a db late at (named_clean clean) n (it.0, it.1, it.3, refl {a = n})) in
     let known : (db : Database) (late : List Event) → StandsAt g.S.Store c.args.conn.now db late → HasCleanDisk new → IsMemoryOf c.answers_by_rows.new.self (tables_of db) = λ db late at clean.
     c.answers_by_rows.ensures.rest (tables_of db) (known_then g b db late at (IsMemoryOf c.args.memory.now) c.requires.memory (named_clean clean)) in
     record {
-      idle = c.act_on_rows.ensures.idle;
+      idle = c.act_on_rows.ensures.keeps.idle;
       clean = λ clean. c.tenant_of_token.ensures.reads.clean (c.find_id.ensures.reads.clean (named_clean clean));
       ends = λ db late at.
-          ask_if g.S.Store g.R.Render.shown c.act_on_rows.new.conn db late _ _ _ c.act_on_rows.ensures.idle at.stands.sound at.consistent
+          ask_if g.S.Store g.R.Render.shown c.act_on_rows.new.conn db late _ _ _ c.act_on_rows.ensures.keeps.idle at.stands.sound at.consistent
           (λ clean. let it = found db late at clean in c.act_on_rows.ensures.ends db late c.args.digest.now c.args.name.now it.0 (here g b db late at) it.1 (known db late at clean));
       memory = λ db late at.
           shows_if g.S.Store c.act_on_rows.result c.act_on_rows.new.conn (IsMemoryOf c.act_on_rows.new.memory) (λ clean.
@@ -242,9 +242,9 @@ returns-then-answers_by_rows g c =
       cause = λ db late at reads.
           asked_clean old new c.act_on_rows.result (λ clean.
           let it = found db late at clean in
-          stopped_after ⊥ old mid new c.act_on_rows.result survived c.act_on_rows.ensures.survives (c.act_on_rows.ensures.cause db late c.args.digest.now c.args.name.now it.0 (here g b db late at) it.1 reads));
+          stopped_after ⊥ old mid new c.act_on_rows.result survived c.act_on_rows.ensures.keeps.survives (c.act_on_rows.ensures.cause db late c.args.digest.now c.args.name.now it.0 (here g b db late at) it.1 reads));
       stops = λ db late at.
           stopped_clean _ old new c.act_on_rows.result (λ clean.
           let it = found db late at clean in
-          stopped_after _ old mid new c.act_on_rows.result survived c.act_on_rows.ensures.survives (c.act_on_rows.ensures.stops db late c.args.digest.now c.args.name.now it.0 (here g b db late at) it.1 (known db late at clean)));
+          stopped_after _ old mid new c.act_on_rows.result survived c.act_on_rows.ensures.keeps.survives (c.act_on_rows.ensures.stops db late c.args.digest.now c.args.name.now it.0 (here g b db late at) it.1 (known db late at clean)));
     }

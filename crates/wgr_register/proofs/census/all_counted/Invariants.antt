@@ -9,9 +9,9 @@ use Rattle.wgr_register.specs.Census.{with_counts}
 use Rattle.wgr_register.proofs.census.all_counted.Given as goal
 
 -- those that were counted, and those that are left
-abbrev pub invariant-loop-holding : goal.invariant-loop-holding
-invariant-loop-holding g l = record {
+abbrev pub invariant-loop-network_entry : goal.invariant-loop-network_entry
+invariant-loop-network_entry g l = record {
   reads : OnlyReads g.S.Store l.initial.conn l.conn;
   counted : (db : Database) (pending : List Written) → Stands g.S.Store l.initial.conn db pending → HasCleanDisk (state g.S.Store l.conn)
-      → map (with_counts (tables_of db)) l.fn.holdings.items ≡ l.networks.items ++ map (with_counts (tables_of db)) l.holding-iterator.rest.items;
+      → map (with_counts (tables_of db)) l.fn.network_entries.items ≡ l.networks.items ++ map (with_counts (tables_of db)) l.network_entry-iterator.rest.items;
 }

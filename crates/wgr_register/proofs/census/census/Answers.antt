@@ -28,18 +28,18 @@ returns-in_err-tokens-clause-cause g c db pending stood good =
     (cause_after old mid new ⊥ ⊥ (λ _. ⊥) (λ _. ⊥) c.tenants.ensures.reads.survives c.tokens.ensures.reads.survives (λ none. none) c.in_err-tokens.field-0.0
     (c.in_err-tokens.ensures.cause db pending (c.tenants.ensures.reads.stands db pending stood) (token_kept (tables_of db) good)))
 
-pub returns-in_err-holdings-clause-reads : goal.returns-in_err-holdings-clause-reads
-returns-in_err-holdings-clause-reads g c = reads_next (reads_next c.tenants.ensures.reads c.tokens.ensures.reads) c.settled_networks.ensures.reads
+pub returns-in_err-network_entries-clause-reads : goal.returns-in_err-network_entries-clause-reads
+returns-in_err-network_entries-clause-reads g c = reads_next (reads_next c.tenants.ensures.reads c.tokens.ensures.reads) c.settled_networks.ensures.reads
 
-pub returns-in_err-holdings-clause-cause : goal.returns-in_err-holdings-clause-cause
-returns-in_err-holdings-clause-cause g c db pending stood good =
+pub returns-in_err-network_entries-clause-cause : goal.returns-in_err-network_entries-clause-cause
+returns-in_err-network_entries-clause-cause g c db pending stood good =
     let old = state g.S.Store c.args.conn.now in
     let mid = state g.S.Store c.tokens.new.conn in
     let new = state g.S.Store c.settled_networks.new.conn in
     let before = survives_next old (state g.S.Store c.tenants.new.conn) mid c.tenants.ensures.reads.survives c.tokens.ensures.reads.survives in
-    handed (HasCause old new) c.from_residual-in_err-holdings.result c.in_err-holdings.field-0.0 c.from_residual-in_err-holdings.ensures.1
-    (cause_after old mid new ⊥ ⊥ (λ _. ⊥) (λ _. ⊥) before c.settled_networks.ensures.reads.survives (λ none. none) c.in_err-holdings.field-0.0
-    (c.in_err-holdings.ensures.cause db pending (c.tokens.ensures.reads.stands db pending (c.tenants.ensures.reads.stands db pending stood)) (network_kept (tables_of db) good)))
+    handed (HasCause old new) c.from_residual-in_err-network_entries.result c.in_err-network_entries.field-0.0 c.from_residual-in_err-network_entries.ensures.1
+    (cause_after old mid new ⊥ ⊥ (λ _. ⊥) (λ _. ⊥) before c.settled_networks.ensures.reads.survives (λ none. none) c.in_err-network_entries.field-0.0
+    (c.in_err-network_entries.ensures.cause db pending (c.tokens.ensures.reads.stands db pending (c.tenants.ensures.reads.stands db pending stood)) (network_kept (tables_of db) good)))
 
 pub returns-in_err-networks-clause-reads : goal.returns-in_err-networks-clause-reads
 returns-in_err-networks-clause-reads g c = reads_next (reads_next (reads_next c.tenants.ensures.reads c.tokens.ensures.reads) c.settled_networks.ensures.reads) c.all_counted.ensures.reads
@@ -68,7 +68,7 @@ returns-clause-listed g c db pending stood clean =
     let clean3 = c.all_counted.ensures.reads.clean clean in
     let clean2 = c.settled_networks.ensures.reads.clean clean3 in
     let clean1 = c.tokens.ensures.reads.clean clean2 in
-    let (rows, same, are) = c.in_ok-holdings.ensures.listed db pending two clean3 in
+    let (rows, same, are) = c.in_ok-network_entries.ensures.listed db pending two clean3 in
     record {
       tenants = c.in_ok-tenants.ensures.listed db pending stood clean1;
       tokens = c.in_ok-tokens.ensures.listed db pending one clean2;

@@ -1,6 +1,6 @@
 use Rattle.std.proofs.Common.{ap, ◌∙◌}
 use Rattle.sqlite.specs.Held.{state}
-use Rattle.wgr_model.specs.Register.{Holding}
+use Rattle.wgr_model.specs.Register.{NetworkEntry}
 use Rattle.wgr_columns.specs.Decode.{tables_of}
 use Rattle.wgr_entries.specs.Lookups.{peer_count, route_count}
 use Rattle.wgr_sql.specs.Causes.{HasCause}
@@ -28,6 +28,6 @@ returns-clause-reads g c = reads_next c.count_peers.ensures.reads c.count_routes
 pub returns-clause-counted : goal.returns-clause-counted
 returns-clause-counted g c db pending stood clean =
     let t = tables_of db in
-    let peers = c.in_ok-peers.ensures.counted db pending stood (c.count_routes.ensures.reads.clean clean) ∙ ap (λ (h : Holding). peer_count t h.id) c.holding.view_is in
-    let routes = c.in_ok-routes.ensures.counted db pending (c.count_peers.ensures.reads.stands db pending stood) clean ∙ ap (λ (h : Holding). route_count t h.id) c.holding.view_is in
-    λ k. record { holding = c.args.holding; peers = peers k; routes = routes k }
+    let peers = c.in_ok-peers.ensures.counted db pending stood (c.count_routes.ensures.reads.clean clean) ∙ ap (λ (h : NetworkEntry). peer_count t h.id) c.network_entry.view_is in
+    let routes = c.in_ok-routes.ensures.counted db pending (c.count_peers.ensures.reads.stands db pending stood) clean ∙ ap (λ (h : NetworkEntry). route_count t h.id) c.network_entry.view_is in
+    λ k. record { network_entry = c.args.network_entry; peers = peers k; routes = routes k }

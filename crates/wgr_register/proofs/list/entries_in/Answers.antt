@@ -2,7 +2,7 @@ use Rattle.std.proofs.Common.{◌≡◌, ◌-◌, ◌<◌, ◌∷◌, List, leng
 use Rattle.std.proofs.lemmas.List.{nil_from_length, length-drop}
 use Rattle.sqlite_value.specs.Order.{Row}
 use Rattle.wgr_model.specs.Listing.{put_entry}
-use Rattle.wgr_model.specs.Register.{Holding}
+use Rattle.wgr_model.specs.Register.{NetworkEntry}
 use Rattle.wgr_columns.specs.Decode.{network_in}
 use Rattle.wgr_entries.specs.Lookups.{settled}
 use Rattle.wgr_register.specs.Listing.{by_name}
@@ -27,7 +27,7 @@ loop-rest-preserved c =
     let rows = c.args.rows.now in
     let rest = c.loop-rest.rest in
     let row : Row = c.index-rows-rest.result in
-    let h : Holding = settled (network_in row) in
+    let h : NetworkEntry = settled (network_in row) in
     let later = map (λ r. settled (network_in r)) (drop rest rows) in
     let whole = c.name.view_is ∙ c.in_ok-name.ensures.value in
     let cut : drop (rest - 1) rows ≡ row ∷ drop rest rows = step_back rows rest row c.loop-rest-test.true c.loop-rest.invariant.within c.index-rows-rest.is in
@@ -35,7 +35,7 @@ loop-rest-preserved c =
       within = omega arith;
       there =
           c.in_ok-put.ensures.put
-          ∙ ap₂ (λ q n. put_entry q n c.loop-rest.networks) (ap {A = Holding} (λ x. x.name) whole) (ap {A = Holding} (λ x. x.network) whole)
+          ∙ ap₂ (λ q n. put_entry q n c.loop-rest.networks) (ap {A = NetworkEntry} (λ x. x.name) whole) (ap {A = NetworkEntry} (λ x. x.network) whole)
           ∙ ap (put_entry h.name h.network) c.loop-rest.invariant.there
           ∙ one_by_name h later
           ∙ ap (λ (rs : List Row). by_name (map (λ r. settled (network_in r)) rs)) (sym cut);

@@ -1,4 +1,4 @@
-use Rattle.std.proofs.Common.{◌≡◌, ℕ, List, [], None, Some, Result, Ok, Err, IsPermutation, map, sym, ◌∙◌}
+use Rattle.std.proofs.Common.{◌≡◌, ℕ, List, [], None, Some, Result, Ok, Err, IsPermutation, map, refl, sym, ◌∙◌}
 use Rattle.wgr_model.specs.Register.{id_of}
 use Rattle.wgr_model.specs.RowLaws.{IsRowStep}
 use Rattle.wgr_model.specs.Rows.{NetworkRow, Tables}
@@ -6,7 +6,7 @@ use Rattle.wgr_model.specs.Steps.{AddNetwork, Done, Event}
 use Rattle.wgr_entries.specs.OrderSteps.{new_row}
 use Rattle.wgr_columns.specs.Decode.{tables_of}
 use Rattle.wgr_entries.specs.Lookups.{settled}
-use Rattle.wgr_tables.specs.Writes.{Changes, NetworkGained}
+use Rattle.wgr_tables.specs.Writes.{Changes, NetworkGained, Written}
 use Rattle.wgr_register.specs.Ends.{AdmitsNetwork}
 use Rattle.wgr_register.specs.declared.fault.OrderFault.{OrderFault}
 use Rattle.wgr_register.proofs.NetworkLemmas.{admits_by, network_comes, network_refused, nobody_has_it}
@@ -82,19 +82,21 @@ returns-in_err-new-clause-ends g c db late at proper =
     network_refused (tables_of db) at.consistent c.args.tenant.now c.args.name.now c.args.settings.now c.in_ok-tenants.tenants.items networks.0 (tenants_read g a db late at clean) networks.1 c.in-Some.id (known g a db late at clean) refusal
     (rw why at told))
 
-pub returns-in_err-add_network-clause-ends : goal.returns-in_err-add_network-clause-ends
-returns-in_err-add_network-clause-ends g c db late at proper =
-    let ends = λ (clean : HasCleanDisk (state g.S.Store c.add_network.new.conn)).
-    network_joins g (goal.at.returns-in_err-add_network-clause-ends g c).After-admit db late at (c.add_network.ensures.clean clean) c.in_ok-new.new c.in_ok-new.ensures in
+pub returns-in_err-commit-clause-ends : goal.returns-in_err-commit-clause-ends
+returns-in_err-commit-clause-ends g c db late at proper =
+    let one : Written = NetworkGained (new_row c.in_ok-new.new c.in-Some.id c.args.name.now c.args.settings.now) in
+    let ends = λ (clean : HasCleanDisk (state g.S.Store c.commit.new.conn)).
+    network_joins g (goal.at.returns-in_err-commit-clause-ends g c).After-admit db late at (c.commit.ensures.keeps.clean clean) c.in_ok-new.new c.in_ok-new.ensures in
     let last = c.settled_networks.ensures.reads.stands db at.pending (c.tenants.ensures.reads.stands db at.pending (c.tenant_id.ensures.reads.stands db at.pending at.stands)) in
-    order_unwritten g.S.Store _ _ db late _ proper _ _ (NetworkGained (new_row c.in_ok-new.new c.in-Some.id c.args.name.now c.args.settings.now)) c.from_residual-in_err-add_network.ensures.1 c.add_network.ensures.idle
-    ends at (c.in_err-add_network.ensures.fault db at.pending last)
+    order_unwritten g.S.Store _ _ db late _ proper _ _ one c.from_residual-in_err-commit.ensures.1 c.commit.ensures.keeps.idle
+    ends at (c.in_err-commit.ensures.commits.fault db at.pending one last refl)
 
 pub returns-clause-ends : goal.returns-clause-ends
 returns-clause-ends g c db late at proper clean =
-    let ends = network_joins g (goal.at.returns-clause-ends g c).After-admit db late at (c.add_network.ensures.clean clean) c.in_ok-new.new c.in_ok-new.ensures in
+    let one : Written = NetworkGained (new_row c.in_ok-new.new c.in-Some.id c.args.name.now c.args.settings.now) in
+    let ends = network_joins g (goal.at.returns-clause-ends g c).After-admit db late at (c.commit.ensures.keeps.clean clean) c.in_ok-new.new c.in_ok-new.ensures in
     let last = c.settled_networks.ensures.reads.stands db at.pending (c.tenants.ensures.reads.stands db at.pending (c.tenant_id.ensures.reads.stands db at.pending at.stands)) in
-    order_done g.S.Store _ db late _ (NetworkGained (new_row c.in_ok-new.new c.in-Some.id c.args.name.now c.args.settings.now)) proper at.consistent ends (c.in_ok-add_network.ensures.done db at.pending last clean) clean
+    order_done g.S.Store _ db late _ one proper at.consistent ends (c.in_ok-commit.ensures.commits.done db at.pending one last refl clean) clean
 
 -- ---- why it ends by a fault
 
@@ -116,14 +118,14 @@ returns-in_err-new-clause-stops g c db late at =
     admitted_stops _ (state g.S.Store c.args.conn.now) (state g.S.Store c.settled_networks.new.conn) _ _ c.from_residual-in_err-new.ensures.1
     (record { tenants = c.as_slice.result.now; tokens = []; networks = c.as_slice-2.result.now }) c.in-Some.id c.args.name.now c.args.settings.now c.in_err-new.ensures
 
-pub returns-in_err-add_network-clause-stops : goal.returns-in_err-add_network-clause-stops
-returns-in_err-add_network-clause-stops g c db late at =
-    let ends = λ (clean : HasCleanDisk (state g.S.Store c.add_network.new.conn)).
-    network_joins g (goal.at.returns-in_err-add_network-clause-stops g c).After-admit db late at (c.add_network.ensures.clean clean) c.in_ok-new.new c.in_ok-new.ensures in
+pub returns-in_err-commit-clause-stops : goal.returns-in_err-commit-clause-stops
+returns-in_err-commit-clause-stops g c db late at =
+    let ends = λ (clean : HasCleanDisk (state g.S.Store c.commit.new.conn)).
+    network_joins g (goal.at.returns-in_err-commit-clause-stops g c).After-admit db late at (c.commit.ensures.keeps.clean clean) c.in_ok-new.new c.in_ok-new.ensures in
     let last = c.settled_networks.ensures.reads.stands db at.pending (c.tenants.ensures.reads.stands db at.pending (c.tenant_id.ensures.reads.stands db at.pending at.stands)) in
     let survived = survives_next _ _ _ (survives_next _ _ _ c.tenant_id.ensures.reads.survives c.tenants.ensures.reads.survives) c.settled_networks.ensures.reads.survives in
-    unwritten_stops _ _ _ _ _ _ c.from_residual-in_err-add_network.ensures.1 survived _ c.add_network.ensures.survives
-    (λ clean refused. record { write = NetworkGained (new_row c.in_ok-new.new c.in-Some.id c.args.name.now c.args.settings.now); does = ends clean; stops = refused }) (c.in_err-add_network.ensures.cause db at.pending last)
+    unwritten_stops _ _ _ _ _ _ c.from_residual-in_err-commit.ensures.1 survived _ c.commit.ensures.keeps.survives
+    (λ clean refused. record { write = NetworkGained (new_row c.in_ok-new.new c.in-Some.id c.args.name.now c.args.settings.now); does = ends clean; stops = refused }) (c.in_err-commit.ensures.commits.cause db at.pending last)
 
 -- ---- where it isn't undone, the store was open
 
@@ -142,8 +144,8 @@ returns-in_err-networks-clause-open g c clean = undone _ _ _ c.from_residual-in_
 pub returns-in_err-new-clause-open : goal.returns-in_err-new-clause-open
 returns-in_err-new-clause-open g c clean = unless_undone c.from_residual-in_err-new.result _ (c.in_ok-id.ensures.open (c.tenants.ensures.reads.clean (c.settled_networks.ensures.reads.clean clean)))
 
-pub returns-in_err-add_network-clause-open : goal.returns-in_err-add_network-clause-open
-returns-in_err-add_network-clause-open g c clean = undone _ _ _ c.from_residual-in_err-add_network.ensures.1
+pub returns-in_err-commit-clause-open : goal.returns-in_err-commit-clause-open
+returns-in_err-commit-clause-open g c clean = undone _ _ _ c.from_residual-in_err-commit.ensures.1
 
 pub returns-clause-open : goal.returns-clause-open
-returns-clause-open g c clean = c.in_ok-id.ensures.open (c.tenants.ensures.reads.clean (c.settled_networks.ensures.reads.clean (c.add_network.ensures.clean clean)))
+returns-clause-open g c clean = c.in_ok-id.ensures.open (c.tenants.ensures.reads.clean (c.settled_networks.ensures.reads.clean (c.commit.ensures.keeps.clean clean)))

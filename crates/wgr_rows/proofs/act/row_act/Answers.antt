@@ -10,7 +10,8 @@ use Rattle.wgr_core.specs.declared.reply.Reply.TheVariants as reply
 use Rattle.wgr_peers.specs.declared.peer.Peer.{Peer}
 use Rattle.wgr_core.specs.Change.{Meets}
 use Rattle.wgr_core.specs.Outcome.{outcome_of}
-use Rattle.wgr_model.specs.Rows.{holding_of}
+use Rattle.wgr_core.specs.Refusals.{of_command}
+use Rattle.wgr_model.specs.Rows.{network_entry_of}
 use Rattle.wgr_model.proofs.RuleLemmas.{rules as rules_of}
 use Rattle.wgr_columns.specs.Decode.{tables_of}
 use Rattle.wgr_sql.specs.Causes.{HasCause}
@@ -21,7 +22,7 @@ use Rattle.wgr_rows.proofs.act.row_act.Goals as goal
 
 pub returns-in_err-admission-in-Add-clause-outcome : goal.returns-in_err-admission-in-Add-clause-outcome
 returns-in_err-admission-in-Add-clause-outcome g c db pending w stood good here is clean outlined =
-    let n = (holding_of (tables_of db) w).network in
+    let n = (network_entry_of (tables_of db) w).network in
     subst (λ (x : Command). Meets n (as_acted c.from_residual.result) (outcome_of n c.args.now x)) (sym c.in-Add.is)
     (unadmitted n (rules_of (tables_of db) good w here) c.args.now c.in-Add.key c.in-Add.label c.in-Add.address c.in-Add.until c.in-Add.keepalive c.from_residual.result c.in_err-admission-in-Add.field-0.0 c.from_residual.ensures.1
     (c.in_err-admission-in-Add.ensures.found db pending w stood good here is clean outlined.ends))
@@ -35,7 +36,7 @@ returns-in_err-address-in-Add-clause-reads g c = reads_next c.admit_row.ensures.
 
 pub returns-in_err-address-in-Add-clause-outcome : goal.returns-in_err-address-in-Add-clause-outcome
 returns-in_err-address-in-Add-clause-outcome g c db pending w stood good here is clean outlined =
-    let n = (holding_of (tables_of db) w).network in
+    let n = (network_entry_of (tables_of db) w).network in
     let admitted = c.in_ok-admission-in-Add.ensures.found db pending w stood good here is (c.place_row.ensures.reads.clean clean) outlined.ends in
     subst (λ (x : Command). Meets n (as_acted c.from_residual-in_err-address-in-Add.result) (outcome_of n c.args.now x)) (sym c.in-Add.is)
     (unplaced n (rules_of (tables_of db) good w here) c.args.now c.in-Add.key c.in-Add.label c.in-Add.address c.in-Add.until c.in-Add.keepalive c.from_residual-in_err-address-in-Add.result c.in_err-address-in-Add.field-0.0 c.from_residual-in_err-address-in-Add.ensures.1 admitted.0
@@ -61,7 +62,7 @@ returns-in_ok-joined-in-Add-clause-reads g c = reads_next c.admit_row.ensures.re
 
 pub returns-in_ok-joined-in-Add-clause-outcome : goal.returns-in_ok-joined-in-Add-clause-outcome
 returns-in_ok-joined-in-Add-clause-outcome g c db pending w stood good here is clean outlined =
-    let n = (holding_of (tables_of db) w).network in
+    let n = (network_entry_of (tables_of db) w).network in
     let admission = c.in_ok-admission-in-Add.admission in
     let admitted = c.in_ok-admission-in-Add.ensures.found db pending w stood good here is (c.place_row.ensures.reads.clean clean) outlined.ends in
     let placed = c.in_ok-address-in-Add.ensures.found db pending w (c.admit_row.ensures.reads.stands db pending stood) good here is clean admitted.1 admitted.2 (c.floor_at-floor.ensures n (rules_of (tables_of db) good w here) outlined) in
@@ -75,12 +76,12 @@ returns-in_ok-joined-in-Add-clause-outcome g c db pending w stood good here is c
 
 pub returns-in-Some-clause-outcome : goal.returns-in-Some-clause-outcome
 returns-in-Some-clause-outcome g c db pending w stood good here is clean outlined =
-    let n = (holding_of (tables_of db) w).network in
+    let n = (network_entry_of (tables_of db) w).network in
     subst (λ (x : Command). Meets n (Ok (reply.Owner c.in-Some.number, None)) (outcome_of n c.args.now x)) (sym c.in-Owner.is)
     (is_owner n (rules_of (tables_of db) good w here) c.args.now c.in-Owner.address c.in-Some.number (rw c.in-Some.is at c.in_ok-number-in-Owner.ensures.found db pending w stood good here is clean))
 
 pub returns-in-None-clause-outcome : goal.returns-in-None-clause-outcome
 returns-in-None-clause-outcome g c db pending w stood good here is clean outlined =
-    let n = (holding_of (tables_of db) w).network in
-    subst (λ (x : Command). Meets n (Err (act.Refused NobodysAddress)) (outcome_of n c.args.now x)) (sym c.in-Owner.is)
+    let n = (network_entry_of (tables_of db) w).network in
+    subst (λ (x : Command). Meets n (Err (act.Refused (of_command NobodysAddress))) (outcome_of n c.args.now x)) (sym c.in-Owner.is)
     (is_nobodys n (rules_of (tables_of db) good w here) c.args.now c.in-Owner.address (rw c.in-None.is at c.in_ok-number-in-Owner.ensures.found db pending w stood good here is clean))

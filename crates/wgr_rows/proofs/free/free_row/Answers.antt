@@ -8,11 +8,11 @@ use Rattle.wgr_text.specs.Prefix.{AddrValue, PrefixValue}
 use Rattle.wgr_sql.specs.Causes.{HasCause}
 use Rattle.wgr_sql.proofs.ResultLemmas.{if_ok}
 use Rattle.wgr_core.specs.Network.{live_at}
-use Rattle.wgr_model.specs.Rows.{holding_of}
+use Rattle.wgr_model.specs.Rows.{network_entry_of}
 use Rattle.wgr_model.proofs.RuleLemmas.{rules as rules_of}
 use Rattle.wgr_columns.specs.Decode.{tables_of}
 use Rattle.wgr_tables.specs.Standing.{OnlyReads}
-use Rattle.wgr_rows.specs.Holding.{below, hold_params, holds_text}
+use Rattle.wgr_rows.specs.HeldRows.{below, hold_params, holds_text}
 use Rattle.wgr_rows.specs.Telling.{IsToldTo}
 use Rattle.wgr_rows.specs.Staying.{stays_on}
 use Rattle.wgr_rows.proofs.Coming.{holds_moved, number_low, told_first}
@@ -96,7 +96,7 @@ returns-clause-found g c db pending w stood is here id clean =
     let from = subst (λ (a : AddrValue). a.number ≤ start.number) begins_at c.start_at-start.ensures.from in
     let one = subst (λ (a : AddrValue). (start.number ≡ a.number) ⊎ (start.number ≡ c.args.floor)) begins_at c.start_at-start.ensures.one in
     if_ok c.lowest_in.result _ _ (λ o m now pool tells floor.
-    let n = (holding_of (tables_of db) w).network in
+    let n = (network_entry_of (tables_of db) w).network in
     let starts = subst (λ (q : PrefixValue). (start.number ≡ q.address.number) ⊎ (start.number ≡ c.args.floor)) (c.prefix-prefix.ensures.value ∙ pool) one in
     lowest_at shows_peers (contains nat_eq c.args.expired.now) none (state g.S.Store mid).now db shows c.args.network p c.args.pool.now c.prefix-prefix.ensures.value
     w id (sym pool) is here now tells start same_family from (floor_from (live_at n now) (rules_of (tables_of db) is w here).pool start.number c.args.floor starts floor) moved o m) found

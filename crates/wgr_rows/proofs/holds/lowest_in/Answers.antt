@@ -1,7 +1,7 @@
 use Rattle.std.proofs.Common.{None, Option, sym, subst, arith}
 use Rattle.wgr_text.specs.declared.prefix.Span.{Span}
 use Rattle.wgr_text.specs.Prefix.{PrefixValue}
-use Rattle.wgr_rows.specs.Holding.{below}
+use Rattle.wgr_rows.specs.HeldRows.{below}
 use Rattle.wgr_rows.specs.declared.progress.Progress.TheVariants.{Running}
 use Rattle.wgr_rows.specs.Telling.{Tells}
 use Rattle.wgr_rows.proofs.holds.lowest_in.Goals as goal

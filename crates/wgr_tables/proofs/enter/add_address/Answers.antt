@@ -11,7 +11,7 @@ use Rattle.wgr_columns.proofs.FieldLemmas.{fits_128}
 use Rattle.wgr_tables.proofs.Meanings.{insert_address_text, insert_address_means}
 use Rattle.sqlite.specs.declared.types.Value.TheVariants.{Blob, Int}
 use Rattle.wgr_tables.proofs.StopLemmas.{written_fails, insert_address_writes}
-use Rattle.wgr_tables.specs.Stops.{FailsBy, IsRefused}
+use Rattle.wgr_tables.specs.Stops.{FailsBy, IsStatementRefused}
 use Rattle.wgr_model.specs.Rows.{family_number, peer_id}
 use Rattle.wgr_tables.proofs.enter.add_address.Goals as goal
 
@@ -43,6 +43,6 @@ returns-clause-cause g c =
     let new = state g.S.Store c.execute.new.tx.conn.now in
     let id = peer_id network c.args.peer.now.number in
     let params = λ (hi : ℕ). Int (pos network) ∷ Int (pos (family_number address.family)) ∷ Blob (bytes_of address.number) ∷ Int (pos (width address.family)) ∷ Blob (bytes_of hi) ∷ Int (pos id) ∷ [] in
-    subst (λ hi. FailsBy (IsRefused insert_address_text (params hi)) old new c.execute.result) (last_itself address.family address.number)
+    subst (λ hi. FailsBy (IsStatementRefused insert_address_text (params hi)) old new c.execute.result) (last_itself address.family address.number)
     (written_fails old new insert_address_text (params address.number) c.execute.result (λ others. insert_address_writes others _ _ _ _ _ _)
     (rw (c.bytes_of-bytes.ensures, c.number.ensures.value, c.number_value.ensures, c.family_value.ensures, c.peer_id_value.ensures, c.number_value-2.ensures, c.from.ensures, c.width.ensures, c.family-family.ensures.value) at c.execute.ensures.cause))

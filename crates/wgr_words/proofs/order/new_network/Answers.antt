@@ -1,6 +1,6 @@
 use Rattle.std.proofs.Common.{[]}
 use Rattle.wgr_words.specs.Asked.{NetworkAdd, network_asked}
-use Rattle.wgr_dump.specs.Fields.{SpellsKey}
+use Rattle.wgr_text.specs.KeyText.{SpellsKey}
 use Rattle.wgr_peers.specs.Host.{IsHostText}
 use Rattle.wgr_words.specs.declared.field.WordField.TheVariants as of
 use Rattle.wgr_words.specs.Order.{IsDraftFault}

@@ -1,8 +1,8 @@
-use Rattle.std.proofs.Common.{rules, ◌≡◌, ℕ, ◌++◌, List, [], ◌∷◌, Some, None, Ok, Err, is_some, refl, sym, ap, subst, ◌∙◌}
+use Rattle.std.proofs.Common.{rules, ◌≡◌, ℕ, ◌++◌, List, [], ◌∷◌, Some, Ok, Err, is_some, refl, sym, ap, subst, ◌∙◌}
 use Rattle.wgr_text.specs.Prefix.{PrefixValue}
 use Rattle.wgr_peers.specs.declared.peer.Peer.{Peer}
 use Rattle.wgr_peers.specs.Peers.{peer_of}
-use Rattle.wgr_core.specs.Adoption.{add_line, give_all, keyed_peer, other_prefixes, peer_of_line, with_line}
+use Rattle.wgr_core.specs.Adoption.{add_line, give_all, other_prefixes, peer_of_line, with_line}
 use Rattle.wgr_core.specs.Draft.{AdoptingValue, DraftValue, MeetsGiven, MeetsLine, line_address}
 use Rattle.wgr_core.specs.Network.{IsNetwork}
 use Rattle.wgr_core.proofs.AdoptingLemmas.{added_at, given_line, given_line_err, met_address, new_stands}
@@ -25,8 +25,7 @@ join-requires-clause-fits c =
     let same_peer : peer c.next-number.result c.empty.result c.never.result ≡ peer_of_line n line a =
     ap (λ (k : ℕ). peer k c.empty.result c.never.result) next ∙ ap (λ (l : List ℕ). peer n.next l c.never.result) c.empty.ensures ∙ ap (peer n.next []) c.never.ensures in
     let is : IsNetwork n = subst (λ (d : DraftValue). IsNetwork d.network) (sym same) c.next-number.ensures.rules in
-    let unheld : keyed_peer n.peers line.key ≡ None = subst (λ (s : AdoptingValue). keyed_peer s.so_far.network.peers line.key ≡ None) (sym view) c.requires in
-    subst (λ (p : Peer). IsNetwork (with_peer n p)) (sym same_peer) (joined_is_network n (peer_of_line n line a) is (placed_may_join n line a is unheld placed))
+    subst (λ (p : Peer). IsNetwork (with_peer n p)) (sym same_peer) (joined_is_network n (peer_of_line n line a) is (placed_may_join n line a is placed))
 
 pub give_all-requires : goal.give_all-requires
 give_all-requires c =

@@ -10,12 +10,6 @@ use Rattle.wgr_core.proofs.adopt.Adopting.adopt_line.Goals as goal
 abbrev some_peer : Key → Peer
 some_peer key = record { number = 0; key = key; label = []; address = record { family = V4; number = 0 }; until = 0; keepalive = 0; status = None }
 
-pub add_line-requires : goal.add_line-requires
-add_line-requires c =
-    let key = c.args.line.now.key in
-    let same : c.peers.result.now ≡ c.args.self.now.so_far.network.peers = c.peers.ensures ∙ ap (λ (a : AdoptingValue). a.so_far.network.peers) c.self.view_is in
-    subst (λ (ps : List Peer). keyed_peer ps key ≡ None) same (c.in-None.ensures.value (some_peer key))
-
 pub returns-in-Some : goal.returns-in-Some
 returns-in-Some c =
     let key = c.args.line.now.key in

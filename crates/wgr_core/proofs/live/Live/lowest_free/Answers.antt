@@ -1,11 +1,12 @@
-use Rattle.std.proofs.Common.{◌≡◌, List, [], ◌∷◌, ◌++◌, take, true, cond, Some, sym, ap, ◌∙◌, subst, arith, nat_eq}
+use Rattle.std.proofs.Common.{◌≡◌, ◌||◌, List, [], ◌∷◌, ◌++◌, take, true, cond, Some, sym, ap, ◌∙◌, subst, arith, nat_eq}
 use Rattle.std.specs.HashSet.{contains}
 use Rattle.std.specs.List.{All}
 use Rattle.std.proofs.lemmas.List.{take_all}
-use Rattle.wgr_text.specs.Prefix.{AddrValue}
+use Rattle.wgr_text.specs.Prefix.{AddrValue, PrefixValue}
 use Rattle.wgr_pool.specs.PrefixTests.{has}
 use Rattle.wgr_pool.specs.Allot.{is_assignable, lower, lowest_where}
-use Rattle.wgr_pool.specs.HeldSpans.{is_routed}
+use Rattle.wgr_pool.specs.HeldSpans.{is_routed, standing}
+use Rattle.wgr_peers.specs.Peers.{is_own}
 use Rattle.wgr_core.specs.Network.{NetworkValue, lowest_free}
 use Rattle.wgr_core.proofs.FreedLemmas.{all_given, begin_with, given_assignable, given_in_pool, held_but, one_given, take_next}
 use Rattle.wgr_core.proofs.live.Live.lowest_free.Goals as goal
@@ -13,7 +14,9 @@ use Rattle.wgr_core.proofs.live.Live.lowest_free.Goals as goal
 pub loop-address-init : goal.loop-address-init
 loop-address-init c =
     let n = c.self.inside.network.now in
+    let same_pool = c.requires ∙ sym (ap (λ (m : NetworkValue). m.pool) c.self.view_is) in
     c.lowest_beside-lowest.ensures
+    ∙ ap (λ (pool : PrefixValue). lowest_where pool (λ a. is_own n.peers a || is_routed pool (standing (contains nat_eq c.self.inside.expired) n.routes) a)) same_pool
     ∙ begin_with n c.self.inside.moment (contains nat_eq c.self.inside.expired) c.self.invariant.whole c.self.invariant.numbers
     ∙ ap (λ (m : NetworkValue). lowest_where m.pool (held_but [] m.pool n.peers m.routes)) c.self.view_is
 
@@ -52,4 +55,5 @@ returns-clause-value c =
     let whole = take_all c.loop-address.address-index addresses (omega (arith, c.loop-address-test.false, c.loop-address.auto.address-index-end)) in
     c.loop-address.invariant
     ∙ ap (λ (ys : List AddrValue). lowest_where m.pool (held_but ys m.pool n.peers m.routes)) (whole ∙ c.as_slice-address-items.ensures)
-    ∙ subst (λ (m : NetworkValue). lowest_where m.pool (held_but c.self.inside.addresses m.pool n.peers m.routes) ≡ lowest_free m) c.self.view_is (all_given n c.self.inside.moment c.self.inside.addresses c.self.invariant.whole c.self.invariant.addresses)
+    ∙ subst (λ (m : NetworkValue). lowest_where m.pool (held_but c.self.inside.addresses m.pool n.peers m.routes) ≡ lowest_free m m.pool) c.self.view_is (all_given n c.self.inside.moment c.self.inside.addresses c.self.invariant.whole c.self.invariant.addresses)
+    ∙ ap (lowest_free m) (sym c.requires)

@@ -4,7 +4,7 @@ use Rattle.wgr_text.specs.Prefix.{PrefixValue}
 use Rattle.wgr_peers.specs.Peers.{peer_of}
 use Rattle.wgr_peers.specs.Routes.{Routes, AreOrdered, HasAddr, assign_route}
 use Rattle.wgr_core.specs.declared.reply.PeerView.{PeerView}
-use Rattle.wgr_core.specs.Outcome.{route_refusal}
+use Rattle.wgr_core.specs.Refusals.{route_refusal}
 use Rattle.wgr_core.proofs.RerouteLemmas.{own_ordered, own_masked}
 use Rattle.wgr_core.proofs.live.Live.routed_view.Goals as goal
 

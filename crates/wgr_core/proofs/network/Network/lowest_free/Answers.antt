@@ -5,4 +5,4 @@ use Rattle.wgr_core.proofs.FreedLemmas.{none_over}
 use Rattle.wgr_core.proofs.network.Network.lowest_free.Goals as goal
 
 pub returns : goal.returns
-returns c = c.lowest_beside.ensures ∙ none_over c.args.self.now (contains nat_eq c.new.result) (λ i. ap (λ (keys : List ℕ). list_any (nat_eq i) keys) c.new.ensures.empty)
+returns c = c.lowest_beside.ensures ∙ none_over c.args.self.now c.args.pool.now (contains nat_eq c.new.result) (λ i. ap (λ (keys : List ℕ). list_any (nat_eq i) keys) c.new.ensures.empty)

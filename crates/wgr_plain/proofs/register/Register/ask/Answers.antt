@@ -1,8 +1,8 @@
 use Rattle.std.proofs.Common.{◌≡◌, None, Some, Option, sym, ap, subst, ◌∙◌}
 use Rattle.wgr_core.specs.Network.{NetworkValue}
 use Rattle.wgr_plain.specs.Calls.{IsActed, answer_of}
-use Rattle.wgr_orders.specs.Places.{IsPlace}
-use Rattle.wgr_model.specs.Register.{Holding, Register}
+use Rattle.wgr_orders.specs.Places.{IsNetworkPlace}
+use Rattle.wgr_model.specs.Register.{NetworkEntry, Register}
 use Rattle.wgr_model.specs.Steps.{Ask, IsStep, act, network_at, tenant_of_token, with_network}
 use Rattle.wgr_model.proofs.CallLemmas.{nothing_asked, stranger_asks}
 use Rattle.wgr_plain.proofs.StepLemmas.{refusal_step, reply_step}
@@ -30,8 +30,8 @@ returns-in-None-clause-step c =
     let event = Ask c.args.digest.now c.args.name.now c.args.now c.args.command.now in
     let answer = answer_of c.in_ok-answer.field-0.answer in
     let known = ap (λ ts. tenant_of_token ts c.args.digest.now) (sym c.deref.ensures.value) ∙ sym c.tenant_of_token.ensures ∙ c.in-Some.is in
-    let place : IsPlace r.networks c.in-Some.id c.args.name.now c.in-Some-place_of.place = rw (← c.deref-2.ensures.value, ← c.as_bytes.ensures) c.in-Some-place_of.ensures in
-    let found : network_at r.networks c.in-Some.id c.args.name.now ≡ Some c.behind-self.inside.network = place.found c.index.result.now ∙ ap {A = Holding} (λ x. Some x.network) (sym c.index.ensures ∙ sym c.behind-self.view_is) in
+    let place : IsNetworkPlace r.networks c.in-Some.id c.args.name.now c.in-Some-place_of.place = rw (← c.deref-2.ensures.value, ← c.as_bytes.ensures) c.in-Some-place_of.ensures in
+    let found : network_at r.networks c.in-Some.id c.args.name.now ≡ Some c.behind-self.inside.network = place.found c.index.result.now ∙ ap {A = NetworkEntry} (λ x. Some x.network) (sym c.index.ensures ∙ sym c.behind-self.view_is) in
     subst (λ (x : Register). IsStep x event answer x) c.self.view_is
     (refusal_step r c.args.digest.now c.args.name.now c.args.now c.args.command.now c.in-Some.id known c.behind-self.inside.network found answer
     (subst (λ (after : Option NetworkValue). IsActed (act c.behind-self.inside.network c.args.now c.args.command.now) answer after) c.in-None.is c.in_ok-answer.ensures))
@@ -43,8 +43,8 @@ invariant_of-self c =
     let event = Ask c.args.digest.now c.args.name.now c.args.now c.args.command.now in
     let answer = answer_of c.in_ok-answer.field-0.answer in
     let known = ap (λ ts. tenant_of_token ts c.args.digest.now) (sym c.deref.ensures.value) ∙ sym c.tenant_of_token.ensures ∙ c.in-Some.is in
-    let place : IsPlace r.networks c.in-Some.id c.args.name.now c.in-Some-place_of.place = rw (← c.deref-2.ensures.value, ← c.as_bytes.ensures) c.in-Some-place_of.ensures in
-    let found : network_at r.networks c.in-Some.id c.args.name.now ≡ Some c.behind-self.inside.network = place.found c.index.result.now ∙ ap {A = Holding} (λ x. Some x.network) (sym c.index.ensures ∙ sym c.behind-self.view_is) in
+    let place : IsNetworkPlace r.networks c.in-Some.id c.args.name.now c.in-Some-place_of.place = rw (← c.deref-2.ensures.value, ← c.as_bytes.ensures) c.in-Some-place_of.ensures in
+    let found : network_at r.networks c.in-Some.id c.args.name.now ≡ Some c.behind-self.inside.network = place.found c.index.result.now ∙ ap {A = NetworkEntry} (λ x. Some x.network) (sym c.index.ensures ∙ sym c.behind-self.view_is) in
     let after : NetworkValue = c.in-Some-after.network in
     let put : c.put_network.new.networks.items ≡ with_network r.networks c.in-Some.id c.args.name.now after =
     c.put_network.ensures c.index.result.now ∙ sym (place.put c.index.result.now after) in
@@ -60,8 +60,8 @@ returns-in-Some-after-clause-step c =
     let event = Ask c.args.digest.now c.args.name.now c.args.now c.args.command.now in
     let answer = answer_of c.in_ok-answer.field-0.answer in
     let known = ap (λ ts. tenant_of_token ts c.args.digest.now) (sym c.deref.ensures.value) ∙ sym c.tenant_of_token.ensures ∙ c.in-Some.is in
-    let place : IsPlace r.networks c.in-Some.id c.args.name.now c.in-Some-place_of.place = rw (← c.deref-2.ensures.value, ← c.as_bytes.ensures) c.in-Some-place_of.ensures in
-    let found : network_at r.networks c.in-Some.id c.args.name.now ≡ Some c.behind-self.inside.network = place.found c.index.result.now ∙ ap {A = Holding} (λ x. Some x.network) (sym c.index.ensures ∙ sym c.behind-self.view_is) in
+    let place : IsNetworkPlace r.networks c.in-Some.id c.args.name.now c.in-Some-place_of.place = rw (← c.deref-2.ensures.value, ← c.as_bytes.ensures) c.in-Some-place_of.ensures in
+    let found : network_at r.networks c.in-Some.id c.args.name.now ≡ Some c.behind-self.inside.network = place.found c.index.result.now ∙ ap {A = NetworkEntry} (λ x. Some x.network) (sym c.index.ensures ∙ sym c.behind-self.view_is) in
     let after : NetworkValue = c.in-Some-after.network in
     let put : c.put_network.new.networks.items ≡ with_network r.networks c.in-Some.id c.args.name.now after =
     c.put_network.ensures c.index.result.now ∙ sym (place.put c.index.result.now after) in

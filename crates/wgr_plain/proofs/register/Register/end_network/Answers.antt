@@ -1,5 +1,5 @@
 use Rattle.std.proofs.Common.{List, sym, ap, ap₂, subst, ◌∙◌, not}
-use Rattle.wgr_model.specs.Register.{Holding, Register, id_of}
+use Rattle.wgr_model.specs.Register.{NetworkEntry, Register, id_of}
 use Rattle.wgr_model.specs.Steps.{Done, EndNetwork, IsStep, NoNetwork, NoSuchTenant, Refused}
 use Rattle.wgr_model.proofs.OrderSteps.{network_gone, no_network, nobody_ends}
 use Rattle.wgr_orders.proofs.PlaceLemmas.{place_tells}
@@ -28,7 +28,7 @@ invariant_of-self c =
     let told = place_tells r.networks c.in-Some.id c.args.name.now c.place_of.result (rw (← c.deref-2.ensures.value, ← c.as_bytes-2.ensures) c.place_of.ensures) in
     (step_law r s (EndNetwork c.args.tenant.now c.args.name.now) Done c.self.invariant tt
     (network_gone r c.args.tenant.now c.args.name.now c.in-Some.id (sym looked ∙ c.in-Some.is) (sym told ∙ c.is_none.ensures ∙ ap not c.if-is_none.false) s
-    (ap {A = List Holding} (λ hs. record r { networks = hs }) c.drop_network.ensures))).consistent
+    (ap {A = List NetworkEntry} (λ hs. record r { networks = hs }) c.drop_network.ensures))).consistent
 
 pub returns : goal.returns
 returns c =
@@ -38,4 +38,4 @@ returns c =
     let told = place_tells r.networks c.in-Some.id c.args.name.now c.place_of.result (rw (← c.deref-2.ensures.value, ← c.as_bytes-2.ensures) c.place_of.ensures) in
     subst (λ (x : Register). IsStep x (EndNetwork c.args.tenant.now c.args.name.now) Done s) c.self.view_is
     (network_gone r c.args.tenant.now c.args.name.now c.in-Some.id (sym looked ∙ c.in-Some.is) (sym told ∙ c.is_none.ensures ∙ ap not c.if-is_none.false) s
-    (ap {A = List Holding} (λ hs. record r { networks = hs }) c.drop_network.ensures))
+    (ap {A = List NetworkEntry} (λ hs. record r { networks = hs }) c.drop_network.ensures))

@@ -26,12 +26,12 @@ returns g c =
           endpoint.0,
           w c.send_text.new.out,
           endpoint.1,
-          subst (λ s. SendsValue (string s) endpoint.0 (w c.send_text.new.out)) (c.as_str-2.ensures.value ∙ c.in-Ok.ensures ∙ rw (c.as_str.ensures.value, c.host.ensures, c.number-port.ensures.value, c.port.ensures) refl) endpoint.2,
+          subst (λ s. SendsValue (string s) endpoint.0 (w c.send_text.new.out)) (c.as_str.ensures.value ∙ c.in-Ok.ensures ∙ rw (c.host.ensures, c.port.ensures) refl) endpoint.2,
           (
             name.0,
             w c.send_text-2.new.out,
             name.1,
-            subst (λ s. SendsValue (string s) name.0 (w c.send_text-2.new.out)) c.as_str-3.ensures.value name.2,
+            subst (λ s. SendsValue (string s) name.0 (w c.send_text-2.new.out)) c.as_str-2.ensures.value name.2,
             (
               pool.0,
               w c.send_member.new.out,

@@ -7,16 +7,16 @@ use Rattle.sqlite.specs.Held.{state}
 use Rattle.sqlite.specs.Given.{Advances, GivesOn, row_if}
 use Rattle.wgr_text.specs.contracts.prefix.Span as span
 use Rattle.wgr_columns.specs.Decode.{tables_of}
-use Rattle.wgr_rows.specs.Holding.{Hold, hold_params, holds_text, to_come}
+use Rattle.wgr_rows.specs.HeldRows.{HeldSpan, hold_params, holds_text, rows_to_come}
 use Rattle.wgr_rows.specs.declared.progress.Progress.TheVariants.{Running}
 use Rattle.wgr_rows.proofs.Coming.{come_as, first_is, good_back, last_was, number_low, told_next}
 use Rattle.wgr_sql.specs.Causes.{HasCause}
 use Rattle.wgr_pool.specs.declared.allot.Stop.TheVariants.{Source}
-use Rattle.wgr_rows.specs.Holding.{max_holds}
+use Rattle.wgr_rows.specs.HeldRows.{max_holds}
 use Rattle.wgr_rows.proofs.StopLemmas.{advance_cause, for_cause, limit_cause, order_cause, row_cause}
 use Rattle.wgr_rows.proofs.holds.HoldRows.next_row.Goals as goal
 
-one_proof : (xs ys : List Hold) → IsProp (xs ≡ ys)
+one_proof : (xs ys : List HeldSpan) → IsProp (xs ≡ ys)
 one_proof xs ys = Coded-set (coded_list (coded× span.the_row.coded (coded_option coded_ℕ))) xs ys
 
 pub returns-in_default-get-clause-first : goal.returns-in_default-get-clause-first
@@ -63,7 +63,7 @@ returns-clause-first g c good =
     ∥∥₁_elim c.args.self.now.told (one_proof _ _) (λ tells.
     let told = tells c.in-Running.is before in
     let given = subst (GivesOn g.S.Store (holds_text shows_peers) (hold_params network pool start.number) mid new told.given) some (advanced (holds_text shows_peers) (hold_params network pool start.number) told.given told.runs) in
-    come_as shows_peers c.args.self.now.at (tables_of (state g.S.Store mid).now) network pool start.number taken ((c.in-Some-hold_in.span, c.in-Some-hold_in.number) ∷ to_come shows_peers Running (tables_of (state g.S.Store new).now) network pool start.number (taken + 1)) c.in-Running.is
+    come_as shows_peers c.args.self.now.at (tables_of (state g.S.Store mid).now) network pool start.number taken ((c.in-Some-hold_in.span, c.in-Some-hold_in.number) ∷ rows_to_come shows_peers Running (tables_of (state g.S.Store new).now) network pool start.number (taken + 1)) c.in-Running.is
     (first_is g.S.Store mid new same good shows_peers network pool start.number c.rules_hold.ensures.prefix c.rules_hold.ensures.address low taken c.args.self.now.first c.args.self.now.last told row (c.in-Some-hold_in.span, c.in-Some-hold_in.number) given c.in-Some-hold_in.ensures.some))
 
 pub invariant_of-self-then-not-is_from : goal.invariant_of-self-then-not-is_from
@@ -146,7 +146,7 @@ returns-then-not-is_from-clause-blames g c =
     let new = c.advance.new.self.conn.now in
     let row = c.in-Some.row.now in
     let params = hold_params self.network self.pool self.start.number in
-    let hold : Hold = (c.in-Some-hold_in.span, c.in-Some-hold_in.number) in
+    let hold : HeldSpan = (c.in-Some-hold_in.span, c.in-Some-hold_in.number) in
     let some : row_if c.advance.new.self.has_row new ≡ Some row = sym c.get.ensures ∙ ap option_copied c.in-Some.is in
     for_cause self.network self.pool (state g.S.Store mid) (state g.S.Store new) self.at Source
     (order_cause g.S.Store self.shows_peers self.network self.pool self.start.number c.rules_hold.ensures.prefix c.rules_hold.ensures.address (number_low self.start c.rules_hold-2.ensures) self.taken self.first self.last self.at c.in-Running.is mid self.told new c.advance.ensures.survives row

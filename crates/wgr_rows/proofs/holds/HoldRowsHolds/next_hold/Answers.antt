@@ -2,7 +2,7 @@ use Rattle.std.proofs.Common.{rules, ◌≡◌, ◌<◌, true, nat_eq, sym, ap, 
 use Rattle.std.specs.HashSet.{contains}
 use Rattle.sqlite.specs.Held.{state}
 use Rattle.wgr_columns.specs.Decode.{tables_of}
-use Rattle.wgr_rows.specs.Holding.{is_passed_over, staying, to_come}
+use Rattle.wgr_rows.specs.HeldRows.{is_passed_over, staying, rows_to_come}
 use Rattle.wgr_rows.specs.Left.{leaves_on}
 use Rattle.std.proofs.Math.Logic.{∥∥₁_map}
 use Rattle.wgr_rows.proofs.Coming.{first_given, passed_over}
@@ -26,12 +26,12 @@ loop-span-preserved g c =
           (c.next_row.ensures.settings.0, c.next_row.ensures.settings.1, c.next_row.ensures.stays, c.next_row.ensures.blames),
       c.next_row.ensures.settings.4 ∙ c.loop-span.invariant.3,
       omega (arith, c.loop-span.invariant.4, falls),
-      omega (arith, c.loop-span.invariant.5, c.next_row.ensures.floor),
+      omega (arith, c.loop-span.invariant.5, c.next_row.ensures.reached),
       (λ good.
           let it = c.loop-span.invariant.6 (c.in_ok-span.ensures.was_good good) in
           let took = rw c.in-Some-2.is at (c.in_ok-span.ensures.first good) in
           let here : is_passed_over (contains nat_eq mid.expired.now) c.in-Some-2.number ≡ true = search rules in
-          (it.0, it.1 ∙ passed_over (contains nat_eq mid.expired.now) _ _ _ took here ∙ ap (λ e. staying (contains nat_eq e) (to_come new.shows_peers new.at (tables_of (state g.S.Store new.rows.now.conn.now).now) new.network new.pool new.start.number new.taken)) (sym c.next_row.ensures.settings.4))),
+          (it.0, it.1 ∙ passed_over (contains nat_eq mid.expired.now) _ _ _ took here ∙ ap (λ e. staying (contains nat_eq e) (rows_to_come new.shows_peers new.at (tables_of (state g.S.Store new.rows.now.conn.now).now) new.network new.pool new.start.number new.taken)) (sym c.next_row.ensures.settings.4))),
       c.next_row.ensures.settings.3 ∙ c.loop-span.invariant.7,
     )
 

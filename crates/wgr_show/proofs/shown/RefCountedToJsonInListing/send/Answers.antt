@@ -25,32 +25,32 @@ returns g c =
         name.0,
         w c.send_text.new.out,
         name.1,
-        subst (λ s. SendsValue (string s) name.0 (w c.send_text.new.out)) (c.as_str.ensures.value ∙ ap (λ (n : Bor Counted). n.now.holding.name) c.self.view_is) name.2,
+        subst (λ s. SendsValue (string s) name.0 (w c.send_text.new.out)) (c.as_str.ensures.value ∙ ap (λ (n : Bor Counted). n.now.network_entry.name) c.self.view_is) name.2,
         (
           pool.0,
           w c.send_member.new.out,
           pool.1,
-          subst (λ p. SendsValue (prefix_data p) pool.0 (w c.send_member.new.out)) (c.prefix.ensures.value ∙ c.pool.ensures.value ∙ ap (λ (n : Bor Counted). n.now.holding.network.pool) c.self.view_is) pool.2,
+          subst (λ p. SendsValue (prefix_data p) pool.0 (w c.send_member.new.out)) (c.prefix.ensures.value ∙ c.pool.ensures.value ∙ ap (λ (n : Bor Counted). n.now.network_entry.network.pool) c.self.view_is) pool.2,
           (
             host.0,
             w c.send_text-2.new.out,
             host.1,
-            subst (λ s. SendsValue (string s) host.0 (w c.send_text-2.new.out)) (c.as_str-2.ensures.value ∙ c.host.ensures ∙ ap (λ (n : Bor Counted). n.now.holding.network.host) c.self.view_is) host.2,
+            subst (λ s. SendsValue (string s) host.0 (w c.send_text-2.new.out)) (c.as_str-2.ensures.value ∙ c.host.ensures ∙ ap (λ (n : Bor Counted). n.now.network_entry.network.host) c.self.view_is) host.2,
             (
               port.0,
               w c.send_number.new.out,
               port.1,
-              subst (λ n. SendsValue (count n) port.0 (w c.send_number.new.out)) (c.from.ensures ∙ c.number.ensures.value ∙ c.port.ensures ∙ ap (λ (n : Bor Counted). n.now.holding.network.port) c.self.view_is) port.2,
+              subst (λ n. SendsValue (count n) port.0 (w c.send_number.new.out)) (c.from.ensures ∙ c.number.ensures.value ∙ c.port.ensures ∙ ap (λ (n : Bor Counted). n.now.network_entry.network.port) c.self.view_is) port.2,
               (
                 server.0,
                 w c.send_member-2.new.out,
                 server.1,
-                subst (λ k. SendsValue (key_data k) server.0 (w c.send_member-2.new.out)) (c.server_key.ensures ∙ ap (λ (n : Bor Counted). n.now.holding.network.server) c.self.view_is) server.2,
+                subst (λ k. SendsValue (key_data k) server.0 (w c.send_member-2.new.out)) (c.server_key.ensures ∙ ap (λ (n : Bor Counted). n.now.network_entry.network.server) c.self.view_is) server.2,
                 (
                   capacity.0,
                   w c.send_number-2.new.out,
                   capacity.1,
-                  subst (λ n. SendsValue (count n) capacity.0 (w c.send_number-2.new.out)) (c.from-2.ensures ∙ c.peers.ensures.value ∙ c.capacity.ensures ∙ ap (λ (n : Bor Counted). n.now.holding.network.capacity) c.self.view_is) capacity.2,
+                  subst (λ n. SendsValue (count n) capacity.0 (w c.send_number-2.new.out)) (c.from-2.ensures ∙ c.peers.ensures.value ∙ c.capacity.ensures ∙ ap (λ (n : Bor Counted). n.now.network_entry.network.capacity) c.self.view_is) capacity.2,
                   (
                     peers.0,
                     w c.send_number-3.new.out,
