@@ -6,6 +6,7 @@ use Rattle.sqlite_value.specs.Order.{Row, column, bytes}
 use Rattle.sqlite_rules.specs.Edit.{id_in}
 use Rattle.sqlite_rules.specs.Lists.{Has}
 use Rattle.sqlite.specs.declared.types.Value.TheVariants.{Null, Int, Text, Blob}
+use Rattle.sqlite.specs.Schema.{Schema}
 use Rattle.sqlite.specs.Tree.{Trees}
 use Rattle.sqlite.specs.Effect.{Database, IsDatabase}
 use Rattle.sqlite_sql.specs.Ops.{is_null}
@@ -14,16 +15,19 @@ use Rattle.wgr_text.specs.declared.addr.Family.TheVariants.{V4, V6}
 use Rattle.wgr_text.specs.declared.key.Key.{Key}
 use Rattle.wgr_text.specs.Prefix.{AddrValue, PrefixValue}
 use Rattle.wgr_peers.specs.declared.peer.Status.{Status}
-use Rattle.wgr_model.specs.Register.{Tenant, Token}
-use Rattle.wgr_model.specs.Rows.{NetworkRow, PeerRow, AllowedRow, MetaRow, Tables, family_number}
+use Rattle.wgr_model.specs.Register.{Bytes, Tenant, Token}
+use Rattle.wgr_model.specs.Rows.{NetworkRow, PeerRow, AllowedRow, MetaRow, SecondRow, Tables, family_number, third_version}
 use Rattle.wgr_sql.specs.Keyed.{IsKeyed}
+use Rattle.wgr_sql.specs.Named.{rows_in, rows_named, tree_named}
 use Rattle.wgr_columns.specs.declared.columns.allowed.TheConstants as allowed
 use Rattle.wgr_columns.specs.declared.columns.meta.TheConstants as meta
 use Rattle.wgr_columns.specs.declared.columns.network.TheConstants as network
 use Rattle.wgr_columns.specs.declared.columns.peer.TheConstants as peer
+use Rattle.wgr_columns.specs.declared.columns.reader.TheConstants as reader
+use Rattle.wgr_columns.specs.declared.columns.second.TheConstants as second
 use Rattle.wgr_columns.specs.declared.columns.tenant.TheConstants as tenant
 use Rattle.wgr_columns.specs.declared.columns.token.TheConstants as token
-use Rattle.wgr_columns.specs.Layout.{Others, schema_with, AreOthersApart, allowed_tree, meta_tree, network_tree, peer_tree, tenant_tree, token_tree}
+use Rattle.wgr_columns.specs.Layout.{Others, schema_with, AreOthersApart, HasReader, HasSecond, allowed_tree, meta_tree, network_tree, peer_tree, tenant_tree, token_tree}
 
 abbrev pub number_at : Row → ℕ → ℕ
 number_at row at = unsigned_abs (id_in (column row at))
@@ -75,6 +79,12 @@ network_in row = record {
   next = number_at row network.NEXT;
 }
 
+abbrev pub second_in : Row → SecondRow
+second_in row = record { network = number_at row second.NETWORK; pool = record { address = address_at row second.FAMILY second.LO; length = number_at row second.LENGTH } }
+
+abbrev pub reader_in : Row → Bytes
+reader_in row = bytes_at row reader.DIGEST
+
 -- absent together: where the first is absent, there is no status
 abbrev pub status_at : Row → Option Status
 status_at row = cond (is_null (column row peer.HANDSHAKE)) None
@@ -106,19 +116,21 @@ allowed_in row = record {
   is_route = bytes_eq (bytes_at row allowed.KIND) route_kind;
 }
 
-abbrev pub tables_in : Trees → Tables
-tables_in trees = record {
+abbrev pub tables_in : Schema → Trees → Tables
+tables_in schema trees = record {
   meta = map meta_in (trees meta_tree);
   tenants = map tenant_in (trees tenant_tree);
   tokens = map token_in (trees token_tree);
   networks = map network_in (trees network_tree);
+  seconds = map second_in (rows_in trees (tree_named schema (codes "second")));
+  readers = map reader_in (rows_in trees (tree_named schema (codes "reader")));
   peers = map peer_in (trees peer_tree);
   allowed = map allowed_in (trees allowed_tree);
 }
 
 -- the rows of the register that a database holds
 abbrev pub tables_of : Database → Tables
-tables_of db = tables_in db.trees
+tables_of db = tables_in db.schema db.trees
 
 -- ---- rows that are written as the register writes them
 
@@ -148,6 +160,9 @@ pub record AreWritten (numbers addresses families : List ℕ) (rows : List Row) 
 abbrev pub network_numbers : List ℕ
 network_numbers = network.ID ∷ network.TENANT ∷ network.FAMILY ∷ network.LENGTH ∷ network.PORT ∷ network.CAPACITY ∷ network.NEXT ∷ []
 
+abbrev pub second_numbers : List ℕ
+second_numbers = second.NETWORK ∷ second.FAMILY ∷ second.LENGTH ∷ []
+
 abbrev pub peer_numbers : List ℕ
 peer_numbers = peer.ID ∷ peer.NETWORK ∷ peer.UNTIL ∷ peer.KEEPALIVE ∷ []
 
@@ -165,6 +180,12 @@ AreTokens = AreWritten (token.TENANT ∷ []) [] []
 
 abbrev pub AreNetworks : List Row → Type 0
 AreNetworks = AreWritten network_numbers (network.LO ∷ []) (network.FAMILY ∷ [])
+
+abbrev pub AreSeconds : List Row → Type 0
+AreSeconds = AreWritten second_numbers (second.LO ∷ []) (second.FAMILY ∷ [])
+
+abbrev pub AreReaders : List Row → Type 0
+AreReaders = AreWritten [] [] []
 
 abbrev pub ArePeers : List Row → Type 0
 ArePeers = AreWritten peer_numbers [] []
@@ -203,11 +224,19 @@ pub record AreTrees (trees : Trees) : Type 0 where
   pub statuses : HaveStatuses (trees peer_tree)
   pub kinds : HaveKinds (trees allowed_tree)
 
+-- the tables of the third version are there, and their rows are written as the register writes them
+pub record HasLater (db : Database) : Type 0 where
+  pub second : HasSecond db.schema
+  pub reader : HasReader db.schema
+  pub seconds : AreSeconds (rows_named db (codes "second"))
+  pub readers : AreReaders (rows_named db (codes "reader"))
+
 -- the database has the register's tables, perhaps with others after them that are separate, and
--- their rows are written as the register writes them
+-- their rows are written as the register writes them; one of the third version has those of that too
 pub record IsRegister (db : Database) : Type 0 where
   pub others : Others
   pub schema_is : db.schema ≡ schema_with others
   pub apart : AreOthersApart others
   pub sound : IsDatabase db
   pub written : AreTrees db.trees
+  pub later : (tables_of db).meta ≡ third_version → HasLater db

@@ -13,10 +13,13 @@ use Rattle.sqlite_schema.specs.declared.schema.View.{View}
 use Rattle.sqlite.specs.Table.{Table}
 use Rattle.sqlite.specs.Schema.{Schema}
 use Rattle.sqlite.specs.Kind.TheVariants.{Integer, Text, Blob}
+use Rattle.wgr_sql.specs.Named.{HasTable}
 use Rattle.wgr_columns.specs.declared.columns.allowed.TheConstants as allowed
 use Rattle.wgr_columns.specs.declared.columns.meta.TheConstants as meta
 use Rattle.wgr_columns.specs.declared.columns.network.TheConstants as network
 use Rattle.wgr_columns.specs.declared.columns.peer.TheConstants as peer
+use Rattle.wgr_columns.specs.declared.columns.reader.TheConstants as reader
+use Rattle.wgr_columns.specs.declared.columns.second.TheConstants as second
 use Rattle.wgr_columns.specs.declared.columns.tenant.TheConstants as tenant
 use Rattle.wgr_columns.specs.declared.columns.token.TheConstants as token
 
@@ -69,6 +72,13 @@ allowed_table_at tree = table_of (codes "allowed") tree None allowed_key_places 
     (column_of (codes "network") Integer true ∷ column_of (codes "family") Integer true ∷ column_of (codes "lo") Blob true ∷ column_of (codes "length") Integer true ∷ column_of (codes "hi") Blob true
     ∷ column_of (codes "peer") Integer true ∷ column_of (codes "kind") Text true ∷ [])
 
+-- the two tables of the third version, which are found by their names
+abbrev pub second_table_at : ℕ → Table
+second_table_at tree = table_of (codes "second") tree (Some 0) (second.NETWORK ∷ []) [] (column_of (codes "network") Integer false ∷ column_of (codes "family") Integer true ∷ column_of (codes "lo") Blob true ∷ column_of (codes "length") Integer true ∷ [])
+
+abbrev pub reader_table_at : ℕ → Table
+reader_table_at tree = table_of (codes "reader") tree None (reader.DIGEST ∷ []) ((reader.DIGEST ∷ []) ∷ []) (column_of (codes "digest") Blob true ∷ [])
+
 -- the trees that hold the rows of the tables; those between hold the indexes
 abbrev pub meta_tree : ℕ
 meta_tree = 0
@@ -103,6 +113,13 @@ abbrev pub register_indexes : List Index
 register_indexes = index_of (codes "sqlite_autoindex_tenant_1") 2 1 (tenant.NAME ∷ []) true ∷ index_of (codes "sqlite_autoindex_token_1") 4 3 (token.DIGEST ∷ []) true ∷ index_of (codes "sqlite_autoindex_network_1") 6 5 (network.TENANT ∷ network.NAME ∷ []) true
     ∷ index_of (codes "sqlite_autoindex_network_2") 7 5 (network.HOST ∷ network.PORT ∷ []) true ∷ index_of (codes "sqlite_autoindex_peer_1") 9 8 (peer.NETWORK ∷ peer.KEY ∷ []) true
     ∷ index_of (codes "sqlite_autoindex_allowed_1") 11 10 allowed_key_places true ∷ index_of (codes "allowed_peer") 12 10 (allowed.NETWORK ∷ allowed.PEER ∷ []) false ∷ []
+
+-- a table of the third version is there: it is none of the first six, and has a tree of its own
+abbrev pub HasSecond : Schema → Type 0
+HasSecond = HasTable first_free_tree (codes "second") second_table_at
+
+abbrev pub HasReader : Schema → Type 0
+HasReader = HasTable first_free_tree (codes "reader") reader_table_at
 
 -- what is in the database after the register's tables and indexes
 pub record Others : Type 0 where

@@ -53,6 +53,24 @@ pub mod network {
     pub const NEXT: usize = 11;
 }
 
+/// Columns of `second`.
+pub mod second {
+    /// The id of the network whose second pool it is, which is the rowid.
+    pub const NETWORK: usize = 0;
+    /// The pool's family.
+    pub const FAMILY: usize = 2;
+    /// The pool's first address.
+    pub const LO: usize = 3;
+    /// The pool's length.
+    pub const LENGTH: usize = 4;
+}
+
+/// Columns of `reader`.
+pub mod reader {
+    /// The digest of a token that only reads.
+    pub const DIGEST: usize = 1;
+}
+
 /// The text of a query of networks, with each column at its place. What stands behind the table's name is
 /// the argument, a literal that begins with a space, or there is none.
 #[macro_export]

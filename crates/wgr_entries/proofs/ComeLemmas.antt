@@ -1,5 +1,5 @@
 -- Rows that come.
-use Rattle.std.proofs.Common.{◌≡◌, ◌<◌, ◌^◌, ℕ, pos, [], ◌∷◌, map, Ok, IsPermutation, refl, sym, ap, subst, inl, inr}
+use Rattle.std.proofs.Common.{◌≡◌, ◌<◌, ◌^◌, ℕ, pos, [], ◌∷◌, map, Ok, IsPermutation, refl, sym, ap, subst, inl, inr, ◌∙◌}
 use Rattle.std.proofs.lemmas.List.Sorted.{IsPermutation-map}
 use Rattle.sqlite.specs.declared.types.Value.TheVariants.{Null, Int, Text, Blob}
 use Rattle.sqlite.specs.Order.{Row}
@@ -43,6 +43,7 @@ tenant_came old new register id name count ran =
     let news : (edit_of old.now.trees (tenant_table_at 1) [] Chosen 0 (value_rows (stamped (tenant_table_at 1) params) 3 1 tenant_values)).news ≡ row ∷ [] = rw (cast_null, cast_int (pos id)) in
     let done = row_inserted old new register insert_tenant_text params count ran 1 (tenant_table_at 1) refl refl tenant_values 3 (insert_tenant_means register.others) refl row news in
     record {
+      schema = done.0.edits.schema_is ∙ sym register.schema_is;
       sound = register_tenants old.now new.now _ register done.0.sound done.0.edits (written_put (0 ∷ []) [] [] row rows refl done.1 (one_number 0 row refl) register.written.tenants);
       made = (map tenant_in (put_row row rows), IsPermutation-map tenant_in (row ∷ rows) (put_row row rows) (put_one row rows done.1), tenants_after old.now new.now _ register done.0.sound done.0.edits);
     }
@@ -55,6 +56,7 @@ token_came old new register digest tenant count ran =
     let news : (edit_of old.now.trees (token_table_at 3) [] Chosen 0 (value_rows (stamped (token_table_at 3) params) 3 1 token_values)).news ≡ row ∷ [] = rw (cast_null, cast_int (pos tenant)) in
     let done = row_inserted old new register insert_token_text params count ran 2 (token_table_at 3) refl refl token_values 3 (insert_token_means register.others) refl row news in
     record {
+      schema = done.0.edits.schema_is ∙ sym register.schema_is;
       sound = register_tokens old.now new.now _ register done.0.sound done.0.edits (written_put (2 ∷ []) [] [] row rows refl done.1 (one_number 2 row refl) register.written.tokens);
       made = (map token_in (put_row row rows), IsPermutation-map token_in (row ∷ rows) (put_row row rows) (put_one row rows done.1), tokens_after old.now new.now _ register done.0.sound done.0.edits);
     }
@@ -101,6 +103,7 @@ network_came old new register w count low ran =
     rw (cast_null, cast_int (pos w.id), cast_int (pos w.tenant), cast_int (pos (family_number w.pool.address.family)), cast_int (pos w.pool.length), cast_int (pos w.port), cast_int (pos w.capacity), cast_int (pos 1)) in
     let done = row_inserted old new register insert_network_text (network_params w) count ran 3 (network_table_at 5) refl refl network_values 12 (insert_network_means register.others) refl row news in
     record {
+      schema = done.0.edits.schema_is ∙ sym register.schema_is;
       sound = register_networks old.now new.now _ register done.0.sound done.0.edits (written_put network_numbers (5 ∷ []) (4 ∷ []) row rows refl done.1 (stored_written w low) register.written.networks);
       made = (
         map network_in (put_row row rows),

@@ -40,6 +40,7 @@ token_gone old new register digest count ran =
     let p = λ (r : Row). list_all (holds (params ∷ r ∷ [])) (at_place 1) in
     let done = rows_deleted old new register drop_token_text params count ran 2 (token_table_at 3) refl refl (at_place 1) (drop_token_means register.others) register.written.tokens.keyed in
     record {
+      schema = done.edits.schema_is ∙ sym register.schema_is;
       sound = register_tokens old.now new.now _ register done.sound done.edits (written_filter (2 ∷ []) [] [] (λ r. not (p r)) rows register.written.tokens);
       made = tokens_after old.now new.now _ register done.sound done.edits
           ∙ ap (λ l. record (tables_of old.now) { tokens = l }) (map_filter token_in (λ r. not (p r)) (λ x. not (is_same digest x.digest)) rows (λ r here. ap not (passes r here)));
@@ -63,6 +64,7 @@ module _ (old new : State) (register : IsRegister old.now) (id count : ℕ) wher
       let p = λ (r : Row). list_all (holds (params ∷ r ∷ [])) (at_place 1) in
       let done = rows_deleted old new register drop_allowed_text params count ran 5 (allowed_table_at 10) refl refl (at_place 1) (drop_allowed_means register.others) register.written.allowed.keyed in
       record {
+        schema = done.edits.schema_is ∙ sym register.schema_is;
         sound = register_allowed old.now new.now _ register done.sound done.edits (written_filter allowed_numbers allowed_addresses (2 ∷ []) (λ r. not (p r)) rows register.written.allowed)
             (each_filter (λ r. IsKindAt r 7) (λ r. not (p r)) rows register.written.kinds);
         made = allowed_after old.now new.now _ register done.sound done.edits
@@ -76,6 +78,7 @@ module _ (old new : State) (register : IsRegister old.now) (id count : ℕ) wher
       let p = λ (r : Row). list_all (holds (params ∷ r ∷ [])) (at_place 2) in
       let done = rows_deleted old new register drop_peers_text params count ran 4 (peer_table_at 8) refl refl (at_place 2) (drop_peers_means register.others) register.written.peers.keyed in
       record {
+        schema = done.edits.schema_is ∙ sym register.schema_is;
         sound = register_peers old.now new.now _ register done.sound done.edits (written_filter peer_numbers [] [] (λ r. not (p r)) rows register.written.peers)
             (each_filter IsStatusRow (λ r. not (p r)) rows register.written.statuses);
         made = peers_after old.now new.now _ register done.sound done.edits
@@ -89,6 +92,7 @@ module _ (old new : State) (register : IsRegister old.now) (id count : ℕ) wher
       let p = λ (r : Row). list_all (holds (params ∷ r ∷ [])) (at_place 0) in
       let done = rows_deleted old new register drop_network_text params count ran 3 (network_table_at 5) refl refl (at_place 0) (drop_network_means register.others) register.written.networks.keyed in
       record {
+        schema = done.edits.schema_is ∙ sym register.schema_is;
         sound = register_networks old.now new.now _ register done.sound done.edits (written_filter network_numbers (5 ∷ []) (4 ∷ []) (λ r. not (p r)) rows register.written.networks);
         made = networks_after old.now new.now _ register done.sound done.edits
             ∙ ap (λ l. record (tables_of old.now) { networks = l }) (map_filter network_in (λ r. not (p r)) (λ w. not (nat_eq w.id id)) rows

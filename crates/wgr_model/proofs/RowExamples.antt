@@ -164,6 +164,8 @@ rows = record {
   tenants = bolt ∷ acme ∷ [];
   tokens = token 2 ∷ token 1 ∷ [];
   networks = network_row 4 2 (codes "lab") 9 51821 2 ∷ network_row 3 1 (codes "office") 8 51820 3 ∷ [];
+  seconds = [];
+  readers = [];
   peers = peer_row 4194305 4 1 0 ∷ peer_row 3145729 3 1 0 ∷ peer_row 3145730 3 2 100 ∷ [];
   allowed = address_row 4 (address 9 2) 4194305
       ∷ address_row 3 (address 8 2) 3145729

@@ -17,7 +17,7 @@ pub record AreConsistent (t : Tables) : Type 0 where
 
 -- the tables of a register without entries
 abbrev pub no_rows : Tables
-no_rows = record { meta = first_version; tenants = []; tokens = []; networks = []; peers = []; allowed = [] }
+no_rows = record { meta = first_version; tenants = []; tokens = []; networks = []; seconds = []; readers = []; peers = []; allowed = [] }
 
 -- what a tenant sees, read from the rows
 abbrev pub rows_view : Tables → Bytes → View

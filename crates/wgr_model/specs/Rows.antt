@@ -49,6 +49,11 @@ pub record AllowedRow : Type 0 where
   pub peer : ℕ
   pub is_route : Bool
 
+-- the second pool of the network of this id
+pub record SecondRow : Type 0 where
+  pub network : ℕ
+  pub pool : PrefixValue
+
 -- how the tables are laid out
 pub record MetaRow : Type 0 where
   pub version : ℕ
@@ -58,6 +63,8 @@ pub record Tables : Type 0 where
   pub tenants : List Tenant
   pub tokens : List Token
   pub networks : List NetworkRow
+  pub seconds : List SecondRow
+  pub readers : List Bytes
   pub peers : List PeerRow
   pub allowed : List AllowedRow
 
@@ -168,6 +175,10 @@ HaveSame {A} xs ys = (a : A) → Has xs a ↔ Has ys a
 abbrev pub first_version : List MetaRow
 first_version = record { version = 1 } ∷ []
 
+-- the same in the version that has tables of second pools and of tokens that only read
+abbrev pub third_version : List MetaRow
+third_version = record { version = 3 } ∷ []
+
 -- The rows are those of the register, in whatever order: its tenants, tokens and networks; for each
 -- peer one row, and one of its address at full length; and one for each route.
 pub record AreRowsOf (r : Register) (t : Tables) : Type 0 where
@@ -191,6 +202,8 @@ pub record Replaces (id : ℕ) (n : NetworkValue) (t u : Tables) : Type 0 where
   pub tenants : u.tenants ≡ t.tenants
   pub tokens : u.tokens ≡ t.tokens
   pub networks : IsPermutation (map (with_next id n.next) t.networks) u.networks
+  pub seconds : u.seconds ≡ t.seconds
+  pub readers : u.readers ≡ t.readers
   pub peers : (a : PeerRow) → Has u.peers a ↔ (Has (map (peer_row id) n.peers) a ⊎ (Has t.peers a × (nat_eq a.network id ≡ false)))
   pub allowed : (a : AllowedRow) → Has u.allowed a ↔ (Has (map (address_row id) n.peers ++ map (route_row id) n.routes) a ⊎ (Has t.allowed a × (nat_eq a.network id ≡ false)))
   pub keyed : AreKeyed u

@@ -1,5 +1,5 @@
 -- That rows exist: the statements about rows aren't vacuous.
-use Rattle.std.specs.Prelude.{map}
+use Rattle.std.specs.Prelude.{map, []}
 use Rattle.std.specs.List.{flat_map}
 use Rattle.wgr_model.specs.Register.{Register}
 use Rattle.wgr_model.specs.Consistent.{IsConsistent}
@@ -9,7 +9,7 @@ use Rattle.wgr_model.specs.RowLaws.{AreConsistent, IsRowStep}
 
 -- the rows of a register, entry by entry
 abbrev pub rows_of : Register → Tables
-rows_of r = record { meta = first_version; tenants = r.tenants; tokens = r.tokens; networks = map network_row r.networks; peers = flat_map peer_rows r.networks; allowed = flat_map allowed_rows r.networks }
+rows_of r = record { meta = first_version; tenants = r.tenants; tokens = r.tokens; networks = map network_row r.networks; seconds = []; readers = []; peers = flat_map peer_rows r.networks; allowed = flat_map allowed_rows r.networks }
 
 -- every consistent register has rows
 abbrev pub RowsExist : Type 0

@@ -16,7 +16,7 @@ use Rattle.sqlite_rules.specs.Edit.{id_in}
 use Rattle.sqlite_rules.specs.Lists as rules
 use Rattle.wgr_pool.proofs.PrefixLemmas.{nat_eq_is}
 use Rattle.wgr_model.specs.Laws.{Has}
-use Rattle.wgr_model.specs.Rows.{AllowedRow, NetworkRow, PeerRow, Tables}
+use Rattle.wgr_model.specs.Rows.{AllowedRow, NetworkRow, PeerRow, Tables, first_version}
 use Rattle.wgr_model.proofs.CollectLemmas.{from_map, has_map}
 use Rattle.wgr_model.proofs.GatherLemmas.{map_map}
 use Rattle.wgr_model.proofs.SameLemmas.{at_has, has_permutation}
@@ -28,6 +28,7 @@ use Rattle.wgr_sql.proofs.Answers.{map-both}
 use Rattle.wgr_sql.proofs.StandingLemmas.{stands_kept, stands_open}
 use Rattle.wgr_schema.specs.Versions.{SaysVersion}
 use Rattle.wgr_schema.specs.declared.version.Version.TheVariants.{One}
+use Rattle.wgr_schema.proofs.VersionLemmas.{first_is_no_third}
 use Rattle.wgr_columns.specs.LaidOut.{IsLaidOut}
 use Rattle.wgr_columns.specs.Decode.{AreAllowed, ArePeers, AreWritten, HaveKinds, HaveStatuses, IsRegister, allowed_in, network_in, number_at, peer_in, tables_of, tenant_in}
 use Rattle.wgr_tables.specs.Standing.{Stands}
@@ -131,6 +132,9 @@ module _ (db : Database) (laid : IsLaidOut db.schema) (first : SaysVersion One (
   allowed : AreAllowed (db.trees 10) × HaveKinds (db.trees 10) × AreAmong (map (λ a. a.network) (map allowed_in (db.trees 10))) ids
   allowed = allowed_are ids (db.trees 10) tables.allowed
 
+  version_is : t.meta ≡ first_version
+  version_is = sym (map_map (λ (r : Row). column r 0) (λ v. record { version = unsigned_abs (id_in v) }) (db.trees 0)) ∙ ap (map (λ v. record { version = unsigned_abs (id_in v) })) first
+
   pub register : IsRegister db
   register = record {
     others = laid.others;
@@ -138,6 +142,7 @@ module _ (db : Database) (laid : IsLaidOut db.schema) (first : SaysVersion One (
     apart = laid.apart;
     sound = database;
     written = record { meta = version_written (db.trees 0) first; tenants = tenants.written; tokens = tokens.written; networks = networks.written; peers = peers.0; allowed = allowed.0; statuses = peers.1; kinds = allowed.1 };
+    later = λ third. absurd (first_is_no_third (sym version_is ∙ third));
   }
 
   has_id : (w : NetworkRow) → Has t.networks w → Has ids w.id
@@ -155,7 +160,7 @@ module _ (db : Database) (laid : IsLaidOut db.schema) (first : SaysVersion One (
 
   whole : AllByRecursion (StoresNetwork t) ids → AreWhole t
   whole told = record {
-    meta = sym (map_map (λ (r : Row). column r 0) (λ v. record { version = unsigned_abs (id_in v) }) (db.trees 0)) ∙ ap (map (λ v. record { version = unsigned_abs (id_in v) })) first;
+    meta = version_is;
     tenants = record { each = tenants.each; ids = tenants.ids; names = tenants.names; few = subst (λ n. n ≤ 65536) (sym (length-map (db.trees 1) tenant_in)) entries.few };
     tokens = record { each = tokens.each; digests = tokens.digests; owners = tokens.owners; few = tokens.few };
     networks = record {

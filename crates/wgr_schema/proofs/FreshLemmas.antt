@@ -1,5 +1,6 @@
 -- The register that was made.
-use Rattle.std.proofs.Common.{◌≡◌, ℕ, pos, List, [], ◌∷◌, Ok, map, refl, sym, ap, subst, ◌∙◌, inl, inr}
+use Rattle.std.proofs.Common.{◌≡◌, ℕ, pos, List, [], ◌∷◌, Ok, None, codes, map, slice_get, option_map, refl, sym, ap, subst, ◌∙◌, inl, inr}
+use Rattle.std.specs.Prelude.{option_and_then}
 use Rattle.sqlite.specs.declared.types.Value.TheVariants.{Null, Int}
 use Rattle.sqlite.specs.Order.{Row}
 use Rattle.sqlite.specs.Edit.{edit_of}
@@ -11,13 +12,18 @@ use Rattle.sqlite.specs.Tree.{Trees}
 use Rattle.sqlite_value.specs.Order.{column}
 use Rattle.sqlite_trees.specs.Tree.{put_row}
 use Rattle.sqlite_rules.specs.Lists.{Has}
+use Rattle.sqlite.specs.Table.{Table}
+use Rattle.sqlite_schema.specs.Names.{same_name, table_named}
+use Rattle.wgr_model.specs.Rows.{Tables}
 use Rattle.wgr_model.specs.RowLaws.{no_rows}
+use Rattle.wgr_sql.specs.Named.{rows_in, rows_named, tree_named}
 use Rattle.wgr_sql.proofs.RowLemmas.{inserted}
 use Rattle.wgr_sql.proofs.TableLemmas.{cast_null, cast_int, apart}
 use Rattle.wgr_columns.specs.Layout.{meta_table_at, schema_with}
-use Rattle.wgr_columns.specs.Decode.{AreWritten, AreTrees, tables_of, number_at, network_numbers, peer_numbers, allowed_numbers, allowed_addresses, meta_in, tenant_in, token_in, network_in, peer_in, allowed_in}
+use Rattle.wgr_columns.specs.Decode.{AreWritten, AreTrees, tables_of, number_at, network_numbers, peer_numbers, allowed_numbers, allowed_addresses, meta_in, tenant_in, token_in, network_in, peer_in, allowed_in, reader_in, second_in}
 use Rattle.wgr_tables.proofs.WrittenLemmas.{written_put}
 use Rattle.wgr_schema.specs.Fresh.{HasBlank, IsFresh, no_others, whole_schema}
+use Rattle.wgr_schema.proofs.VersionLemmas.{first_is_no_third}
 use Rattle.wgr_schema.proofs.Meanings.{version_text, version_values, version_means, whole_is}
 
 abbrev pub meta_row : Row
@@ -26,7 +32,7 @@ meta_row = Int (pos 1) ∷ Null ∷ []
 pub version_row : (db : Trees) → db 0 ≡ [] → (edit_of db (meta_table_at 0) [] Chosen 0 (value_rows (stamped (meta_table_at 0) []) 2 1 version_values)).news ≡ meta_row ∷ []
 version_row db none = rw (none, cast_null, cast_int (pos 1))
 
-none_written : (numbers addresses families : List ℕ) → AreWritten numbers addresses families []
+pub none_written : (numbers addresses families : List ℕ) → AreWritten numbers addresses families []
 none_written numbers addresses families = record {
   keyed = record { ints = λ r none. absurd none; once = λ r s none. absurd none };
   numbers_are = λ r none. absurd none;
@@ -59,12 +65,19 @@ written_trees db is = record {
   kinds = λ r here. absurd (subst (λ l. Has l r) is.allowed here);
 }
 
-none_read : (db : Database) → Rows db → tables_of db ≡ no_rows
-none_read db is = λ k. record {
+-- no table has the name of a later one
+none_named : (db : Database) → db.schema ≡ schema_with no_others → (name : List ℕ) → table_named (schema_with no_others) name ≡ None → rows_named db name ≡ []
+none_named db has name none = ap (λ s. rows_in db.trees (tree_named s name)) has ∙ ap (λ o. rows_in db.trees (option_map (λ (t : Table). t.tree) (option_and_then (slice_get (schema_with no_others).tables) o))) none
+
+none_read : (db : Database) → db.schema ≡ schema_with no_others → Rows db → tables_of db ≡ no_rows
+unfolding same_name
+none_read db has is = let seconds = none_named db has (codes "second") refl in let readers = none_named db has (codes "reader") refl in λ k. record {
   meta = map meta_in (is.meta k);
   tenants = map tenant_in (is.tenants k);
   tokens = map token_in (is.tokens k);
   networks = map network_in (is.networks k);
+  seconds = map second_in (seconds k);
+  readers = map reader_in (readers k);
   peers = map peer_in (is.peers k);
   allowed = map allowed_in (is.allowed k);
 }
@@ -83,8 +96,9 @@ fresh_made old new was count ran =
       peers = stays 8 (λ same. absurd cc) (apart schema 8 refl) ∙ b.1.1.1.1.0;
       allowed = stays 10 (λ same. absurd cc) (apart schema 10 refl) ∙ b.1.1.1.1.1.0;
     } in
+    let read = none_read new.now done.0.edits.schema_is rows in
     record {
       schema_is = done.0.edits.schema_is;
-      register = record { others = no_others; schema_is = done.0.edits.schema_is; apart = record { tables = refl; indexes = refl }; sound = done.0.sound; written = written_trees new.now rows };
-      rows = none_read new.now rows;
+      register = record { others = no_others; schema_is = done.0.edits.schema_is; apart = record { tables = refl; indexes = refl }; sound = done.0.sound; written = written_trees new.now rows; later = λ is. absurd (first_is_no_third (sym (ap (λ (t : Tables). t.meta) read) ∙ is)) };
+      rows = read;
     }

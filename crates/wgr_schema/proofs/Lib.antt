@@ -10,3 +10,10 @@ pub mod RefusalLemmas
 pub mod ServedLemmas
 pub mod InsertLemmas
 pub mod FailLemmas
+pub mod UpgradeTexts
+pub mod GrownLemmas
+pub mod MetaLemmas
+pub mod UpgradeSteps
+pub mod UpgradeStops
+pub mod UpgradeEnds
+pub mod Examples

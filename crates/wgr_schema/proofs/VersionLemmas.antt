@@ -1,5 +1,5 @@
 -- What the query for the version finds.
-use Rattle.std.proofs.Common.{◌≡◌, ◌↔◌, ℕ, pos, true, List, [], ◌∷◌, map, filter, codes, IsPermutation, unsigned_abs, refl, sym, ap, subst, ◌∙◌, inl, arith}
+use Rattle.std.proofs.Common.{◌≡◌, ◌↔◌, ◌≤◌, ℕ, pos, Option, Some, None, true, List, [], ◌∷◌, map, filter, codes, IsPermutation, unsigned_abs, refl, sym, ap, subst, ◌∙◌, inl, arith, Bool, nat_eq, true≢false}
 use Rattle.std.proofs.lemmas.List.Sorted.{IsPermutation-sym, IsPermutation-map}
 use Rattle.sqlite.specs.declared.types.Value.{Value}
 use Rattle.sqlite.specs.declared.types.Value.TheVariants.{Int}
@@ -14,7 +14,7 @@ use Rattle.sqlite.specs.Term.{col}
 use Rattle.sqlite_tied.specs.Compute.{everything}
 use Rattle.sqlite.proofs.Callers.{IsPlain, reads_as, one_permutation}
 use Rattle.sqlite_rules.specs.Edit.{id_in}
-use Rattle.wgr_model.specs.Rows.{MetaRow, first_version}
+use Rattle.wgr_model.specs.Rows.{MetaRow, first_version, third_version}
 use Rattle.wgr_sql.specs.Causes.{IsAnswered}
 use Rattle.wgr_sql.specs.Effects.{plain_query}
 use Rattle.wgr_sql.proofs.Answers.{answers, map-both}
@@ -24,7 +24,7 @@ use Rattle.wgr_columns.specs.Decode.{IsRegister, tables_of, meta_in, number_at}
 use Rattle.wgr_columns.proofs.Statements.{Asks}
 use Rattle.wgr_columns.proofs.Statements.{never_refused}
 use Rattle.wgr_columns.specs.LaidOut.{IsLaidOut}
-use Rattle.wgr_schema.specs.Versions.{IsOfVersion, SaysVersion, version_number}
+use Rattle.wgr_schema.specs.Versions.{HasTablesOf, IsOfVersion, IsVersionOf, SaysVersion, version_number}
 use Rattle.wgr_schema.specs.declared.version.Version.{Version}
 use Rattle.wgr_schema.specs.declared.version.Version.TheVariants.{One}
 
@@ -64,20 +64,42 @@ asks_for_version others = record { given = (refl, refl, omega arith, refl); unli
 pub version_answered : (s : Schema) → IsLaidOut s → IsAnswered s version_query []
 version_answered s laid = subst (λ x. IsAnswered x version_query []) (sym laid.schema_is) (asks_for_version laid.others)
 
+-- the version that the row says, where its tables are there
+pub version_is : (db : Database) (rows : List Row) (said last : Version) (found : Option Version) → IsLaidOut db.schema → ((v : Version) → SaysVersion v rows ↔ SaysVersion v (db.trees 0)) → ((v : Version) → (Some said ≡ Some v) ↔ SaysVersion v rows)
+    → ((v : Version) → HasTablesOf v db.schema ↔ (version_number v ≤ version_number last)) → ((v : Version) → (found ≡ Some v) ↔ ((said ≡ v) × (version_number v ≤ version_number last))) → IsVersionOf found db
+version_is db rows said last found laid same says has is v = (
+  (λ e. let p = (is v).0 e in (laid, (same v).0 ((says v).0 (ap Some p.0)), (has v).1 p.1)),
+  (λ p. let e = (says v).1 ((same v).1 p.1) in let one : said ≡ v = cc in (is v).1 (one, (has v).0 p.2)),
+)
+
+pub no_version : (db : Database) (rows : List Row) → ((v : Version) → SaysVersion v rows ↔ SaysVersion v (db.trees 0)) → ((v : Version) → (None ≡ Some v) ↔ SaysVersion v rows) → IsVersionOf None db
+no_version db rows same says v = ((λ e. absurd cc), (λ p. (says v).1 ((same v).1 p.1)))
+
 -- ---- the version of a register's rows
 
-pub version_read : (db : Database) → IsRegister db → IsOfVersion One db ↔ ((tables_of db).meta ≡ first_version)
-version_read db is = (there, back)
+pub meta_read : (version : Version) (db : Database) → SaysVersion version (db.trees 0) → (tables_of db).meta ≡ record { version = version_number version } ∷ []
+meta_read version db says = sym (map-both (λ r. column r 0) read (db.trees 0)) ∙ ap (map read) says
   where
     read : Value → MetaRow
     read v = record { version = unsigned_abs (id_in v) }
 
+pub version_read : (db : Database) → IsRegister db → IsOfVersion One db ↔ ((tables_of db).meta ≡ first_version)
+version_read db is = (there, back)
+  where
     there : IsOfVersion One db → (tables_of db).meta ≡ first_version
-    there first = sym (map-both (λ r. column r 0) read (db.trees 0)) ∙ ap (map read) first.1
+    there first = meta_read One db first.1
 
     back : (tables_of db).meta ≡ first_version → IsOfVersion One db
     back meta = (
       record { others = is.others; schema_is = is.schema_is; apart = is.apart },
       map_alike (λ r. column r 0) (λ r. Int (pos (number_at r 0))) (db.trees 0) (λ r here. is.written.meta.numbers_are r here 0 (inl refl)) ∙ sym (map-both meta_in (λ m. Int (pos m.version)) (db.trees 0))
           ∙ ap (map (λ m. Int (pos m.version))) meta,
+      tt,
     )
+
+pub first_is_no_third : first_version ≡ third_version → ⊥
+first_is_no_third same = true≢false (ap is_first same)
+  where
+    is_first : List MetaRow → Bool
+    is_first [] = true
+    is_first (m ∷ rows) = nat_eq m.version 1

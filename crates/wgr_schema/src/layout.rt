@@ -10,7 +10,7 @@ use crate::tables::are_register_tables;
 use sqlite_schema::schema::{Index, Reference, Schema, Table};
 
 // The first tree that is not one of the register's tables and indexes.
-const FIRST_FREE_TREE: u32 = 13;
+pub(crate) const FIRST_FREE_TREE: u32 = 13;
 
 // Whether the reference names one of the tables.
 fn refers(tables: &[Table], reference: &Reference) -> bool

@@ -1,18 +1,21 @@
-//! Creates the register's tables in an empty database, and tests whether a database has
-//! them.
+//! Creates the register's tables in an empty database, tells of which version a database's tables
+//! are, and takes them to the third.
 #![tactic(auto)]
 
 mod fault;
 mod form;
 mod indexes;
+mod later;
 mod laws;
 mod layout;
 mod making;
 mod tables;
+mod upgrading;
 mod version;
 
 pub use fault::{RegisterFault, register_fault};
 pub use laws::{fresh_is_consistent, version_is_read};
 pub use layout::holds_register;
 pub use making::make;
-pub use version::{Version, check_layout};
+pub use upgrading::upgrade;
+pub use version::{Version, check_layout, version_of};

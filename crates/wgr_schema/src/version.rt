@@ -1,15 +1,17 @@
 //! The versions of the register's tables, and of which one a database is.
-ghost use Rattle.std.specs.Prelude.{◌≡◌, ◌↔◌, false, IsTrue, IfErr, IfOk, OnOk, Err};
+ghost use Rattle.std.specs.Prelude.{◌≡◌, ◌↔◌, ◌≤◌, pos, false, IsTrue, IfErr, IfOk, OnOk, Err, Some};
 ghost use Rattle.sqlite.specs.State.{HasCleanDisk, Survives};
 ghost use Rattle.sqlite.specs.Held.{state};
 ghost use Rattle.wgr_sql.specs.Calls.{IsKept};
 ghost use Rattle.wgr_sql.specs.Causes.{HasCause};
 ghost use Rattle.wgr_schema.specs.Faults.{IfStatementFails};
-ghost use Rattle.wgr_schema.specs.Versions.{IsOfVersion, SaysVersion, version_number};
+ghost use Rattle.wgr_schema.specs.Versions.{IsOfVersion, IsVersionOf, SaysVersion, version_number};
+ghost use Rattle.wgr_schema.specs.declared.version.Version.{Version};
 ghost use Rattle.wgr_schema.specs.declared.version.Version.TheVariants.{One};
 ghost use Rattle.wgr_schema.specs.declared.fault.RegisterFault.TheVariants.{NotARegister, NotGood, NotEmpty};
 
 use crate::fault::{RegisterFault, register_fault};
+use crate::later::last_served;
 use crate::layout::holds_register;
 use sqlite::types::ValueRef;
 use sqlite::{Alter, Connection, Row};
@@ -19,8 +21,12 @@ use wgr_sql::{Fault, query};
 /// A version of the register's tables.
 #[derive(Clone, Copy, Debug, PartialEq, Eq)]
 pub enum Version {
-    /// The first, which this program makes and opens.
+    /// The first, with six tables, which this program makes and opens.
     One,
+    /// The second, with the table `second` too. No release wrote it.
+    Two,
+    /// The third, with the tables `second` and `reader` too.
+    Three,
 }
 
 impl Version {
@@ -30,37 +36,74 @@ impl Version {
     {
         match self {
             Version::One => 1,
+            Version::Two => 2,
+            Version::Three => 3,
         }
     }
 }
 
-// Whether there is one row, and its first value is the number of this version.
-fn says_version(rows: &[Row], version: Version) -> bool
-    ensures { IsTrue result ↔ SaysVersion version rows.now }
+// The version of this number.
+fn numbered(number: i64) -> Option<Version>
+    ensures { (version : Version) → (result ≡ Some version) ↔ (number ≡ pos (version_number version)) }
 {
-    match rows {
-        [row] => match row.get_ref(meta::VERSION) {
-            Ok(ValueRef::Int(number)) => number == i64::from(version.number()),
-            _ => false,
-        },
-        _ => false,
+    match number {
+        1 => Some(Version::One),
+        2 => Some(Version::Two),
+        3 => Some(Version::Three),
+        _ => None,
     }
 }
 
-// Whether the database has the register's tables, and says that they are of this version.
-fn is_of_version<S: Alter>(conn: &mut Connection<S>, version: Version) -> Result<bool, Fault>
+// The version that the rows of `meta` name: there is one row, and its first value is the version's number.
+fn said_version(rows: &[Row]) -> Option<Version>
+    ensures { (version : Version) → (result ≡ Some version) ↔ SaysVersion version rows.now }
+{
+    match rows {
+        [row] => match row.get_ref(meta::VERSION) {
+            Ok(ValueRef::Int(number)) => numbered(number),
+            _ => None,
+        },
+        _ => None,
+    }
+}
+
+// The version, if it isn't later than the last one.
+fn up_to(version: Version, last: Version) -> Option<Version>
+    ensures { (v : Version) → (result ≡ Some v) ↔ ((version ≡ v) × (version_number v ≤ version_number last)) }
+{
+    if version.number() > last.number() {
+        return None;
+    }
+    Some(version)
+}
+
+/// Of which version the database's tables are: the register's first six tables are there, the row of `meta` names
+/// the version, and the version's other tables are there. `None` means that they are of no version. It reads no
+/// row except that of the version, and changes nothing. A fault of the store has a cause.
+pub fn version_of<S: Alter>(conn: &mut Connection<S>) -> Result<Option<Version>, Fault>
     requires idle { conn.old.in_transaction ≡ false }
     ensures idle { conn.new.in_transaction ≡ false }
-    ensures answer { HasCleanDisk (state S.Store conn.new) → IfOk result (λ is. IsTrue is ↔ IsOfVersion version (state S.Store conn.old).now) }
+    ensures answer { HasCleanDisk (state S.Store conn.new) → IfOk result (λ found. IsVersionOf found (state S.Store conn.old).now) }
     ensures kept { IsKept (state S.Store conn.old) (state S.Store conn.new) }
     ensures survives { Survives (state S.Store conn.old) (state S.Store conn.new) (λ _. ⊥) }
     ensures cause { IfErr result (HasCause (state S.Store conn.old) (state S.Store conn.new)) }
 {
     if !holds_register(conn.schema()) {
-        return Ok(false);
+        return Ok(None);
     }
+    let last = last_served(conn.schema());
     let rows = query(conn, "SELECT version FROM meta", &[])?;
-    Ok(says_version(rows.as_slice(), version))
+    match said_version(rows.as_slice()) {
+        Some(version) => Ok(up_to(version, last)),
+        None => Ok(None),
+    }
+}
+
+fn is_first(found: Option<Version>) -> bool
+    ensures is { IsTrue result → found ≡ Some One }
+    ensures only { found ≡ Some One → IsTrue result }
+{
+    matches!(found, Some(Version::One))
 }
 
 /// `NotARegister` means that the database lacks the register's tables, or has those of another
@@ -77,9 +120,13 @@ pub fn check_layout<S: Alter>(conn: &mut Connection<S>) -> Result<(), RegisterFa
     ensures survives { Survives (state S.Store conn.old) (state S.Store conn.new) (λ _. ⊥) }
     ensures cause { IfErr result (IfStatementFails (HasCause (state S.Store conn.old) (state S.Store conn.new))) }
 {
-    match is_of_version(conn, Version::One) {
-        Ok(true) => Ok(()),
-        Ok(false) => Err(RegisterFault::NotARegister),
+    match version_of(conn) {
+        Ok(found) => {
+            if !is_first(found) {
+                return Err(RegisterFault::NotARegister);
+            }
+            Ok(())
+        }
         Err(fault) => Err(register_fault(fault)),
     }
 }

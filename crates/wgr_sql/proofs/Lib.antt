@@ -13,3 +13,7 @@ pub mod StepLemmas
 pub mod StandingLemmas
 pub mod CommitLemmas
 pub mod CauseLemmas
+pub mod NamedLemmas
+pub mod Compiles
+pub mod Creates
+pub mod GrowLemmas

@@ -1,5 +1,6 @@
 -- What each kind of statement makes of a database.
-use Rattle.std.proofs.Common.{◌≡◌, ◌⊎◌, ◌/◌, inl, inr, ℕ, ℤ, MatchBool, if◌then◌else◌, is_lt, int_cmp, List, [], length, map, slice_get, true, false, cond, Option, Some, None, Ok, Err, Result, sym, ap, subst, ◌∙◌}
+use Rattle.std.proofs.Common.{◌≡◌, ◌≢◌, ◌⊎◌, ◌/◌, inl, inr, ℕ, ℤ, MatchBool, if◌then◌else◌, is_lt, int_cmp, List, [], length, map, slice_get, true, false, cond, Option, Some, None, Ok, Err, Result, sym, ap, subst, ◌∙◌}
+use Rattle.std.specs.List.{AllByRecursion}
 use Rattle.sqlite.specs.Order.{Row}
 use Rattle.sqlite.specs.Term.{Term}
 use Rattle.sqlite.specs.Table.{Table}
@@ -80,6 +81,7 @@ module _ (old new : State) (schema : Schema) (has : old.now.schema ≡ schema) (
           edits = record {
             schema_is = ap (λ (d : Database). d.schema) now;
             rows = ap (λ (t : Trees). t table.tree) trees_are ∙ applied.rows ∙ ap (put_all (db table.tree)) rows;
+            tables = subst (λ (trees : Trees). AllByRecursion (λ (t : Table). t.tree ≢ table.tree → trees t.tree ≡ old.now.trees t.tree) schema.tables) (sym trees_are) applied.tables;
             others = λ t other none. ap (λ (trees : Trees). trees t) trees_are ∙ applied.others t other none;
           };
           shown = w.shown;
@@ -112,6 +114,7 @@ module _ (old new : State) (schema : Schema) (has : old.now.schema ≡ schema) (
           edits = record {
             schema_is = ap (λ (d : Database). d.schema) now;
             rows = ap (λ (t : Trees). t table.tree) trees_are ∙ applied.rows;
+            tables = subst (λ (trees : Trees). AllByRecursion (λ (t : Table). t.tree ≢ table.tree → trees t.tree ≡ old.now.trees t.tree) schema.tables) (sym trees_are) applied.tables;
             others = λ t other none. ap (λ (trees : Trees). trees t) trees_are ∙ applied.others t other none;
           };
           shown = w.shown;

@@ -72,14 +72,14 @@ each_more step (y ∷ xs) x t m u done next = (done.0, done.1, each_more step xs
 
 module _ {T : Type 0} (good : Database → Type 0) (view : Database → T) where
   made_then : (P Q : T → T → Type 0) (d e f : Database) → Makes good view P d e → Makes good view Q e f → Makes good view (Then P Q) d f
-  made_then P Q d e f p q = record { sound = q.sound; made = (view e, p.made, q.made) }
+  made_then P Q d e f p q = record { sound = q.sound; schema = q.schema ∙ p.schema; made = (view e, p.made, q.made) }
 
   made_more : {X : Type 0} (step : X → T → T → Type 0) (xs : List X) (x : X) (d e f : Database) → Makes good view (Each step xs) d e → Makes good view (step x) e f → Makes good view (Each step (xs ++ x ∷ [])) d f
-  made_more step xs x d e f p q = record { sound = q.sound; made = each_more step xs x _ _ _ p.made q.made }
+  made_more step xs x d e f p q = record { sound = q.sound; schema = q.schema ∙ p.schema; made = each_more step xs x _ _ _ p.made q.made }
 
   -- no step of a loop was made yet
   pub loop_begins : {X : Type 0} (E : Type 0) (step : X → T → T → Type 0) (a : State) → StepsFrom {X = ℕ} {E = E} good (Makes good view (Each step [])) a a (Ok 0)
-  loop_begins E step a = no_step good {X = ℕ} E (Makes good view (Each step [])) a 0 (λ d h. record { sound = h; made = refl })
+  loop_begins E step a = no_step good {X = ℕ} E (Makes good view (Each step [])) a 0 (λ d h. record { sound = h; schema = refl; made = refl })
 
   -- one more step of a loop
   pub loop_more : {X Y : Type 0} (E : Type 0) (step : X → T → T → Type 0) (xs : List X) (x : X) (a b c : State) (y : Y) → StepsFrom {X = ℕ} {E = E} good (Makes good view (Each step xs)) a b (Ok 0)

@@ -1,5 +1,6 @@
 -- What UPDATE makes of a database.
-use Rattle.std.proofs.Common.{◌≡◌, ℕ, ℤ, List, [], ◌∷◌, map, drop, slice_get, true, Some, None, Ok, refl, sym, ap, subst, ◌∙◌}
+use Rattle.std.proofs.Common.{◌≡◌, ◌≢◌, ℕ, ℤ, List, [], ◌∷◌, map, drop, slice_get, true, Some, None, Ok, refl, sym, ap, subst, ◌∙◌}
+use Rattle.std.specs.List.{AllByRecursion}
 use Rattle.sqlite.specs.Order.{Row}
 use Rattle.sqlite.specs.Table.{Table}
 use Rattle.sqlite.specs.Schema.{Schema}
@@ -62,6 +63,7 @@ module _ (old new : State) (schema : Schema) (has : old.now.schema ≡ schema) (
           edits = record {
             schema_is = ap (λ (d : Database). d.schema) now;
             rows = ap (λ (t : Trees). t table.tree) trees_are ∙ applied.rows ∙ ap (put_all left) news;
+            tables = subst (λ (trees : Trees). AllByRecursion (λ (t : Table). t.tree ≢ table.tree → trees t.tree ≡ old.now.trees t.tree) schema.tables) (sym trees_are) applied.tables;
             others = λ t other none. ap (λ (trees : Trees). trees t) trees_are ∙ applied.others t other none;
           };
           shown = w.shown;

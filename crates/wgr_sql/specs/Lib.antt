@@ -4,3 +4,4 @@ pub mod Calls
 pub mod Causes
 pub mod Steps
 pub mod Standing
+pub mod Named

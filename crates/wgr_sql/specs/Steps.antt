@@ -14,9 +14,11 @@ abbrev pub StepsFrom : {X E : Type 0} → (Database → Type 0) → (Database �
 StepsFrom good P old new r = IsTrue old.in_transaction → (IsTrue old.is_open → good old.now) → KeepsCommit old new
     × OnOk r ((new.in_transaction ≡ true) × (IsTrue old.is_open → P old.now new.now × Shows old new new.now old.committed true))
 
--- The new database is good too, and `P` relates what a program reads in the old one and in the new one.
+-- The new database is good too and has the same schema, and `P` relates what a program reads in the old
+-- one and in the new one.
 pub record Makes {T : Type 0} (good : Database → Type 0) (view : Database → T) (P : T → T → Type 0) (old new : Database) : Type 0 where
   pub sound : good new
+  pub schema : new.schema ≡ old.schema
   pub made : P (view old) (view new)
 
 abbrev pub Then : {T : Type 0} → (T → T → Type 0) → (T → T → Type 0) → T → T → Type 0

@@ -119,6 +119,7 @@ route_gone old new register network p count low ran =
     let q = λ (r : Row). list_all (holds (params ∷ r ∷ [])) of_route in
     let done = rows_deleted old new register drop_route_text params count ran 5 (allowed_table_at 10) refl refl of_route (drop_route_means register.others) register.written.allowed.keyed in
     record {
+      schema = done.edits.schema_is ∙ sym register.schema_is;
       sound = register_allowed old.now new.now _ register done.sound done.edits (written_filter allowed_numbers allowed_addresses (2 ∷ []) (λ r. not (q r)) rows register.written.allowed)
           (each_filter (λ r. IsKindAt r 7) (λ r. not (q r)) rows register.written.kinds);
       made = allowed_after old.now new.now _ register done.sound done.edits
@@ -171,6 +172,7 @@ allowed_came kind text is_kind means old new register network p hi number count 
     let done = row_inserted old new register text (allowed_params network p hi peer) count ran 5 (allowed_table_at 10) refl refl (allowed_values kind) 8 (means register.others) refl row news in
     let same = stored_is rows kind network p hi number low high last in
     record {
+      schema = done.0.edits.schema_is ∙ sym register.schema_is;
       sound = register_allowed old.now new.now _ register done.0.sound done.0.edits (written_put allowed_numbers allowed_addresses (2 ∷ []) row rows refl done.1 (stored_written rows kind network p hi peer low high) register.written.allowed)
           (each_put (λ r. IsKindAt r 7) row rows done.1 (kind_written kind is_kind) register.written.kinds);
       made = (

@@ -56,6 +56,8 @@ rests_at t w good here =
       tenants = refl;
       tokens = refl;
       networks = refl;
+      seconds = refl;
+      readers = refl;
       peers = parted peer_rows (λ (a : PeerRow). a.network) own_peers (register_of t).networks (network_entry_of t w) held apart t.peers good.rows.peers;
       allowed = parted allowed_rows (λ (a : AllowedRow). a.network) own_allowed (register_of t).networks (network_entry_of t w) held apart t.allowed good.rows.allowed;
       keyed = good.rows.keyed;
@@ -69,6 +71,8 @@ next_replaces id next t u v n rests sets =
       tenants = rests.tenants;
       tokens = rests.tokens;
       networks = subst (λ l. IsPermutation (map (with_next id next) l) sets.0) rests.networks sets.1;
+      seconds = rests.seconds;
+      readers = rests.readers;
       peers = rests.peers;
       allowed = rests.allowed;
       keyed = record { peer_keys = rests.keyed.peer_keys; allowed_keys = rests.keyed.allowed_keys; address_keys = rests.keyed.address_keys };

@@ -19,7 +19,7 @@ use Rattle.wgr_tables.proofs.Made.{Made}
 -- a step that makes the write which `writes` tells
 pub steps_as : {X : Type 0} (P : Tables → Tables → Type 0) (writes : Tables → Written → Type 0) → ((t u : Tables) (one : Written) → P t u → writes t one → Changes one t u)
     → (a b : State) (r : Result X Fault) → StepsOn P a b r → StepsOn (ChangesAs writes) a b r
-steps_as P writes does a b (Ok x) step inside register = let it = step inside register in (it.0, (record { sound = it.1.0.sound; made = λ one told. does _ _ one it.1.0.made told }, it.1.1))
+steps_as P writes does a b (Ok x) step inside register = let it = step inside register in (it.0, (record { sound = it.1.0.sound; schema = it.1.0.schema; made = λ one told. does _ _ one it.1.0.made told }, it.1.1))
 steps_as P writes does a b (Err e) step inside register = ((step inside register).0, tt)
 
 -- so where it is this write, whatever the rows are
@@ -39,7 +39,7 @@ module _ {S : Type 0} (g : Ghosts S) (old mid end : Held S) (db : Database) (pen
   module _ {X : Type 0} (x : X) (step : HasCleanDisk (state g mid) → StepsOn {E = Fault} P (state g (record old { in_transaction = true })) (state g mid) (Ok x)) (writes : (next : Database) → P (tables_of db) (tables_of next) → Changes one (tables_of db) (tables_of next))
       (ended : Survives (state g mid) (state g end) (λ trees. trees ≡ (state g mid).now.trees)) where
     written : (next : Database) → Made P db next → Writes one db next
-    written next made = record { sound = made.sound; made = writes next made.made }
+    written next made = record { sound = made.sound; schema = made.schema; made = writes next made.made }
 
     -- it was committed; the law of the store says what a stop leaves
     pub done : HasCleanDisk (state g end) → Shows (state g mid) (state g end) (state g mid).now (state g mid).now false

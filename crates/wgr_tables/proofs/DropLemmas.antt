@@ -1,5 +1,5 @@
 -- Rows that are taken away.
-use Rattle.std.proofs.Common.{◌≡◌, ℕ, pos, [], ◌∷◌, nat_eq, bytes_eq, true, not, ◌&&◌, Ok, refl, ap, ap₂, subst, ◌∙◌, inl, inr}
+use Rattle.std.proofs.Common.{◌≡◌, ℕ, pos, [], ◌∷◌, nat_eq, bytes_eq, true, not, ◌&&◌, Ok, refl, ap, ap₂, subst, ◌∙◌, inl, inr, sym}
 use Rattle.std.specs.List.{list_all}
 use Rattle.sqlite.specs.declared.types.Value.TheVariants.{Int, Text}
 use Rattle.sqlite.specs.Order.{Row}
@@ -31,6 +31,7 @@ peer_gone old new register network id count ran =
     let p = λ (r : Row). list_all (holds (params ∷ r ∷ [])) of_peer_row in
     let done = rows_deleted old new register drop_peer_text params count ran 4 (peer_table_at 8) refl refl of_peer_row (drop_peer_means register.others) register.written.peers.keyed in
     record {
+      schema = done.edits.schema_is ∙ sym register.schema_is;
       sound = register_peers old.now new.now _ register done.sound done.edits (written_filter peer_numbers [] [] (λ r. not (p r)) rows register.written.peers)
           (each_filter IsStatusRow (λ r. not (p r)) rows register.written.statuses);
       made = peers_after old.now new.now _ register done.sound done.edits
@@ -49,6 +50,7 @@ allowed_gone old new register network id count ran =
     let p = λ (r : Row). list_all (holds (params ∷ r ∷ [])) of_peer in
     let done = rows_deleted old new register drop_allowed_text params count ran 5 (allowed_table_at 10) refl refl of_peer (drop_allowed_means register.others) register.written.allowed.keyed in
     record {
+      schema = done.edits.schema_is ∙ sym register.schema_is;
       sound = register_allowed old.now new.now _ register done.sound done.edits (written_filter allowed_numbers allowed_addresses (2 ∷ []) (λ r. not (p r)) rows register.written.allowed)
           (each_filter (λ r. IsKindAt r 7) (λ r. not (p r)) rows register.written.kinds);
       made = allowed_after old.now new.now _ register done.sound done.edits
@@ -67,6 +69,7 @@ address_gone old new register network id count ran =
     let p = λ (r : Row). list_all (holds (params ∷ r ∷ [])) of_address in
     let done = rows_deleted old new register drop_address_text params count ran 5 (allowed_table_at 10) refl refl of_address (drop_address_means register.others) register.written.allowed.keyed in
     record {
+      schema = done.edits.schema_is ∙ sym register.schema_is;
       sound = register_allowed old.now new.now _ register done.sound done.edits (written_filter allowed_numbers allowed_addresses (2 ∷ []) (λ r. not (p r)) rows register.written.allowed)
           (each_filter (λ r. IsKindAt r 7) (λ r. not (p r)) rows register.written.kinds);
       made = allowed_after old.now new.now _ register done.sound done.edits

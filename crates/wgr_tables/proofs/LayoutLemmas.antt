@@ -1,5 +1,5 @@
 -- A change of the register's tables sets nothing off in what stands after them.
-use Rattle.std.proofs.Common.{◌≡◌, ◌≢◌, ℕ, true, false, Bool, not, ◌&&◌, ◌||◌, ◌==◌, nat_le, List, [], ◌∷◌, ◌++◌, Option, Some, None, option_map, refl, sym, ap, subst, ◌∙◌, arith, if◌then◌else◌}
+use Rattle.std.proofs.Common.{◌≡◌, ◌≢◌, ℕ, true, false, Bool, not, ◌&&◌, ◌||◌, ◌==◌, nat_le, List, [], ◌∷◌, ◌++◌, Option, Some, None, option_map, refl, sym, ap, subst, ◌∙◌, arith, if◌then◌else◌, inl, inr, true≢false}
 use Rattle.std.specs.Prelude.{find, option_and_then}
 use Rattle.std.specs.List.{AllByRecursion, list_any, list_all, flat_map, filter_map}
 use Rattle.std.proofs.lemmas.Bool.Decides.{nat_tests}
@@ -15,6 +15,7 @@ use Rattle.sqlite_schema.specs.Rules.{ParentKey, parent_key, key_in, key_places,
 use Rattle.sqlite_rules.specs.declared.action.Deed.{Deed}
 use Rattle.sqlite_rules.specs.Action.{work_by, work_for, works}
 use Rattle.sqlite_rules.specs.Edit.{IsNoIndex}
+use Rattle.sqlite_rules.specs.Lists.{Has}
 use Rattle.wgr_columns.specs.Layout.{register_tables, register_indexes, Others, schema_with, AreOthersApart, refers, is_apart, is_past}
 
 both : (a b : Bool) → (a && b) ≡ true → (a ≡ true) × (b ≡ true)
@@ -61,6 +62,21 @@ parent_past more all ref none k e =
     let test = λ (t : Table). same_name t.name ref.parent in
     key_past (find test more) ref.parent_columns k (λ t is. found_past test more all t is)
     (ap (option_and_then (λ t. option_and_then (key_in t) (key_places t ref.parent_columns))) (sym (find_past test register_tables more none)) ∙ e)
+
+-- a table of another name than the register's first six has a tree after theirs
+pub past_tree : (name : List ℕ) → list_any (λ t. same_name t.name name) register_tables ≡ false → (more : List Table) → list_all (is_apart register_tables) more ≡ true → (t : Table) → Has (register_tables ++ more) t
+    → same_name t.name name ≡ true → nat_le 13 t.tree ≡ true
+past_tree name none more all t here named = go register_tables none here
+  where
+    all_true : (p : Table → Bool) (ts : List Table) (t : Table) → list_all p ts ≡ true → Has ts t → p t ≡ true
+    all_true p [] t all h = absurd h
+    all_true p (y ∷ ts) t all (inl same) = ap p same ∙ (both _ _ all).0
+    all_true p (y ∷ ts) t all (inr later) = all_true p ts t (both _ _ all).1 later
+
+    go : (ts : List Table) → list_any (λ t. same_name t.name name) ts ≡ false → Has (ts ++ more) t → nat_le 13 t.tree ≡ true
+    go [] none here = (both _ _ (all_true (is_apart register_tables) more t all here)).0
+    go (x ∷ ts) none (inl same) = absurd (true≢false (sym named ∙ ap (λ (y : Table). same_name y.name name) same ∙ (neither _ _ none).0))
+    go (x ∷ ts) none (inr later) = go ts (neither _ _ none).1 later
 
 -- ---- so nothing is set off
 

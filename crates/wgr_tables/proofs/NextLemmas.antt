@@ -145,6 +145,7 @@ next_set old new register i n count ran =
     let done = rows_updated old new register set_next_text params count ran 3 (network_table_at 5) refl refl by_id project (set_next_means register.others) to (λ r. refl) (λ found. map-both _ _ found) register.written.networks.keyed in
     let after = written_revised network_numbers (5 ∷ []) (4 ∷ []) p to table done.0 done.2 (stays old.now register i n) (written_row old.now register i n) register.written.networks in
     record {
+      schema = done.1.edits.schema_is ∙ sym register.schema_is;
       sound = register_networks old.now new.now done.0 register done.1.sound done.1.edits after;
       made = (
         map network_in done.0,

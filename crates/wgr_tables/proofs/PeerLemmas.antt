@@ -74,6 +74,7 @@ peer_came old new register p count ran =
     let row = stored_peer p in
     let done = row_inserted old new register insert_peer_text (peer_params p) count ran 4 (peer_table_at 8) refl refl peer_values 10 (insert_peer_means register.others) refl row (news_are old.now.trees p p.status) in
     record {
+      schema = done.0.edits.schema_is ∙ sym register.schema_is;
       sound = register_peers old.now new.now _ register done.0.sound done.0.edits (written_put peer_numbers [] [] row rows refl done.1 (stored_written p) register.written.peers)
           (each_put IsStatusRow row rows done.1 (status_written p p.status) register.written.statuses);
       made = (

@@ -86,6 +86,8 @@ rests_alike id t u n peers same rests = record {
   tenants = rests.tenants;
   tokens = rests.tokens;
   networks = rests.networks;
+  seconds = rests.seconds;
+  readers = rests.readers;
   peers = λ a. (
     (λ h. elim ((rests.peers a).0 h) [ inl own ↦ inl (mapped_alike (peer_row id) n.peers peers (λ z k. (same z).0 k) a own) | inr other ↦ inr other ]),
     (λ h. elim h [ inl own ↦ (rests.peers a).1 (inl (mapped_alike (peer_row id) peers n.peers (λ z k. (same z).1 k) a own)) | inr other ↦ (rests.peers a).1 (inr other) ]),

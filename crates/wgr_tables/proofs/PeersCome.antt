@@ -62,6 +62,8 @@ peer_comes id p t u v n numbered rests (m, (peers, perm, is, apart), (rows, rows
   tenants = ap (λ (x : Tables). x.tenants) whole ∙ rests.tenants;
   tokens = ap (λ (x : Tables). x.tokens) whole ∙ rests.tokens;
   networks = ap (λ (x : Tables). x.networks) whole ∙ rests.networks;
+  seconds = ap (λ (x : Tables). x.seconds) whole ∙ rests.seconds;
+  readers = ap (λ (x : Tables). x.readers) whole ∙ rests.readers;
   peers = λ a. (
     (λ h. peer_there a (subst (λ (x : Tables). Has x.peers a) whole h)),
     (λ h. subst (λ (x : Tables). Has x.peers a) (sym whole) (peer_back a h)),

@@ -50,6 +50,8 @@ module _ (id k : ℕ) (t u : Tables) (n : NetworkValue) (rests : Rests id t n u)
     tenants = rests.tenants;
     tokens = rests.tokens;
     networks = rests.networks;
+    seconds = rests.seconds;
+    readers = rests.readers;
     peers = rows_stay gone (λ a. Has t.peers a × (nat_eq a.network id ≡ false)) (λ a h. and_false _ _ h.1) (map (peer_row id) n.peers) (map (peer_row id) left.peers) u.peers
         (one_stays gone (peer_row id) n.peers left.peers (left_by gone (peer_row id) n.peers (λ p. nat_eq p.number k) peer_test)) rests.peers;
     allowed = rows_stay led (λ a. Has t.allowed a × (nat_eq a.network id ≡ false)) (λ a h. and_false _ _ h.1) (map (address_row id) n.peers ++ map (route_row id) n.routes) (map (address_row id) left.peers ++ map (route_row id) n.routes) u.allowed

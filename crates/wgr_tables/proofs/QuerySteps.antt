@@ -29,7 +29,7 @@ module _ {T : Type 0} (good : Database → Type 0) (view : Database → T) (sql 
       let shown = subst (λ (q : Result _ E). IfOk q (λ x. Q x (view old.now))) (sym is) (told rows here ok) in (
         record { was_open = λ live. as_was.was_open; committed = λ live. as_was.committed_is },
         (
-          record { sound = subst good (sym as_was.now_is) here; made = (ap view (sym as_was.now_is), shown) },
+          record { sound = subst good (sym as_was.now_is) here; schema = ap (λ (d : Database). d.schema) as_was.now_is; made = (ap view (sym as_was.now_is), shown) },
           record { was_open = as_was.was_open; is_open = as_was.is_open; now_is = refl; committed_is = as_was.committed_is; mode = as_was.mode ∙ inside },
         ),
       )

@@ -1,5 +1,5 @@
 -- Rows of a range of peers that are taken away.
-use Rattle.std.proofs.Common.{◌≡◌, ℕ, pos, [], ◌∷◌, nat_eq, nat_le, bytes_eq, not, ◌&&◌, Ok, refl, ap, subst, ◌∙◌, inl, inr, arith}
+use Rattle.std.proofs.Common.{◌≡◌, ℕ, pos, [], ◌∷◌, nat_eq, nat_le, bytes_eq, not, ◌&&◌, Ok, refl, ap, subst, ◌∙◌, inl, inr, arith, sym}
 use Rattle.std.specs.List.{list_all}
 use Rattle.std.specs.Ordering.{is_ge, is_le}
 use Rattle.sqlite.specs.declared.types.Value.TheVariants.{Int, Text}
@@ -50,6 +50,7 @@ peers_gone old new register network first last count ran =
     let p = λ (r : Row). list_all (holds (params ∷ r ∷ [])) of_peer_range in
     let done = rows_deleted old new register drop_peer_range_text params count ran 4 (peer_table_at 8) refl refl of_peer_range (drop_peer_range_means register.others) register.written.peers.keyed in
     record {
+      schema = done.edits.schema_is ∙ sym register.schema_is;
       sound = register_peers old.now new.now _ register done.sound done.edits (written_filter peer_numbers [] [] (λ r. not (p r)) rows register.written.peers)
           (each_filter IsStatusRow (λ r. not (p r)) rows register.written.statuses);
       made = peers_after old.now new.now _ register done.sound done.edits
@@ -72,6 +73,7 @@ addresses_gone old new register network first last count ran =
     let p = λ (r : Row). list_all (holds (params ∷ r ∷ [])) of_address_range in
     let done = rows_deleted old new register drop_address_range_text params count ran 5 (allowed_table_at 10) refl refl of_address_range (drop_address_range_means register.others) register.written.allowed.keyed in
     record {
+      schema = done.edits.schema_is ∙ sym register.schema_is;
       sound = register_allowed old.now new.now _ register done.sound done.edits (written_filter allowed_numbers allowed_addresses (2 ∷ []) (λ r. not (p r)) rows register.written.allowed)
           (each_filter (λ r. IsKindAt r 7) (λ r. not (p r)) rows register.written.kinds);
       made = allowed_after old.now new.now _ register done.sound done.edits

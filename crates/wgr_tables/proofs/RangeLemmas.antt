@@ -117,4 +117,4 @@ module _ (network : ℕ) where
 pub as_chain : {X Y : Type 0} (P Q : Tables → Tables → Type 0) → ((t u : Tables) → P t u → Q t u) → (a b : State) (x : X) (y : Y) → StepsOn {X = X} {E = Fault} P a b (Ok x) → StepsFrom {X = Y} {E = Fault} Q a b (Ok y)
 as_chain P Q weaker a b x y step inside start =
     let it = step inside start in
-    (it.0, (it.1.1.mode, λ live. (record { sound = it.1.0.sound; made = weaker _ _ it.1.0.made }, it.1.1)))
+    (it.0, (it.1.1.mode, λ live. (record { sound = it.1.0.sound; schema = it.1.0.schema; made = weaker _ _ it.1.0.made }, it.1.1)))

@@ -11,6 +11,8 @@ pub record Rests (id : ℕ) (t : Tables) (n : NetworkValue) (u : Tables) : Type 
   pub tenants : u.tenants ≡ t.tenants
   pub tokens : u.tokens ≡ t.tokens
   pub networks : u.networks ≡ t.networks
+  pub seconds : u.seconds ≡ t.seconds
+  pub readers : u.readers ≡ t.readers
   pub peers : (a : PeerRow) → Has u.peers a ↔ (Has (map (peer_row id) n.peers) a ⊎ (Has t.peers a × (nat_eq a.network id ≡ false)))
   pub allowed : (a : AllowedRow) → Has u.allowed a ↔ (Has (map (address_row id) n.peers ++ map (route_row id) n.routes) a ⊎ (Has t.allowed a × (nat_eq a.network id ≡ false)))
   pub keyed : AreKeyed u

@@ -128,6 +128,8 @@ route_comes id r t u v n ordered rests (m, gone, (real, (rows, perm, is, apart))
   tenants = ap (λ (x : Tables). x.tenants) whole ∙ rests.tenants;
   tokens = ap (λ (x : Tables). x.tokens) whole ∙ rests.tokens;
   networks = ap (λ (x : Tables). x.networks) whole ∙ rests.networks;
+  seconds = ap (λ (x : Tables). x.seconds) whole ∙ rests.seconds;
+  readers = ap (λ (x : Tables). x.readers) whole ∙ rests.readers;
   peers = λ a. (
     (λ h. (rests.peers a).0 (subst (λ (x : Tables). Has x.peers a) whole h)),
     (λ h. subst (λ (x : Tables). Has x.peers a) (sym whole) ((rests.peers a).1 h)),
@@ -210,7 +212,7 @@ route_comes id r t u v n ordered rests (m, gone, (real, (rows, perm, is, apart))
 -- the same of a list of routes
 pub routes_come : (rs : Routes) (id : ℕ) (t u v : Tables) (n : NetworkValue) → AreOrdered n.routes → All HasAddr n.routes → Rests id t n u → Each (RoutePuts id) rs u v
     → Rests id t (record n { routes = assign_routes n.routes rs }) v
-routes_come [] id t u v n ordered real rests done = subst (λ (x : Tables). Rests id t n x) done (record { meta = rests.meta; tenants = rests.tenants; tokens = rests.tokens; networks = rests.networks; peers = rests.peers; allowed = rests.allowed; keyed = rests.keyed })
+routes_come [] id t u v n ordered real rests done = subst (λ (x : Tables). Rests id t n x) done (record { meta = rests.meta; tenants = rests.tenants; tokens = rests.tokens; networks = rests.networks; seconds = rests.seconds; readers = rests.readers; peers = rests.peers; allowed = rests.allowed; keyed = rests.keyed })
 routes_come (r ∷ rs) id t u v n ordered real rests (m, step, later) =
     let first = step.2.0 in
     let placed = routes_placed r.0 r.1 first in
@@ -227,6 +229,8 @@ route_goes id p t u v n rests gone = subst (Rests id t (record n { routes = with
   tenants = rests.tenants;
   tokens = rests.tokens;
   networks = rests.networks;
+  seconds = rests.seconds;
+  readers = rests.readers;
   peers = rests.peers;
   allowed = rows_stay q (λ a. Has t.allowed a × (nat_eq a.network id ≡ false)) (λ a h. and_false _ _ h.1) (map (address_row id) n.peers ++ map (route_row id) n.routes) (map (address_row id) n.peers ++ map (route_row id) (without_route n.routes p)) u.allowed
       (two_stay q (address_row id) (route_row id) n.peers n.peers n.routes (without_route n.routes p) (left_all q (address_row id) n.peers (λ o. never (nat_eq id id) (nat_eq (family_number o.address.family) (family_number p.address.family)) (nat_eq o.address.number p.address.number) (nat_eq (width o.address.family) p.length)))
@@ -238,5 +242,5 @@ route_goes id p t u v n rests gone = subst (Rests id t (record n { routes = with
     q = is_route_at id p
 
 pub routes_go : (ps : List PrefixValue) (id : ℕ) (t u v : Tables) (n : NetworkValue) → Rests id t n u → Each (RouteGoes id) ps u v → Rests id t (record n { routes = without_routes n.routes ps }) v
-routes_go [] id t u v n rests done = subst (λ (x : Tables). Rests id t n x) done (record { meta = rests.meta; tenants = rests.tenants; tokens = rests.tokens; networks = rests.networks; peers = rests.peers; allowed = rests.allowed; keyed = rests.keyed })
+routes_go [] id t u v n rests done = subst (λ (x : Tables). Rests id t n x) done (record { meta = rests.meta; tenants = rests.tenants; tokens = rests.tokens; networks = rests.networks; seconds = rests.seconds; readers = rests.readers; peers = rests.peers; allowed = rests.allowed; keyed = rests.keyed })
 routes_go (p ∷ ps) id t u v n rests (m, step, later) = routes_go ps id t m v (record n { routes = without_route n.routes p }) (route_goes id p t u m n rests step) later

@@ -33,3 +33,5 @@ mod size;
 mod store;
 #[cfg(test)]
 mod tables;
+#[cfg(test)]
+mod versions;

@@ -36,7 +36,7 @@ returns-clause-step g c clean inside register =
             c.length.ensures.value,
             c.address-address.ensures.value,
           ) at h.0) in
-          (record { sound = came.sound; made = (real, came.made) }, h.1)) (c.execute.ensures.ran clean inside),
+          (record { sound = came.sound; schema = came.schema; made = (real, came.made) }, h.1)) (c.execute.ensures.ran clean inside),
     )
 
 pub returns-clause-cause : goal.returns-clause-cause

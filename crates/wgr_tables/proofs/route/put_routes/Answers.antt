@@ -1,4 +1,4 @@
-use Rattle.std.proofs.Common.{◌≡◌, ℕ, IsTrue, arith, sym, subst, Err, inl, inr}
+use Rattle.std.proofs.Common.{◌≡◌, ℕ, IsTrue, arith, sym, subst, Err, inl, inr, ◌∙◌}
 use Rattle.sqlite.specs.State.{HasCleanDisk}
 use Rattle.sqlite.specs.Held.{state}
 use Rattle.wgr_model.specs.Rows.{Tables}
@@ -25,6 +25,7 @@ returns-then-branch-clause-step g c clean =
     chain_then IsRegister {E = Fault} (Made (λ t u. (t ≡ u) × (IsTrue c.in_ok-are_new.field-0 → HasNoRoute network t))) (Made (Each (RouteComes network) routes)) (Made (Each (RoutePuts network) routes)) a b d c.in_ok-are_new.field-0 c.add_routes.result
     (λ p q r asked come. record {
       sound = come.sound;
+      schema = come.schema ∙ asked.schema;
       made = routes_are_put network routes (tables_of p) (tables_of r) ordered (asked.made.1 c.if-branch.true) (subst (λ (t : Tables). Each (RouteComes network) routes t (tables_of r)) (sym asked.made.0) come.made);
     }) (λ p q asked. asked.sound) (c.in_ok-are_new.ensures.step was) (c.add_routes.ensures.step clean)
 
@@ -37,7 +38,7 @@ returns-else-branch-clause-step g c clean =
     let d = state g.S.Store c.replace_routes.new.tx.conn.now in
     let was : HasCleanDisk b = omega (arith, c.replace_routes.ensures.survives.clean, clean) in
     chain_then IsRegister {E = Fault} (Made (λ t u. (t ≡ u) × (IsTrue c.in_ok-are_new.field-0 → HasNoRoute network t))) (Made (Each (RoutePuts network) routes)) (Made (Each (RoutePuts network) routes)) a b d c.in_ok-are_new.field-0 c.replace_routes.result
-    (λ p q r asked put. record { sound = put.sound; made = subst (λ (t : Tables). Each (RoutePuts network) routes t (tables_of r)) (sym asked.made.0) put.made }) (λ p q asked. asked.sound) (c.in_ok-are_new.ensures.step was) (c.replace_routes.ensures.step clean)
+    (λ p q r asked put. record { sound = put.sound; schema = put.schema ∙ asked.schema; made = subst (λ (t : Tables). Each (RoutePuts network) routes t (tables_of r)) (sym asked.made.0) put.made }) (λ p q asked. asked.sound) (c.in_ok-are_new.ensures.step was) (c.replace_routes.ensures.step clean)
 
 pub returns-in_err-are_new-clause-cause : goal.returns-in_err-are_new-clause-cause
 returns-in_err-are_new-clause-cause g c =
