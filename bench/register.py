@@ -180,7 +180,7 @@ def make(path, networks, peers, every=1):
 def rows(path):
     """All rows of the register but the index's."""
     database = sqlite3.connect(path)
-    tables = ("meta", "tenant", "token", "network", "peer", "allowed")
+    tables = ("meta", "tenant", "token", "network", "peer", "allowed", "second", "reader")
     found = [sorted(database.execute(f"SELECT * FROM {table}"), key=repr) for table in tables]
     database.close()
     return found

@@ -11,7 +11,7 @@ import tempfile
 from datetime import datetime, timezone
 from pathlib import Path
 
-from wgr_copies import ask, fail, has_log
+from wgr_copies import ask, explain, fail, has_log
 
 # The bytes of a database's file by whose locks SQLite, and wgr, keep others out (its file format has them).
 LOCK_START, LOCK_LENGTH = 0x4000_0000, 512
@@ -60,7 +60,7 @@ def change_register(register, edit):
     # It tests all rows, and puts the log into the file.
     _, why = ask("show", register)
     if why:
-        fail(f"{register} can't be opened: {why}")
+        fail(f"{register} can't be opened: {explain(why, register)}")
     # From here until the copy has its place, nobody else opens the register. In this process the file is opened
     # this once, since a lock ends where any file of the process on it is closed.
     with open(register, "r+b") as file, tempfile.TemporaryDirectory(dir=register.parent, prefix=".new.") as folder:

@@ -13,8 +13,10 @@ from pathlib import Path
 
 from wgr_figures import fail
 
-# The version of the tables that the tools read by themselves.
-VERSION = 1
+# The version of the tables that the tools read by themselves, and those that `wgr migrate` takes to it.
+VERSION, EARLIER = 3, (1, 2)
+# Whether there is a row that only a later wgr writes, and that the tools don't know.
+LATER = "SELECT EXISTS (SELECT * FROM second) OR EXISTS (SELECT * FROM reader)"
 # What `wgr show --json` says of a tenant and of a network.
 TENANT = {"name", "tokens", "networks"}
 NETWORK = {"name", "pool", "host", "port", "server", "capacity", "peers", "routes"}
@@ -63,8 +65,17 @@ def show_copy(path, *words):
         except OSError as error:
             fail(f"{path} can't be copied: {error.strerror}")
         shown, why = ask("show", own, "--json", *words)
-    # Its own message doesn't say that there may be a register.
-    return shown, f"{why}: it is another file, or has tables of another version" if why == "wgr: not_a_register" else why
+    return shown, explain(why, path)
+
+
+def explain(why, path):
+    """Why wgr doesn't open a file, in one line; its own message doesn't say that there may be a register of another version."""
+    if why == "wgr: not_a_register":
+        return f"{why}: it is another file, or has tables of another version"
+    # Its second line says that the tables are of an earlier version.
+    if why and why.startswith("wgr: not_a_register\n"):
+        return f"wgr: not_a_register: its tables are of an earlier version, and wgr migrate {path} takes them to this one"
+    return why
 
 
 def is_known(tenant):
@@ -85,8 +96,12 @@ def fault_of(link):
     """Why the tools don't read a database; nothing where they do."""
     try:
         versions = link.execute("SELECT version FROM meta").fetchall()
+        if versions == [(VERSION,)] and link.execute(LATER).fetchone() != (0,):
+            return "a register of a later wgr, with second pools or tokens that only read"
     except sqlite3.Error as error:
         return f"no register: {error}"
+    if versions in [[(version,)] for version in EARLIER]:
+        return "a register of an earlier version, which wgr migrate takes to this one"
     return None if versions == [(VERSION,)] else f"no register whose tables have version {VERSION}"
 
 

@@ -34,8 +34,8 @@ struct state {
     volatile long send, sends, send_most, send_zero;
     /* Where it isn't 0, the clock fails, or gives a time before 1970. */
     volatile long clock;
-    /* The read of a file of this number fails, and each behind it; the reads seen. */
-    volatile long file_read, file_reads;
+    /* The read of a file of this number fails, and each behind it where `file_read_once` is 0; the reads seen. */
+    volatile long file_read, file_reads, file_read_once;
 };
 
 enum { KILL = 1, TORN, ONCE, ON, SHORT, FULL };
@@ -124,7 +124,8 @@ long pwrite(int file, const void *bytes, size_t length, long place) {
 long pread(int file, void *bytes, size_t length, long place) {
     if (state && state->armed) {
         long now = state->file_reads++;
-        if (state->file_read >= 0 && now >= state->file_read) {
+        long wanted = state->file_read;
+        if (wanted >= 0 && (state->file_read_once ? now == wanted : now >= wanted)) {
             errno = EIO;
             return -1;
         }

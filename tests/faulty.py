@@ -25,7 +25,7 @@ COMPILERS = ["cc", "gcc", "clang", "/opt/rattle/toolchain/bin/clang"]
 FIELDS = [
     *["armed", "growth", "growths", "refused", "lasting", "call", "calls", "met", "how"],
     *["receive", "receives", "receive_most", "send", "sends", "send_most", "send_zero", "clock"],
-    *["file_read", "file_reads"],
+    *["file_read", "file_reads", "file_read_once"],
 ]
 # Numbers of a call of which none is that one.
 NONE = {"growth": -1, "call": -1, "receive": -1, "send": -1, "file_read": -1}

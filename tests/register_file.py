@@ -11,6 +11,8 @@ from keys import key_text
 from program import Left, run
 
 DONE = Left(0, b"done\n")
+# The register's tables.
+TABLES = ["meta", "tenant", "token", "network", "peer", "allowed", "second", "reader"]
 S = key_text(bytes([200]) * 32)
 TOKEN = b"abc"
 # The SHA-256 of `abc` (FIPS 180-4 has it as an example).
@@ -109,5 +111,4 @@ class Files(unittest.TestCase):
 
     def rows(self, database=None):
         """All rows of all tables."""
-        names = ["meta", "tenant", "token", "network", "peer", "allowed"]
-        return {name: sorted(self.query(f"SELECT * FROM {name}", database), key=repr) for name in names}
+        return {name: sorted(self.query(f"SELECT * FROM {name}", database), key=repr) for name in TABLES}

@@ -15,6 +15,14 @@ from serving import Server, make_register
 
 DIST = Path(__file__).resolve().parent.parent / "dist"
 
+# What the scripts say of a file that wgr doesn't open since its tables are of no version, or of an earlier one.
+OTHER = "wgr: not_a_register: it is another file, or has tables of another version"
+BEFORE = "wgr: not_a_register: its tables are of an earlier version, and wgr migrate {} takes them to this one"
+# And of one that they read by themselves.
+ANOTHER = "no register whose tables have version 3"
+OLD = "a register of an earlier version, which wgr migrate takes to this one"
+NEW = "a register of a later wgr, with second pools or tokens that only read"
+
 # In place of systemd: `wgr.service` is the process whose number is in the file `main`. It notes what it is asked.
 SYSTEMCTL = """
 echo "$*" >>"$ROOM/asked"

@@ -12,6 +12,7 @@ import unittest
 from contextlib import closing
 from datetime import datetime, timedelta, timezone
 
+from earlier import make
 from faulty import WHOLE, tell
 from keys import key_text, numbered_keys
 from program import LIMIT, Left, in_time
@@ -291,6 +292,20 @@ class Copies(Shipped):
         before = self.names(".")
         self.assertEqual(self.back_up("--orders", "orders"), Left(1, b"", b"wgr-backup: the copy is bad: wgr: not_good\n"))
         self.assertEqual((self.names(), self.names(".")), ([], sorted([*before, "copies"])))
+
+    @needs("sqlite3")
+    def test_an_earlier_version(self):
+        """It is no bad copy, and is told so; once it is migrated it is copied."""
+        self.stand_in("systemctl", SYSTEMCTL)
+        register = self.folder / "present.db"
+        os.rename(self.database, register)
+        make(self.database, 1, register)
+        told = f"wgr-backup: {self.database} is of an earlier version: wgr migrate {self.database} takes it to this one\n"
+        self.assertEqual(self.back_up(), Left(1, b"", told.encode()))
+        self.assertEqual(self.names(), [])
+        self.assertEqual(self.run_script("wgr", "migrate", self.database), Left(0, b"done\n"))
+        self.assertEqual(self.back_up().status, 0)
+        self.assertEqual(rows_of(self.copies()[-1], "SELECT version FROM meta"), [(3,)])
 
     @needs("sqlite3")
     def test_a_stopped_register_is_copied_too(self):

@@ -10,7 +10,7 @@ from tools import needs
 DIST = Path(__file__).resolve().parent.parent / "dist"
 # The man pages, and words of each.
 PAGES = {
-    "wgr.8": [b"network-add", b"--capacity", b"pool_overlaps"],
+    "wgr.8": [b"network-add", b"migrate", b"--capacity", b"pool_overlaps"],
     "wgr-net.8": [b"again", b"/run/netns/name"],
     "wgr-sync.8": [b"--all", b"/etc/wgr/name", b"preshared/", b"endpoints", b"routes = all | none"],
 }

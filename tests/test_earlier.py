@@ -1,20 +1,20 @@
-"""A register that an earlier build made: it is opened, and shows what it showed then.
+"""A register that an earlier release made: it is refused until it is migrated, and then shows what it showed then.
 
-`data/earlier.db.gz` is such a file, as version 0.2.0 left it, with the text of its tables.
+`data/earlier.db.gz` is such a file, as version 0.2.0 left it, with the text of its tables; test_migrate.py has others.
 """
 
-import gzip
 import sqlite3
 import tempfile
 import unittest
 from contextlib import closing
 from pathlib import Path
 
+from earlier import EARLIER, make, rows_of, unpack
 from program import Left, run
+from register_file import DONE, options
 from serving import SERVER_KEY, done, file_of, key, peer, request
 from test_batch import batch, replies
 
-FILE = Path(__file__).resolve().parent / "data" / "earlier.db.gz"
 SEEN, NEVER = {"handshake": 1700000000, "received": 1024, "sent": 2048}, {"handshake": 0, "received": 0, "sent": 0}
 
 # What each tenant has, and the third of acme's peers until its lease ends at 100.
@@ -45,25 +45,73 @@ SHOWN = [
 ]
 
 
+# Each command on a register, by its words behind the path, and the text on standard input.
+COMMANDS = [
+    ("tenant-add", ["cato"], b""),
+    ("token-grant", ["acme"], b"new"),
+    ("token-end", [], b"abc"),
+    ("token-end", ["--digest", "ba7816bf8f01cfea414140de5dae2223b00361a396177a9cb410ff61f20015ad"], b""),
+    ("network-add", ["acme", "more", *options(pool="10.9.0.0/24", port="1")], b""),
+    ("network-end", ["bolt", "lab"], b""),
+    ("orders", [], b"tenant-add cato\n"),
+    ("show", [], b""),
+    ("show", ["acme", "--json"], b""),
+    ("batch", ["--now", "100", "asked"], b""),
+    ("serve", ["127.0.0.1:1", "--count", "1"], b""),
+]
+
+
 class Earlier(unittest.TestCase):
     maxDiff = None
 
     def setUp(self):
-        folder = self.enterContext(tempfile.TemporaryDirectory())
-        self.database = str(Path(folder) / "earlier.db")
-        Path(self.database).write_bytes(gzip.decompress(FILE.read_bytes()))
+        self.folder = Path(self.enterContext(tempfile.TemporaryDirectory()))
+        self.database = str(self.folder / "earlier.db")
+        unpack(self.database)
+
+    def test_each_command(self):
+        """It is refused with the words that say what to do, and nothing is changed, in a register of either earlier version."""
+        (self.folder / "asked").write_bytes(request("GET", "/networks"))
+        second = str(self.folder / "second.db")
+        make(second, 2, self.database)
+        for database in [self.database, second]:
+            rows = rows_of(database)
+            for word, words, text in COMMANDS:
+                with self.subTest(f"{word} {words}", database=Path(database).name):
+                    words = [str(self.folder / "asked") if it == "asked" else it for it in words]
+                    self.assertEqual(run([word, database, *words], text), EARLIER)
+                    self.assertEqual(rows_of(database), rows)
+
+    def test_what_is_told_first(self):
+        """What is told of the words, and of files of requests, comes first; standard error may fail."""
+        self.assertEqual(run(["tenant-add", self.database, "_"]), Left(2, b"", b"wgr: bad_field name\n"))
+        self.assertEqual(run(["batch", self.database, "--now", "7", str(self.folder / "none")]), Left(1, b"", b"wgr: device\n"))
+        with open("/dev/full", "wb") as full:
+            self.assertEqual(run(["tenant-add", self.database, "cato"], stderr=full), Left(1))
+
+    def test_tables_of_no_version(self):
+        """They are told by the first line alone."""
+        with closing(sqlite3.connect(self.database)) as file:
+            file.execute("UPDATE meta SET version = 9")
+            file.commit()
+        for word, words, text in COMMANDS:
+            if word != "batch":
+                with self.subTest(word):
+                    self.assertEqual(run([word, self.database, *words], text), Left(1, b"", b"wgr: not_a_register\n"))
 
     def test_what_it_shows(self):
+        self.assertEqual(run(["migrate", self.database]), DONE)
         for moment, path, token, due in SHOWN:
             with self.subTest(path, moment=moment, token=token):
                 self.assertEqual(batch(self.database, moment, [request("GET", path, token=token)]), Left(0, due))
 
     def test_it_is_changed(self):
+        self.assertEqual(run(["migrate", self.database]), DONE)
         left = batch(self.database, 100, [request("POST", "/networks/office/peers", {"key": key(6)}), request("GET", "/networks/office/peers")])
         added = peer(4, 6, "10.8.0.3/32")
         self.assertEqual(replies(left.out), [done(added), done({"peers": [*PEERS, added]})])
-        self.assertEqual(run(["tenant-add", self.database, "cato"]), Left(0, b"done\n"))
-        self.assertEqual(run(["network-end", self.database, "bolt", "lab"]), Left(0, b"done\n"))
+        self.assertEqual(run(["tenant-add", self.database, "cato"]), DONE)
+        self.assertEqual(run(["network-end", self.database, "bolt", "lab"]), DONE)
         with closing(sqlite3.connect(self.database)) as file:
             self.assertEqual(file.execute("PRAGMA integrity_check").fetchall(), [("ok",)])
             self.assertEqual(file.execute("SELECT name FROM tenant ORDER BY name").fetchall(), [("acme",), ("bolt",), ("cato",)])

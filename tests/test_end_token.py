@@ -12,7 +12,7 @@ from pathlib import Path
 
 from program import Left
 from serving import PEERS, TOKEN, done, key, network_add, order, peer, refused, request
-from shipped import Shipped
+from shipped import BEFORE, OTHER, Shipped
 from test_batch import batch
 
 # The tenants, and their tokens.
@@ -204,18 +204,18 @@ class EndToken(Tokens):
 
     def test_versions_that_are_not_known(self):
         """Neither tables of another version, nor what another version of wgr may say of a tenant or a token."""
-        with closing(sqlite3.connect(self.database)) as link:
-            link.execute("UPDATE meta SET version = 2")
-            link.commit()
-        # The empty log that wgr leaves beside each file that it has opened.
-        Path(f"{self.database}-wal").touch()
-        before, names = Path(self.database).read_bytes(), self.names(".")
-        told = f"{self.database} can't be opened: wgr: not_a_register"
-        more = f"{told}: it is another file, or has tables of another version"
-        for words, told in [(["--list"], more), (["--tenant", "acme"], told), (["--digest", DIGESTS[TOKEN]], told)]:
-            with self.subTest(words):
-                self.assertEqual(self.end(*words), Left(1, b"", f"wgr-end-token: {told}\n".encode()))
-                self.assert_untouched(before, names)
+        for version, why in [(9, OTHER), (2, BEFORE.format(self.database)), (1, BEFORE.format(self.database))]:
+            with closing(sqlite3.connect(self.database)) as link:
+                link.execute("UPDATE meta SET version = ?", [version])
+                link.commit()
+            # The empty log that wgr leaves beside each file that it has opened.
+            Path(f"{self.database}-wal").touch()
+            before, names = Path(self.database).read_bytes(), self.names(".")
+            for words in [["--list"], ["--tenant", "acme"], ["--digest", DIGESTS[TOKEN]]]:
+                with self.subTest(words, version=version):
+                    told = f"wgr-end-token: {self.database} can't be opened: {why}\n"
+                    self.assertEqual(self.end(*words), Left(1, b"", told.encode()))
+                    self.assert_untouched(before, names)
         Path(self.database).write_bytes(self.before)
         tenant = {"name": "acme", "tokens": [NOBODYS], "networks": []}
         for name, more in [("a tenant", {"until": 1}), ("a token", {"tokens": [{"digest": NOBODYS, "reads": True}]})]:

@@ -11,7 +11,7 @@ from serving import free_port
 from tools import needs
 
 # In an order in which each finds what it needs; `serve`, which doesn't end by itself, has a test of its own.
-WORDS = ["plan", "init", "tenant-add", "token-grant", "network-add", "show", "orders", "batch", "token-end", "network-end"]
+WORDS = ["plan", "init", "migrate", "tenant-add", "token-grant", "network-add", "show", "orders", "batch", "token-end", "network-end"]
 
 
 def example_of(word):

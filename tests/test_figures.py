@@ -12,11 +12,12 @@ import unittest
 from contextlib import closing
 from pathlib import Path
 
+from earlier import make
 from faulty import ONCE, Faulty, needs_faults
 from figured import FIGURES, NAME, Figured, figures_of
 from program import Left
 from serving import PEERS, TOKEN, free_port, key, request
-from shipped import SYSTEMCTL, Shipped
+from shipped import OLD, SYSTEMCTL, Shipped
 from tools import needs
 
 
@@ -69,6 +70,9 @@ class Figures(Figured):
         rows.append(("a copy with a log", ["logged", "wgr.prom"], f"logged/{NAME}.db has a log beside it: wgr show logged/{NAME}.db puts it into the file"))
         (self.folder / "other").mkdir()
         (self.folder / f"other/{NAME}.db").touch()
+        (self.folder / "before").mkdir()
+        make(self.folder / f"before/{NAME}.db", 1, self.database)
+        rows.append(("a copy of an earlier version", ["before", "wgr.prom"], f"before/{NAME}.db is {OLD}"))
         rows.append(("no register", ["other", "wgr.prom"], f"other/{NAME}.db is no register: no such table: meta"))
         for name, words, told in rows:
             with self.subTest(name):

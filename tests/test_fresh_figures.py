@@ -11,6 +11,7 @@ import unittest
 from figured import DUMP, FIGURES, MOMENT, SERVICE, Figured, figures_of
 from program import LIMIT, Left, in_time
 from serving import PEERS, SERVER_KEY, TOKEN, key, request
+from shipped import ANOTHER, OLD
 
 WORDS = ["wgr-figures", "--status", "orders", "--state", "state.json", "copies", "wgr.prom"]
 OFFICE, LAB = '{tenant="acme",network="office"}', '{tenant="bolt",network="lab"}'
@@ -120,7 +121,8 @@ class Fresh(Running):
             ("no message", "exit 3", "status 3"),
             ("no file", "echo done; exit", "unable to open database file"),
             ("no register", "echo some text that is none >$4; echo done; exit", "no register: file is not a database"),
-            ("another version", "sqlite3 $4 'create table meta (version); insert into meta values (2)'; exit", "no register whose tables have version 1"),
+            ("another version", "sqlite3 $4 'create table meta (version); insert into meta values (9)'; exit", ANOTHER),
+            ("an earlier version", "sqlite3 $4 'create table meta (version); insert into meta values (1)'; exit", OLD),
         ]
         for name, instead, why in rows:
             with self.subTest(name):

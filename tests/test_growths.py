@@ -14,6 +14,7 @@ from concurrent.futures import ThreadPoolExecutor
 from contextlib import closing
 from pathlib import Path
 
+from earlier import EARLIER, make, rows_of
 from faulty import WHOLE, Faulty, needs_faults, scratch, tell
 from keys import K0
 from program import Left
@@ -120,12 +121,7 @@ ORDERS = {
 
 def rows(database):
     """All rows of all tables, or nothing where there are none."""
-    names = ["meta", "tenant", "token", "network", "peer", "allowed"]
-    with closing(sqlite3.connect(database)) as file:
-        try:
-            return [sorted(file.execute(f"SELECT * FROM {name}"), key=repr) for name in names]
-        except sqlite3.DatabaseError:
-            return None
+    return rows_of(database) or None
 
 
 def make_base(folder):
@@ -233,10 +229,15 @@ class Words(unittest.TestCase):
                 file.execute("UPDATE network SET capacity = 4097")
                 file.commit()
                 file.execute("PRAGMA wal_checkpoint(TRUNCATE)")
+            earlier = f"{folder}/earlier.db"
+            make(earlier, 1, base)
             now = ["batch", "--now", str(NOW)]
             scripts = {
                 "init": (Run(None, ["init"]), DONE),
                 "init of a register": (Run(base, ["init"]), Left(1, b"", b"wgr: not_empty\n")),
+                "a migration": (Run(earlier, ["migrate"]), DONE),
+                "a migration of the present version": (Run(base, ["migrate"]), DONE),
+                "an order on an earlier version": (Run(earlier, ["tenant-add", "cato"]), EARLIER),
                 "a register that is not good": (Run(bad, ["tenant-add", "cato"]), Left(1, b"", b"wgr: not_good\n")),
                 **{name: (Run(base, words, text), left) for name, (words, text, left) in ORDERS.items()},
                 "what is shown": (Run(base, ["show"]), None),

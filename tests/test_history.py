@@ -10,9 +10,10 @@ import unittest
 from contextlib import closing
 from pathlib import Path
 
+from earlier import make
 from program import Left, run
 from serving import PEERS, SERVER_KEY, key, network_add, order, request
-from shipped import Shipped, rows_of
+from shipped import ANOTHER, BEFORE, NEW, OLD, OTHER, Shipped, rows_of
 from test_batch import batch
 
 # The SHA-256 of `abc` and of `xyz`.
@@ -160,6 +161,20 @@ class History(Shipped):
             self.assertEqual(json.loads(left.out), DAY[1][2][0])
         with self.subTest("no copy"):
             self.assertEqual(self.run_script("wgr-history", "none.db", "one.db"), Left(1, b"", b"wgr-history: there is no copy none.db\n"))
+        for name, version, why in [("an earlier version", 1, OLD), ("another version", 9, ANOTHER)]:
+            with self.subTest(name):
+                shutil.copy(copies[0], self.folder / "other.db")
+                with closing(sqlite3.connect(self.folder / "other.db")) as link:
+                    link.execute("UPDATE meta SET version = ?", [version])
+                    link.commit()
+                for words in [["other.db", "one.db"], ["one.db", "other.db"]]:
+                    self.assertEqual(self.run_script("wgr-history", *words), Left(1, b"", f"wgr-history: other.db is {why}\n".encode()))
+        with self.subTest("one that was migrated"):
+            make(self.folder / "earlier.db", 1, copies[1])
+            self.assertEqual(self.run_script("wgr", "migrate", "earlier.db"), Left(0, b"done\n"))
+            self.assertEqual(self.run_script("wgr-history", "earlier.db", "one.db"), Left(0))
+            left = self.run_script("wgr-history", "earlier.db", "two.db")
+            self.assertEqual(json.loads(left.out), DAY[1][2][0])
 
 
 class Pools(Shipped):
@@ -234,9 +249,11 @@ class Pools(Shipped):
     def test_copies_that_are_not_read(self):
         """The copy is as it was, and nothing is left beside it, as where it is read."""
         rows = [
-            ("a good one", "UPDATE meta SET version = 1", None),
-            ("of another version", "UPDATE meta SET version = 2", "not_a_register: it is another file, or has tables of another version"),
-            ("with rows that aren't good", "UPDATE network SET tenant = 9", "not_good"),
+            ("a good one", "UPDATE meta SET version = 3", None),
+            ("of another version", "UPDATE meta SET version = 9", OTHER),
+            ("of an earlier version", "UPDATE meta SET version = 1", BEFORE),
+            ("with rows that aren't good", "UPDATE network SET tenant = 9", "wgr: not_good"),
+            ("with a second pool", "INSERT INTO second VALUES (1, 6, zeroblob(16), 64)", "wgr: not_good"),
         ]
         for name, sql, why in rows:
             with self.subTest(name):
@@ -246,9 +263,10 @@ class Pools(Shipped):
                 with closing(sqlite3.connect(copy)) as link:
                     link.execute(sql)
                     link.commit()
-                before, told = copy.read_bytes(), f"wgr-free-pool: {copy} can't be opened: wgr: {why}\n".encode()
+                before = copy.read_bytes()
                 left = self.run_script("wgr-free-pool", "24", copy, "--within", "10.8.0.0/16")
-                self.assertEqual(left, Left(1, b"", told) if why else Left(0, b"10.8.1.0/24\n"))
+                told = why and f"wgr-free-pool: {copy} can't be opened: {why.format(copy)}\n".encode()
+                self.assertEqual(left, Left(1, b"", told) if told else Left(0, b"10.8.1.0/24\n"))
                 self.assertTrue(copy.read_bytes() == before)
                 self.assertEqual(self.names(), ["copy.db"])
 
@@ -335,19 +353,27 @@ class Changes(Shipped):
 
     def test_another_version(self):
         """Also one that wgr knows by then."""
-        with closing(sqlite3.connect(self.database)) as link:
-            link.execute("UPDATE meta SET version = 2")
-            link.commit()
-        # The empty log that wgr leaves beside each file that it has opened.
-        Path(f"{self.database}-wal").touch()
-        before, names = Path(self.database).read_bytes(), self.names(".")
-        for by in ["wgr", "a later wgr"]:
-            with self.subTest(by):
-                if by == "a later wgr":
-                    self.stand_in("wgr", "exit 0")
-                why = "can't be opened: wgr: not_a_register" if by == "wgr" else "is no register whose tables have version 1"
-                self.assertEqual(self.change("acme", "office", "--port", "1"), Left(1, b"", f"wgr-change-network: {self.database} {why}\n".encode()))
-                self.assert_untouched(before, names)
+        real = os.readlink(self.bin / "wgr")
+        rows = [
+            ("of another version", "UPDATE meta SET version = 9", OTHER, ANOTHER),
+            ("of an earlier version", "UPDATE meta SET version = 2", BEFORE.format(self.database), OLD),
+            ("with a second pool", "INSERT INTO second VALUES (1, 6, zeroblob(16), 64)", "wgr: not_good", NEW),
+            ("without a table", "DROP TABLE reader", OTHER, "no register: no such table: reader"),
+        ]
+        good = Path(self.database).read_bytes()
+        for name, sql, why, is_what in rows:
+            Path(self.database).write_bytes(good)
+            with closing(sqlite3.connect(self.database)) as link:
+                link.execute(sql)
+                link.commit()
+            # The empty log that wgr leaves beside each file that it has opened.
+            Path(f"{self.database}-wal").touch()
+            before, names = Path(self.database).read_bytes(), self.names(".")
+            for by, does, told in [("wgr", f'exec {real} "$@"', f"can't be opened: {why}"), ("a later wgr", "exit 0", f"is {is_what}")]:
+                with self.subTest(name, by=by):
+                    self.stand_in("wgr", does)
+                    self.assertEqual(self.change("acme", "office", "--port", "1"), Left(1, b"", f"wgr-change-network: {self.database} {told}\n".encode()))
+                    self.assert_untouched(before, names)
 
     def test_a_register_that_is_served(self):
         self.serve()

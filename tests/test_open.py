@@ -6,6 +6,7 @@ import tempfile
 import unittest
 from pathlib import Path
 
+from earlier import EARLIER, READER, SECOND
 from keys import key_text
 from program import Left, run
 
@@ -92,6 +93,10 @@ BROKEN = [
     ("a route at the server's address", ROUTE.format(f"lo = {address('10.8.0.1')}, hi = {address('10.8.0.1')}, length = 32")),
     ("an address of another kind", ROUTE.format("kind = 'other'")),
     ("an allowed prefix of no network", ROUTE.format("network = 9")),
+    ("a second pool", f"INSERT INTO second VALUES (1, 6, x'fd{15 * '00'}', 64)"),
+    ("a second pool of no network", f"INSERT INTO second VALUES (9, 6, x'fd{15 * '00'}', 64)"),
+    ("a token that only reads", "INSERT INTO reader SELECT digest FROM token WHERE tenant = 1"),
+    ("one of no token", f"INSERT INTO reader VALUES ({key_blob(7)})"),
 ]
 
 # None of these does.
@@ -106,16 +111,34 @@ GOOD = [
     ("a route at full length", ROUTE.format(f"lo = {address('10.8.0.9')}, hi = {address('10.8.0.9')}, length = 32")),
     ("all addresses as a route", ROUTE.format(f"lo = {address('0.0.0.0')}, hi = {address('255.255.255.255')}, length = 0")),
     ("a table of one's own", "CREATE TABLE note (id INTEGER PRIMARY KEY, text TEXT)"),
+    ("tables of second pools and of tokens that only read, made anew behind it", f"DROP TABLE second; DROP TABLE reader; CREATE TABLE note (text TEXT); {READER}; {SECOND}"),
 ]
 
-# What holds no register of this version.
+# What holds no register of any version.
 FOREIGN = [
-    ("another version", "UPDATE meta SET version = 2"),
+    ("a later version", "UPDATE meta SET version = 4"),
+    ("version 0", "UPDATE meta SET version = 0"),
     ("no version", "DELETE FROM meta"),
+    ("two versions", "INSERT INTO meta VALUES (1)"),
+    ("no table of second pools", "DROP TABLE second"),
+    ("no table of tokens that only read", "DROP TABLE reader"),
+    ("a table `second` of another form", "DROP TABLE second; CREATE TABLE second (network INTEGER PRIMARY KEY, family INTEGER NOT NULL, lo BLOB NOT NULL, length INTEGER) STRICT"),
+    ("a view in place of a table", "DROP TABLE reader; CREATE VIEW reader AS SELECT digest FROM token"),
+    ("a table that refers to `second`", "CREATE TABLE note (network INTEGER REFERENCES second (network))"),
+    ("a table that refers to `reader`", "CREATE TABLE note (digest BLOB REFERENCES reader)"),
     ("a table less", "DROP TABLE token"),
     ("an index less", "DROP INDEX allowed_peer"),
     ("a column more", "ALTER TABLE peer ADD COLUMN note TEXT"),
     ("a table that refers to ours", "CREATE TABLE note (peer INTEGER REFERENCES peer (id))"),
+]
+
+
+# What holds one of an earlier version.
+BEFORE = [
+    ("version 1", "DROP TABLE reader; DROP TABLE second; UPDATE meta SET version = 1"),
+    ("version 2", "DROP TABLE reader; UPDATE meta SET version = 2"),
+    ("version 1, with tables that have the names of later ones", "UPDATE meta SET version = 1"),
+    ("version 2, with a table that has the name of a later one", "UPDATE meta SET version = 2"),
 ]
 
 
@@ -158,6 +181,11 @@ class Opening(unittest.TestCase):
         for name, statements in GOOD:
             with self.subTest(name):
                 self.assertEqual(self.opened_after(statements)[0], DONE)
+
+    def test_earlier_versions(self):
+        for name, statements in BEFORE:
+            with self.subTest(name):
+                self.assertEqual(self.opened_after(statements), (EARLIER, True))
 
     def test_tables(self):
         for name, statements in FOREIGN:

@@ -19,6 +19,7 @@ FOLLOWED = {
     ("Upgrading", 0): "package",
     ("Upgrading", 1): "by hand",
     ("Upgrading", 2): "by hand",
+    ("Migrating a register", 0): "package",
     ("TLS and slow clients", 0): "package",
     ("TLS and slow clients", 1): "by hand",
     ("TLS and slow clients", 2): "by hand",
@@ -263,6 +264,20 @@ class ByPackage(Story):
         self.assertEqual(self.host.show("wgr.service", "ActiveState"), ("active",))
         self.assertNotEqual(self.main_process(), before)
         self.assertEqual(self.ask("/networks")[0], 200)
+        before = self.main_process()
+        with self.subTest("a service of a release whose registers must be migrated first runs on"):
+            self.have_installed("0.7.1")
+            self.assertIn("sudo -u wgr wgr migrate /var/lib/wgr/register.db", self.do(f"apt-get -y install {place}"))
+            self.assertEqual((self.main_process(), self.ask("/networks")[0]), (before, 200))
+        self.have_installed("0.7.1")
+        self.follow("Migrating a register")
+        self.assertEqual(self.do("dpkg-query -W -f '${Version}' wgr"), f"{version}+later")
+        self.assertNotEqual(self.main_process(), before)
+        self.assertEqual(self.ask("/networks")[0], 200)
+
+    def have_installed(self, version):
+        """Lets dpkg take what is installed for another version."""
+        self.do(f"sed -i '/^Package: wgr$/,/^$/s/^Version: .*/Version: {version}/' /var/lib/dpkg/status")
 
     def remove(self):
         """What it stops and what it keeps."""

@@ -41,6 +41,8 @@ LINES = [
     ("a name too few", b"network-end acme\n", BAD, True),
     ("an unknown word", b"peer-add bolt\n", BAD, True),
     ("a word of the command line", b"init register.db\n", BAD, True),
+    ("the word that migrates", b"migrate register.db\n", BAD, True),
+    ("the word that migrates alone", b"migrate\n", BAD, True),
     ("a word in capitals", b"Tenant-add bolt\n", BAD, True),
     ("a word with more behind", b"tenant-added bolt\n", BAD, True),
     ("a register before the name", b"tenant-add register.db bolt\n", BAD, True),

@@ -185,6 +185,8 @@ class Refused(Sending):
         rows = [
             ("an unknown word", ("peer-add", "acme")),
             ("a word of another command", ("batch", "acme")),
+            ("the word that migrates", ("migrate",)),
+            ("the word that migrates, and a file", ("migrate", "register.db")),
             ("no field", ("tenant-add",)),
             ("a field too many", ("tenant-add", "acme", "bolt")),
             ("a field too few", NETWORK[:-1]),

@@ -63,6 +63,9 @@ COMPLETED = [
     ("a word's help", ["help", "se"], ["serve", "send"]),
     ("no word behind a word's help", ["help", "serve", ""], []),
     ("the register", ["init", ""], FILES),
+    ("the register to migrate", ["migrate", ""], FILES),
+    ("nothing behind the register to migrate", ["migrate", "register.db", ""], []),
+    ("part of migrate", ["mi"], ["migrate"]),
     ("part of a file", ["serve", "reg"], ["register.db"]),
     ("no tenant", ["token-grant", "register.db", ""], []),
     ("the files of batch", ["batch", "register.db", ""], FILES),
@@ -271,6 +274,7 @@ class Root(Made):
         words = ["dpkg", f"--root={self.root}", "--force-script-chrootless", "--force-depends", "--force-unsafe-io", "--log=/dev/null", *words]
         done = subprocess.run(words, capture_output=True, text=True)
         self.assertEqual(done.returncode, 0, done.stderr)
+        return done.stdout
 
     def left(self):
         """What is there but dpkg's own files, those in which the system keeps its users, and the folders of both."""
@@ -302,6 +306,19 @@ class Installed(Root):
             self.assertEqual({path for path in self.left() if path.startswith("etc")}, {"etc/wgr"})
         with self.subTest("nobody but root reads keys"):
             self.assertEqual((self.root / "etc/wgr").stat().st_mode & 0o777, 0o700)
+
+    def test_what_is_told_of_a_migration(self):
+        """What to do, where the release before is one whose registers must be migrated."""
+        self.assertNotIn("migrate", self.dpkg("-i", self.package))
+        for version, is_told in [("0.7.1", True), ("0.8.0~beta", True), ("0.8.0", False), ("0.10.0", False)]:
+            with self.subTest(version):
+                made = self.root / "made"
+                subprocess.run(["dpkg-deb", "-R", self.package, made], check=True)
+                sub(made / "DEBIAN/control", r"(?m)^Version: .*", f"Version: {version}")
+                subprocess.run(["dpkg-deb", "-Znone", "--root-owner-group", "-b", made, self.root / "made.deb"], check=True, capture_output=True)
+                shutil.rmtree(made)
+                self.dpkg("-i", self.root / "made.deb")
+                self.assertEqual("sudo -u wgr wgr migrate /var/lib/wgr/register.db" in self.dpkg("-i", self.package), is_told)
 
     def test_a_purge_leaves_the_register(self):
         register, key = ["var/lib/wgr/register.db", "var/lib/wgr/register.db-wal"], ["etc/wgr/vpn1/key"]

@@ -153,7 +153,7 @@ class Errors(Reading):
         put(self.db, "network", [network_row(row, 1, f"n{row}", small_pool(row), f"{240 * 'h'}{row}", 1) for row in range(1, 16_300)])
         with Faulty() as faulty, faulty.serve(self.db, orders=self.socket):
             text = shown(self.socket, "status")
-            faulty.arm(file_read=0)
+            faulty.arm(file_read=0, file_read_once=1)
             self.assertEqual(tell(self.socket, b"status\n"), b"1 store\n")
             faulty.disarm()
             self.assertEqual(shown(self.socket, "status"), text)

@@ -12,6 +12,7 @@ from concurrent.futures import ThreadPoolExecutor
 from contextlib import closing
 from pathlib import Path
 
+from earlier import make
 from faulty import WHOLE, Faulty, needs_faults, scratch
 from keys import numbered_keys
 from program import Left
@@ -98,6 +99,9 @@ class Reads(unittest.TestCase):
             cases = {name: (base, words, text) for name, (words, text) in WORDS.items()}
             cases |= {name: (base, ["batch", "--now", str(NOW)], b"", [asked]) for name, asked in REQUESTS.items()}
             cases["a register"] = (None, ["init"])
+            for version in [1, 2]:
+                make(f"{folder}/earlier-{version}.db", version, base)
+                cases[f"a migration of version {version}"] = (f"{folder}/earlier-{version}.db", ["migrate"])
             outcomes = {name: pool.submit(self.sweep, *case) for name, case in cases.items()}
             for name, outcome in outcomes.items():
                 with self.subTest(name):
@@ -114,10 +118,10 @@ class Reads(unittest.TestCase):
             put(base, "network", rows)
             self.assertEqual(faulty.run(["tenant-add", self.fresh(faulty, base), "cato"]), DONE)
             total = faulty.file_reads
-            # Of a register of another version no row is read.
+            # Of tables of no version no row is read.
             path = self.fresh(faulty, base)
             with closing(sqlite3.connect(path)) as file, file:
-                file.execute("UPDATE meta SET version = 3")
+                file.execute("UPDATE meta SET version = 9")
             self.assertEqual(faulty.run(["tenant-add", path, "cato"]), failed("not_a_register"))
             opened = faulty.file_reads
             self.assertGreater(total, opened + 100)

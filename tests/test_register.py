@@ -8,7 +8,7 @@ from pathlib import Path
 
 from keys import K0
 from program import run
-from register_file import ACME, BOLT, DIGEST, DONE, NETWORK, OFFICE, S, TOKEN, Files, address_bytes, failed, options, refused
+from register_file import ACME, BOLT, DIGEST, DONE, NETWORK, OFFICE, S, TABLES, TOKEN, Files, address_bytes, failed, options, refused
 
 
 # Each table's columns, with the kinds that SQLite keeps in them.
@@ -21,6 +21,8 @@ COLUMNS = {
     "peer": "id INTEGER, network INTEGER, key BLOB, label TEXT, until INTEGER, keepalive INTEGER, "
     "handshake INTEGER, received INTEGER, sent INTEGER",
     "allowed": "network INTEGER, family INTEGER, lo BLOB, length INTEGER, hi BLOB, peer INTEGER, kind TEXT",
+    "second": "network INTEGER, family INTEGER, lo BLOB, length INTEGER",
+    "reader": "digest BLOB",
 }
 
 
@@ -32,12 +34,9 @@ class Done(Files):
 
     def test_init(self):
         self.assertEqual(run(["init", self.db]), DONE)
-        tables = self.query("SELECT name FROM sqlite_schema WHERE type = 'table' ORDER BY name")
-        self.assertEqual(
-            tables, [("allowed",), ("meta",), ("network",), ("peer",), ("tenant",), ("token",)]
-        )
-        empty = {name: [] for name in ["tenant", "token", "network", "peer", "allowed"]}
-        self.assertEqual(self.rows(), {"meta": [(1,)], **empty})
+        tables = self.query("SELECT name FROM sqlite_schema WHERE type = 'table'")
+        self.assertEqual(tables, [(name,) for name in TABLES])
+        self.assertEqual(self.rows(), {name: [(3,)] if name == "meta" else [] for name in TABLES})
 
     def test_the_columns(self):
         self.init()

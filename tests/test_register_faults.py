@@ -7,8 +7,9 @@ import stat
 from contextlib import closing
 from pathlib import Path
 
+from earlier import EARLIER
 from program import Left, run, without_room
-from register_file import ACME, BOLT, DONE, NETWORK, TOKEN, Files, failed, options
+from register_file import ACME, BOLT, DONE, NETWORK, TABLES, TOKEN, Files, failed, options
 
 WORDS = [
     ("tenant-add", ["acme"], b""),
@@ -52,6 +53,15 @@ class Faults(Files):
         self.assertEqual(run(["init", self.db]), failed("not_a_register"))
         self.assertEqual(self.query("SELECT name FROM sqlite_schema"), [("note",)])
 
+    def test_init_beside_a_name_of_its_tables(self):
+        for name in TABLES:
+            for made in [f"CREATE TABLE {name} (text TEXT)", f"CREATE VIEW {name.upper()} AS SELECT 1 AS text"]:
+                with self.subTest(made):
+                    self.db = self.path(f"{made.split()[1]}-{name}.db")
+                    self.change(made)
+                    self.assertEqual(run(["init", self.db]), failed("not_empty"))
+                    self.assertEqual(self.query("SELECT sql FROM sqlite_schema"), [(made,)])
+
     def test_init_in_an_empty_database(self):
         self.change("CREATE TABLE note (text TEXT)", "DROP TABLE note")
         self.assertEqual(run(["init", self.db]), DONE)
@@ -59,7 +69,7 @@ class Faults(Files):
     def test_init_in_an_empty_file(self):
         Path(self.db).touch()
         self.assertEqual(run(["init", self.db]), DONE)
-        self.assertEqual(self.query("SELECT version FROM meta"), [(1,)])
+        self.assertEqual(self.query("SELECT version FROM meta"), [(3,)])
 
     def each_word(self, left):
         for word, words, text in WORDS:
@@ -85,8 +95,10 @@ class Faults(Files):
 
     def test_another_version(self):
         self.init(ACME)
-        self.change("UPDATE meta SET version = 2")
-        self.each_word(failed("not_a_register"))
+        for version, left in [(9, failed("not_a_register")), (1, EARLIER), (2, EARLIER)]:
+            with self.subTest(version=version):
+                self.change(f"UPDATE meta SET version = {version}")
+                self.each_word(left)
 
     def test_no_database(self):
         text = b"not a database, but longer than a header of one hundred bytes" * 10

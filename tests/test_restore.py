@@ -1,4 +1,4 @@
-"""docs/OPERATIONS.md on copies and tokens: its commands, from a backup to a second host, and what `VACUUM` leaves."""
+"""docs/OPERATIONS.md on copies and tokens: its commands, from a backup to a second host, and a smaller file."""
 
 import json
 import os
@@ -8,7 +8,8 @@ import signal
 import unittest
 
 from commands import blocks_of, commands_of, is_printed
-from program import Left
+from program import Left, run
+from register_file import DONE, failed
 from serving import PEERS, Server, done, free_port, key, peer, refused, request
 from shipped import DIST, SYSTEMCTL, Shipped, rows_of
 from test_batch import batch
@@ -161,8 +162,8 @@ class Page(Shipped):
         self.assertEqual(self.ask("GET", "/networks"), refused(401, "unknown_token"))
 
     @needs("sqlite3")
-    def test_vacuum(self):
-        """It leaves a smaller file that opens and has the same rows."""
+    def test_smaller_file(self):
+        """The rows copied into a new register make a smaller file. `VACUUM` leaves one that isn't opened, whose rows can be copied so."""
         database = str(self.folder / "first/lib/register.db")
         lines = [f"(none)\t{key(9)}\t51820\toff\n"]
         lines += [f"{key(number)}\t(none)\t(none)\t10.8.0.{number}/32\t0\t0\t0\toff\n" for number in range(10, 210)]
@@ -170,12 +171,20 @@ class Page(Shipped):
         batch(database, 0, [request("DELETE", f"{PEERS}/{number}") for number in range(2, 200)])
         shown = batch(database, 0, [request("GET", PEERS)])
         self.assertEqual(shown.out.count(b'"number"'), 2)
-        before, tables = os.path.getsize(database), ["tenant", "token", "network", "peer", "allowed", "meta"]
+        before, tables = os.path.getsize(database), ["tenant", "token", "network", "peer", "allowed", "reader"]
         rows = [rows_of(database, f"SELECT * FROM {table}") for table in tables]
-        self.assertEqual(self.run_script("sqlite3", database, "VACUUM"), Left(0))
-        self.assertLess(os.path.getsize(database), before)
-        self.assertEqual(batch(database, 0, [request("GET", PEERS)]), shown)
-        self.assertEqual([rows_of(database, f"SELECT * FROM {table}") for table in tables], rows)
+        for vacuumed in [False, True]:
+            with self.subTest(vacuumed):
+                if vacuumed:
+                    self.assertEqual(self.run_script("sqlite3", database, "VACUUM"), Left(0))
+                    self.assertEqual(batch(database, 0, [request("GET", PEERS)]), failed("not_a_register"))
+                smaller = str(self.folder / f"smaller{vacuumed}.db")
+                self.assertEqual(run(["init", smaller]), DONE)
+                copies = "".join(f"INSERT INTO {table} SELECT * FROM old.{table};" for table in tables)
+                self.assertEqual(self.run_script("sqlite3", smaller, f"ATTACH '{database}' AS old; {copies}"), Left(0))
+                self.assertLess(os.path.getsize(smaller), before)
+                self.assertEqual(batch(smaller, 0, [request("GET", PEERS)]), shown)
+                self.assertEqual([rows_of(smaller, f"SELECT * FROM {table}") for table in tables], rows)
 
 
 if __name__ == "__main__":

@@ -12,6 +12,7 @@ import unittest
 from concurrent.futures import ThreadPoolExecutor
 from pathlib import Path
 
+from earlier import make_logged
 from faulty import FULL, KILL, KILLED, ON, ONCE, SHORT, TORN, WHOLE, Faulty, needs_faults, recorded, scratch, tell
 from program import Left
 from register_file import DONE, OFFICE, failed, options
@@ -49,6 +50,8 @@ class Order:
 
     count = 1
     following = ["tenant-add", "next"]
+    # Whether most of its calls are those of the orders.
+    shares = True
 
     def __init__(self, base, word, words=(), text=b""):
         self.base, self.word, self.words, self.text = base, word, words, text
@@ -96,14 +99,29 @@ class Order:
 class Init(Order):
     """A stop may leave no register; then it can be made."""
 
+    shares = False
+
     def follows(self, faulty, path):
         return faulty.run(["init", path]), *super().follows(faulty, path)
+
+
+class Migrate(Order):
+    """Takes a register of an earlier version to the present one. A stop leaves the one or the other, and `migrate`
+    again ends at the present one."""
+
+    shares = False
+
+    def follows(self, faulty, path):
+        word, *words = self.following
+        # The program tells the version, before Python's SQLite opens the file.
+        before = faulty.run([word, path, *words])
+        return before, faulty.run(["migrate", path]), *super().follows(faulty, path)
 
 
 class Batch(Order):
     """Several requests, whose replies come at the end."""
 
-    count = len(ASKED)
+    count, shares = len(ASKED), False
 
     def __init__(self, base):
         super().__init__(base, "batch")
@@ -272,7 +290,7 @@ def is_due(word, faulty, path, allowed, follows):
 
 def each_of(word, turn, total, step=1):
     """The calls to stop at. The orders have most of their calls in common, so each has a quarter of its own."""
-    step = step if word.count > 1 or not word.base else 4
+    step = 4 if word.shares else step
     return range(total) if WHOLE else range(turn % step, total, step)
 
 
@@ -346,4 +364,9 @@ class EachStop:
 class Stops(EachStop, unittest.TestCase):
     def words(self, base):
         orders = {word: Order(base, word, *words) for word, words in ORDERS.items()}
-        return {"init": Init(None, "init"), "batch": Batch(base), "serve": Serve(base)} | orders
+        migrations = {}
+        for version in [1, 2]:
+            earlier = f"{base}.{version}"
+            make_logged(earlier, version, base, "INSERT INTO tenant VALUES (3, 'dune')", "DELETE FROM token WHERE tenant = 2")
+            migrations[f"migrate from version {version}"] = Migrate(earlier, "migrate")
+        return {"init": Init(None, "init"), "batch": Batch(base), "serve": Serve(base)} | migrations | orders

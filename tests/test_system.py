@@ -8,9 +8,10 @@ import unittest
 from contextlib import closing
 from pathlib import Path
 
+from earlier import make
 from faulty import Faulty, needs_faults, recorded
 from program import Left, run, without_room
-from register_file import ACME, DONE, NETWORK, Files, failed
+from register_file import ACME, DONE, NETWORK, TABLES, Files, failed
 from register_file import refused as refused_order
 from serving import LIST, NOBODY, PEERS, Server, Serving, done, has_ipv6, key, make_register, peer, refused, request
 from test_batch import batch
@@ -126,9 +127,8 @@ class Ends(Files):
         """All rows that a copy of the file shows."""
         copy = self.path("copy.db")
         shutil.copyfile(self.db, copy)
-        names = ["meta", "tenant", "token", "network", "peer", "allowed"]
         with closing(sqlite3.connect(copy)) as file:
-            return {name: file.execute(f"SELECT * FROM {name}").fetchall() for name in names}
+            return {name: file.execute(f"SELECT * FROM {name}").fetchall() for name in TABLES}
 
     def has_peer_2(self):
         rows = self.alone()
@@ -137,7 +137,7 @@ class Ends(Files):
         self.assertEqual([row[5] & 0xFFFFF for row in rows["allowed"]], [2])
         self.assertEqual(rows["network"][0][:-1], self.before["network"][0][:-1])
         self.assertEqual(rows["network"][0][-1], 3)
-        for table in ["meta", "tenant", "token"]:
+        for table in ["meta", "tenant", "token", "second", "reader"]:
             self.assertEqual(rows[table], self.before[table])
 
     def test_batch(self):
@@ -198,6 +198,11 @@ class Opened(Files):
             for name, words, text, left in rows:
                 with self.subTest(name):
                     self.assertEqual(self.opened(faulty, words, text, left), files | {*asked} if name == "requests" else files)
+            earlier = self.path("earlier.db")
+            make(earlier, 1)
+            for name in ["a migration", "a migration of the present version"]:
+                with self.subTest(name):
+                    self.assertEqual(self.opened(faulty, ["migrate", earlier]), {earlier, f"{earlier}-wal", str(self.folder)})
             with self.subTest("no register"):
                 self.assertEqual(self.opened(faulty, ["plan", "10.8.0.0/24"], b"", Left(0)), set())
             with self.subTest("connections"):

@@ -48,7 +48,13 @@ fn is_pool(pool: &Prefix) -> bool {
 }
 
 fn check_version(db: &mut Connection) {
-    ensure(db.rows("SELECT version FROM meta", &[], |row| row.int(0)) == [1]);
+    ensure(db.rows("SELECT version FROM meta", &[], |row| row.int(0)) == [3]);
+}
+
+/// Second pools, and tokens that only read, of which there are none.
+fn check_later(db: &mut Connection) {
+    ensure(db.rows("SELECT network FROM second", &[], |_| ()).is_empty());
+    ensure(db.rows("SELECT digest FROM reader", &[], |_| ()).is_empty());
 }
 
 /// The ids of the tenants, which rise.
@@ -165,6 +171,7 @@ pub fn check(db: &mut Connection) {
         "SELECT rowid, network, family, lo, length, hi, peer, kind FROM allowed ORDER BY rowid",
         |row| is_allowed(row, &networks),
     );
+    check_later(db);
     for id in networks {
         ensure(keeps_the_rules(&Network::load(db, id)));
     }

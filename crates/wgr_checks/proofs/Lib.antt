@@ -8,6 +8,7 @@ pub mod TokenQueries
 pub mod NetworkQueries
 pub mod MemberQueries
 pub mod SelectLemmas
+pub mod LaterQueries
 -- What the listed rows tell of all rows of a table.
 pub mod KeyLemmas
 pub mod TenantLemmas

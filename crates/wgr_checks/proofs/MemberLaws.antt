@@ -1,5 +1,5 @@
 -- Rows that are written as the register writes them are rows of a register.
-use Rattle.std.proofs.Common.{◌≡◌, ℕ, List, ◌∷◌, [], map, refl, sym, subst, inl, inr}
+use Rattle.std.proofs.Common.{◌≡◌, ℕ, List, ◌∷◌, [], map, sym, subst, inl, inr}
 use Rattle.sqlite.specs.Order.{Row}
 use Rattle.sqlite_rules.specs.Lists.{Has}
 use Rattle.sqlite_rules.proofs.ListLemmas.{all_has}

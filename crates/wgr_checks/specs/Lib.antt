@@ -8,3 +8,4 @@ pub mod AllowedRows
 pub mod TableRows
 pub mod Walked
 pub mod Laws
+pub mod Later

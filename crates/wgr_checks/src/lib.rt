@@ -4,6 +4,7 @@
 
 mod allowed;
 mod keys;
+mod later;
 mod laws;
 mod networks;
 mod owners;
@@ -16,6 +17,7 @@ mod tokens;
 mod walk;
 
 pub use allowed::allowed_are_written;
+pub use later::{has_no_readers, has_no_seconds};
 pub use laws::{
     good_networks_are_consistent, good_tenants_are_consistent, good_tokens_are_consistent,
     written_allowed_are_allowed, written_peers_are_peers,

@@ -1,5 +1,5 @@
 -- The tables of the register and their indexes, as the database's schema has them.
-use Rattle.std.specs.Prelude.{◌≡◌, ℕ, Bool, true, false, not, ◌&&◌, nat_le, List, [], ◌∷◌, ◌++◌, map, Option, Some, None, codes}
+use Rattle.std.specs.Prelude.{◌≡◌, ℕ, Bool, true, false, not, ◌&&◌, ◌||◌, nat_le, List, [], ◌∷◌, ◌++◌, map, Option, Some, None, codes}
 use Rattle.std.specs.List.{list_any, list_all}
 use Rattle.sqlite.specs.Collation.TheVariants.{Binary}
 use Rattle.sqlite.specs.declared.types.Value.TheVariants.{Null}
@@ -140,7 +140,12 @@ is_apart tables table = nat_le first_free_tree table.tree && not (list_any (refe
 abbrev pub is_past : Index → Bool
 is_past index = nat_le first_free_tree index.tree
 
+-- whether a table refers to none of the two that are found by their names
+abbrev pub refers_to_no_later : Table → Bool
+refers_to_no_later table = not (list_any (λ (ref : Reference). same_name (codes "second") ref.parent || same_name (codes "reader") ref.parent) table.references)
+
 -- Each further table is separate, and each further index is in a tree after the register's. Views are free.
 pub record AreOthersApart (others : Others) : Type 0 where
   pub tables : list_all (is_apart register_tables) others.tables ≡ true
+  pub unreferred : list_all refers_to_no_later others.tables ≡ true
   pub indexes : list_all is_past others.indexes ≡ true

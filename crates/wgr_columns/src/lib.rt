@@ -14,7 +14,7 @@ mod value;
 
 pub use address::{address_at, address_number_at, family_at, pool_in, prefix_in};
 pub use blob::{digest_at, key_at};
-pub use columns::{ROWID, allowed, meta, network, peer, tenant, token};
+pub use columns::{ROWID, allowed, meta, network, peer, reader, tenant, token};
 pub use network_row::{NetworkRow, NetworkSettings, read_network, read_settings};
 pub use number::{
     capacity_at, count_at, end_at, has_number, id_at, integer_at, is_null_at, magnitude_at,

@@ -2,7 +2,7 @@
 use Rattle.std.proofs.Common.{◌≡◌, true, false, [], ◌∷◌, Some, None, codes, refl}
 use Rattle.clap.specs.declared.error.kind.ErrorKind.TheVariants as kind
 use Rattle.clap.proofs.OnLiterals.{clap_on_literals}
-use Rattle.wgr_command_line.specs.Words.{asked_by, wrong_with, Batch, Init, Operate, Orders, Plan, Send, Serve, Show}
+use Rattle.wgr_command_line.specs.Words.{asked_by, wrong_with, Batch, Init, Migrate, Operate, Orders, Plan, Send, Serve, Show}
 use Rattle.wgr_words.specs.Asked.{DigestEnd, NetworkEnd, TenantAdd, TokenEnd, TokenGrant}
 
 plan : asked_by (codes "plan" ∷ codes "10.8.0.0/24" ∷ []) ≡ Some (Plan (codes "10.8.0.0/24"))
@@ -40,6 +40,14 @@ version = refl
 init : asked_by (codes "init" ∷ codes "a.db" ∷ []) ≡ Some (Init (codes "a.db"))
 unfolding clap_on_literals
 init = refl
+
+migrate : asked_by (codes "migrate" ∷ codes "a.db" ∷ []) ≡ Some (Migrate (codes "a.db"))
+unfolding clap_on_literals
+migrate = refl
+
+migrate_two_files : asked_by (codes "migrate" ∷ codes "a.db" ∷ codes "b.db" ∷ []) ≡ None
+unfolding clap_on_literals
+migrate_two_files = refl
 
 tenant_add : asked_by (codes "tenant-add" ∷ codes "a.db" ∷ codes "acme" ∷ []) ≡ Some (Operate (codes "a.db") (TenantAdd (codes "acme")))
 unfolding clap_on_literals

@@ -63,6 +63,10 @@ db_app name = with_value (codes "db") (new_app name)
 abbrev pub init_app : App
 init_app = db_app (codes "init")
 
+-- `migrate DB`
+abbrev pub migrate_app : App
+migrate_app = db_app (codes "migrate")
+
 -- `tenant-add DB NAME`
 abbrev pub tenant_add_app : App
 tenant_add_app = with_value (codes "name") (db_app (codes "tenant-add"))
@@ -127,7 +131,7 @@ with_command command app = with_subcommand app command.top
 abbrev pub wgr_app : App
 wgr_app =
     with_command send_app (with_command serve_app (with_command batch_app (with_command show_app (with_command orders_app (with_command network_end_app
-    (with_command network_add_app (with_command token_end_app (with_command token_grant_app (with_command tenant_add_app (with_command init_app (with_command plan_app wgr_alone)))))))))))
+    (with_command network_add_app (with_command token_end_app (with_command token_grant_app (with_command tenant_add_app (with_command migrate_app (with_command init_app (with_command plan_app wgr_alone))))))))))))
 
 -- ---- what is asked for
 
@@ -138,6 +142,7 @@ wgr_app =
 pub data Asked : Type 0 where
   Plan : (pool : Text) → Asked
   Init : (db : Text) → Asked
+  Migrate : (db : Text) → Asked
   Operate : (db : Text) (order : OrderAsked) → Asked
   Orders : (db : Text) (file : Option Text) → Asked
   Show : (db : Text) (tenant : Option Text) (is_json : Bool) → Asked
@@ -158,6 +163,9 @@ plan_in rows = with_first (codes "pool") rows (λ pool. Some (Plan pool))
 
 abbrev pub init_in : List Row → Option Asked
 init_in rows = with_first (codes "db") rows (λ db. Some (Init db))
+
+abbrev pub migrate_in : List Row → Option Asked
+migrate_in rows = with_first (codes "db") rows (λ db. Some (Migrate db))
 
 abbrev pub tenant_add_in : List Row → Option Asked
 tenant_add_in rows =
@@ -229,6 +237,7 @@ asked_in (name, rows) =
     if bytes_eq name (codes "send") then send_in rows else
     if bytes_eq name (codes "plan") then plan_in rows else
     if bytes_eq name (codes "init") then init_in rows else
+    if bytes_eq name (codes "migrate") then migrate_in rows else
     if bytes_eq name (codes "tenant-add") then tenant_add_in rows else
     if bytes_eq name (codes "token-grant") then token_grant_in rows else
     if bytes_eq name (codes "token-end") then token_end_in rows else
@@ -270,6 +279,7 @@ texts_of = map (λ text. text.now)
 abbrev pub asked_of : Invocation → Asked
 asked_of (invocation.Plan pool) = Plan pool.now
 asked_of (invocation.Init db) = Init db.now
+asked_of (invocation.Migrate db) = Migrate db.now
 asked_of (invocation.Operate db order) = Operate db.now (order_asked order)
 asked_of (invocation.Orders db file) = Orders db.now (optional_text file)
 asked_of (invocation.Show db tenant is_json) = Show db.now (optional_text tenant) is_json

@@ -1,7 +1,7 @@
 //! The commands and their arguments, as `clap` parses them.
 ghost use Rattle.std.specs.Prelude.{◌≡◌, true, IfErr, IfOk};
 ghost use Rattle.clap.specs.Words.{app_of, kind_of, with_subcommand};
-ghost use Rattle.wgr_command_line.specs.Words.{batch_app, db_app, init_app, network_add_app, network_app, network_end_app, orders_app, plan_app, send_app, serve_app, show_app, socket_app, tenant_add_app, token_end_app, token_grant_app, wgr_alone, wgr_app};
+ghost use Rattle.wgr_command_line.specs.Words.{batch_app, db_app, init_app, migrate_app, network_add_app, network_app, network_end_app, orders_app, plan_app, send_app, serve_app, show_app, socket_app, tenant_add_app, token_end_app, token_grant_app, wgr_alone, wgr_app};
 
 use crate::help;
 use crate::values::{choice, flag, option, optional, value, values};
@@ -16,6 +16,7 @@ pub(crate) fn wgr_command<'a>(alloc: Global) -> Result<Command<'a>, Error>
     let command = bare_command(alloc)?;
     let command = with_command(command, plan_command(alloc)?)?;
     let command = with_command(command, init_command(alloc)?)?;
+    let command = with_command(command, migrate_command(alloc)?)?;
     let command = with_command(command, tenant_add_command(alloc)?)?;
     let command = with_command(command, token_grant_command(alloc)?)?;
     let command = with_command(command, token_end_command(alloc)?)?;
@@ -35,7 +36,7 @@ fn bare_command<'a>(alloc: Global) -> Result<Command<'a>, Error>
     ensures memory { IfErr result (λ error. kind_of error ≡ ErrorKind.OutOfMemory) }
 {
     let command = Command::new(alloc, "wgr")
-        .version("0.7.1")
+        .version("0.8.0")
         .about("A register of WireGuard peers and their tunnel addresses")
         .no_binary_name(true)
         .subcommand_required(true)
@@ -101,6 +102,18 @@ fn init_command<'a>(alloc: Global) -> Result<Command<'a>, Error>
     ensures memory { IfErr result (λ error. kind_of error ≡ ErrorKind.OutOfMemory) }
 {
     db_command(alloc, "init", "Creates a register in a file", help::INIT)
+}
+
+fn migrate_command<'a>(alloc: Global) -> Result<Command<'a>, Error>
+    ensures app { IfOk result (λ command. app_of command ≡ migrate_app) }
+    ensures memory { IfErr result (λ error. kind_of error ≡ ErrorKind.OutOfMemory) }
+{
+    db_command(
+        alloc,
+        "migrate",
+        "Takes a register of an earlier version to this one",
+        help::MIGRATE,
+    )
 }
 
 fn tenant_add_command<'a>(alloc: Global) -> Result<Command<'a>, Error>

@@ -45,6 +45,31 @@ Example:
   $ wgr init register.db
   done";
 
+pub(crate) const MIGRATE: &str = "\
+Takes the register in the SQLite database DB to the present version of its tables, in one
+commit, and prints `done`. Of a register of the present version nothing changes. Tables that are
+not the register's stay as they are. No other program may have DB open.
+
+It cannot be undone: make a copy first, with `cp`, of DB and of the log DB-wal if it is there.
+
+Messages on standard error, with the exit status, and what to do:
+  wgr: not_a_register  1  DB is missing or has no register: create one with `wgr init`
+  wgr: not_empty       1  a table, index or view in DB has the name of a table that is to come,
+                          `second` or `reader`: drop it, or give it another name
+  wgr: not_good        1  DB has rows that break the register's rules: use the last good copy
+                          of the file
+  wgr: store           1  DB cannot be read or written, is not a database, or another program
+                          has it open: check the file and its folder
+  wgr: no_memory       1  out of memory: free some, and try again
+  wgr: device          1  the register is of the present version, but `done` could not be
+                          printed
+The status is 0 if `done` is printed, and 2 for a wrong command line.
+
+Example:
+  $ cp register.db register.db.before
+  $ wgr migrate register.db
+  done";
+
 pub(crate) const TENANT_ADD: &str = "\
 Prints `done` once the tenant is in the register. A tenant has tokens (token-grant) and
 networks (network-add), and cannot be removed. NAME is 1 to 32 of a-z, 0-9 and `-`; it may
@@ -55,6 +80,7 @@ Messages on standard error, with the exit status, and what to do:
   wgr: name_held       2  a tenant already has the name: take another
   wgr: register_full   2  the register has 65536 tenants, the most it can have
   wgr: not_a_register  1  DB is missing or has no register: create one with `wgr init`
+                          (`wgr migrate` takes one of an earlier version to this one)
   wgr: not_good        1  DB has rows that break the register's rules: use the last good copy
                           of the file
   wgr: store           1  DB cannot be read or written, is not a database, or another program
@@ -81,6 +107,7 @@ Messages on standard error, with the exit status, and what to do:
   wgr: register_full     2  the register has 65536 tokens, the most it can have: end one with
                             `wgr token-end`
   wgr: not_a_register    1  DB is missing or has no register: create one with `wgr init`
+                            (`wgr migrate` takes one of an earlier version to this one)
   wgr: not_good          1  DB has rows that break the register's rules: use the last good
                             copy of the file
   wgr: store             1  DB cannot be read or written, is not a database, or another
@@ -107,6 +134,7 @@ Messages on standard error, with the exit status, and what to do:
   wgr: bad_field digest  2  HEX is not 64 hexadecimal digits: correct it
   wgr: no_such_token     2  no tenant has the token: check it
   wgr: not_a_register    1  DB is missing or has no register: create one with `wgr init`
+                            (`wgr migrate` takes one of an earlier version to this one)
   wgr: not_good          1  DB has rows that break the register's rules: use the last good
                             copy of the file
   wgr: store             1  DB cannot be read or written, is not a database, or another
@@ -145,6 +173,7 @@ Messages on standard error, with the exit status, and what to do:
   wgr: register_full     2  the register has 65536 networks, the most it can have: end one
                             with `wgr network-end`
   wgr: not_a_register    1  DB is missing or has no register: create one with `wgr init`
+                            (`wgr migrate` takes one of an earlier version to this one)
   wgr: not_good          1  DB has rows that break the register's rules: use the last good
                             copy of the file
   wgr: store             1  DB cannot be read or written, is not a database, or another
@@ -168,6 +197,7 @@ Messages on standard error, with the exit status, and what to do:
   wgr: no_such_tenant    2  no tenant has the name: correct it
   wgr: no_network        2  the tenant has no network of this name: correct it
   wgr: not_a_register    1  DB is missing or has no register: create one with `wgr init`
+                            (`wgr migrate` takes one of an earlier version to this one)
   wgr: not_good          1  DB has rows that break the register's rules: use the last good
                             copy of the file
   wgr: store             1  DB cannot be read or written, is not a database, or another
@@ -198,6 +228,7 @@ form, the answer is `2 bad_field FIELD`; if a line is not an order, it is `2 bad
 
 Messages on standard error, with the exit status, and what to do:
   wgr: not_a_register  1  DB is missing or has no register: create one with `wgr init`
+                          (`wgr migrate` takes one of an earlier version to this one)
   wgr: not_good        1  DB has rows that break the register's rules: use the last good copy
                           of the file
   wgr: store           1  DB cannot be read or written, is not a database, or another program
@@ -224,6 +255,7 @@ Messages on standard error, with the exit status, and what to do:
   wgr: bad_field tenant  2  TENANT does not have the form of a name: correct it
   wgr: no_such_tenant    2  no tenant has the name: correct it
   wgr: not_a_register    1  DB is missing or has no register: create one with `wgr init`
+                            (`wgr migrate` takes one of an earlier version to this one)
   wgr: not_good          1  DB has rows that break the register's rules: use the last good
                             copy of the file
   wgr: store             1  DB cannot be read or written, is not a database, or another
@@ -250,6 +282,7 @@ Messages on standard error, with the exit status, and what to do:
   wgr: bad_field now   2  N is not a whole number up to 9223372036854775807: correct it
   wgr: device          1  a file cannot be read, or the replies could not be printed
   wgr: not_a_register  1  DB is missing or has no register: create one with `wgr init`
+                          (`wgr migrate` takes one of an earlier version to this one)
   wgr: not_good        1  DB has rows that break the register's rules: use the last good copy
                           of the file
   wgr: store           1  DB cannot be read or written, is not a database, or another program
@@ -284,6 +317,7 @@ Messages on standard error, with the exit status, and what to do:
   wgr: bad_field count      2  --count is not a whole number up to 9223372036854775807
   wgr: bad_field now        2  --now is not a whole number up to 9223372036854775807
   wgr: not_a_register       1  DB is missing or has no register: create one with `wgr init`
+                               (`wgr migrate` takes one of an earlier version to this one)
   wgr: not_good             1  DB has rows that break the register's rules: use the last good
                                copy of the file
   wgr: store                1  DB cannot be read or written, is not a database, or another

@@ -27,6 +27,10 @@ pub enum Invocation<'a> {
     Init {
         db: &'a str,
     },
+    /// The register in a file, taken to the present version of its tables.
+    Migrate {
+        db: &'a str,
+    },
     /// An order on the register in a file.
     Operate {
         db: &'a str,
@@ -81,6 +85,7 @@ fn invocation_of<'a>(
         ("send", found) => values::send(alloc, found),
         ("plan", found) => Ok(values::plan(found)),
         ("init", found) => Ok(values::init(found)),
+        ("migrate", found) => Ok(values::migrate(found)),
         ("tenant-add", found) => Ok(values::tenant_add(found)),
         ("token-grant", found) => Ok(values::token_grant(found)),
         ("token-end", found) => Ok(values::token_end(found)),

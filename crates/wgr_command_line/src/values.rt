@@ -1,7 +1,7 @@
 //! The values of a command's arguments, by their names.
 ghost use Rattle.std.specs.Prelude.{◌≡◌, false, IfOk, map, option_map};
 ghost use Rattle.clap.specs.Words.{all_of, first_of, found_of, rows_of, rule_of};
-ghost use Rattle.wgr_command_line.specs.Words.{asked_of, batch_in, choice_rule, flag_rule, init_in, is_set, network_add_in, network_end_in, option_rule, optional_rule, orders_in, plan_in, send_in, serve_in, show_in, tenant_add_in, token_end_in, token_grant_in, value_rule, values_rule};
+ghost use Rattle.wgr_command_line.specs.Words.{asked_of, batch_in, choice_rule, flag_rule, init_in, is_set, migrate_in, network_add_in, network_end_in, option_rule, optional_rule, orders_in, plan_in, send_in, serve_in, show_in, tenant_add_in, token_end_in, token_grant_in, value_rule, values_rule};
 
 use crate::invocation::Invocation;
 use clap::{Arg, ArgAction, ArgMatches};
@@ -91,6 +91,13 @@ pub(crate) fn init<'a>(found: &ArgMatches<'a>) -> Option<Invocation<'a>>
 {
     let db = first(found, "db")?;
     Some(Invocation::Init { db })
+}
+
+pub(crate) fn migrate<'a>(found: &ArgMatches<'a>) -> Option<Invocation<'a>>
+    ensures { option_map asked_of result ≡ migrate_in (rows_of (found_of found.now)) }
+{
+    let db = first(found, "db")?;
+    Some(Invocation::Migrate { db })
 }
 
 pub(crate) fn tenant_add<'a>(found: &ArgMatches<'a>) -> Option<Invocation<'a>>

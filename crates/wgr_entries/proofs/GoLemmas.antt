@@ -107,6 +107,8 @@ network_removed id t u keyed (m, first, (n, second, third)) =
       tenants = refl;
       tokens = refl;
       networks = IsPermutation-refl _;
+      seconds = refl;
+      readers = refl;
       peers = λ a. left (λ (p : PeerRow). nat_eq p.network id) t.peers a;
       allowed = λ a. left (λ (p : AllowedRow). nat_eq p.network id) t.allowed a;
       keyed = let k = rows_keyed (λ p. nat_eq p.network id) (λ a. nat_eq a.network id) t keyed in record { peer_keys = k.peer_keys; allowed_keys = k.allowed_keys; address_keys = k.address_keys };

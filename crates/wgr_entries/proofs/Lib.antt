@@ -10,3 +10,8 @@ pub mod KeptLemmas
 pub mod StopLemmas
 pub mod ComeLemmas
 pub mod GoLemmas
+-- Tokens that only read.
+pub mod ReaderTexts
+pub mod ReaderRows
+pub mod ReaderLemmas
+pub mod ThirdLemmas

@@ -28,7 +28,8 @@ use Rattle.wgr_sql.specs.Calls.{IsKept}
 use Rattle.wgr_schema.specs.Fresh.{IsFresh, no_schema}
 use Rattle.wgr_columns.specs.Decode.{tables_of}
 use Rattle.wgr_opening.specs.Good.{IsGood}
-use Rattle.wgr_file.specs.OnFiles.{AreThoseOf, EndsIn, HasEnded, IsClosedIn, IsClosedTo, IsMadeInFiles, IsOpen, StandIn, FilesStay, StoodIn}
+use Rattle.wgr_opening.specs.Migrated.{IsMigrated}
+use Rattle.wgr_file.specs.OnFiles.{AreThoseOf, EndsIn, HasEnded, IsClosedIn, IsClosedTo, IsMadeInFiles, IsOpen, StandIn, FilesStay, StoodIn, WasMigrated}
 
 -- files that hold a good register are found to hold it
 held_is : (left db : Database) (next : Image) → IsGood left → ∥ HoldsDatabase next left.trees ∥₁ → StoodIn next db → db ≡ left
@@ -80,12 +81,6 @@ module _ {D : Type 0} {g : disk.Ghosts D} where
   found_as conn left start None P those clean is closed = tt
   found_as conn left start (Some files) P those clean is closed = λ honest. let now = (closed honest).clean in ((file_state conn).now, those (clean now), is now)
 
-  pub found_both : (conn left : Held (FileStore D g)) (start : Image) (closed : Option (Files D)) (P Q : Database → Type 0) → (HasCleanDisk (file_state conn) → AreThoseOf start (file_state conn).now.trees)
-      → (HasCleanDisk (file_state left) → HasCleanDisk (file_state conn)) → (HasCleanDisk (file_state left) → P (file_state conn).now) → (HasCleanDisk (file_state left) → Q (file_state conn).now) → IsClosedTo g closed left
-      → IfSome closed (λ files. AreClean g files.log files.db → (db : Database) × AreThoseOf start db.trees × P db × Q db)
-  found_both conn left start None P Q those clean one other closed = tt
-  found_both conn left start (Some files) P Q those clean one other closed = λ honest. let now = (closed honest).clean in ((file_state conn).now, those (clean now), one now, other now)
-
   -- a register that was opened and closed as it was
   pub stays_open : (register left : Held (FileStore D g)) (start : Image) (closed : Option (Files D)) → IsOpen start register → left ≡ register → IsClosedTo g closed left → FilesStay g start closed
   stays_open register left start None opened same is = tt
@@ -104,6 +99,15 @@ module _ {D : Type 0} {g : disk.Ghosts D} where
     closed_to = is;
     blank = λ now. ((file_state conn).now, record { found = those (clean now); sound = sound (clean now); blank = blank });
     fresh = fresh;
+  }
+
+  pub migrated : (conn register : Held (FileStore D g)) (start : Image) (closed : Option (Files D)) → (HasCleanDisk (file_state conn) → AreThoseOf start (file_state conn).now.trees)
+      → (HasCleanDisk (file_state register) → HasCleanDisk (file_state conn)) → (HasCleanDisk (file_state register) → (db : Database) × IsMigrated (file_state conn).now db × StandsAt over_files register db []) → IsClosedTo g closed register
+      → WasMigrated g start closed
+  migrated conn register start closed those clean done is = record {
+    left = register;
+    closed_to = is;
+    migrated = λ now. let it = done now in ((file_state conn).now, it.0, those (clean now), it.1, it.2);
   }
 
   pub ended : (register left : Held (FileStore D g)) (start : Image) (closed : Option (Files D)) (order : Order) (r : Result done.Done OrderFault) → IsOpen start register
@@ -145,6 +149,12 @@ module _ {D : Type 0} {g : disk.Ghosts D} where
       let is = has.closed_to honest in
       let fresh = has.fresh is.clean in
       (fresh.0, stand_in has.made files fresh.0 [] is fresh.2)
+
+  pub migrated_in : (files : Files D) (start : Image) → WasMigrated g start (Some files) → AreClean g files.log files.db → (old new : Database) × AreThoseOf start old.trees × IsMigrated old new × StandIn g files new
+  migrated_in files start has honest =
+      let is = has.closed_to honest in
+      let it = has.migrated is.clean in
+      (it.0, it.1, it.2, it.3, stand_in has.left files it.1 [] is it.4)
 
   -- the next word finds what the last one left
   pub next_is : (files : Files D) (left db : Database) (next : Image) → StandIn g files left → outcomes g files.log files.db next → StoodIn next db → db ≡ left

@@ -16,7 +16,8 @@ use Rattle.wgr_register.specs.Standing.{StandsAt}
 use Rattle.wgr_register.specs.declared.fault.Done.{Done}
 use Rattle.wgr_register.specs.declared.fault.OrderFault.{OrderFault}
 use Rattle.wgr_opening.specs.Good.{IsGood}
-use Rattle.wgr_file.specs.OnFiles.{EndsIn, HasEnded, IsClosedIn, IsMadeInFiles, StandIn, StoodIn}
+use Rattle.wgr_opening.specs.Migrated.{IsMigrated}
+use Rattle.wgr_file.specs.OnFiles.{AreThoseOf, EndsIn, HasEnded, IsClosedIn, IsMadeInFiles, StandIn, StoodIn, WasMigrated}
 
 -- an order that ended leaves its step's rows in the files
 abbrev pub OrdersEndInFiles : {D : Type 0} → disk.Ghosts D → Files D → Type 0
@@ -29,6 +30,10 @@ ClosedIsInFiles {D} g files = (left : Held (FileStore D g)) (db : Database) (lat
 -- a register that was made is in the files
 abbrev pub MadeIsInFiles : {D : Type 0} → disk.Ghosts D → Files D → Type 0
 MadeIsInFiles g files = (start : Image) → IsMadeInFiles g start (Some files) → AreClean g files.log files.db → (db : Database) × StandIn g files db
+
+-- so is one that was migrated: each tenant sees what it saw in the register that the files held
+abbrev pub MigratedIsInFiles : {D : Type 0} → disk.Ghosts D → Files D → Type 0
+MigratedIsInFiles g files = (start : Image) → WasMigrated g start (Some files) → AreClean g files.log files.db → (old new : Database) × AreThoseOf start old.trees × IsMigrated old new × StandIn g files new
 
 -- the register that a contract names is the one in the files
 abbrev pub FoundIsStored : Type 0

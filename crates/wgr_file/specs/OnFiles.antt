@@ -21,11 +21,13 @@ use Rattle.wgr_register.specs.Standing.{StandsAt}
 use Rattle.wgr_register.specs.declared.fault.Done as done
 use Rattle.wgr_register.specs.declared.fault.OrderFault.{OrderFault}
 use Rattle.wgr_register.specs.declared.fault.OrderFault.TheVariants as order_fault
-use Rattle.wgr_schema.specs.Versions.{IsOfVersion}
-use Rattle.wgr_schema.specs.declared.version.Version.TheVariants.{One}
+use Rattle.wgr_schema.specs.Versions.{IsOfEarlierVersion, IsOfVersion}
+use Rattle.wgr_schema.specs.declared.version.Version.{Version}
+use Rattle.wgr_schema.specs.declared.version.Version.TheVariants.{Three}
 use Rattle.wgr_schema.specs.Fresh.{IsFresh, no_schema}
 use Rattle.wgr_columns.specs.Decode.{tables_of}
-use Rattle.wgr_opening.specs.Good.{IsGood}
+use Rattle.wgr_opening.specs.Good.{IsGood, IsReady, IsSound}
+use Rattle.wgr_opening.specs.Migrated.{IsMigrated, MayMigrate}
 
 -- ---- what the files held as they were opened
 
@@ -70,13 +72,33 @@ pub record StandIn {D : Type 0} (g : disk.Ghosts D) (files : Files D) (db : Data
 abbrev pub FilesStay : {D : Type 0} → disk.Ghosts D → Image → Option (Files D) → Type 0
 FilesStay g start closed = IfSome closed (λ files. AreClean g files.log files.db → (trees : Trees) × AreThoseOf start trees × FilesHold g files trees)
 
--- the rows that they held are not those of a register of the first version
-abbrev pub WereForeign : {D : Type 0} → disk.Ghosts D → Image → Option (Files D) → Type 0
-WereForeign g start closed = IfSome closed (λ files. AreClean g files.log files.db → (db : Database) × AreThoseOf start db.trees × (IsOfVersion One db → ⊥))
+-- `P` holds of the database that they held
+abbrev pub HeldIn : {D : Type 0} → disk.Ghosts D → Image → Option (Files D) → (Database → Type 0) → Type 0
+HeldIn g start closed P = IfSome closed (λ files. AreClean g files.log files.db → (db : Database) × AreThoseOf start db.trees × P db)
 
--- they are those of one, and not good
+-- the tables that they held are not those of a register, of whatever version
+abbrev pub WereForeign : {D : Type 0} → disk.Ghosts D → Image → Option (Files D) → Type 0
+WereForeign g start closed = HeldIn g start closed (λ db. (version : Version) → IsOfVersion version db → ⊥)
+
+-- they are those of a version before the third
+abbrev pub WereEarlier : {D : Type 0} → disk.Ghosts D → Image → Option (Files D) → Type 0
+WereEarlier g start closed = HeldIn g start closed IsOfEarlierVersion
+
+-- they are those of the third version, and the rows aren't good
 abbrev pub WereNotGood : {D : Type 0} → disk.Ghosts D → Image → Option (Files D) → Type 0
-WereNotGood g start closed = IfSome closed (λ files. AreClean g files.log files.db → (db : Database) × AreThoseOf start db.trees × IsOfVersion One db × (IsGood db → ⊥))
+WereNotGood g start closed = HeldIn g start closed (λ db. IsOfVersion Three db × (IsGood db → ⊥))
+
+-- they are not those of a register that can be migrated
+abbrev pub WereUnmovable : {D : Type 0} → disk.Ghosts D → Image → Option (Files D) → Type 0
+WereUnmovable g start closed = HeldIn g start closed (λ db. (version : Version) → MayMigrate version db → ⊥)
+
+-- something had the name of a table that their version lacks
+abbrev pub WereTaken : {D : Type 0} → disk.Ghosts D → Image → Option (Files D) → Type 0
+WereTaken g start closed = HeldIn g start closed (λ db. (version : Version) → IsReady version db → ⊥)
+
+-- the rows, of whatever version, aren't those of a consistent register
+abbrev pub WereUnsound : {D : Type 0} → disk.Ghosts D → Image → Option (Files D) → Type 0
+WereUnsound g start closed = HeldIn g start closed (λ db. IsSound db → ⊥)
 
 -- ---- commands
 
@@ -90,6 +112,12 @@ pub record IsMadeInFiles {D : Type 0} (g : disk.Ghosts D) (start : Image) (close
   pub closed_to : IsClosedTo g closed made
   pub blank : HasCleanDisk (file_state made) → (db : Database) × WasBlank start db
   pub fresh : HasCleanDisk (file_state made) → (db : Database) × IsFresh db × StandsAt over_files made db []
+
+-- the register that was in the files was taken to the third version
+pub record WasMigrated {D : Type 0} (g : disk.Ghosts D) (start : Image) (closed : Option (Files D)) : Type 0 where
+  pub left : Held (FileStore D g)
+  pub closed_to : IsClosedTo g closed left
+  pub migrated : HasCleanDisk (file_state left) → (old new : Database) × AreThoseOf start old.trees × IsMigrated old new × StandsAt over_files left new []
 
 -- an order ended in this way on the register that was in the files
 pub record HasEnded {D : Type 0} (g : disk.Ghosts D) (start : Image) (closed : Option (Files D)) (order : Order) (ended : Result done.Done OrderFault) : Type 0 where

@@ -5,7 +5,7 @@ ghost use Rattle.sqlite.specs.State.{HasCleanDisk};
 ghost use Rattle.sqlite_disk.specs.Events.{IsHonest};
 ghost use Rattle.sqlite_disk.specs.Modelled.{calls_of, start_of};
 ghost use Rattle.sqlite_store.specs.FileStore.{files as store_files};
-ghost use Rattle.wgr_file.specs.Laws.{ClosedIsInFiles, CopyHasAll, FoundIsStored, MadeIsInFiles, NextFindsTheLast, OrdersEndInFiles, UnknownIsEmpty};
+ghost use Rattle.wgr_file.specs.Laws.{ClosedIsInFiles, CopyHasAll, FoundIsStored, MadeIsInFiles, MigratedIsInFiles, NextFindsTheLast, OrdersEndInFiles, UnknownIsEmpty};
 
 use sqlite::{FileStore, Files, Start};
 use sqlite_disk::{Calls, Disk, Modelled};
@@ -30,6 +30,13 @@ pub fn closed_is_in_files<D: Disk>(files: &Files<D>)
 /// A register that was made is in the files.
 pub fn made_is_in_files<D: Disk>(files: &Files<D>)
     ensures { MadeIsInFiles D.Disk files.now }
+{
+    let _files = files;
+}
+
+/// A register that was migrated is in the files.
+pub fn migrated_is_in_files<D: Disk>(files: &Files<D>)
+    ensures { MigratedIsInFiles D.Disk files.now }
 {
     let _files = files;
 }

@@ -1,8 +1,8 @@
-//! A register that is found or made in files, and closed.
+//! A register that is found, made or migrated in files, and closed.
 ghost use Rattle.std.specs.Prelude.{◌≡◌, Err, IfErr, IfOk, None};
 ghost use Rattle.sqlite.specs.WalFiles.{image_at};
-ghost use Rattle.wgr_file.specs.OnFiles.{IsClosedTo, IsMadeInFiles, IsOpen, FilesStay, WereForeign, WereNotGood};
-ghost use Rattle.wgr_schema.specs.declared.fault.RegisterFault.TheVariants.{NotARegister, NotEmpty, NotGood};
+ghost use Rattle.wgr_file.specs.OnFiles.{FilesStay, IsClosedTo, IsMadeInFiles, IsOpen, WasMigrated, WereEarlier, WereForeign, WereNotGood, WereTaken, WereUnmovable, WereUnsound};
+ghost use Rattle.wgr_schema.specs.declared.fault.RegisterFault.TheVariants.{EarlierVersion, NotARegister, NotEmpty, NotGood};
 
 use crate::database::{self, Closed};
 use sqlite::{Connection, FileFrom, FileStore, Files, Start};
@@ -16,8 +16,9 @@ pub struct Unopened<S: Start> {
     pub files: Closed<S>,
 }
 
-/// The register in the file at this path. `NotARegister` where there is no file, or where its rows
-/// aren't those of a register of the first version; `NotGood` where they are, and aren't good.
+/// The register in the file at this path. `NotARegister` where there is no file, or where its tables
+/// aren't those of a register; `EarlierVersion` where they are those of an earlier version; `NotGood` where they
+/// are those of the third, and the rows aren't good.
 pub fn open_register<S: Start>(
     rt: &HostRuntime,
     path: &str,
@@ -26,6 +27,7 @@ pub fn open_register<S: Start>(
     ensures open { IfOk result (IsOpen (image_at S.Start)) }
     ensures kept { IfErr result (λ e. FilesStay ⟦<FileFrom<S> as Disk>⟧ (image_at S.Start) e.files) }
     ensures foreign { IfErr result (λ e. e.fault ≡ NotARegister → WereForeign ⟦<FileFrom<S> as Disk>⟧ (image_at S.Start) e.files) }
+    ensures earlier { IfErr result (λ e. e.fault ≡ EarlierVersion → WereEarlier ⟦<FileFrom<S> as Disk>⟧ (image_at S.Start) e.files) }
     ensures bad { IfErr result (λ e. e.fault ≡ NotGood → WereNotGood ⟦<FileFrom<S> as Disk>⟧ (image_at S.Start) e.files) }
     ensures taken { IfErr result (λ e. e.fault ≡ NotEmpty → ⊥) }
 {
@@ -53,6 +55,7 @@ pub fn make_register<S: Start>(
     ensures made { IfOk result (IsMadeInFiles ⟦<FileFrom<S> as Disk>⟧ (image_at S.Start)) }
     ensures kept { IfErr result (λ e. FilesStay ⟦<FileFrom<S> as Disk>⟧ (image_at S.Start) e.files) }
     ensures good { IfErr result (λ e. e.fault ≡ NotGood → ⊥) }
+    ensures earlier { IfErr result (λ e. e.fault ≡ EarlierVersion → ⊥) }
 {
     let conn = match database::make(rt, path, start) {
         Ok(conn) => conn,
@@ -60,6 +63,36 @@ pub fn make_register<S: Start>(
     };
     match Register::create(conn) {
         Ok(register) => Ok(close(register)),
+        Err(OpenFault { fault, connection }) => Err(Unopened {
+            fault,
+            files: database::close(connection),
+        }),
+    }
+}
+
+/// Takes the register in the file at this path to the third version of its tables, and gives the files back as
+/// they were closed; one of the third version stays as it is. `NotARegister` where there is no file, or where
+/// its tables aren't those of a register that can be migrated; `NotEmpty` where something has the name of a table
+/// that is to come; `NotGood` where the rows aren't those of a consistent register.
+pub fn migrate_register<S: Start>(
+    rt: &HostRuntime,
+    path: &str,
+    start: S,
+) -> Result<Closed<S>, Unopened<S>>
+    ensures migrated { IfOk result (WasMigrated ⟦<FileFrom<S> as Disk>⟧ (image_at S.Start)) }
+    ensures kept { IfErr result (λ e. FilesStay ⟦<FileFrom<S> as Disk>⟧ (image_at S.Start) e.files) }
+    ensures foreign { IfErr result (λ e. e.fault ≡ NotARegister → WereUnmovable ⟦<FileFrom<S> as Disk>⟧ (image_at S.Start) e.files) }
+    ensures taken { IfErr result (λ e. e.fault ≡ NotEmpty → WereTaken ⟦<FileFrom<S> as Disk>⟧ (image_at S.Start) e.files) }
+    ensures bad { IfErr result (λ e. e.fault ≡ NotGood → WereUnsound ⟦<FileFrom<S> as Disk>⟧ (image_at S.Start) e.files) }
+    ensures earlier { IfErr result (λ e. e.fault ≡ EarlierVersion → ⊥) }
+{
+    let conn = match database::find(rt, path, start) {
+        Ok(Some(conn)) => conn,
+        Ok(None) => return nothing_opened(RegisterFault::NotARegister),
+        Err(why) => return nothing_opened(register_fault(why)),
+    };
+    match Register::migrate(rt.alloc(), conn) {
+        Ok(migrated) => Ok(close(migrated)),
         Err(OpenFault { fault, connection }) => Err(Unopened {
             fault,
             files: database::close(connection),

@@ -1,8 +1,8 @@
 //! An order of the operator on the register in files.
 ghost use Rattle.std.specs.Prelude.{◌≡◌, IfErr, IfOk};
 ghost use Rattle.sqlite.specs.WalFiles.{image_at};
-ghost use Rattle.wgr_file.specs.OnFiles.{HasEnded, FilesStay, WereForeign, WereNotGood};
-ghost use Rattle.wgr_schema.specs.declared.fault.RegisterFault.TheVariants.{NotARegister, NotEmpty, NotGood};
+ghost use Rattle.wgr_file.specs.OnFiles.{FilesStay, HasEnded, WereEarlier, WereForeign, WereNotGood};
+ghost use Rattle.wgr_schema.specs.declared.fault.RegisterFault.TheVariants.{EarlierVersion, NotARegister, NotEmpty, NotGood};
 
 use crate::database::Closed;
 use crate::opening::{Unopened, close, open_register};
@@ -21,6 +21,7 @@ pub fn operate<S: Start>(
     ensures ended { IfOk result (λ r. HasEnded ⟦<FileFrom<S> as Disk>⟧ (image_at S.Start) r.1 order.now r.0) }
     ensures kept { IfErr result (λ e. FilesStay ⟦<FileFrom<S> as Disk>⟧ (image_at S.Start) e.files) }
     ensures foreign { IfErr result (λ e. e.fault ≡ NotARegister → WereForeign ⟦<FileFrom<S> as Disk>⟧ (image_at S.Start) e.files) }
+    ensures earlier { IfErr result (λ e. e.fault ≡ EarlierVersion → WereEarlier ⟦<FileFrom<S> as Disk>⟧ (image_at S.Start) e.files) }
     ensures bad { IfErr result (λ e. e.fault ≡ NotGood → WereNotGood ⟦<FileFrom<S> as Disk>⟧ (image_at S.Start) e.files) }
     ensures taken { IfErr result (λ e. e.fault ≡ NotEmpty → ⊥) }
 {

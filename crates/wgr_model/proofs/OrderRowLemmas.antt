@@ -24,6 +24,8 @@ tenants_gain r t name new tenants rows more = record {
   tenants = IsPermutation-trans (record { id = new; name = name } ∷ r.tenants) (record { id = new; name = name } ∷ t.tenants) tenants (IsPermutation-cons (record { id = new; name = name }) r.tenants t.tenants rows.tenants) more;
   tokens = rows.tokens;
   networks = rows.networks;
+  seconds = rows.seconds;
+  readers = rows.readers;
   peers = rows.peers;
   allowed = rows.allowed;
   keyed = record { peer_keys = rows.keyed.peer_keys; allowed_keys = rows.keyed.allowed_keys; address_keys = rows.keyed.address_keys };
@@ -35,6 +37,8 @@ tokens_gain r t digest id tokens rows more = record {
   tenants = rows.tenants;
   tokens = IsPermutation-trans (record { digest = digest; tenant = id } ∷ r.tokens) (record { digest = digest; tenant = id } ∷ t.tokens) tokens (IsPermutation-cons (record { digest = digest; tenant = id }) r.tokens t.tokens rows.tokens) more;
   networks = rows.networks;
+  seconds = rows.seconds;
+  readers = rows.readers;
   peers = rows.peers;
   allowed = rows.allowed;
   keyed = record { peer_keys = rows.keyed.peer_keys; allowed_keys = rows.keyed.allowed_keys; address_keys = rows.keyed.address_keys };
@@ -49,6 +53,8 @@ tokens_lose r t digest tokens rows good less =
       tenants = rows.tenants;
       tokens = IsPermutation-trans (filter keep r.tokens) (filter keep t.tokens) tokens (filter_permutation (λ x. x.digest) is_same is_same_refl is_same_sym keep r.tokens t.tokens good.digests apart rows.tokens) less;
       networks = rows.networks;
+      seconds = rows.seconds;
+      readers = rows.readers;
       peers = rows.peers;
       allowed = rows.allowed;
       keyed = record { peer_keys = rows.keyed.peer_keys; allowed_keys = rows.keyed.allowed_keys; address_keys = rows.keyed.address_keys };
@@ -62,6 +68,8 @@ networks_gain r t new id name s networks rows more =
       tenants = rows.tenants;
       tokens = rows.tokens;
       networks = IsPermutation-trans (row ∷ map network_row r.networks) (row ∷ t.networks) networks (IsPermutation-cons row (map network_row r.networks) t.networks rows.networks) more;
+      seconds = rows.seconds;
+      readers = rows.readers;
       peers = rows.peers;
       allowed = rows.allowed;
       keyed = record { peer_keys = rows.keyed.peer_keys; allowed_keys = rows.keyed.allowed_keys; address_keys = rows.keyed.address_keys };
@@ -121,6 +129,8 @@ networks_lose r t u h rows good held gone =
       tokens = subst (IsPermutation r.tokens) (sym gone.tokens) rows.tokens;
       networks = subst (λ xs. IsPermutation xs u.networks) (sym (ap (map network_row) (left r good h held) ∙ map_filter network_row keep r.networks))
           (IsPermutation-trans (filter keep (map network_row r.networks)) (filter keep t.networks) u.networks (filter_permutation (λ w. w.id) nat_eq eqb_self eqb_sym keep (map network_row r.networks) t.networks ids apart rows.networks) gone.networks);
+      seconds = gone.seconds ∙ rows.seconds;
+      readers = gone.readers ∙ rows.readers;
       peers = subst (λ xs. HaveSame (flat_map peer_rows xs) u.peers) (sym (left r good h held)) (rows_left r good h held peer_rows (λ a. a.network) own_peers t.peers u.peers rows.peers gone.peers);
       allowed = subst (λ xs. HaveSame (flat_map allowed_rows xs) u.allowed) (sym (left r good h held)) (rows_left r good h held allowed_rows (λ a. a.network) own_allowed t.allowed u.allowed rows.allowed gone.allowed);
       keyed = gone.keyed;

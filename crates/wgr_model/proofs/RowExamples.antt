@@ -160,7 +160,7 @@ address_row network at peer = record { network = network; prefix = record { addr
 -- a peer's id is its network's times 2 ^ 20, and its number
 abbrev rows : Tables
 rows = record {
-  meta = record { version = 1 } ∷ [];
+  meta = record { version = 3 } ∷ [];
   tenants = bolt ∷ acme ∷ [];
   tokens = token 2 ∷ token 1 ∷ [];
   networks = network_row 4 2 (codes "lab") 9 51821 2 ∷ network_row 3 1 (codes "office") 8 51820 3 ∷ [];

@@ -7,7 +7,7 @@ use Rattle.wgr_peers.specs.declared.peer.Peer.{Peer}
 use Rattle.wgr_model.specs.Laws.{Has}
 use Rattle.wgr_model.specs.Register.{NetworkEntry, IsSame, Register, empty_register}
 use Rattle.wgr_model.specs.RowLaws.{AreConsistent, HasOneRow, IsRowRun, IsRowStep, NoRowsAreConsistent, OrderIsUnseen, RowsAreIsolated, RowsStayConsistent, no_rows}
-use Rattle.wgr_model.specs.Rows.{AllowedRow, AreRowsOf, first_version, HaveSame, Tables, address_row, allowed_rows, network_row, peer_rows, register_of, route_row}
+use Rattle.wgr_model.specs.Rows.{AllowedRow, AreRowsOf, HaveSame, Tables, address_row, allowed_rows, network_row, peer_rows, register_of, route_row, third_version}
 use Rattle.wgr_model.specs.Runs.{AreProper, IsRun, Served}
 use Rattle.wgr_model.specs.Steps.{Answer, Event, IsProper, IsStep}
 use Rattle.wgr_model.proofs.CollectLemmas.{from_append, from_flat, from_map, has_flat}
@@ -29,6 +29,8 @@ same_rows r s t same rows = record {
   tenants = IsPermutation-trans s.tenants r.tenants t.tenants (IsPermutation-sym r.tenants s.tenants same.tenants) rows.tenants;
   tokens = IsPermutation-trans s.tokens r.tokens t.tokens (IsPermutation-sym r.tokens s.tokens same.tokens) rows.tokens;
   networks = IsPermutation-trans (map network_row s.networks) (map network_row r.networks) t.networks (IsPermutation-sym (map network_row r.networks) (map network_row s.networks) (IsPermutation-map network_row r.networks s.networks same.networks)) rows.networks;
+  seconds = rows.seconds;
+  readers = rows.readers;
   peers = flat_same peer_rows r.networks s.networks t.peers same.networks rows.peers;
   allowed = flat_same allowed_rows r.networks s.networks t.allowed same.networks rows.allowed;
   keyed = rows.keyed;
@@ -89,10 +91,12 @@ order_unseen r t u me one two is =
 pub no_rows_consistent : NoRowsAreConsistent
 unfolding IsDistinct
 no_rows_consistent = rows_consistent empty_register no_rows (record {
-  meta = λ i. first_version;
+  meta = λ i. third_version;
   tenants = IsPermutation-refl [];
   tokens = IsPermutation-refl [];
   networks = IsPermutation-refl [];
+  seconds = λ i. [];
+  readers = λ i. [];
   peers = λ a. ((λ h. h), (λ h. h));
   allowed = λ a. ((λ h. h), (λ h. h));
   keyed = record { peer_keys = tt; allowed_keys = tt; address_keys = tt };

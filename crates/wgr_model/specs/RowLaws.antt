@@ -8,7 +8,7 @@ use Rattle.wgr_model.specs.Steps.{Event, Answer, IsStep, put_network}
 use Rattle.wgr_model.specs.Tenants.{Agree, own_events, tenant_run}
 use Rattle.wgr_model.specs.Runs.{Served, AreProper, acknowledged}
 use Rattle.wgr_model.specs.Laws.{Has}
-use Rattle.wgr_model.specs.Rows.{AllowedRow, Tables, AreRowsOf, Replaces, first_version, register_of}
+use Rattle.wgr_model.specs.Rows.{AllowedRow, Tables, AreRowsOf, Replaces, register_of, third_version}
 
 -- what is read from the rows is a consistent register, and every row is one of its rows
 pub record AreConsistent (t : Tables) : Type 0 where
@@ -17,7 +17,7 @@ pub record AreConsistent (t : Tables) : Type 0 where
 
 -- the tables of a register without entries
 abbrev pub no_rows : Tables
-no_rows = record { meta = first_version; tenants = []; tokens = []; networks = []; seconds = []; readers = []; peers = []; allowed = [] }
+no_rows = record { meta = third_version; tenants = []; tokens = []; networks = []; seconds = []; readers = []; peers = []; allowed = [] }
 
 -- what a tenant sees, read from the rows
 abbrev pub rows_view : Tables → Bytes → View

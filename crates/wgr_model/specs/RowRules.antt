@@ -82,6 +82,8 @@ pub record Removes (id : ℕ) (t u : Tables) : Type 0 where
   pub tenants : u.tenants ≡ t.tenants
   pub tokens : u.tokens ≡ t.tokens
   pub networks : IsPermutation (filter (λ w. not (nat_eq w.id id)) t.networks) u.networks
+  pub seconds : u.seconds ≡ t.seconds
+  pub readers : u.readers ≡ t.readers
   pub peers : (a : PeerRow) → Has u.peers a ↔ (Has t.peers a × (nat_eq a.network id ≡ false))
   pub allowed : (a : AllowedRow) → Has u.allowed a ↔ (Has t.allowed a × (nat_eq a.network id ≡ false))
   pub keyed : AreKeyed u

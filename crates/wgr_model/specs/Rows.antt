@@ -171,21 +171,21 @@ allowed_rows h = map (address_row h.id) h.network.peers ++ map (route_row h.id) 
 abbrev pub HaveSame : {A : Type 0} → List A → List A → Type 0
 HaveSame {A} xs ys = (a : A) → Has xs a ↔ Has ys a
 
--- the one row of the table `meta`: the tables are laid out in their first version
-abbrev pub first_version : List MetaRow
-first_version = record { version = 1 } ∷ []
-
--- the same in the version that has tables of second pools and of tokens that only read
+-- the one row of the table `meta`: the tables are laid out in their third version, which has those of
+-- second pools and of tokens that only read
 abbrev pub third_version : List MetaRow
 third_version = record { version = 3 } ∷ []
 
 -- The rows are those of the register, in whatever order: its tenants, tokens and networks; for each
--- peer one row, and one of its address at full length; and one for each route.
+-- peer one row, and one of its address at full length; and one for each route. No network has a second
+-- pool, and no token only reads.
 pub record AreRowsOf (r : Register) (t : Tables) : Type 0 where
-  pub meta : t.meta ≡ first_version
+  pub meta : t.meta ≡ third_version
   pub tenants : IsPermutation r.tenants t.tenants
   pub tokens : IsPermutation r.tokens t.tokens
   pub networks : IsPermutation (map network_row r.networks) t.networks
+  pub seconds : t.seconds ≡ []
+  pub readers : t.readers ≡ []
   pub peers : HaveSame (flat_map peer_rows r.networks) t.peers
   pub allowed : HaveSame (flat_map allowed_rows r.networks) t.allowed
   pub keyed : AreKeyed t

@@ -4,12 +4,12 @@ use Rattle.std.specs.List.{flat_map}
 use Rattle.wgr_model.specs.Register.{Register}
 use Rattle.wgr_model.specs.Consistent.{IsConsistent}
 use Rattle.wgr_model.specs.Steps.{Event, Answer, IsProper, IsStep}
-use Rattle.wgr_model.specs.Rows.{Tables, AreRowsOf, allowed_rows, first_version, network_row, peer_rows, register_of}
+use Rattle.wgr_model.specs.Rows.{Tables, AreRowsOf, allowed_rows, third_version, network_row, peer_rows, register_of}
 use Rattle.wgr_model.specs.RowLaws.{AreConsistent, IsRowStep}
 
 -- the rows of a register, entry by entry
 abbrev pub rows_of : Register → Tables
-rows_of r = record { meta = first_version; tenants = r.tenants; tokens = r.tokens; networks = map network_row r.networks; seconds = []; readers = []; peers = flat_map peer_rows r.networks; allowed = flat_map allowed_rows r.networks }
+rows_of r = record { meta = third_version; tenants = r.tenants; tokens = r.tokens; networks = map network_row r.networks; seconds = []; readers = []; peers = flat_map peer_rows r.networks; allowed = flat_map allowed_rows r.networks }
 
 -- every consistent register has rows
 abbrev pub RowsExist : Type 0

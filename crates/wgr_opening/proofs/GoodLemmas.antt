@@ -1,5 +1,5 @@
--- What the rows of a good register are, table by table.
-use Rattle.std.proofs.Common.{◌≡◌, ◌≤◌, ℕ, pos, Bool, true, false, List, [], ◌∷◌, length, map, nat_eq, refl, sym, ap, subst, ◌∙◌, inl, inr, arith, true≢false}
+-- What the rows of a sound register are, table by table.
+use Rattle.std.proofs.Common.{◌≡◌, ◌≤◌, ℕ, codes, pos, Bool, true, false, List, [], ◌∷◌, length, map, nat_eq, refl, sym, ap, subst, ◌∙◌, inl, inr, arith, true≢false}
 use Rattle.std.specs.List.{AllByRecursion, IsDistinct, list_any}
 use Rattle.std.specs.Ordering.{int_eq}
 use Rattle.std.proofs.lemmas.Bool.{false_from_ne_true}
@@ -19,8 +19,11 @@ use Rattle.wgr_model.specs.Rows.{NetworkRow, PeerRow, Tables, allowed_key, netwo
 use Rattle.wgr_model.proofs.CollectLemmas.{from_map, has_map}
 use Rattle.wgr_model.proofs.GatherLemmas.{eqb_self}
 use Rattle.wgr_model.proofs.SameLemmas.{has_permutation}
+use Rattle.wgr_sql.specs.Named.{rows_named}
 use Rattle.wgr_sql.proofs.Answers.{map-both}
-use Rattle.wgr_columns.specs.Decode.{AreTrees, allowed_in, network_in, number_at, peer_in, tables_of, tenant_in}
+use Rattle.wgr_columns.specs.Decode.{AreTrees, allowed_in, network_in, number_at, peer_in, reader_in, second_in, tables_of, tenant_in}
+use Rattle.wgr_core.specs.Network.{NetworkValue}
+use Rattle.wgr_tables.specs.Stored.{IsStored}
 use Rattle.wgr_tables.proofs.RouteRests.{allowed_self}
 use Rattle.wgr_tables.proofs.UniqueLemmas.{from_model, to_model}
 use Rattle.wgr_columns.specs.LaidOut.{IsLaidOut}
@@ -35,7 +38,7 @@ use Rattle.wgr_checks.proofs.TokenLaws.{good_tokens_are}
 use Rattle.wgr_checks.proofs.TokenLemmas.{int_is}
 use Rattle.wgr_checks.specs.PeerRows.{AreWrittenPeers, IsPeerRow}
 use Rattle.wgr_checks.specs.AllowedRows.{AreWrittenAllowed, IsAllowedRow}
-use Rattle.wgr_opening.specs.Good.{IsGood, StoresNetwork}
+use Rattle.wgr_opening.specs.Good.{AreLaterEmpty, IsSound, StoresNetwork, as_third}
 use Rattle.wgr_opening.specs.Whole.{AreWhole, IsThere}
 use Rattle.wgr_opening.proofs.ConsistentLemmas.{consistent_is_whole, network_entry, pair_self}
 
@@ -51,9 +54,20 @@ keys_apart f e itself g d (x ∷ xs) once apart = (
   keys_apart f e itself g d xs (λ a b h k. once a b (inr h) (inr k)) apart.1,
 )
 
-module _ (db : Database) (good : IsGood db) where
+-- of `meta` a network's rows say nothing
+pub stored_third : (t : Tables) (id : ℕ) (n : NetworkValue) → IsStored t id n → IsStored (as_third t) id n
+stored_third t id n told = record { row = told.row; there = told.there; id_is = told.id_is; value = told.value; rules = told.rules; forms = told.forms; host = told.host; peers = told.peers; addresses = told.addresses; routes = told.routes }
+
+stored_before : (t : Tables) (id : ℕ) (n : NetworkValue) → IsStored (as_third t) id n → IsStored t id n
+stored_before t id n told = record { row = told.row; there = told.there; id_is = told.id_is; value = told.value; rules = told.rules; forms = told.forms; host = told.host; peers = told.peers; addresses = told.addresses; routes = told.routes }
+
+none_from : {A B : Type 0} (f : A → B) (xs : List A) → map f xs ≡ [] → xs ≡ []
+none_from f [] none = refl
+none_from f (x ∷ xs) none = absurd (let e = none in cc)
+
+module _ (db : Database) (good : IsSound db) where
   abbrev t : Tables
-  t = tables_of db
+  t = as_third (tables_of db)
 
   laid : IsLaidOut db.schema
   laid = record { others = good.register.others; schema_is = good.register.schema_is; apart = good.register.apart }
@@ -144,8 +158,15 @@ module _ (db : Database) (good : IsGood db) where
           (all_from (λ r. list_any (λ id. nat_eq (number_at r 1) id) ids ≡ true) (db.trees 10) (λ r here. among (number_at r 1) (whole.allowed (allowed_in r) (has_map allowed_in (db.trees 10) r (to_model (db.trees 10) r here)))));
     }
 
-    pub all_told : AllByRecursion (StoresNetwork t) ids
-    all_told = all_from (StoresNetwork t) ids (λ id here.
+    stored_at : (id : ℕ) → StoresNetwork t id → StoresNetwork (tables_of db) id
+    stored_at id told = (told.0, stored_before (tables_of db) id told.0 told.1)
+
+    pub all_told : AllByRecursion (StoresNetwork (tables_of db)) ids
+    all_told = all_from (StoresNetwork (tables_of db)) ids (λ id here. stored_at id (
         let listed = has_permutation ids (map (λ r. number_at r 0) (db.trees 5)) id (IsPermutation-sym (map (λ r. number_at r 0) (db.trees 5)) ids are.same) (to_model ids id here) in
         let row = from_map (λ (r : Row). number_at r 0) (db.trees 5) id listed in
-        subst (StoresNetwork t) row.2 (whole.stored (network_in row.0) (has_map network_in (db.trees 5) row.0 row.1)))
+        subst (StoresNetwork t) row.2 (whole.stored (network_in row.0) (has_map network_in (db.trees 5) row.0 row.1))))
+
+  -- and the tables that are found by their names have none
+  pub later_empty : AreLaterEmpty db
+  later_empty = (none_from second_in (rows_named db (codes "second")) whole.seconds, none_from reader_in (rows_named db (codes "reader")) whole.readers)

@@ -1,5 +1,5 @@
 -- One reading after another, and what all of them tell.
-use Rattle.std.proofs.Common.{◌≡◌, ◌≤◌, ℕ, pos, Bool, true, false, ◌||◌, IsTrue, Ok, Err, Result, IfErr, List, [], ◌∷◌, length, map, nat_eq, refl, sym, ap, subst, ◌∙◌, inl, inr, unsigned_abs, arith}
+use Rattle.std.proofs.Common.{◌≡◌, ◌≤◌, ℕ, pos, Bool, true, false, ◌||◌, IsTrue, Ok, Err, Result, IfErr, List, [], ◌∷◌, length, map, nat_eq, refl, sym, ap, subst, ◌∙◌, inl, inr, unsigned_abs, arith, true≢false}
 use Rattle.std.specs.List.{AllByRecursion, IsDistinct, list_any}
 use Rattle.std.proofs.Math.ListN.{length-map}
 use Rattle.std.proofs.lemmas.List.Sorted.{IsPermutation-sym, length_permutation}
@@ -16,9 +16,9 @@ use Rattle.sqlite_rules.specs.Edit.{id_in}
 use Rattle.sqlite_rules.specs.Lists as rules
 use Rattle.wgr_pool.proofs.PrefixLemmas.{nat_eq_is}
 use Rattle.wgr_model.specs.Laws.{Has}
-use Rattle.wgr_model.specs.Rows.{AllowedRow, NetworkRow, PeerRow, Tables, first_version}
+use Rattle.wgr_model.specs.RowLaws.{AreConsistent}
+use Rattle.wgr_model.specs.Rows.{AllowedRow, MetaRow, NetworkRow, PeerRow, Tables, third_version}
 use Rattle.wgr_model.proofs.CollectLemmas.{from_map, has_map}
-use Rattle.wgr_model.proofs.GatherLemmas.{map_map}
 use Rattle.wgr_model.proofs.SameLemmas.{at_has, has_permutation}
 use Rattle.wgr_sql.specs.Calls.{IsKept}
 use Rattle.wgr_sql.specs.Causes.{HasCause}
@@ -26,11 +26,13 @@ use Rattle.wgr_sql.specs.declared.fault.Fault.{Fault}
 use Rattle.wgr_sql.specs.declared.fault.Fault.TheVariants.{NoMemory, Store}
 use Rattle.wgr_sql.proofs.Answers.{map-both}
 use Rattle.wgr_sql.proofs.StandingLemmas.{stands_kept, stands_open}
-use Rattle.wgr_schema.specs.Versions.{SaysVersion}
-use Rattle.wgr_schema.specs.declared.version.Version.TheVariants.{One}
-use Rattle.wgr_schema.proofs.VersionLemmas.{first_is_no_third}
+use Rattle.wgr_schema.specs.Versions.{IsOfVersion, SaysVersion, version_number}
+use Rattle.wgr_schema.specs.declared.version.Version.{Version}
+use Rattle.wgr_schema.specs.declared.version.Version.TheVariants.{One, Two, Three}
+use Rattle.wgr_schema.proofs.FreshLemmas.{none_written}
+use Rattle.wgr_schema.proofs.VersionLemmas.{meta_read}
 use Rattle.wgr_columns.specs.LaidOut.{IsLaidOut}
-use Rattle.wgr_columns.specs.Decode.{AreAllowed, ArePeers, AreWritten, HaveKinds, HaveStatuses, IsRegister, allowed_in, network_in, number_at, peer_in, tables_of, tenant_in}
+use Rattle.wgr_columns.specs.Decode.{AreAllowed, ArePeers, AreReaders, AreSeconds, AreWritten, HasLater, HaveKinds, HaveStatuses, IsRegister, allowed_in, network_in, number_at, peer_in, reader_in, second_in, tables_of, tenant_in}
 use Rattle.wgr_tables.specs.Standing.{Stands}
 use Rattle.wgr_tables.specs.Writes.{Writes}
 use Rattle.wgr_checks.specs.Sorted.{AreAmong}
@@ -41,8 +43,9 @@ use Rattle.wgr_checks.proofs.TenantLaws.{good_is}
 use Rattle.wgr_checks.proofs.NetworkLaws.{good_networks_are}
 use Rattle.wgr_checks.proofs.TokenLaws.{good_tokens_are}
 use Rattle.wgr_checks.proofs.MemberLaws.{allowed_are, peers_are}
-use Rattle.wgr_opening.specs.Good.{HasEntries, HasTables, IsGood, StoresNetwork}
+use Rattle.wgr_opening.specs.Good.{HasAll, HasEntries, HasTables, IsGood, IsReady, IsSound, StoresNetwork, as_third}
 use Rattle.wgr_opening.specs.Whole.{AreWhole, IsNamed, IsThere}
+use Rattle.wgr_opening.proofs.GoodLemmas.{stored_third}
 use Rattle.wgr_opening.proofs.WholeLemmas.{whole_is_consistent}
 
 pub cause_if_clean : {X : Type 0} (old new : State) (r : Result X Fault) → (HasCleanDisk new → IfErr r (HasCause old new)) → IfErr r (HasCause old new)
@@ -88,11 +91,19 @@ any_has p (x ∷ xs) some = go (p x) refl some (λ later. any_has p xs later) wh
 
 -- ---- the register
 
-version_written : (rows : List Row) → SaysVersion One rows → AreWritten (0 ∷ []) [] [] rows
-version_written [] first = absurd cc
-version_written (r ∷ s ∷ rows) first = absurd cc
-version_written (r ∷ []) first =
-    let is : column r 0 ≡ Int (pos 1) = λ i. unwrap_head (first i) in
+-- the rows of `meta` tell the third version from any other
+pub other_version : (n : ℕ) → nat_eq n 3 ≡ false → (record { version = n } ∷ []) ≡ third_version → ⊥
+other_version n other same = true≢false (sym (ap is_third same) ∙ other)
+  where
+    is_third : List MetaRow → Bool
+    is_third [] = true
+    is_third (m ∷ rows) = nat_eq m.version 3
+
+version_written : (version : Version) (rows : List Row) → SaysVersion version rows → AreWritten (0 ∷ []) [] [] rows
+version_written version [] first = absurd cc
+version_written version (r ∷ s ∷ rows) first = absurd cc
+version_written version (r ∷ []) first =
+    let is : column r 0 ≡ Int (pos (version_number version)) = λ i. unwrap_head (first i) in
     record {
       keyed = record {
         ints = λ x here. elim here [ inl same ↦ subst (λ y. column y 0 ≡ Int (id_in (column y 0))) (sym same) (is ∙ sym (ap (λ v. Int (id_in v)) is)) | inr none ↦ absurd none ];
@@ -110,9 +121,15 @@ version_written (r ∷ []) first =
     only : {x : Row} → rules.Has (r ∷ []) x → x ≡ r
     only {x = x} here = elim here [ inl same ↦ same | inr none ↦ absurd none ]
 
-module _ (db : Database) (laid : IsLaidOut db.schema) (first : SaysVersion One (db.trees 0)) (database : IsDatabase db) (ids : List ℕ) (tables : HasTables db.trees ids) where
+module _ (db : Database) (version : Version) (ready : IsReady version db) (database : IsDatabase db) (ids : List ℕ) (all : HasAll db ids) where
   abbrev t : Tables
   t = tables_of db
+
+  abbrev laid : IsLaidOut db.schema
+  laid = ready.0.0
+
+  abbrev tables : HasTables db.trees ids
+  tables = all.tables
 
   entries : HasEntries db.trees tables.there.owners
   entries = tables.there.entries
@@ -132,8 +149,16 @@ module _ (db : Database) (laid : IsLaidOut db.schema) (first : SaysVersion One (
   allowed : AreAllowed (db.trees 10) × HaveKinds (db.trees 10) × AreAmong (map (λ a. a.network) (map allowed_in (db.trees 10))) ids
   allowed = allowed_are ids (db.trees 10) tables.allowed
 
-  version_is : t.meta ≡ first_version
-  version_is = sym (map_map (λ (r : Row). column r 0) (λ v. record { version = unsigned_abs (id_in v) }) (db.trees 0)) ∙ ap (map (λ v. record { version = unsigned_abs (id_in v) })) first
+  -- that of the third version has the tables which that has
+  later_there : (v : Version) → IsOfVersion v db → t.meta ≡ third_version → HasLater db
+  later_there One of third = absurd (other_version 1 refl (sym (meta_read One db of.1) ∙ third))
+  later_there Two of third = absurd (other_version 2 refl (sym (meta_read Two db of.1) ∙ third))
+  later_there Three of third = record {
+    second = of.2.0;
+    reader = of.2.1;
+    seconds = subst AreSeconds (sym all.later.0) (none_written _ _ _);
+    readers = subst AreReaders (sym all.later.1) (none_written _ _ _);
+  }
 
   pub register : IsRegister db
   register = record {
@@ -141,8 +166,8 @@ module _ (db : Database) (laid : IsLaidOut db.schema) (first : SaysVersion One (
     schema_is = laid.schema_is;
     apart = laid.apart;
     sound = database;
-    written = record { meta = version_written (db.trees 0) first; tenants = tenants.written; tokens = tokens.written; networks = networks.written; peers = peers.0; allowed = allowed.0; statuses = peers.1; kinds = allowed.1 };
-    later = λ third. absurd (first_is_no_third (sym version_is ∙ third));
+    written = record { meta = version_written version (db.trees 0) ready.0.1; tenants = tenants.written; tokens = tokens.written; networks = networks.written; peers = peers.0; allowed = allowed.0; statuses = peers.1; kinds = allowed.1 };
+    later = later_there version ready.0;
   }
 
   has_id : (w : NetworkRow) → Has t.networks w → Has ids w.id
@@ -158,9 +183,9 @@ module _ (db : Database) (laid : IsLaidOut db.schema) (first : SaysVersion One (
       let row = from_map (λ (r : Row). number_at r 0) (db.trees 5) id.0 listed in
       (network_in row.0, has_map network_in (db.trees 5) row.0 row.1, row.2 ∙ sym (nat_eq_is owner id.0 id.2))
 
-  whole : AllByRecursion (StoresNetwork t) ids → AreWhole t
+  whole : AllByRecursion (StoresNetwork t) ids → AreWhole (as_third t)
   whole told = record {
-    meta = version_is;
+    meta = refl;
     tenants = record { each = tenants.each; ids = tenants.ids; names = tenants.names; few = subst (λ n. n ≤ 65536) (sym (length-map (db.trees 1) tenant_in)) entries.few };
     tokens = record { each = tokens.each; digests = tokens.digests; owners = tokens.owners; few = tokens.few };
     networks = record {
@@ -172,16 +197,25 @@ module _ (db : Database) (laid : IsLaidOut db.schema) (first : SaysVersion One (
       owners = networks.owners;
       few = networks.few;
     };
-    stored = λ w here. at_has (StoresNetwork t) ids w.id told (has_id w here);
+    seconds = ap (map second_in) all.later.0;
+    readers = ap (map reader_in) all.later.1;
+    stored = λ w here. let it = at_has (StoresNetwork t) ids w.id told (has_id w here) in (it.0, stored_third t w.id it.0 it.1);
     peers = λ p here. there p.network (at_has (λ owner. list_any (λ id. nat_eq owner id) ids ≡ true) (map (λ (x : PeerRow). x.network) t.peers) p.network peers.2 (has_map (λ (x : PeerRow). x.network) t.peers p here));
     allowed = λ a here. there a.network (at_has (λ owner. list_any (λ id. nat_eq owner id) ids ≡ true) (map (λ (x : AllowedRow). x.network) t.allowed) a.network allowed.2 (has_map (λ (x : AllowedRow). x.network) t.allowed a here));
   }
 
-  pub is_good : AllByRecursion (StoresNetwork t) ids → IsGood db
-  is_good told = record { register = register; consistent = whole_is_consistent t (whole told) }
+  pub is_sound : AllByRecursion (StoresNetwork t) ids → IsSound db
+  is_sound told = record { register = register; consistent = whole_is_consistent (as_third t) (whole told) }
 
 -- the register that an open connection showed stands after a reading where it stood
 pub stands_read : {S : Type 0} (g : Ghosts S) (old mid : Held S) → old.in_transaction ≡ false → mid.in_transaction ≡ false → IsTrue (state g old).is_open → IsRegister (state g old).now
     → (IsTrue (state g old).is_open → (state g old).now ≡ (state g old).committed) → ((trees : Trees) → IsTrue (state g old).is_open → (state g old).may_leave trees → trees ≡ (state g old).committed.trees)
     → IsKept (state g old) (state g mid) → Survives (state g old) (state g mid) (λ _. ⊥) → Stands g mid (state g old).now []
 stands_read g old mid idle still live is settled law kept survives = stands_kept IsRegister Writes g old mid (state g old).now [] (stands_open IsRegister Writes g old idle live is settled law) kept still survives
+
+-- a sound register of the third version is good, and a good one is sound
+pub good_of : (db : Database) → IsOfVersion Three db → IsSound db → IsGood db
+good_of db of is = record { register = is.register; consistent = subst AreConsistent (sym (ap (λ m. record (tables_of db) { meta = m }) (meta_read Three db of.1))) is.consistent }
+
+pub sound_of : (db : Database) → IsGood db → IsSound db
+sound_of db is = record { register = is.register; consistent = subst AreConsistent (ap (λ m. record (tables_of db) { meta = m }) is.consistent.rows.meta) is.consistent }

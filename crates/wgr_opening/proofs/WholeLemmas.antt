@@ -218,6 +218,8 @@ module _ (t : Tables) (whole : AreWhole t) where
     tenants = IsPermutation-refl t.tenants;
     tokens = IsPermutation-refl t.tokens;
     networks = subst (λ l. IsPermutation l t.networks) (sym (map_map (network_entry_of t) network_row t.networks ∙ same_rows t.networks)) (IsPermutation-refl t.networks);
+    seconds = whole.seconds;
+    readers = whole.readers;
     peers = λ a. (
       (λ h. let k = from_flat peer_rows (map (network_entry_of t) t.networks) a h in let w = from_map (network_entry_of t) t.networks k.0 k.1 in own_peer w.0 w.1 a (subst (λ (x : NetworkEntry). Has (peer_rows x) a) (sym w.2) k.2)),
       (λ h. let w = whole.peers a h in has_flat peer_rows (map (network_entry_of t) t.networks) (network_entry_of t w.0) a (has_map (network_entry_of t) t.networks w.0 w.1) (peer_here w.0 w.1 a h w.2)),

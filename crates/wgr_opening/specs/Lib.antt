@@ -1,3 +1,4 @@
 pub mod Whole
 pub mod Good
 pub mod Outlines
+pub mod Migrated

@@ -1,12 +1,12 @@
 -- Rows that are those of a consistent register, stated table by table.
-use Rattle.std.specs.Prelude.{◌≡◌, ◌≤◌, ◌↔◌, ℕ, true, nat_eq, length, map}
+use Rattle.std.specs.Prelude.{◌≡◌, ◌≤◌, ◌↔◌, ℕ, true, [], nat_eq, length, map}
 use Rattle.std.specs.List.{AllByRecursion, IsDistinct}
 use Rattle.wgr_peers.specs.Host.{IsHost}
 use Rattle.wgr_core.specs.Network.{NetworkValue}
 use Rattle.wgr_model.specs.Register.{is_same}
 use Rattle.wgr_model.specs.Consistent.{IsDigest, IsId, IsName, IsTenant, has_tenant, overlaps, same_endpoint, same_slot, max_entries}
 use Rattle.wgr_model.specs.Laws.{Has}
-use Rattle.wgr_model.specs.Rows.{AllowedRow, NetworkRow, PeerRow, Tables, first_version}
+use Rattle.wgr_model.specs.Rows.{AllowedRow, NetworkRow, PeerRow, Tables, third_version}
 use Rattle.wgr_model.specs.RowLaws.{AreConsistent}
 use Rattle.wgr_tables.specs.Stored.{IsStored}
 
@@ -42,12 +42,15 @@ abbrev pub IsThere : Tables → ℕ → Type 0
 IsThere t id = (w : NetworkRow) × Has t.networks w × (w.id ≡ id)
 
 -- The rows of each table are those of distinct entries, each network's rows form a network that
--- keeps the rules, and no peer and no allowed prefix is of a network that doesn't exist.
+-- keeps the rules, and no peer and no allowed prefix is of a network that doesn't exist. There is no second
+-- pool, and no token that only reads.
 pub record AreWhole (t : Tables) : Type 0 where
-  pub meta : t.meta ≡ first_version
+  pub meta : t.meta ≡ third_version
   pub tenants : AreTenantsApart t
   pub tokens : AreTokensApart t
   pub networks : AreNetworksApart t
+  pub seconds : t.seconds ≡ []
+  pub readers : t.readers ≡ []
   pub stored : (w : NetworkRow) → Has t.networks w → (n : NetworkValue) × IsStored t w.id n
   pub peers : (p : PeerRow) → Has t.peers p → IsThere t p.network
   pub allowed : (a : AllowedRow) → Has t.allowed a → IsThere t a.network

@@ -3,11 +3,14 @@
 #![tactic(auto)]
 
 mod check;
+mod later;
 mod laws;
+mod migrate;
 mod outlines;
 mod read;
 mod stored;
 
 pub use check::check_register;
-pub use laws::whole_rows_are_consistent;
+pub use laws::{migrations_keep_views, whole_rows_are_consistent};
+pub use migrate::migrate_tables;
 pub use outlines::Outlines;

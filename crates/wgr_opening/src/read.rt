@@ -1,5 +1,5 @@
-//! The rows of all tables, read and tested table by table: tenants, tokens, networks, peers and
-//! allowed prefixes.
+//! The rows of all tables, read and tested table by table: second pools and tokens that only read, tenants,
+//! tokens, networks, peers and allowed prefixes.
 ghost use Rattle.std.specs.Prelude.{◌≡◌, ◌↔◌, false, IsTrue, IfErr, IfOk, IfSome, IfNone};
 ghost use Rattle.std.specs.List.Sorted.{IsSorted};
 ghost use Rattle.std.specs.Ordering.{nat_cmp};
@@ -11,25 +11,44 @@ ghost use Rattle.wgr_columns.specs.Layout.{allowed_tree, peer_tree};
 ghost use Rattle.wgr_columns.specs.LaidOut.{Laid};
 ghost use Rattle.wgr_checks.specs.AllowedRows.{AreWrittenAllowed};
 ghost use Rattle.wgr_checks.specs.PeerRows.{AreWrittenPeers};
-ghost use Rattle.wgr_opening.specs.Good.{HasEntries, HasNetworks, HasTables, IsGood};
+ghost use Rattle.wgr_opening.specs.Good.{HasAll, HasEntries, HasNetworks, HasTables, IsReadyIn, IsSound};
 
+use crate::later::are_later_empty;
 use sqlite::{Alter, Connection};
 use std::alloc::Global;
 use wgr_checks::{
     allowed_are_written, peers_are_written, read_networks, read_tenants, tokens_are_good,
 };
 use wgr_model::MAX_ENTRIES;
+use wgr_schema::Version;
 use wgr_sql::Fault;
 
-/// The ids of the networks, if the rows of each table are good.
-pub(crate) fn read_tables<S: Alter>(
+/// The ids of the networks, if the rows of each table of this version are good.
+pub(crate) fn read_all<S: Alter>(
     alloc: Global,
     conn: &mut Connection<S>,
+    version: Version,
 ) -> Result<Option<Vec<u32>>, Fault>
     requires idle { conn.old.in_transaction ≡ false }
     ensures idle { conn.new.in_transaction ≡ false }
+    ensures some { HasCleanDisk (state S.Store conn.new) → IsReadyIn version (state S.Store conn.old) → IfOk result (λ found. IfSome found (λ ids. IsTrue (state S.Store conn.old).is_open × HasAll (state S.Store conn.old).now ids.items)) }
+    ensures none { HasCleanDisk (state S.Store conn.new) → IsReadyIn version (state S.Store conn.old) → IfOk result (λ found. IfNone found (IsTrue (state S.Store conn.old).is_open × (IsSound (state S.Store conn.old).now → ⊥))) }
+    ensures kept { (HasCleanDisk (state S.Store conn.new) → IsReadyIn version (state S.Store conn.old)) → IsKept (state S.Store conn.old) (state S.Store conn.new) }
+    ensures survives { Survives (state S.Store conn.old) (state S.Store conn.new) (λ _. ⊥) }
+    ensures cause { (HasCleanDisk (state S.Store conn.new) → IsReadyIn version (state S.Store conn.old)) → IfErr result (HasCause (state S.Store conn.old) (state S.Store conn.new)) }
+{
+    if !are_later_empty(conn, version)? {
+        return Ok(None);
+    }
+    read_tables(alloc, conn)
+}
+
+// The ids of the networks, if the rows of each of the first six tables are good.
+fn read_tables<S: Alter>(alloc: Global, conn: &mut Connection<S>) -> Result<Option<Vec<u32>>, Fault>
+    requires idle { conn.old.in_transaction ≡ false }
+    ensures idle { conn.new.in_transaction ≡ false }
     ensures some { HasCleanDisk (state S.Store conn.new) → Laid (state S.Store conn.old) → IfOk result (λ found. IfSome found (λ ids. IsTrue (state S.Store conn.old).is_open × HasTables (state S.Store conn.old).now.trees ids.items)) }
-    ensures none { HasCleanDisk (state S.Store conn.new) → Laid (state S.Store conn.old) → IfOk result (λ found. IfNone found (IsTrue (state S.Store conn.old).is_open × (IsGood (state S.Store conn.old).now → ⊥))) }
+    ensures none { HasCleanDisk (state S.Store conn.new) → Laid (state S.Store conn.old) → IfOk result (λ found. IfNone found (IsTrue (state S.Store conn.old).is_open × (IsSound (state S.Store conn.old).now → ⊥))) }
     ensures kept { (HasCleanDisk (state S.Store conn.new) → Laid (state S.Store conn.old)) → IsKept (state S.Store conn.old) (state S.Store conn.new) }
     ensures survives { Survives (state S.Store conn.old) (state S.Store conn.new) (λ _. ⊥) }
     ensures cause { (HasCleanDisk (state S.Store conn.new) → Laid (state S.Store conn.old)) → IfErr result (HasCause (state S.Store conn.old) (state S.Store conn.new)) }
@@ -51,7 +70,7 @@ fn read_network_entries<S: Alter>(
     requires idle { conn.old.in_transaction ≡ false }
     ensures idle { conn.new.in_transaction ≡ false }
     ensures some { HasCleanDisk (state S.Store conn.new) → Laid (state S.Store conn.old) → IfOk result (λ found. IfSome found (λ ids. IsTrue (state S.Store conn.old).is_open × HasNetworks (state S.Store conn.old).now.trees ids.items)) }
-    ensures none { HasCleanDisk (state S.Store conn.new) → Laid (state S.Store conn.old) → IfOk result (λ found. IfNone found (IsTrue (state S.Store conn.old).is_open × (IsGood (state S.Store conn.old).now → ⊥))) }
+    ensures none { HasCleanDisk (state S.Store conn.new) → Laid (state S.Store conn.old) → IfOk result (λ found. IfNone found (IsTrue (state S.Store conn.old).is_open × (IsSound (state S.Store conn.old).now → ⊥))) }
     ensures kept { (HasCleanDisk (state S.Store conn.new) → Laid (state S.Store conn.old)) → IsKept (state S.Store conn.old) (state S.Store conn.new) }
     ensures survives { Survives (state S.Store conn.old) (state S.Store conn.new) (λ _. ⊥) }
     ensures cause { (HasCleanDisk (state S.Store conn.new) → Laid (state S.Store conn.old)) → IfErr result (HasCause (state S.Store conn.old) (state S.Store conn.new)) }
@@ -70,7 +89,7 @@ fn read_entries<S: Alter>(
     requires idle { conn.old.in_transaction ≡ false }
     ensures idle { conn.new.in_transaction ≡ false }
     ensures some { HasCleanDisk (state S.Store conn.new) → Laid (state S.Store conn.old) → IfOk result (λ found. IfSome found (λ ids. IsTrue (state S.Store conn.old).is_open × HasEntries (state S.Store conn.old).now.trees ids.items)) }
-    ensures none { HasCleanDisk (state S.Store conn.new) → Laid (state S.Store conn.old) → IfOk result (λ found. IfNone found (IsTrue (state S.Store conn.old).is_open × (IsGood (state S.Store conn.old).now → ⊥))) }
+    ensures none { HasCleanDisk (state S.Store conn.new) → Laid (state S.Store conn.old) → IfOk result (λ found. IfNone found (IsTrue (state S.Store conn.old).is_open × (IsSound (state S.Store conn.old).now → ⊥))) }
     ensures kept { (HasCleanDisk (state S.Store conn.new) → Laid (state S.Store conn.old)) → IsKept (state S.Store conn.old) (state S.Store conn.new) }
     ensures survives { Survives (state S.Store conn.old) (state S.Store conn.new) (λ _. ⊥) }
     ensures cause { (HasCleanDisk (state S.Store conn.new) → Laid (state S.Store conn.old)) → IfErr result (HasCause (state S.Store conn.old) (state S.Store conn.new)) }

@@ -8,7 +8,7 @@ use Rattle.clap.specs.declared.error.kind.ErrorKind.TheVariants.{DisplayHelp, Di
 use Rattle.sqlite.specs.Recovery.{Image}
 use Rattle.sqlite_disk.specs.declared.Disk as disk
 use Rattle.sqlite_disk.specs.declared.Files.{Files}
-use Rattle.wgr_command_line.specs.Words.{Asked, Batch, Init, Operate, Orders, Plan, Send, Serve, Show, asked_by, wrong_with}
+use Rattle.wgr_command_line.specs.Words.{Asked, Batch, Init, Migrate, Operate, Orders, Plan, Send, Serve, Show, asked_by, wrong_with}
 use Rattle.wgr_register.specs.declared.fault.Done.{Done}
 use Rattle.wgr_text.specs.Prefix.{PrefixValue}
 use Rattle.wgr_text.specs.PrefixText.{Spells}
@@ -19,7 +19,7 @@ use Rattle.wgr_prog.specs.declared.messages.TheConstants.{DONE, FAULT, REFUSED}
 use Rattle.wgr_plan.specs.PlanFault.{HasPlanned, Streams}
 use Rattle.wgr_service.specs.Network.{Log}
 use Rattle.wgr_prog.specs.Answering.{EndsBatch, EndsServe, Output}
-use Rattle.wgr_file.specs.OnFiles.{IsMadeInFiles, FilesStay}
+use Rattle.wgr_file.specs.OnFiles.{FilesStay, IsMadeInFiles, WasMigrated}
 use Rattle.wgr_prog.specs.Failures.{failure_status}
 use Rattle.wgr_prog.specs.Messages.{ReportsDone, ReportsText}
 use Rattle.wgr_prog.specs.OnRegister.{CarriesOut}
@@ -86,6 +86,15 @@ ReportsStatus old new answer status = ReportsEnd old.written new.written old.wri
 pub record RunsInit {D : Type 0} (g : disk.Ghosts D) (start : Image) (closed : Option (Files D)) (old new : Streams) (status : ℕ) : Type 0 where
   pub answer : Result Done Failure
   pub made : IfOk answer (λ done. IsMadeInFiles g start closed)
+  pub kept : IfErr answer (λ why. FilesStay g start closed)
+  pub fault : IfErr answer (λ why. failure_status why ≡ FAULT)
+  pub reported : ReportsStatus old new answer status
+  pub unread : ReadsNothing old new
+
+-- the register in the files is taken to the third version, or a fault is reported; nothing is read
+pub record RunsMigrate {D : Type 0} (g : disk.Ghosts D) (start : Image) (closed : Option (Files D)) (old new : Streams) (status : ℕ) : Type 0 where
+  pub answer : Result Done Failure
+  pub migrated : IfOk answer (λ done. WasMigrated g start closed)
   pub kept : IfErr answer (λ why. FilesStay g start closed)
   pub fault : IfErr answer (λ why. failure_status why ≡ FAULT)
   pub reported : ReportsStatus old new answer status
@@ -164,6 +173,7 @@ LacksMemory old new status = (new ≡ old) × (status ≡ FAULT)
 abbrev pub Runs : {D : Type 0} → disk.Ghosts D → Image → Option (Files D) → Asked → Log → Log → Streams → Streams → ℕ → Type 0
 Runs g start closed (Plan pool) before after old new status = (after ≡ before) × FilesStay g start closed × RunsPlan pool old new status
 Runs g start closed (Init db) before after old new status = (after ≡ before) × RunsInit g start closed old new status
+Runs g start closed (Migrate db) before after old new status = (after ≡ before) × RunsMigrate g start closed old new status
 Runs g start closed (Operate db order) before after old new status = (after ≡ before) × RunsOrder g start closed order old new status
 Runs g start closed (Batch db now files) before after old new status = (after ≡ before) × RunsBatch g start closed now files old new status
 Runs g start closed (Serve db place count now orders) before after old new status = RunsServe g start closed place count now orders before after old new status

@@ -19,6 +19,9 @@ pub(crate) const FAULT: u8 = 1;
 /// A refusal, or a command line with an error.
 pub(crate) const REFUSED: u8 = 2;
 
+// Such a register is refused as none, and how to go on is said in a line of its own.
+const EARLIER_VERSION: &[u8] = b"wgr: not_a_register\nwgr: the tables are of an earlier version: 'wgr migrate' takes them to this one\n";
+
 pub(crate) fn fault<E: Write>(err: &mut E, text: &[u8]) -> u8
     ensures status { result ≡ FAULT }
 {
@@ -102,6 +105,7 @@ fn register_fault<E: Write>(why: RegisterFault, err: &mut E) -> u8
         RegisterFault::NoMemory => no_memory(err),
         RegisterFault::Store => fault(err, b"wgr: store\n"),
         RegisterFault::NotARegister => fault(err, b"wgr: not_a_register\n"),
+        RegisterFault::EarlierVersion => fault(err, EARLIER_VERSION),
         RegisterFault::NotGood => fault(err, b"wgr: not_good\n"),
         RegisterFault::NotEmpty => fault(err, b"wgr: not_empty\n"),
     }

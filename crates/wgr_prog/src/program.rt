@@ -10,7 +10,7 @@ ghost use Rattle.wgr_prog.specs.declared.messages.TheConstants.{DONE, FAULT, REF
 
 use crate::messages::{DONE, REFUSED, Text, device, no_memory, refusal};
 use crate::order_lines::run_orders;
-use crate::register_words::{run_init, run_order};
+use crate::register_words::{run_init, run_migrate, run_order};
 use crate::request_words::{run_batch, run_serve};
 use crate::send::run_send;
 use crate::showing::run_show;
@@ -81,6 +81,7 @@ fn program<S: Start, T: AsStr, N: Network, R: Read, W: Write, E: Write>(
     match read_words(alloc, words) {
         Ok(Invocation::Plan { pool }) => (run_plan(alloc, pool, input, out, err), None),
         Ok(Invocation::Init { db }) => run_init(rt, db, start, out, err),
+        Ok(Invocation::Migrate { db }) => run_migrate(rt, db, start, out, err),
         Ok(Invocation::Operate { db, order }) => {
             run_order(rt, db, start, &order, input, out, err)
         }

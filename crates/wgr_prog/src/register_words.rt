@@ -4,12 +4,12 @@ ghost use Rattle.sqlite.specs.WalFiles.{image_at};
 ghost use Rattle.wgr_words.specs.Asked.{order_asked};
 ghost use Rattle.wgr_words.specs.Order.{input_of, wants_token};
 ghost use Rattle.wgr_prog.specs.OnRegister.{CarriesOut, EndsAs, as_ended};
-ghost use Rattle.wgr_prog.specs.Status.{RunsInit, RunsOrder, streams};
+ghost use Rattle.wgr_prog.specs.Status.{RunsInit, RunsMigrate, RunsOrder, streams};
 
 use crate::messages;
 use sqlite::{FileFrom, Start};
 use sqlite_disk::Disk;
-use wgr_file::{Closed, Unopened, make_register, operate};
+use wgr_file::{Closed, Unopened, make_register, migrate_register, operate};
 use wgr_io::{Read, Write};
 use wgr_orders::{Order, OrderRefusal};
 use wgr_register::{Done, OrderFault, RegisterFault, register_fault};
@@ -84,6 +84,29 @@ pub(crate) fn run_init<S: Start, W: Write, E: Write>(
         result.0 }
 {
     match make_register(rt, path, start) {
+        Ok(files) => (messages::done(out, err), files),
+        Err(Unopened { fault, files }) => (
+            messages::failure(&Failure::Register(fault), err),
+            files,
+        ),
+    }
+}
+
+/// Takes the register in the file at this path to the third version of its tables, and returns the exit
+/// status.
+pub(crate) fn run_migrate<S: Start, W: Write, E: Write>(
+    rt: &HostRuntime,
+    path: &str,
+    start: S,
+    out: &mut W,
+    err: &mut E,
+) -> (u8, Closed<S>)
+    ensures { (input : Option (List ℕ)) (failed : Bool) → RunsMigrate ⟦<FileFrom<S> as Disk>⟧ (image_at S.Start) result.1
+        (record { input = input; read_failed = failed; written = W.contents out.old; write_failed = W.failed out.old })
+        (record { input = input; read_failed = failed; written = W.contents out.new; write_failed = W.failed out.new })
+        result.0 }
+{
+    match migrate_register(rt, path, start) {
         Ok(files) => (messages::done(out, err), files),
         Err(Unopened { fault, files }) => (
             messages::failure(&Failure::Register(fault), err),

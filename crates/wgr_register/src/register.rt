@@ -17,11 +17,14 @@ ghost use Rattle.wgr_sql.specs.Causes.{HasCause, HasCauseOr};
 ghost use Rattle.wgr_sql.specs.declared.fault.Fault.TheVariants.{Store};
 ghost use Rattle.wgr_schema.specs.Faults.{IfStatementFails};
 ghost use Rattle.wgr_schema.specs.Fresh.{IsFresh, LeavesFresh, is_any_taken, no_schema};
-ghost use Rattle.wgr_schema.specs.Versions.{IsOfVersion};
-ghost use Rattle.wgr_schema.specs.declared.version.Version.TheVariants.{One};
-ghost use Rattle.wgr_schema.specs.declared.fault.RegisterFault.TheVariants.{NotARegister, NotEmpty, NotGood};
+ghost use Rattle.wgr_schema.specs.Upgrade.{StopsUpgrade};
+ghost use Rattle.wgr_schema.specs.Versions.{IsOfEarlierVersion, IsOfVersion};
+ghost use Rattle.wgr_schema.specs.declared.version.Version.{Version};
+ghost use Rattle.wgr_schema.specs.declared.version.Version.TheVariants.{Three};
+ghost use Rattle.wgr_schema.specs.declared.fault.RegisterFault.TheVariants.{EarlierVersion, NotARegister, NotEmpty, NotGood};
 ghost use Rattle.wgr_columns.specs.Decode.{tables_of};
-ghost use Rattle.wgr_opening.specs.Good.{IsGood};
+ghost use Rattle.wgr_opening.specs.Good.{IsGood, IsReady, IsSound};
+ghost use Rattle.wgr_opening.specs.Migrated.{IsMigrated, LeavesMigrated, MayMigrate};
 
 use crate::fault::{AskFault, Done, OpenFault, OrderFault};
 use crate::given::Render;
@@ -32,7 +35,7 @@ use std::alloc::Global;
 use std::marker::Model;
 use wgr_core::Command;
 use wgr_entries::tenant_of_token;
-use wgr_opening::check_register;
+use wgr_opening::{check_register, migrate_tables};
 use wgr_orders::{Census, Order};
 use wgr_schema::make;
 use wgr_tables::Fault;
@@ -81,6 +84,7 @@ impl<S: Alter> Register<S> {
         ensures taken { IfErr result (λ e. e.fault ≡ NotEmpty ↔ is_any_taken (state S.Store conn).now.schema ≡ true) }
         ensures foreign { IfErr result (λ e. e.fault ≡ NotARegister ↔ ((is_any_taken (state S.Store conn).now.schema ≡ false) × ((state S.Store conn).now.schema ≡ no_schema → ⊥))) }
         ensures good { IfErr result (λ e. e.fault ≡ NotGood → ⊥) }
+        ensures earlier { IfErr result (λ e. e.fault ≡ EarlierVersion → ⊥) }
         ensures clean { IfOk result (λ register. HasCleanDisk (state S.Store register) → HasCleanDisk (state S.Store conn)) }
         ensures crash { IfErr result (λ e. Survives (state S.Store conn) (state S.Store e.connection) LeavesFresh) }
         ensures cause { IfErr result (λ e. IfStatementFails (HasCause (state S.Store conn) (state S.Store e.connection)) e.fault) }
@@ -101,16 +105,17 @@ impl<S: Alter> Register<S> {
 
     /// Opens the register that the database holds. Anything else in the database is left unchanged.
     ///
-    /// `NotARegister` where the register's tables are missing or of another version, and `NotGood`
-    /// where they are of the first version and the rows aren't those of a consistent register, and
-    /// there alone. `Store` only where the disk had a fault, the store was shut before, or a limit on
+    /// `NotARegister` where the register's tables are missing or of no version that is known,
+    /// `EarlierVersion` where they are of an earlier one, and `NotGood` where they are of the third and
+    /// the rows aren't those of a consistent register, and there alone. `Store` only where the disk had a fault, the store was shut before, or a limit on
     /// steps was set. The database is as before.
     pub fn open(alloc: Global, mut conn: Connection<S>) -> Result<Register<S>, OpenFault<S>>
         requires idle { conn.in_transaction ≡ false }
         ensures good { IfOk result (λ register. HasCleanDisk (state S.Store register) → IsGood (state S.Store conn).now × StandsAt S.Store register (state S.Store conn).now []) }
-        ensures foreign { IfErr result (λ e. HasCleanDisk (state S.Store e.connection) → e.fault ≡ NotARegister → IsOfVersion One (state S.Store conn).now → ⊥) }
+        ensures foreign { IfErr result (λ e. HasCleanDisk (state S.Store e.connection) → e.fault ≡ NotARegister → (version : Version) → IsOfVersion version (state S.Store conn).now → ⊥) }
+        ensures earlier { IfErr result (λ e. HasCleanDisk (state S.Store e.connection) → e.fault ≡ EarlierVersion → IsOfEarlierVersion (state S.Store conn).now) }
         ensures bad { IfErr result (λ e. HasCleanDisk (state S.Store e.connection) → e.fault ≡ NotGood → IsGood (state S.Store conn).now → ⊥) }
-        ensures version { IfErr result (λ e. HasCleanDisk (state S.Store e.connection) → e.fault ≡ NotGood → IsOfVersion One (state S.Store conn).now) }
+        ensures version { IfErr result (λ e. HasCleanDisk (state S.Store e.connection) → e.fault ≡ NotGood → IsOfVersion Three (state S.Store conn).now) }
         ensures taken { IfErr result (λ e. e.fault ≡ NotEmpty → ⊥) }
         ensures clean { IfOk result (λ register. HasCleanDisk (state S.Store register) → HasCleanDisk (state S.Store conn)) }
         ensures unharmed { IfErr result (λ e. HasCleanDisk (state S.Store e.connection) → HasCleanDisk (state S.Store conn)) }
@@ -120,6 +125,44 @@ impl<S: Alter> Register<S> {
         ensures idle { IfErr result (λ e. e.connection.in_transaction ≡ false) }
     {
         match check_register(alloc, &mut conn) {
+            Ok(outlines) => Ok(Register {
+                conn,
+                memory: Memory::of(outlines),
+            }),
+            Err(fault) => Err(OpenFault {
+                fault,
+                connection: conn,
+            }),
+        }
+    }
+
+    /// Takes the register that the database holds to the third version of its tables, in one commit, and
+    /// opens it. One of the third version is opened as it is. Anything else in the database is left unchanged.
+    ///
+    /// `NotARegister` where the register's tables are missing or of no version that is known, or where a
+    /// table of somebody's own counts its rowids while SQLite's table of the counters is missing; `NotEmpty`
+    /// where something has the name of a table that the version lacks; `NotGood` where the rows aren't
+    /// those of a consistent register. `Store` only where the disk had a fault, the store was shut before, a limit
+    /// on steps was set, or the database refuses a statement. The database is as before.
+    pub fn migrate(
+        alloc: Global,
+        mut conn: Connection<S>,
+    ) -> Result<Register<S>, OpenFault<S>>
+        requires idle { conn.in_transaction ≡ false }
+        ensures done { IfOk result (λ register. HasCleanDisk (state S.Store register) → (db : Database) × IsMigrated (state S.Store conn).now db × StandsAt S.Store register db []) }
+        ensures foreign { IfErr result (λ e. HasCleanDisk (state S.Store e.connection) → e.fault ≡ NotARegister → (version : Version) → MayMigrate version (state S.Store conn).now → ⊥) }
+        ensures taken { IfErr result (λ e. HasCleanDisk (state S.Store e.connection) → e.fault ≡ NotEmpty → (version : Version) → IsReady version (state S.Store conn).now → ⊥) }
+        ensures bad { IfErr result (λ e. HasCleanDisk (state S.Store e.connection) → e.fault ≡ NotGood → IsSound (state S.Store conn).now → ⊥) }
+        ensures earlier { IfErr result (λ e. e.fault ≡ EarlierVersion → ⊥) }
+        ensures clean { IfOk result (λ register. HasCleanDisk (state S.Store register) → HasCleanDisk (state S.Store conn)) }
+        ensures unharmed { IfErr result (λ e. HasCleanDisk (state S.Store e.connection) → HasCleanDisk (state S.Store conn)) }
+        ensures crash { IfOk result (λ register. Survives (state S.Store conn) (state S.Store register) (LeavesMigrated (state S.Store conn).now)) }
+        ensures undone { IfErr result (λ e. Survives (state S.Store conn) (state S.Store e.connection) (LeavesMigrated (state S.Store conn).now)) }
+        ensures cause { IfErr result (λ e. IfStatementFails (HasCauseOr (StopsUpgrade (state S.Store conn).now) (state S.Store conn) (state S.Store e.connection)) e.fault) }
+        ensures kept { IfErr result (λ e. IsKept (state S.Store conn) (state S.Store e.connection)) }
+        ensures idle { IfErr result (λ e. e.connection.in_transaction ≡ false) }
+    {
+        match migrate_tables(alloc, &mut conn) {
             Ok(outlines) => Ok(Register {
                 conn,
                 memory: Memory::of(outlines),

@@ -22,19 +22,35 @@ use Rattle.sqlite.specs.State.{HasCleanDisk}
 use Rattle.sqlite.specs.Tree.{Trees}
 use Rattle.wgr_model.specs.Steps.{Event}
 use Rattle.wgr_model.specs.Stops.{IsLeft}
-use Rattle.wgr_schema.specs.Versions.{IsOfVersion}
-use Rattle.wgr_schema.specs.declared.version.Version.TheVariants.{One}
-use Rattle.wgr_schema.proofs.VersionLemmas.{version_read}
+use Rattle.wgr_model.specs.RowLaws.{AreConsistent}
+use Rattle.wgr_schema.specs.Versions.{IsOfEarlierVersion, IsOfVersion}
+use Rattle.wgr_schema.specs.declared.version.Version.{Version}
+use Rattle.wgr_schema.specs.declared.version.Version.TheVariants.{One, Two, Three}
+use Rattle.wgr_schema.proofs.VersionLemmas.{meta_read, version_read}
 use Rattle.wgr_columns.specs.Decode.{tables_of}
 use Rattle.wgr_opening.specs.Good.{IsGood}
+use Rattle.wgr_opening.specs.Migrated.{CanMigrate, IsMigrated}
+use Rattle.wgr_opening.proofs.JoinLemmas.{other_version}
 use Rattle.wgr_register.specs.Left.{LeavesRegister}
 use Rattle.wgr_register.specs.Standing.{StandsAt}
 use Rattle.wgr_register.proofs.LeftLemmas.{one_database, stop_leaves}
-use Rattle.wgr_reopen.specs.Again.{FailsByFault, HoldsLeft, StandsAgain}
+use Rattle.wgr_reopen.specs.Again.{FailsByFault, HoldsLeft, HoldsMigrating, StandsAgain, StandsMigrated}
 
--- a good register is of the first version
-pub good_is_first : (db : Database) → IsGood db → IsOfVersion One db
-good_is_first db good = (version_read db good.register).1 good.consistent.rows.meta
+-- a good register is of the third version
+pub good_is_third : (db : Database) → IsGood db → IsOfVersion Three db
+good_is_third db good = (version_read db good.register).1 good.consistent.rows.meta
+
+-- and of no earlier one
+pub good_is_present : (db : Database) → IsGood db → IsOfEarlierVersion db → ⊥
+good_is_present db good (inl first) = other_version 1 refl (sym (meta_read One db first.1) ∙ good.consistent.rows.meta)
+good_is_present db good (inr second) = other_version 2 refl (sym (meta_read Two db second.1) ∙ good.consistent.rows.meta)
+
+good_can : (db : Database) → IsGood db → CanMigrate Three db
+good_can db good = record {
+  sound = record { register = good.register; consistent = subst AreConsistent (ap (λ m. record (tables_of db) { meta = m }) good.consistent.rows.meta) good.consistent };
+  may = (good_is_third db good, tt);
+  free = tt;
+}
 
 -- the database that is found is one that the stop left
 pub found_left : (db now : Database) (late : List Event) (image : Image) → IsDatabase now → ((trees : Trees) → HoldsDatabase image trees → now.trees ≡ trees)
@@ -74,10 +90,46 @@ module _ {D : Type 0} {g : disk.Ghosts D} (db : Database) (late : List Event) (s
   stands_again (Err e) clean good = tt
 
   -- what a good register rules out isn't answered
-  pub never_told : {X E : Type 0} (r : Result X E) (Told : E → Type 0) (Q : Type 0) (after : E → Held (FileStore D g)) → IfErr r (λ e. HasCleanDisk (file_state (after e)) → HasCleanDisk (file_state conn))
-      → IfErr r (λ e. HasCleanDisk (file_state (after e)) → Told e → Q → ⊥) → (IsGood (file_state conn).now → Q) → IfErr r (λ e. HasCleanDisk (file_state (after e)) → Told e → ⊥)
-  never_told (Ok x) Told Q after clean never so = tt
-  never_told (Err e) Told Q after clean never so = λ now told. ∥∥₁_elim (finds_left (clean now)) (λ x y. absurd x) (λ h. never now told (so h.0))
+  pub never_told : {X E : Type 0} (r : Result X E) (Told : E → Type 0) (Never : Type 0) (after : E → Held (FileStore D g)) → IfErr r (λ e. HasCleanDisk (file_state (after e)) → HasCleanDisk (file_state conn))
+      → IfErr r (λ e. HasCleanDisk (file_state (after e)) → Told e → Never) → (Never → IsGood (file_state conn).now → ⊥) → IfErr r (λ e. HasCleanDisk (file_state (after e)) → Told e → ⊥)
+  never_told (Ok x) Told Never after clean never so = tt
+  never_told (Err e) Told Never after clean never so = λ now told. ∥∥₁_elim (finds_left (clean now)) (λ x y. absurd x) (λ h. so (never now told) h.0)
+
+-- the same of a migration
+module _ {D : Type 0} {g : disk.Ghosts D} (version : Version) (old : Database) (can : CanMigrate version old) (stopped : Files D) (conn : Held (FileStore D g)) (held : HoldsMigrating g stopped old)
+    (opened : HasCleanDisk (file_state conn) → IsOpened conn) (found : HasCleanDisk (file_state conn) → Finds stopped conn) where
+  -- what is found can be migrated to a register that is one of the first database
+  abbrev FindsMigrating : Type 0
+  FindsMigrating = (v : Version) × CanMigrate v (file_state conn).now × ((db : Database) → IsMigrated (file_state conn).now db → IsMigrated old db)
+
+  finds_migrating : HasCleanDisk (file_state conn) → ∥ FindsMigrating ∥₁
+  finds_migrating clean =
+      let is = opened clean in
+      let finds = found clean in
+      let sound = (is.1 is.0.is_open).0 in
+      let now = (file_state conn).now in
+      let shown : (trees : Trees) → HoldsDatabase (image_of g stopped) trees → now.trees ≡ trees = λ trees holds. ap (λ (d : Database). d.trees) is.0.clean ∙ finds.holds trees holds in
+      ∥∥₁_map held (λ it. elim it.2 [
+        | inl before ↦
+            let same : now ≡ old = one_database now old sound can.sound.register.sound (shown it.0 it.1 ∙ before) in
+            (version, subst (CanMigrate version) (sym same) can, λ db made. subst (λ d. IsMigrated d db) same made)
+        | inr all ↦
+            let same : now ≡ all.0 = one_database now all.0 sound all.1.good.register.sound (shown it.0 it.1 ∙ all.2) in
+            (Three, subst (CanMigrate Three) (sym same) (good_can all.0 all.1.good), λ db made.
+            let again : IsMigrated all.0 db = subst (λ d. IsMigrated d db) same made in
+            subst (IsMigrated old) (sym (again.same (good_is_third all.0 all.1.good))) all.1)
+      ])
+
+  pub stands_migrated : {E : Type 0} (r : Result (Held (FileStore D g)) E) → IfOk r (λ again. HasCleanDisk (file_state again) → HasCleanDisk (file_state conn))
+      → IfOk r (λ again. HasCleanDisk (file_state again) → (db : Database) × IsMigrated (file_state conn).now db × StandsAt over_files again db []) → IfOk r (λ again. StandsMigrated over_files again old)
+  stands_migrated (Ok again) clean done = λ now. let is = done now in ∥∥₁_map (finds_migrating (clean now)) (λ h. (is.0, h.2 is.0 is.1, is.2))
+  stands_migrated (Err e) clean done = tt
+
+  -- what a register that can be migrated rules out isn't answered
+  pub never_migrating : {X E : Type 0} (r : Result X E) (Told : E → Type 0) (Never : Type 0) (after : E → Held (FileStore D g)) → IfErr r (λ e. HasCleanDisk (file_state (after e)) → HasCleanDisk (file_state conn))
+      → IfErr r (λ e. HasCleanDisk (file_state (after e)) → Told e → Never) → (Never → (v : Version) → CanMigrate v (file_state conn).now → ⊥) → IfErr r (λ e. HasCleanDisk (file_state (after e)) → Told e → ⊥)
+  never_migrating (Ok x) Told Never after clean never so = tt
+  never_migrating (Err e) Told Never after clean never so = λ now told. ∥∥₁_elim (finds_migrating (clean now)) (λ x y. absurd x) (λ h. so (never now told) h.0 h.1)
 
 -- what a stop leaves of a register is held by its files
 pub holds_left : {D : Type 0} {g : disk.Ghosts D} (register : Held (FileStore D g)) (stopped : Files D) (db : Database) (late : List Event) → StandsAt over_files register db late
@@ -92,6 +144,13 @@ fails_by_fault files db late left e held (inl memory) = inl memory
 fails_by_fault files db late left e held (inr (inl refused)) = absurd (∥∥₁_elim held (λ x y. absurd x) (λ it. refused.1 (inl (it.0.trees, it.3))))
 fails_by_fault files db late left e held (inr (inr (inl fault))) = inr (inl (_, fault.0, fault.1))
 fails_by_fault files db late left e held (inr (inr (inr full))) = inr (inr full)
+
+-- nor are those in which a migration was stopped
+pub migrating_fails_by_fault : {D : Type 0} {g : disk.Ghosts D} (files : Files D) (old : Database) (left : Leftover D g) (e : Error) → HoldsMigrating g files old → FailsToOpenFiles files left e → FailsByFault g files left e
+migrating_fails_by_fault files old left e held (inl memory) = inl memory
+migrating_fails_by_fault files old left e held (inr (inl refused)) = absurd (∥∥₁_elim held (λ x y. absurd x) (λ it. refused.1 (inl (it.0, it.1))))
+migrating_fails_by_fault files old left e held (inr (inr (inl fault))) = inr (inl (_, fault.0, fault.1))
+migrating_fails_by_fault files old left e held (inr (inr (inr full))) = inr (inr full)
 
 pub fails_if : {D X : Type 0} {g : disk.Ghosts D} (files : Files D) (db : Database) (late : List Event) (r : Result X (Error × Leftover D g)) → HoldsLeft g files db late
     → IfErr r (λ e. IsCleanLeft e.1 → FailsToOpenFiles files e.1 e.0) → IfErr r (λ e. IsCleanLeft e.1 → FailsByFault g files e.1 e.0)

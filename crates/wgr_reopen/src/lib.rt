@@ -11,8 +11,10 @@ ghost use Rattle.sqlite.specs.Tree.{Trees};
 ghost use Rattle.sqlite.specs.WalReads.{AreClean};
 ghost use Rattle.wgr_model.specs.Steps.{Event};
 ghost use Rattle.wgr_register.specs.Standing.{StandsAt};
-ghost use Rattle.wgr_schema.specs.declared.fault.RegisterFault.TheVariants.{NotARegister, NotEmpty, NotGood};
-ghost use Rattle.wgr_reopen.specs.Again.{FailsByFault, HoldsLeft, StandsAgain, StandsOn};
+ghost use Rattle.wgr_schema.specs.declared.fault.RegisterFault.TheVariants.{EarlierVersion, NotARegister, NotEmpty, NotGood};
+ghost use Rattle.wgr_opening.specs.Migrated.{CanMigrate};
+ghost use Rattle.wgr_schema.specs.declared.version.Version.{Version};
+ghost use Rattle.wgr_reopen.specs.Again.{FailsByFault, HoldsLeft, HoldsMigrating, StandsAgain, StandsMigrated, StandsOn};
 
 pub use laws::{answered_stays, done_stays};
 use sqlite::{Connection, Error, FileStore, Files, Leftover, Options};
@@ -44,11 +46,36 @@ pub fn open_again<D: Disk + Drop>(
     requires db { IsTrue (D.Disk.is_usable files.db) }
     ensures stands { (db : Database) (late : List Event) → HoldsLeft D.Disk files db late → IfOk result (λ opened. IfOk opened (λ again. StandsAgain over_files again db late)) }
     ensures foreign { (db : Database) (late : List Event) → HoldsLeft D.Disk files db late → IfOk result (λ opened. IfErr opened (λ e. HasCleanDisk (file_state e.connection) → e.fault ≡ NotARegister → ⊥)) }
+    ensures earlier { (db : Database) (late : List Event) → HoldsLeft D.Disk files db late → IfOk result (λ opened. IfErr opened (λ e. HasCleanDisk (file_state e.connection) → e.fault ≡ EarlierVersion → ⊥)) }
     ensures bad { (db : Database) (late : List Event) → HoldsLeft D.Disk files db late → IfOk result (λ opened. IfErr opened (λ e. HasCleanDisk (file_state e.connection) → e.fault ≡ NotGood → ⊥)) }
     ensures cause { (db : Database) (late : List Event) → HoldsLeft D.Disk files db late → IfErr result (λ e. IsCleanLeft e.1 → FailsByFault D.Disk files e.1 e.0) }
 {
     match Connection::open_files(alloc, files, options) {
         Ok(conn) => Ok(Register::open(alloc, conn)),
+        Err(refused) => Err(refused),
+    }
+}
+
+/// Migrates the register in files that hold what a stop in an earlier migration of it left, from whatever version
+/// before the third: it ends at the register that the migration makes of what was there at first. It fails only
+/// for lack of memory, a fault of the disk, a limit or a refused statement, and what is found is never reported
+/// as no register, as one whose names are taken or as one that isn't good.
+pub fn migrate_again<D: Disk + Drop>(
+    alloc: Global,
+    files: Files<D>,
+    options: Options,
+) -> Result<Result<Register<FileStore<D>>, OpenFault<FileStore<D>>>, (Error, Leftover<D>)>
+    requires log { IsTrue (D.Disk.is_usable files.log) }
+    requires db { IsTrue (D.Disk.is_usable files.db) }
+    ensures stands { (version : Version) (old : Database) → CanMigrate version old → HoldsMigrating D.Disk files old → IfOk result (λ opened. IfOk opened (λ again. StandsMigrated over_files again old)) }
+    ensures foreign { (version : Version) (old : Database) → CanMigrate version old → HoldsMigrating D.Disk files old → IfOk result (λ opened. IfErr opened (λ e. HasCleanDisk (file_state e.connection) → e.fault ≡ NotARegister → ⊥)) }
+    ensures taken { (version : Version) (old : Database) → CanMigrate version old → HoldsMigrating D.Disk files old → IfOk result (λ opened. IfErr opened (λ e. HasCleanDisk (file_state e.connection) → e.fault ≡ NotEmpty → ⊥)) }
+    ensures bad { (version : Version) (old : Database) → CanMigrate version old → HoldsMigrating D.Disk files old → IfOk result (λ opened. IfErr opened (λ e. HasCleanDisk (file_state e.connection) → e.fault ≡ NotGood → ⊥)) }
+    ensures earlier { IfOk result (λ opened. IfErr opened (λ e. e.fault ≡ EarlierVersion → ⊥)) }
+    ensures cause { (old : Database) → HoldsMigrating D.Disk files old → IfErr result (λ e. IsCleanLeft e.1 → FailsByFault D.Disk files e.1 e.0) }
+{
+    match Connection::open_files(alloc, files, options) {
+        Ok(conn) => Ok(Register::migrate(alloc, conn)),
         Err(refused) => Err(refused),
     }
 }
@@ -64,6 +91,7 @@ pub fn reopened<D: Crash + Drop>(
 ) -> Option<Result<Register<FileStore<D>>, OpenFault<FileStore<D>>>>
     ensures stands { (db : Database) (late : List Event) → StandsAt over_files register db late → IfSome result (λ opened. IfOk opened (λ again. StandsAgain over_files again db late)) }
     ensures foreign { (db : Database) (late : List Event) → StandsAt over_files register db late → IfSome result (λ opened. IfErr opened (λ e. HasCleanDisk (file_state e.connection) → e.fault ≡ NotARegister → ⊥)) }
+    ensures earlier { (db : Database) (late : List Event) → StandsAt over_files register db late → IfSome result (λ opened. IfErr opened (λ e. HasCleanDisk (file_state e.connection) → e.fault ≡ EarlierVersion → ⊥)) }
     ensures bad { (db : Database) (late : List Event) → StandsAt over_files register db late → IfSome result (λ opened. IfErr opened (λ e. HasCleanDisk (file_state e.connection) → e.fault ≡ NotGood → ⊥)) }
     ensures taken { IfSome result (λ opened. IfErr opened (λ e. e.fault ≡ NotEmpty → ⊥)) }
 {

@@ -3,7 +3,7 @@ use Rattle.std.proofs.Common.{◌≡◌, refl, sym, subst, ◌∙◌}
 use Rattle.wgr_sql.specs.declared.fault.Fault.{Fault}
 use Rattle.wgr_sql.specs.declared.fault.Fault.TheVariants as fault
 use Rattle.wgr_schema.specs.declared.fault.RegisterFault.{RegisterFault}
-use Rattle.wgr_schema.specs.declared.fault.RegisterFault.TheVariants.{NotARegister, NotEmpty, NotGood}
+use Rattle.wgr_schema.specs.declared.fault.RegisterFault.TheVariants.{EarlierVersion, NotARegister, NotEmpty, NotGood}
 use Rattle.wgr_schema.specs.Faults.{IfStatementFails, as_register_fault}
 
 same_fault : (f h : Fault) → as_register_fault f ≡ as_register_fault h → f ≡ h
@@ -27,3 +27,7 @@ module _ (P : Fault → Type 0) where
   pub not_good : IfStatementFails P NotGood
   not_good fault.NoMemory same = absurd (let e = same in cc)
   not_good fault.Store same = absurd (let e = same in cc)
+
+  pub earlier_version : IfStatementFails P EarlierVersion
+  earlier_version fault.NoMemory same = absurd (let e = same in cc)
+  earlier_version fault.Store same = absurd (let e = same in cc)

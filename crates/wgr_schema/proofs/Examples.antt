@@ -32,7 +32,7 @@ made_after = refl
 
 apart_after : AreOthersApart after
 unfolding same_name
-apart_after = record { tables = refl; indexes = refl }
+apart_after = record { tables = refl; unreferred = refl; indexes = refl }
 
 has_after : HasTablesOf Three (schema_with after)
 unfolding same_name

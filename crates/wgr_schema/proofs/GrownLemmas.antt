@@ -15,7 +15,7 @@ use Rattle.wgr_sql.specs.Effects.{CreatesTable}
 use Rattle.wgr_sql.specs.Named.{HasTable, rows_in, rows_named}
 use Rattle.wgr_sql.proofs.Creates.{no_table}
 use Rattle.wgr_sql.proofs.GrowLemmas.{all_append, kept_rows, made, made_low, rows_grown, table_kept, table_new}
-use Rattle.wgr_columns.specs.Layout.{Others, index_of, is_apart, is_past, register_tables, schema_with, meta_table_at, tenant_table_at, token_table_at, network_table_at, peer_table_at, allowed_table_at}
+use Rattle.wgr_columns.specs.Layout.{Others, index_of, is_apart, is_past, refers_to_no_later, register_tables, schema_with, meta_table_at, tenant_table_at, token_table_at, network_table_at, peer_table_at, allowed_table_at}
 use Rattle.wgr_columns.specs.Decode.{AreWritten, AreTenants, AreTokens, AreNetworks, ArePeers, AreAllowed, HaveStatuses, HaveKinds, IsRegister, tables_of, meta_in, tenant_in, token_in, network_in, peer_in, allowed_in, reader_in, second_in}
 
 pub nothing_named : (db : Database) (name : List ℕ) → is_used db.schema name ≡ false → rows_named db name ≡ []
@@ -102,6 +102,7 @@ module _ (table : Table) (old new : Database) (register : IsRegister old) (grows
           schema_is = grows.schema_is ∙ ap (λ (s : Schema). record { tables = s.tables ++ made old.schema table ∷ []; indexes = s.indexes ++ automatics (made old.schema table) 0 (next_tree old.schema + 1) table.uniques; views = s.views }) register.schema_is;
           apart = record {
             tables = all_append (is_apart register_tables) register.others.tables (made old.schema table ∷ []) register.apart.tables (rw (first, unreferring));
+            unreferred = all_append refers_to_no_later register.others.tables (made old.schema table ∷ []) register.apart.unreferred (rw unreferring);
             indexes = all_append is_past register.others.indexes (automatics (made old.schema table) 0 (next_tree old.schema + 1) table.uniques) register.apart.indexes (past_from 0 (next_tree old.schema + 1) table.uniques (omega (arith, high)));
           };
           sound = grows.sound;

@@ -17,8 +17,9 @@ use Rattle.wgr_sql.specs.Effects.{CreatesTable}
 use Rattle.wgr_sql.specs.declared.fault.Fault.{Fault}
 use Rattle.wgr_sql.proofs.ResultLemmas.{if_ok}
 use Rattle.wgr_sql.proofs.Statements.{went, same_value, makes}
-use Rattle.wgr_schema.specs.Fresh.{HasBlank, IsFresh, Lays, whole_schema}
-use Rattle.wgr_schema.proofs.Meanings.{Means, version_text}
+use Rattle.wgr_schema.specs.Fresh.{HasBlank, IsFresh, Lays, reader_schema}
+use Rattle.wgr_schema.specs.Upgrade.{say_text}
+use Rattle.wgr_schema.proofs.Meanings.{Means}
 use Rattle.wgr_schema.proofs.FreshLemmas.{fresh_made}
 
 -- an index was made: the rows of every table are as they were
@@ -77,7 +78,7 @@ module _ (a b : State) (r : Result ℕ Fault) (kept : IsTrue a.in_transaction �
     lays_index at table index means is_table defined inside from =
         (kept inside, if_ok r _ _ (λ count h. let was = from h.1.was_open in (blank_indexed schema table index a.now b.now was (makes_index a b schema was.schema_is sql at table index means is_table defined count h.0), h.1)) (ran inside))
 
-  pub lays_version : Ran version_text a b r → Lays (HasBlank whole_schema) IsFresh a b r
+  pub lays_version : Ran say_text a b r → Lays (HasBlank reader_schema) IsFresh a b r
   lays_version ran inside from = (kept inside, if_ok r _ _ (λ count h. (fresh_made a b (from h.1.was_open) count h.0, h.1)) (ran inside))
 
 keeps_then : (a b c : State) → KeepsCommit a b → KeepsCommit b c → KeepsCommit a c

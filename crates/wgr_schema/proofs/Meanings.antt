@@ -12,9 +12,11 @@ use Rattle.sqlite_tied.specs.Compute.{everything}
 use Rattle.sqlite.specs.Listing.{understood}
 use Rattle.sqlite.proofs.Callers.{IsPlain, command_of, statement_of}
 use Rattle.wgr_sql.specs.Causes.{IsWriting}
-use Rattle.wgr_columns.specs.Layout.{schema_with, allowed_table_at}
+use Rattle.wgr_columns.specs.Layout.{schema_with, allowed_table_at, reader_table_at, second_table_at}
 use Rattle.wgr_columns.specs.Texts.{meta_text, tenant_text, token_text, network_text, peer_text, allowed_text, allowed_peer_text}
-use Rattle.wgr_schema.specs.Fresh.{no_others, no_schema, meta_schema, tenant_schema, entries_schema, network_schema, peer_schema, tables_schema, whole_schema, peer_index}
+use Rattle.wgr_schema.specs.Fresh.{later_tables, no_schema, meta_schema, tenant_schema, entries_schema, network_schema, peer_schema, tables_schema, whole_schema, second_schema, reader_schema, peer_index}
+use Rattle.wgr_schema.specs.Upgrade.{reader_text, say_text, second_text}
+use Rattle.wgr_schema.proofs.UpgradeTexts.{say_values}
 
 -- a statement that begins no transaction and ends none, and is run as it is written
 pub record Means (schema : Schema) (text : List ℕ) (command : Command) : Type 0 where
@@ -54,20 +56,22 @@ pub index_defined : index_defined_by (allowed_table_at 10) allowed_peer_text ≡
 unfolding everything
 index_defined = refl
 
-abbrev pub version_text : List ℕ
-version_text = codes "INSERT INTO meta (version) VALUES (1)"
+pub second_means : Means whole_schema second_text CreateTable
+unfolding understood everything
+second_means = record { command_is = refl; text_is = refl; plain = (refl, refl) }
 
-abbrev pub version_values : List Term
-version_values = lit (Int (pos 1)) ∷ lit Null ∷ []
+pub reader_means : Means second_schema reader_text CreateTable
+unfolding understood everything
+reader_means = record { command_is = refl; text_is = refl; plain = (refl, refl) }
 
-pub version_means : Means (schema_with no_others) version_text (Insert 0 (Values version_values 2))
+pub version_means : Means (schema_with later_tables) say_text (Insert 0 (Values say_values 2))
 unfolding understood everything
 version_means = record { command_is = refl; text_is = refl; plain = (refl, refl) }
 
 -- the names of the keys' indexes have numbers in them
-pub whole_is : whole_schema ≡ schema_with no_others
+pub reader_is : reader_schema ≡ schema_with later_tables
 unfolding digits
-whole_is = refl
+reader_is = refl
 
 -- ---- each is one statement that writes
 
@@ -99,6 +103,14 @@ pub index_writes : IsWriting tables_schema allowed_peer_text []
 unfolding understood everything
 index_writes = record { given = (refl, refl, omega arith, refl); plain = (tt, refl) }
 
-pub version_writes : IsWriting (schema_with no_others) version_text []
+pub second_writes : IsWriting whole_schema second_text []
+unfolding understood everything
+second_writes = record { given = (refl, refl, omega arith, refl); plain = (tt, refl) }
+
+pub reader_writes : IsWriting second_schema reader_text []
+unfolding understood everything
+reader_writes = record { given = (refl, refl, omega arith, refl); plain = (tt, refl) }
+
+pub version_writes : IsWriting (schema_with later_tables) say_text []
 unfolding understood everything
 version_writes = record { given = (refl, refl, omega arith, refl); plain = (tt, refl) }

@@ -63,12 +63,18 @@ module _ {S : Type 0} (g : Ghosts S) (old mid end : Held S) where
     pub written : HasCleanDisk (state g mid) → MayUpgrade from (state g old).now → IsUpgraded (state g old).now (state g mid).now
     written clean may = (step clean (state g old).now refl (λ _. record { same = refl; may = may; older = older })).1.0
 
+    -- and then the store was open
+    open_written : HasCleanDisk (state g mid) → (IsTrue (state g old).is_open → MayUpgrade from (state g old).now) → IsTrue (state g old).is_open × IsUpgraded (state g old).now (state g mid).now
+    open_written clean may =
+        let it = (step clean (state g old).now refl (λ live. record { same = refl; may = may live; older = older })).1 in
+        (it.1.was_open, it.0)
+
     -- a stop leaves what was there before, or all of it
     pub survives_written : Survives (state g start) (state g mid) (λ _. ⊥) → Survives (state g mid) (state g end) (λ trees. trees ≡ (state g mid).now.trees)
-        → Survives (state g old) (state g end) (λ trees. MayUpgrade from (state g old).now → LeavesUpgraded (state g old).now trees)
+        → Survives (state g old) (state g end) (λ trees. (IsTrue (state g old).is_open → MayUpgrade from (state g old).now) → IsTrue (state g old).is_open × LeavesUpgraded (state g old).now trees)
     survives_written begun ended =
-        survives_then (state g old) (state g mid) (state g end) (λ _. ⊥) (λ trees. trees ≡ (state g mid).now.trees) (λ trees. MayUpgrade from (state g old).now → LeavesUpgraded (state g old).now trees) (λ _ trees none. absurd none)
-        (λ clean trees is may. let before : HasCleanDisk (state g mid) = omega (arith, ended.clean, clean) in ((state g mid).now, written before may, is)) (survives_begin g old (state g mid) (λ _. ⊥) begun) ended
+        survives_then (state g old) (state g mid) (state g end) (λ _. ⊥) (λ trees. trees ≡ (state g mid).now.trees) (λ trees. (IsTrue (state g old).is_open → MayUpgrade from (state g old).now) → IsTrue (state g old).is_open × LeavesUpgraded (state g old).now trees) (λ _ trees none. absurd none)
+        (λ clean trees is may. let before : HasCleanDisk (state g mid) = omega (arith, ended.clean, clean) in let all = open_written before may in (all.0, ((state g mid).now, all.1, is))) (survives_begin g old (state g mid) (λ _. ⊥) begun) ended
 
   module _ (idle : end.in_transaction ≡ false) (shows : Shows (state g mid) (state g end) (state g mid).now (state g mid).now false) where
     pub stands_written : IsRegister (state g mid).now → ((trees : Trees) → IsTrue (state g end).is_open → (state g end).may_leave trees → trees ≡ (state g end).committed.trees) → Stands g end (state g end).now []

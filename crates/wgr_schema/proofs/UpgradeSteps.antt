@@ -1,14 +1,10 @@
 -- What each statement leaves that takes a register's tables to the third version.
-use Rattle.std.proofs.Common.{◌≡◌, ℕ, pos, List, [], ◌∷◌, codes, false, true, Ok, Result, IfOk, IsTrue, filter, map, refl, sym, ap, subst, ◌∙◌, inl, inr}
-use Rattle.sqlite.specs.declared.types.Value.TheVariants.{Null, Int}
+use Rattle.std.proofs.Common.{◌≡◌, ℕ, List, [], ◌∷◌, codes, false, true, Ok, Result, IfOk, IsTrue, filter, map, refl, sym, ap, subst, ◌∙◌, inl, inr}
 use Rattle.sqlite.specs.Order.{Row}
 use Rattle.sqlite.specs.Table.{Table}
 use Rattle.sqlite.specs.Command.TheVariants.{CreateTable}
 use Rattle.sqlite.specs.Does.{lacks_sequence}
-use Rattle.sqlite.specs.Edit.{edit_of}
-use Rattle.sqlite.specs.Effect.{Database, value_rows}
-use Rattle.sqlite.specs.Rowids.TheVariants.{Chosen}
-use Rattle.sqlite.specs.Rows.{stamped}
+use Rattle.sqlite.specs.Effect.{Database}
 use Rattle.sqlite.specs.State.{State, Executes, Shows, KeepsCommit}
 use Rattle.sqlite_value.specs.Order.{column}
 use Rattle.sqlite_schema.specs.Names.{same_name}
@@ -23,16 +19,14 @@ use Rattle.wgr_sql.proofs.Creates.{no_table}
 use Rattle.wgr_sql.proofs.GrowLemmas.{free_kept, rows_grown, sequence_kept}
 use Rattle.wgr_sql.proofs.ResultLemmas.{if_ok}
 use Rattle.wgr_sql.proofs.Statements.{makes}
-use Rattle.wgr_sql.proofs.TableLemmas.{cast_int, cast_null}
 use Rattle.wgr_columns.specs.Layout.{HasReader, HasSecond, meta_table_at, reader_table_at, second_table_at}
-use Rattle.wgr_columns.specs.Decode.{AreReaders, AreSeconds, AreWritten, IsRegister, meta_in, number_at, tables_of}
+use Rattle.wgr_columns.specs.Decode.{AreReaders, AreSeconds, AreWritten, IsRegister, meta_in, tables_of}
 use Rattle.wgr_tables.proofs.WriteLemmas.{row_inserted, rows_deleted}
-use Rattle.wgr_tables.proofs.WrittenLemmas.{written_put}
 use Rattle.wgr_schema.specs.Fresh.{Lays}
 use Rattle.wgr_schema.specs.Upgrade.{Begins, Cleared, HasRows, IsUpgraded, MadeBoth, MadeSecond, MayUpgrade, clear_text, reader_text, say_text, second_text}
 use Rattle.wgr_schema.specs.declared.version.Version.{Version}
 use Rattle.wgr_schema.specs.declared.version.Version.TheVariants.{One, Two, Three}
-use Rattle.wgr_schema.proofs.FreshLemmas.{none_written}
+use Rattle.wgr_schema.proofs.FreshLemmas.{none_written, third_row, third_written, version_row}
 use Rattle.wgr_schema.proofs.GrownLemmas.{came, nothing_named, register_grown, stayed, tables_grown}
 use Rattle.wgr_schema.proofs.MetaLemmas.{meta_after, named_after, register_meta, schema_after}
 use Rattle.wgr_schema.proofs.UpgradeTexts.{clear_means, later_defined, reader_compiles, say_means, say_values, second_compiles}
@@ -130,13 +124,6 @@ none_left : {A : Type 0} (xs : List A) → filter (λ x. false) xs ≡ []
 none_left [] = refl
 none_left (x ∷ xs) = none_left xs
 
-abbrev third_row : Row
-third_row = Int (pos 3) ∷ Null ∷ []
-
-third_written : AreWritten (0 ∷ []) [] [] (third_row ∷ [])
-third_written = written_put (0 ∷ []) [] [] third_row [] refl refl
-    (record { number_is = λ p h. elim h [ inl e ↦ subst (λ x. column third_row x ≡ Int (pos (number_at third_row x))) (sym e) refl | inr none ↦ absurd none ]; address_is = λ p none. absurd none; family_is = λ p none. absurd none }) (none_written (0 ∷ []) [] [])
-
 module _ (start : Database) (old new : State) (count : ℕ) where
   pub meta_cleared : MadeBoth start old.now → Executes clear_text [] old new (Ok count) → Cleared start new.now
   unfolding same_name
@@ -172,8 +159,7 @@ module _ (start : Database) (old new : State) (count : ℕ) where
       let was = at.made.still in
       let register = was.register in
       let none = at.none in
-      let news : (edit_of old.now.trees (meta_table_at 0) [] Chosen 0 (value_rows (stamped (meta_table_at 0) []) 2 1 say_values)).news ≡ third_row ∷ [] = rw (none, cast_null, cast_int (pos 3)) in
-      let done = row_inserted old new register say_text [] count ran 0 (meta_table_at 0) refl refl say_values 2 (say_means register.others) refl third_row news in
+      let done = row_inserted old new register say_text [] count ran 0 (meta_table_at 0) refl refl say_values 2 (say_means register.others) refl third_row (version_row old.now.trees none) in
       let after = put_row third_row (old.now.trees 0) in
       let e = done.0.edits in
       let one : after ≡ third_row ∷ [] = ap (put_row third_row) none in

@@ -1,5 +1,5 @@
 -- What the query for the version finds.
-use Rattle.std.proofs.Common.{◌≡◌, ◌↔◌, ◌≤◌, ℕ, pos, Option, Some, None, true, List, [], ◌∷◌, map, filter, codes, IsPermutation, unsigned_abs, refl, sym, ap, subst, ◌∙◌, inl, arith, Bool, nat_eq, true≢false}
+use Rattle.std.proofs.Common.{◌≡◌, ◌↔◌, ◌≤◌, ℕ, pos, Option, Some, None, true, List, [], ◌∷◌, map, filter, codes, IsPermutation, unsigned_abs, refl, sym, ap, subst, ◌∙◌, inl, arith}
 use Rattle.std.proofs.lemmas.List.Sorted.{IsPermutation-sym, IsPermutation-map}
 use Rattle.sqlite.specs.declared.types.Value.{Value}
 use Rattle.sqlite.specs.declared.types.Value.TheVariants.{Int}
@@ -14,7 +14,7 @@ use Rattle.sqlite.specs.Term.{col}
 use Rattle.sqlite_tied.specs.Compute.{everything}
 use Rattle.sqlite.proofs.Callers.{IsPlain, reads_as, one_permutation}
 use Rattle.sqlite_rules.specs.Edit.{id_in}
-use Rattle.wgr_model.specs.Rows.{MetaRow, first_version, third_version}
+use Rattle.wgr_model.specs.Rows.{MetaRow, third_version}
 use Rattle.wgr_sql.specs.Causes.{IsAnswered}
 use Rattle.wgr_sql.specs.Effects.{plain_query}
 use Rattle.wgr_sql.proofs.Answers.{answers, map-both}
@@ -26,7 +26,7 @@ use Rattle.wgr_columns.proofs.Statements.{never_refused}
 use Rattle.wgr_columns.specs.LaidOut.{IsLaidOut}
 use Rattle.wgr_schema.specs.Versions.{HasTablesOf, IsOfVersion, IsVersionOf, SaysVersion, version_number}
 use Rattle.wgr_schema.specs.declared.version.Version.{Version}
-use Rattle.wgr_schema.specs.declared.version.Version.TheVariants.{One}
+use Rattle.wgr_schema.specs.declared.version.Version.TheVariants.{Three}
 
 abbrev pub version_query : List ℕ
 version_query = codes "SELECT version FROM meta"
@@ -83,23 +83,16 @@ meta_read version db says = sym (map-both (λ r. column r 0) read (db.trees 0)) 
     read : Value → MetaRow
     read v = record { version = unsigned_abs (id_in v) }
 
-pub version_read : (db : Database) → IsRegister db → IsOfVersion One db ↔ ((tables_of db).meta ≡ first_version)
+pub version_read : (db : Database) → IsRegister db → IsOfVersion Three db ↔ ((tables_of db).meta ≡ third_version)
 version_read db is = (there, back)
   where
-    there : IsOfVersion One db → (tables_of db).meta ≡ first_version
-    there first = meta_read One db first.1
+    there : IsOfVersion Three db → (tables_of db).meta ≡ third_version
+    there third = meta_read Three db third.1
 
-    back : (tables_of db).meta ≡ first_version → IsOfVersion One db
+    back : (tables_of db).meta ≡ third_version → IsOfVersion Three db
     back meta = (
       record { others = is.others; schema_is = is.schema_is; apart = is.apart },
       map_alike (λ r. column r 0) (λ r. Int (pos (number_at r 0))) (db.trees 0) (λ r here. is.written.meta.numbers_are r here 0 (inl refl)) ∙ sym (map-both meta_in (λ m. Int (pos m.version)) (db.trees 0))
           ∙ ap (map (λ m. Int (pos m.version))) meta,
-      tt,
+      ((is.later meta).second, (is.later meta).reader),
     )
-
-pub first_is_no_third : first_version ≡ third_version → ⊥
-first_is_no_third same = true≢false (ap is_first same)
-  where
-    is_first : List MetaRow → Bool
-    is_first [] = true
-    is_first (m ∷ rows) = nat_eq m.version 1

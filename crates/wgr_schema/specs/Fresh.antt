@@ -1,5 +1,5 @@
 -- What the creation of a register leaves.
-use Rattle.std.specs.Prelude.{◌≡◌, ℕ, Bool, ◌||◌, false, is_some, IsTrue, IfErr, Result, List, [], ◌∷◌, codes}
+use Rattle.std.specs.Prelude.{◌≡◌, ℕ, Bool, ◌||◌, true, false, is_some, IsTrue, IfErr, Result, List, [], ◌∷◌, codes}
 use Rattle.std.specs.List.{AllByRecursion, list_any}
 use Rattle.sqlite_schema.specs.Names.{table_named, view_named}
 use Rattle.sqlite_schema.specs.declared.schema.Index.{Index}
@@ -13,15 +13,17 @@ use Rattle.wgr_sql.specs.Causes.{HasCause}
 use Rattle.wgr_sql.specs.Steps.{StepsOn}
 use Rattle.wgr_sql.specs.declared.fault.Fault.{Fault}
 use Rattle.wgr_columns.specs.declared.columns.allowed.TheConstants as allowed
-use Rattle.wgr_columns.specs.Layout.{Others, schema_with, index_of, meta_table_at, tenant_table_at, token_table_at, network_table_at, peer_table_at, allowed_table_at}
+use Rattle.wgr_columns.specs.declared.columns.reader.TheConstants as reader
+use Rattle.wgr_columns.specs.Layout.{Others, schema_with, index_of, meta_table_at, tenant_table_at, token_table_at, network_table_at, peer_table_at, allowed_table_at, second_table_at, reader_table_at}
 use Rattle.wgr_columns.specs.Decode.{IsRegister, tables_of}
 
-abbrev pub no_others : Others
-no_others = record { tables = []; indexes = []; views = [] }
+-- what is behind the first six tables and their indexes
+abbrev pub later_tables : Others
+later_tables = record { tables = second_table_at 13 ∷ reader_table_at 14 ∷ []; indexes = index_of (codes "sqlite_autoindex_reader_1") 15 14 (reader.DIGEST ∷ []) true ∷ []; views = [] }
 
 -- the register's tables have no row except that of the version, and nothing else is in the database
 pub record IsFresh (db : Database) : Type 0 where
-  pub schema_is : db.schema ≡ schema_with no_others
+  pub schema_is : db.schema ≡ schema_with later_tables
   pub register : IsRegister db
   pub rows : tables_of db ≡ no_rows
 
@@ -35,7 +37,7 @@ is_taken schema name = is_some (table_named schema name) || is_some (view_named 
 
 -- a table or a view has the name of one of the register's tables
 abbrev pub is_any_taken : Schema → Bool
-is_any_taken schema = list_any (is_taken schema) (codes "meta" ∷ codes "tenant" ∷ codes "token" ∷ codes "network" ∷ codes "peer" ∷ codes "allowed" ∷ [])
+is_any_taken schema = list_any (is_taken schema) (codes "meta" ∷ codes "tenant" ∷ codes "token" ∷ codes "network" ∷ codes "peer" ∷ codes "allowed" ∷ codes "second" ∷ codes "reader" ∷ [])
 
 -- ---- while the tables are created
 
@@ -79,3 +81,9 @@ peer_index = index_of (codes "allowed_peer") 0 10 (allowed.NETWORK ∷ allowed.P
 
 abbrev pub whole_schema : Schema
 whole_schema = indexed tables_schema (allowed_table_at 10) peer_index
+
+abbrev pub second_schema : Schema
+second_schema = created whole_schema (second_table_at 0)
+
+abbrev pub reader_schema : Schema
+reader_schema = created second_schema (reader_table_at 0)

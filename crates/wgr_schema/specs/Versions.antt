@@ -1,5 +1,5 @@
 -- A database that has the register's tables, of a version.
-use Rattle.std.specs.Prelude.{◌≡◌, ◌↔◌, ◌^◌, ℕ, not, ◌==◌, nat_le, true, false, Option, Some, List, [], ◌∷◌, map, pos, codes}
+use Rattle.std.specs.Prelude.{◌≡◌, ◌↔◌, ◌⊎◌, ◌^◌, ℕ, not, ◌==◌, nat_le, true, false, Option, Some, List, [], ◌∷◌, map, pos, codes}
 use Rattle.std.specs.List.{list_all}
 use Rattle.sqlite_value.specs.Order.{Row, column}
 use Rattle.sqlite.specs.declared.types.Value.TheVariants.{Int}
@@ -31,6 +31,10 @@ HasTablesOf Three schema = HasSecond schema × HasReader schema
 -- the tables are there, and the row of the version says that it is this one
 abbrev pub IsOfVersion : Version → Database → Type 0
 IsOfVersion version db = IsLaidOut db.schema × SaysVersion version (db.trees 0) × HasTablesOf version db.schema
+
+-- the tables are those of a version before the present one
+abbrev pub IsOfEarlierVersion : Database → Type 0
+IsOfEarlierVersion db = IsOfVersion One db ⊎ IsOfVersion Two db
 
 -- exactly this version is the database's, if any is
 abbrev pub IsVersionOf : Option Version → Database → Type 0

@@ -1,7 +1,7 @@
 //! Why no register was made or opened.
 ghost use Rattle.std.specs.Prelude.{◌≡◌};
 ghost use Rattle.wgr_schema.specs.Faults.{as_register_fault};
-ghost use Rattle.wgr_schema.specs.declared.fault.RegisterFault.TheVariants.{NotARegister, NotEmpty, NotGood};
+ghost use Rattle.wgr_schema.specs.declared.fault.RegisterFault.TheVariants.{EarlierVersion, NotARegister, NotEmpty, NotGood};
 
 use wgr_sql::Fault;
 
@@ -12,8 +12,10 @@ pub enum RegisterFault {
     NoMemory,
     /// Any other error of the store, or invalid contents.
     Store,
-    /// The database has no tables of a register, or those of another version.
+    /// The database has no tables of a register, of any version.
     NotARegister,
+    /// The tables are those of an earlier version: `upgrade` takes them to the present one.
+    EarlierVersion,
     /// The rows break the register's rules.
     NotGood,
     /// A table or a view has the name of one of the register's tables.
@@ -25,6 +27,7 @@ pub enum RegisterFault {
 pub fn register_fault(fault: Fault) -> RegisterFault
     ensures value { result ≡ as_register_fault fault }
     ensures foreign { result ≡ NotARegister → ⊥ }
+    ensures earlier { result ≡ EarlierVersion → ⊥ }
     ensures bad { result ≡ NotGood → ⊥ }
     ensures taken { result ≡ NotEmpty → ⊥ }
 {

@@ -1,7 +1,7 @@
 //! What follows from the definitions. Each function does nothing: its contract is the law.
 ghost use Rattle.wgr_schema.specs.Laws.{FreshIsConsistent, VersionIsRead};
 
-/// A register that was just made is of the first version, and its rows are those of a consistent
+/// A register that was just made is of the third version, and its rows are those of a consistent
 /// register without entries.
 pub fn fresh_is_consistent()
     ensures { FreshIsConsistent }

@@ -1,12 +1,13 @@
 //! Whether a schema has the register's tables first, and nothing that touches them after.
-ghost use Rattle.std.specs.Prelude.{◌≡◌, ◌↔◌, IsTrue};
+ghost use Rattle.std.specs.Prelude.{◌≡◌, ◌↔◌, ◌||◌, IsTrue, codes};
 ghost use Rattle.std.specs.List.{list_any, list_all};
 ghost use Rattle.sqlite_schema.specs.Names.{same_name};
-ghost use Rattle.wgr_columns.specs.Layout.{refers, is_apart, is_past};
+ghost use Rattle.wgr_columns.specs.Layout.{refers, is_apart, is_past, refers_to_no_later};
 ghost use Rattle.wgr_columns.specs.LaidOut.{BeginsWithRegister, IsLaidOut};
 
 use crate::indexes::are_register_indexes;
 use crate::tables::are_register_tables;
+use sqlite_schema::names::same_name;
 use sqlite_schema::schema::{Index, Reference, Schema, Table};
 
 // The first tree that is not one of the register's tables and indexes.
@@ -38,6 +39,32 @@ fn are_apart(tables: &[Table], others: &[Table]) -> bool
     ensures { result ≡ list_all (is_apart tables.now) others.now }
 {
     others.iter().all(|t| is_apart(tables, t))
+}
+
+// Whether the reference names a table that is found by its name.
+fn refers_to_later(reference: &Reference) -> bool
+    ensures { result ≡ (same_name (codes "second") reference.now.parent || same_name (codes "reader") reference.now.parent) }
+{
+    let parent = reference.parent.as_slice();
+    same_name(b"second", parent) || same_name(b"reader", parent)
+}
+
+fn refers_to_any_later(references: &[Reference]) -> bool
+    ensures { result ≡ list_any (λ ref. same_name (codes "second") ref.parent || same_name (codes "reader") ref.parent) references.now }
+{
+    references.iter().any(|r| refers_to_later(r))
+}
+
+fn refers_to_no_later(table: &Table) -> bool
+    ensures { result ≡ refers_to_no_later table.now }
+{
+    !refers_to_any_later(table.references.as_slice())
+}
+
+fn are_unreferring(tables: &[Table]) -> bool
+    ensures { result ≡ list_all refers_to_no_later tables.now }
+{
+    tables.iter().all(|t| refers_to_no_later(t))
 }
 
 fn is_past(index: &Index) -> bool
@@ -75,11 +102,15 @@ fn begins_with_register(schema: &Schema) -> bool
     if !are_apart(ours, others) {
         return false;
     }
+    if !are_unreferring(others) {
+        return false;
+    }
     are_past(further)
 }
 
 /// Whether the schema has the register's tables and indexes first, and everything after them is
-/// separate: with its own rows and entries, and no reference to the register's tables.
+/// separate: with its own rows and entries, and no reference to the register's tables, `second` and
+/// `reader` too.
 pub fn holds_register(schema: &Schema) -> bool
     ensures { IsTrue result ↔ IsLaidOut schema.now }
 {

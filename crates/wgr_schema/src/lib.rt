@@ -4,6 +4,7 @@
 
 mod fault;
 mod form;
+mod free;
 mod indexes;
 mod later;
 mod laws;
@@ -14,6 +15,7 @@ mod upgrading;
 mod version;
 
 pub use fault::{RegisterFault, register_fault};
+pub use free::{are_free, lacks_counters};
 pub use laws::{fresh_is_consistent, version_is_read};
 pub use layout::holds_register;
 pub use making::make;

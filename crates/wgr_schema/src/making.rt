@@ -10,9 +10,9 @@ ghost use Rattle.wgr_sql.specs.declared.fault.Fault.TheVariants.{NoMemory};
 ghost use Rattle.sqlite.specs.declared.error.Error.TheVariants.{SqliteFailure};
 ghost use Rattle.sqlite.specs.declared.error.ErrorCode.TheVariants.{OutOfMemory};
 ghost use Rattle.wgr_tables.specs.Standing.{Stands};
-ghost use Rattle.wgr_schema.specs.Fresh.{no_schema, entries_schema, tables_schema, FailsFrom, HasBlank, IsFresh, Lays, LeavesFresh, is_taken, is_any_taken};
+ghost use Rattle.wgr_schema.specs.Fresh.{no_schema, entries_schema, tables_schema, reader_schema, FailsFrom, HasBlank, IsFresh, Lays, LeavesFresh, is_taken, is_any_taken};
 ghost use Rattle.wgr_schema.specs.Faults.{IfStatementFails};
-ghost use Rattle.wgr_schema.specs.declared.fault.RegisterFault.TheVariants.{NotARegister, NotGood, NotEmpty};
+ghost use Rattle.wgr_schema.specs.declared.fault.RegisterFault.TheVariants.{EarlierVersion, NotARegister, NotGood, NotEmpty};
 
 use crate::fault::{RegisterFault, register_fault};
 use sqlite::{Alter, Connection, Transaction};
@@ -67,10 +67,10 @@ fn make_networks<S: Alter>(tx: &mut Transaction<'_, S>) -> Result<usize, Fault>
     )
 }
 
-// Creates the index, and writes the version.
+// Creates the index, and the tables of second pools and of tokens that only read.
 fn make_rest<S: Alter>(tx: &mut Transaction<'_, S>) -> Result<usize, Fault>
     ensures same_reference { tx.new.conn.ghost_name ≡ tx.old.conn.ghost_name }
-    ensures step { HasCleanDisk (state S.Store tx.new.conn.now) → Lays (HasBlank tables_schema) IsFresh (state S.Store tx.old.conn.now) (state S.Store tx.new.conn.now) result }
+    ensures step { HasCleanDisk (state S.Store tx.new.conn.now) → Lays (HasBlank tables_schema) (HasBlank reader_schema) (state S.Store tx.old.conn.now) (state S.Store tx.new.conn.now) result }
     ensures survives { Survives (state S.Store tx.old.conn.now) (state S.Store tx.new.conn.now) (λ _. ⊥) }
     ensures cause { FailsFrom (HasBlank tables_schema) (state S.Store tx.old.conn.now) (state S.Store tx.new.conn.now) result }
 {
@@ -79,19 +79,39 @@ fn make_rest<S: Alter>(tx: &mut Transaction<'_, S>) -> Result<usize, Fault>
         "CREATE INDEX allowed_peer ON allowed (network, peer)",
         &[],
     )?;
-    execute(tx, "INSERT INTO meta (version) VALUES (1)", &[])
+    execute(
+        tx,
+        "CREATE TABLE second (network INTEGER PRIMARY KEY, family INTEGER NOT NULL, lo BLOB NOT NULL, length INTEGER NOT NULL) STRICT",
+        &[],
+    )?;
+    execute(
+        tx,
+        "CREATE TABLE reader (digest BLOB NOT NULL PRIMARY KEY) STRICT",
+        &[],
+    )
 }
 
 // Creates all tables and the index.
-fn make_all<S: Alter>(tx: &mut Transaction<'_, S>) -> Result<usize, Fault>
+fn make_tables<S: Alter>(tx: &mut Transaction<'_, S>) -> Result<usize, Fault>
     ensures same_reference { tx.new.conn.ghost_name ≡ tx.old.conn.ghost_name }
-    ensures step { HasCleanDisk (state S.Store tx.new.conn.now) → Lays (HasBlank no_schema) IsFresh (state S.Store tx.old.conn.now) (state S.Store tx.new.conn.now) result }
+    ensures step { HasCleanDisk (state S.Store tx.new.conn.now) → Lays (HasBlank no_schema) (HasBlank reader_schema) (state S.Store tx.old.conn.now) (state S.Store tx.new.conn.now) result }
     ensures survives { Survives (state S.Store tx.old.conn.now) (state S.Store tx.new.conn.now) (λ _. ⊥) }
     ensures cause { FailsFrom (HasBlank no_schema) (state S.Store tx.old.conn.now) (state S.Store tx.new.conn.now) result }
 {
     make_entries(tx)?;
     make_networks(tx)?;
     make_rest(tx)
+}
+
+// Creates all tables and the index, and writes the version.
+fn make_all<S: Alter>(tx: &mut Transaction<'_, S>) -> Result<usize, Fault>
+    ensures same_reference { tx.new.conn.ghost_name ≡ tx.old.conn.ghost_name }
+    ensures step { HasCleanDisk (state S.Store tx.new.conn.now) → Lays (HasBlank no_schema) IsFresh (state S.Store tx.old.conn.now) (state S.Store tx.new.conn.now) result }
+    ensures survives { Survives (state S.Store tx.old.conn.now) (state S.Store tx.new.conn.now) (λ _. ⊥) }
+    ensures cause { FailsFrom (HasBlank no_schema) (state S.Store tx.old.conn.now) (state S.Store tx.new.conn.now) result }
+{
+    make_tables(tx)?;
+    execute(tx, "INSERT INTO meta (version) VALUES (3)", &[])
 }
 
 // Creates all of it in an empty database, in one commit.
@@ -131,6 +151,8 @@ fn is_any_taken(schema: &Schema) -> bool
         || is_taken(schema, b"network")
         || is_taken(schema, b"peer")
         || is_taken(schema, b"allowed")
+        || is_taken(schema, b"second")
+        || is_taken(schema, b"reader")
 }
 
 fn is_empty(schema: &Schema) -> bool
@@ -150,6 +172,7 @@ pub fn make<S: Alter>(conn: &mut Connection<S>) -> Result<(), RegisterFault>
     ensures taken { result ≡ Err NotEmpty ↔ is_any_taken (state S.Store conn.old).now.schema ≡ true }
     ensures foreign { result ≡ Err NotARegister ↔ ((is_any_taken (state S.Store conn.old).now.schema ≡ false) × ((state S.Store conn.old).now.schema ≡ no_schema → ⊥)) }
     ensures good { result ≡ Err NotGood → ⊥ }
+    ensures earlier { result ≡ Err EarlierVersion → ⊥ }
     ensures free { OnOk result ((state S.Store conn.old).now.schema ≡ no_schema) }
     ensures done { HasCleanDisk (state S.Store conn.new) → OnOk result ((db : Database) × IsFresh db × Stands S.Store conn.new db []) }
     ensures kept { OnErr result (IsKept (state S.Store conn.old) (state S.Store conn.new)) }

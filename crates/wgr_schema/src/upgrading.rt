@@ -116,9 +116,10 @@ pub fn upgrade<S: Alter>(conn: &mut Connection<S>, from: Version) -> Result<(), 
     ensures idle { conn.new.in_transaction ≡ false }
     ensures done { HasCleanDisk (state S.Store conn.new) → MayUpgrade from (state S.Store conn.old).now → OnOk result (IsUpgraded (state S.Store conn.old).now (state S.Store conn.new).now) }
     ensures stands { HasCleanDisk (state S.Store conn.new) → MayUpgrade from (state S.Store conn.old).now → IsTrue (state S.Store conn.old).is_open → OnOk result (Stands S.Store conn.new (state S.Store conn.new).now []) }
+    ensures live { HasCleanDisk (state S.Store conn.new) → (IsTrue (state S.Store conn.old).is_open → MayUpgrade from (state S.Store conn.old).now) → (from ≡ Three → ⊥) → OnOk result (IsTrue (state S.Store conn.old).is_open) }
     ensures same { from ≡ Three → (conn.new ≡ conn.old) × OnErr result ⊥ }
     ensures kept { (HasCleanDisk (state S.Store conn.new) → IsTrue (state S.Store conn.old).is_open → MayUpgrade from (state S.Store conn.old).now) → OnErr result (IsKept (state S.Store conn.old) (state S.Store conn.new)) }
-    ensures survives { Survives (state S.Store conn.old) (state S.Store conn.new) (λ trees. MayUpgrade from (state S.Store conn.old).now → LeavesUpgraded (state S.Store conn.old).now trees) }
+    ensures survives { Survives (state S.Store conn.old) (state S.Store conn.new) (λ trees. (IsTrue (state S.Store conn.old).is_open → MayUpgrade from (state S.Store conn.old).now) → IsTrue (state S.Store conn.old).is_open × LeavesUpgraded (state S.Store conn.old).now trees) }
     ensures cause { (HasCleanDisk (state S.Store conn.new) → IsTrue (state S.Store conn.old).is_open → MayUpgrade from (state S.Store conn.old).now) → IfErr result (HasCauseOr (StopsUpgrade (state S.Store conn.old).now) (state S.Store conn.old) (state S.Store conn.new)) }
 {
     let _settled = conn.is_autocommit();

@@ -5,10 +5,10 @@ ghost use Rattle.sqlite.specs.Held.{state};
 ghost use Rattle.wgr_sql.specs.Calls.{IsKept};
 ghost use Rattle.wgr_sql.specs.Causes.{HasCause};
 ghost use Rattle.wgr_schema.specs.Faults.{IfStatementFails};
-ghost use Rattle.wgr_schema.specs.Versions.{IsOfVersion, IsVersionOf, SaysVersion, version_number};
+ghost use Rattle.wgr_schema.specs.Versions.{IsOfEarlierVersion, IsOfVersion, IsVersionOf, SaysVersion, version_number};
 ghost use Rattle.wgr_schema.specs.declared.version.Version.{Version};
-ghost use Rattle.wgr_schema.specs.declared.version.Version.TheVariants.{One};
-ghost use Rattle.wgr_schema.specs.declared.fault.RegisterFault.TheVariants.{NotARegister, NotGood, NotEmpty};
+ghost use Rattle.wgr_schema.specs.declared.version.Version.TheVariants.{Three};
+ghost use Rattle.wgr_schema.specs.declared.fault.RegisterFault.TheVariants.{EarlierVersion, NotARegister, NotGood, NotEmpty};
 
 use crate::fault::{RegisterFault, register_fault};
 use crate::later::last_served;
@@ -21,11 +21,11 @@ use wgr_sql::{Fault, query};
 /// A version of the register's tables.
 #[derive(Clone, Copy, Debug, PartialEq, Eq)]
 pub enum Version {
-    /// The first, with six tables, which this program makes and opens.
+    /// The first, with six tables. Releases up to 0.7.1 wrote it.
     One,
     /// The second, with the table `second` too. No release wrote it.
     Two,
-    /// The third, with the tables `second` and `reader` too.
+    /// The third, with the tables `second` and `reader` too, which this program makes and opens.
     Three,
 }
 
@@ -99,21 +99,15 @@ pub fn version_of<S: Alter>(conn: &mut Connection<S>) -> Result<Option<Version>,
     }
 }
 
-fn is_first(found: Option<Version>) -> bool
-    ensures is { IsTrue result → found ≡ Some One }
-    ensures only { found ≡ Some One → IsTrue result }
-{
-    matches!(found, Some(Version::One))
-}
-
-/// `NotARegister` means that the database lacks the register's tables, or has those of another
-/// version. It reads no row except that of the version, and changes nothing. A fault of the
-/// store has a cause.
+/// Whether the tables are those of the present version, the third. `EarlierVersion` means that they are those of an
+/// earlier one, `NotARegister` that they are of none. It reads no row except that of the version, and changes
+/// nothing. A fault of the store has a cause.
 pub fn check_layout<S: Alter>(conn: &mut Connection<S>) -> Result<(), RegisterFault>
     requires idle { conn.old.in_transaction ≡ false }
     ensures idle { conn.new.in_transaction ≡ false }
-    ensures right { HasCleanDisk (state S.Store conn.new) → OnOk result (IsOfVersion One (state S.Store conn.old).now) }
-    ensures wrong { HasCleanDisk (state S.Store conn.new) → result ≡ Err NotARegister → IsOfVersion One (state S.Store conn.old).now → ⊥ }
+    ensures right { HasCleanDisk (state S.Store conn.new) → OnOk result (IsOfVersion Three (state S.Store conn.old).now) }
+    ensures wrong { HasCleanDisk (state S.Store conn.new) → result ≡ Err NotARegister → (version : Version) → IsOfVersion version (state S.Store conn.old).now → ⊥ }
+    ensures earlier { HasCleanDisk (state S.Store conn.new) → result ≡ Err EarlierVersion → IsOfEarlierVersion (state S.Store conn.old).now }
     ensures good { result ≡ Err NotGood → ⊥ }
     ensures full { result ≡ Err NotEmpty → ⊥ }
     ensures kept { IsKept (state S.Store conn.old) (state S.Store conn.new) }
@@ -121,12 +115,10 @@ pub fn check_layout<S: Alter>(conn: &mut Connection<S>) -> Result<(), RegisterFa
     ensures cause { IfErr result (IfStatementFails (HasCause (state S.Store conn.old) (state S.Store conn.new))) }
 {
     match version_of(conn) {
-        Ok(found) => {
-            if !is_first(found) {
-                return Err(RegisterFault::NotARegister);
-            }
-            Ok(())
-        }
+        Ok(Some(Version::Three)) => Ok(()),
+        Ok(Some(Version::Two)) => Err(RegisterFault::EarlierVersion),
+        Ok(Some(Version::One)) => Err(RegisterFault::EarlierVersion),
+        Ok(None) => Err(RegisterFault::NotARegister),
         Err(fault) => Err(register_fault(fault)),
     }
 }

@@ -5,13 +5,15 @@ use Rattle.sqlite.specs.Schema.{Schema}
 use Rattle.sqlite.specs.Order.{Row}
 use Rattle.sqlite.specs.Command.{Command}
 use Rattle.sqlite.specs.Calls.{IsWrite}
-use Rattle.sqlite.specs.Listing.{understood}
+use Rattle.sqlite.specs.Listing.{understood, reads_listing}
 use Rattle.sqlite.specs.State.{shows_rows}
 use Rattle.sqlite.proofs.Callers.{IsPlain, command_of, statement_of}
 use Rattle.sqlite_syntax.specs.declared.statement.Parsed.{Parsed}
 use Rattle.sqlite_resolve.specs.declared.compiled.Compiled.{Compiled}
 use Rattle.sqlite_resolve.specs.Lowering.{Checked}
-use Rattle.sqlite_resolve.specs.Compile.{compiled, planned, meaning, first, timed, returning, command, with_command, small}
+use Rattle.sqlite_resolve.specs.Compile.{compiled, planned, meaning, first, timed, returning, command, with_command, small, read}
+use Rattle.sqlite_ast.specs.declared.Select.{Select as Query}
+use Rattle.sqlite_ast.specs.declared.Statement.TheVariants as written
 use Rattle.wgr_sql.specs.Causes.{IsOneStatement, IsWriting, WritesPlainly}
 
 -- the statement that a text has
@@ -40,7 +42,15 @@ pub compiled_is : (schema : Schema) (text : List ℕ) (p : Parsed) (c : Command)
 unfolding compiled planned meaning
 compiled_is schema text p c read untimed quiet does = rw (read, untimed, quiet, does)
 
+-- a query
+pub select_is : (schema : Schema) (text : List ℕ) (p : Parsed) (q : Query) (c : Command) → first text ≡ Ok p → p.statement ≡ written.Select q → p.formats ≡ [] → read schema q ≡ Ok c → compiled schema text ≡ Ok (compiled_as p c)
+unfolding compiled planned meaning timed returning command
+select_is schema text p q c is select untimed does = rw (is, select, untimed, does)
+
 module _ (schema : Schema) (text : List ℕ) (c : Command) (count : ℕ) (h : Compiles schema text c count) where
+  pub unlisted : reads_listing schema text ≡ false
+  unlisted = rw h.is
+
   pub understood_is : understood schema text ≡ Ok (compiled_as h.parsed c)
   unfolding understood
   understood_is = rw h.is

@@ -15,5 +15,17 @@ pub mod CommitLemmas
 pub mod CauseLemmas
 pub mod NamedLemmas
 pub mod Compiles
+pub mod NamedColumns
+pub mod Expressions
+pub mod Comparisons
+pub mod NamedRowids
+pub mod NamedSelects
+pub mod PlainSelects
+pub mod ColumnSelects
+pub mod TextParts
+pub mod Inserts
+pub mod Deletes
+pub mod UnknownTables
 pub mod Creates
 pub mod GrowLemmas
+pub mod UnreferredLemmas

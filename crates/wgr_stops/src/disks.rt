@@ -17,12 +17,17 @@ pub(crate) fn options() -> Options {
 
 /// A file of these bytes, which no stop loses.
 pub(crate) fn file_of(rt: &(impl Abort + AllocGlobal), bytes: &[u8]) -> Fuse<Memory> {
+    fused_of(rt, bytes, u64::MAX)
+}
+
+/// The same, which fails after this many calls.
+pub(crate) fn fused_of(rt: &(impl Abort + AllocGlobal), bytes: &[u8], calls: u64) -> Fuse<Memory> {
     let mut file = Memory::new(rt.alloc());
     assert!(rt; file.may_be_used());
     file.write_at(0, bytes).expect(rt, "memory");
     assert!(rt; file.may_be_used());
     file.sync().expect(rt, "memory");
-    Fuse::new(file, u64::MAX)
+    Fuse::new(file, calls)
 }
 
 /// The register; the test ends if there is none.

@@ -7,6 +7,8 @@
 #[cfg(test)]
 mod disks;
 #[cfg(test)]
+mod migrated;
+#[cfg(test)]
 mod reopened;
 #[cfg(test)]
 mod rows;

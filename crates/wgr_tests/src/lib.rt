@@ -12,9 +12,13 @@ mod disks;
 #[cfg(test)]
 mod dumps;
 #[cfg(test)]
+mod earlier;
+#[cfg(test)]
 mod fields;
 #[cfg(test)]
 mod fixtures;
+#[cfg(test)]
+mod later;
 #[cfg(test)]
 mod network;
 #[cfg(test)]

@@ -11,6 +11,7 @@
 //! networks are answered by their names.
 mod answered;
 mod files;
+mod migrated;
 mod opened;
 mod orders;
 mod random;

@@ -83,6 +83,8 @@ pub(crate) fn all_rows<S: Alter>(
     let mut text = Shown::new(rt);
     for query in [
         "SELECT version FROM meta ORDER BY version",
+        "SELECT network, family, lo, length FROM second ORDER BY network",
+        "SELECT digest FROM reader ORDER BY digest",
         "SELECT id, name FROM tenant ORDER BY id",
         "SELECT digest, tenant FROM token ORDER BY digest",
         "SELECT id, tenant, name, family, lo, length, host, port, server, capacity, next FROM network ORDER BY id",

@@ -52,6 +52,8 @@ fn only_an_empty_database_serves(rt: HostRuntime) {
         ("CREATE VIEW one AS SELECT 1", RegisterFault::NotARegister),
         ("CREATE TABLE Peer (id INTEGER)", RegisterFault::NotEmpty),
         ("CREATE VIEW token AS SELECT 1", RegisterFault::NotEmpty),
+        ("CREATE TABLE Second (id INTEGER)", RegisterFault::NotEmpty),
+        ("CREATE VIEW reader AS SELECT 1", RegisterFault::NotEmpty),
         (
             "CREATE TABLE note (id INTEGER); CREATE TABLE meta (id INTEGER)",
             RegisterFault::NotEmpty,
@@ -93,8 +95,12 @@ fn others_stand_apart(rt: HostRuntime) {
 fn changed_tables_are_no_register(rt: HostRuntime) {
     for statements in [
         "CREATE TABLE mark (peer INTEGER REFERENCES peer (id))",
+        "CREATE TABLE mark (network INTEGER REFERENCES second (network))",
+        "CREATE TABLE mark (digest BLOB REFERENCES Reader (digest))",
         "DROP INDEX allowed_peer",
         "DROP TABLE token",
+        "DROP TABLE second",
+        "DROP TABLE reader",
         "UPDATE meta SET version = 9",
         "DELETE FROM meta",
         "INSERT INTO meta (version) VALUES (2)",

@@ -10,7 +10,7 @@ use wgr_plain::Register;
 use wgr_register::RegisterFault;
 
 // Peers of the networks 1, of acme's, and 2, of bolt's.
-const PEERS: [Step<'static>; 4] = [
+pub(super) const PEERS: [Step<'static>; 4] = [
     (0, "add 1 office 1", "1 10.8.0.2/32"),
     (0, "add 1 office 2", "2 10.8.0.3/32"),
     (0, "add 2 office 1", "1 10.9.0.2/32"),
@@ -22,7 +22,7 @@ const PEERS: [Step<'static>; 4] = [
 ];
 
 // After each of the scripts a register is opened anew.
-const SCRIPTS: [&[Step<'static>]; 5] = [
+pub(super) const SCRIPTS: [&[Step<'static>]; 5] = [
     &NETWORKS,
     &PEERS,
     &[
@@ -152,7 +152,17 @@ fn only_a_register_is_opened(rt: HostRuntime) {
     check_after(
         &rt,
         Some(RegisterFault::NotARegister),
-        &["DROP TABLE token", "UPDATE meta SET version = 9"],
+        &[
+            "DROP TABLE token",
+            "DROP TABLE reader",
+            "UPDATE meta SET version = 9",
+            "INSERT INTO meta (version) VALUES (1)",
+        ],
+    );
+    check_after(
+        &rt,
+        Some(RegisterFault::EarlierVersion),
+        &["UPDATE meta SET version = 1", "UPDATE meta SET version = 2"],
     );
     check_after(
         &rt,

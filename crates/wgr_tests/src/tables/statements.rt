@@ -6,7 +6,9 @@ CREATE TABLE network (id INTEGER PRIMARY KEY, tenant INTEGER NOT NULL, name TEXT
 CREATE TABLE peer (id INTEGER PRIMARY KEY, network INTEGER NOT NULL, key BLOB NOT NULL, label TEXT NOT NULL, until INTEGER NOT NULL, keepalive INTEGER NOT NULL, handshake INTEGER, received INTEGER, sent INTEGER, UNIQUE (network, key)) STRICT;
 CREATE TABLE allowed (network INTEGER NOT NULL, family INTEGER NOT NULL, lo BLOB NOT NULL, length INTEGER NOT NULL, hi BLOB NOT NULL, peer INTEGER NOT NULL, kind TEXT NOT NULL, PRIMARY KEY (network, family, lo, length)) STRICT;
 CREATE INDEX allowed_peer ON allowed (network, peer);
-INSERT INTO meta (version) VALUES (1);
+CREATE TABLE second (network INTEGER PRIMARY KEY, family INTEGER NOT NULL, lo BLOB NOT NULL, length INTEGER NOT NULL) STRICT;
+CREATE TABLE reader (digest BLOB NOT NULL PRIMARY KEY) STRICT;
+INSERT INTO meta (version) VALUES (3);
 INSERT INTO tenant (id, name) VALUES (7, 'acme');";
 
 // The network 3, whose pool is 10.8.0.0/29, without peers, and the network 4, which has a peer and a

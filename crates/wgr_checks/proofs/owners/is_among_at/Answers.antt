@@ -1,4 +1,4 @@
-use Rattle.std.proofs.Common.{rules, ◌≡◌, ◌<◌, ℕ, true, nat_eq, IfNone, subst, arith}
+use Rattle.std.proofs.Common.{rules, ◌≡◌, true, nat_eq}
 use Rattle.std.specs.List.{list_any}
 use Rattle.wgr_columns.specs.Decode.{IsNumberAt, number_at}
 use Rattle.wgr_columns.specs.Fields.{IsWordAt}

@@ -1,8 +1,9 @@
 use Rattle.sqlite.specs.WalFiles.{image_at}
-use Rattle.wgr_file.proofs.FileLemmas.{found_as, found_both, open_in, stays}
+use Rattle.wgr_file.proofs.FileLemmas.{found_as, open_in, stays}
 use Rattle.wgr_opening.specs.Good.{IsGood}
-use Rattle.wgr_schema.specs.Versions.{IsOfVersion}
-use Rattle.wgr_schema.specs.declared.version.Version.TheVariants.{One}
+use Rattle.wgr_schema.specs.Versions.{IsOfEarlierVersion, IsOfVersion}
+use Rattle.wgr_schema.specs.declared.version.Version.{Version}
+use Rattle.wgr_schema.specs.declared.version.Version.TheVariants.{Three}
 use Rattle.wgr_file.proofs.opening.open_register.Goals as goal
 
 pub returns-in-Ok-clause-open : goal.returns-in-Ok-clause-open
@@ -16,10 +17,15 @@ returns-in-Err-open-clause-kept g c =
 
 pub returns-in-Err-open-clause-foreign : goal.returns-in-Err-open-clause-foreign
 returns-in-Err-open-clause-foreign g c told =
-    found_as c.in-Ok-Some.conn c.in-Err-open.field-0.connection (image_at g.S.Start) c.close.result (λ db. IsOfVersion One db → ⊥) (rw c.in-Ok-Some.field-0-is at c.in-Ok-Some.ensures.found) c.in-Err-open.ensures.unharmed
+    found_as c.in-Ok-Some.conn c.in-Err-open.field-0.connection (image_at g.S.Start) c.close.result (λ db. (version : Version) → IsOfVersion version db → ⊥) (rw c.in-Ok-Some.field-0-is at c.in-Ok-Some.ensures.found) c.in-Err-open.ensures.unharmed
     (λ now. c.in-Err-open.ensures.foreign now told) c.close.ensures
+
+pub returns-in-Err-open-clause-earlier : goal.returns-in-Err-open-clause-earlier
+returns-in-Err-open-clause-earlier g c told =
+    found_as c.in-Ok-Some.conn c.in-Err-open.field-0.connection (image_at g.S.Start) c.close.result IsOfEarlierVersion (rw c.in-Ok-Some.field-0-is at c.in-Ok-Some.ensures.found) c.in-Err-open.ensures.unharmed
+    (λ now. c.in-Err-open.ensures.earlier now told) c.close.ensures
 
 pub returns-in-Err-open-clause-bad : goal.returns-in-Err-open-clause-bad
 returns-in-Err-open-clause-bad g c told =
-    found_both c.in-Ok-Some.conn c.in-Err-open.field-0.connection (image_at g.S.Start) c.close.result (IsOfVersion One) (λ db. IsGood db → ⊥) (rw c.in-Ok-Some.field-0-is at c.in-Ok-Some.ensures.found) c.in-Err-open.ensures.unharmed
-    (λ now. c.in-Err-open.ensures.version now told) (λ now. c.in-Err-open.ensures.bad now told) c.close.ensures
+    found_as c.in-Ok-Some.conn c.in-Err-open.field-0.connection (image_at g.S.Start) c.close.result (λ db. IsOfVersion Three db × (IsGood db → ⊥)) (rw c.in-Ok-Some.field-0-is at c.in-Ok-Some.ensures.found) c.in-Err-open.ensures.unharmed
+    (λ now. (c.in-Err-open.ensures.version now told, c.in-Err-open.ensures.bad now told)) c.close.ensures

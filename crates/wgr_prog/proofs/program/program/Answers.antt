@@ -87,6 +87,10 @@ pub returns-in-Ok-Init : goal.returns-in-Ok-Init
 returns-in-Ok-Init g c =
     serves _ _ _ _ _ _ _ _ _ _ (rw c.in-Ok-Init.field-0-is at c.in-Ok-Init.ensures.ok) (refl, c.run_init.ensures (g.R.Read.remaining c.args.input.now) (g.R.Read.failed c.args.input.now))
 
+pub returns-in-Ok-Migrate : goal.returns-in-Ok-Migrate
+returns-in-Ok-Migrate g c =
+    serves _ _ _ _ _ _ _ _ _ _ (rw c.in-Ok-Migrate.field-0-is at c.in-Ok-Migrate.ensures.ok) (refl, c.run_migrate.ensures (g.R.Read.remaining c.args.input.now) (g.R.Read.failed c.args.input.now))
+
 pub returns-in-Ok-Batch : goal.returns-in-Ok-Batch
 returns-in-Ok-Batch g c =
     serves _ _ _ _ _ _ _ _ _ _ (rw c.in-Ok-Batch.field-0-is at c.in-Ok-Batch.ensures.ok) (refl, rw c.deref.ensures.value at c.run_batch.ensures (g.R.Read.remaining c.args.input.now) (g.R.Read.failed c.args.input.now))

@@ -7,7 +7,7 @@ use Rattle.wgr_sql.specs.declared.fault.Fault.TheVariants.{NoMemory}
 use Rattle.wgr_columns.specs.Decode.{tables_of}
 use Rattle.wgr_register.specs.Memory.{IsMemoryOf}
 use Rattle.wgr_register.proofs.AskLemmas.{acts_done, acts_late, refused_rows}
-use Rattle.wgr_register.proofs.LoadedLemmas.{found_formed, shown_so, unless}
+use Rattle.wgr_register.proofs.LoadedLemmas.{found_formed, shown_so, unless, unless_late}
 use Rattle.wgr_register.proofs.StandLemmas.{at_more, late_ends, undone_ends}
 use Rattle.wgr_register.proofs.CauseLemmas.{fault_handed, undone_memory, ask_stops, memory_stops, writes_nothing}
 use Rattle.sqlite.specs.Held.{state}
@@ -38,6 +38,12 @@ returns-in_err-commit_if-clause-ends g c db late digest name at found =
     late_ends g.S.Store g.R.Render.shown c.commit_if.new.conn db late (Ask digest name c.args.now c.args.command.now) c.args.now c.from_residual-in_err-commit_if.result c.in_err-commit_if.field-0.0 c.from_residual-in_err-commit_if.ensures.1
     (acts_late g.S.Store g.R.Render.shown c.commit_if.new.conn db at.pending late at.consistent at.steps digest name c.args.now c.args.command.now (c.forms_hold.ensures.asked, c.forms_hold.ensures.forms) c.args.id c.args.network found c.in-Ok.done.0
     c.in-Ok.done.1 c.in-Ok.ensures.outcome (c.in_err-commit_if.ensures.fault db at.pending found.row at.stands at.consistent found.there found.at))
+
+pub returns-in_err-text-clause-memory : goal.returns-in_err-text-clause-memory
+returns-in_err-text-clause-memory g c db late digest name at found held = unless_late c.from_residual.result NoMemory _ c.from_residual.ensures.1
+
+pub returns-in_err-commit_if-clause-memory : goal.returns-in_err-commit_if-clause-memory
+returns-in_err-commit_if-clause-memory g c db late digest name at found held = unless_late c.from_residual-in_err-commit_if.result c.in_err-commit_if.field-0.0 _ c.from_residual-in_err-commit_if.ensures.1
 
 -- ---- it is done
 

@@ -1,4 +1,4 @@
-use Rattle.std.proofs.Common.{rules, ◌≡◌, not, [], IfErr, OnErr, refl, sym, ap, subst, ◌∙◌, true≢false}
+use Rattle.std.proofs.Common.{rules, ◌≡◌, not, [], IfErr, IsTrue, OnErr, refl, sym, ap, subst, ◌∙◌, true≢false}
 use Rattle.sqlite.specs.State.{HasCleanDisk, Survives}
 use Rattle.sqlite.specs.Held.{state}
 use Rattle.wgr_sql.specs.Calls.{IsKept}
@@ -45,6 +45,22 @@ returns-clause-stands g c clean may live =
     on_ok c.commit.result c.map_err.result _ _ (λ h. subst (λ x. Stands g.S.Store x (state g.S.Store x).now []) same
     (stands_written g.S.Store old mid end c.commit.ensures.ended h.1 made.register (λ trees shown left. g.met.S.Store.settled end.store trees shown left))) (c.commit.ensures.ok late) c.map_err.ensures.variant
 
+pub returns-then-is_third-clause-live : goal.returns-then-is_third-clause-live
+returns-then-is_third-clause-live g c clean may later = absurd (later (c.if-is_third.ensures.is refl))
+
+pub returns-clause-live : goal.returns-clause-live
+returns-clause-live g c clean may later =
+    let old = c.args.conn.now in
+    let mid = c.write_third.new.tx.conn.now in
+    let end = c.commit.new.self.0 in
+    let same : end ≡ c.conn-2-1.given.0 = search rules in
+    let late : HasCleanDisk (state g.S.Store end) = subst (λ h. HasCleanDisk (state g.S.Store h)) (sym same) clean in
+    let before : HasCleanDisk (state g.S.Store mid) = clean_before (state g.S.Store mid) (state g.S.Store end) c.commit.ensures.survives late in
+    let begun = c.transaction-tx.ensures.begun in
+    let step = rw begun at c.in_ok-write_third.ensures.step in
+    let it = step before (state g.S.Store old).now refl (λ live. record { same = refl; may = may live; older = later }) in
+    on_ok c.commit.result c.map_err.result _ _ (λ h. it.0.was_open h.1.was_open) (c.commit.ensures.ok late) c.map_err.ensures.variant
+
 pub returns-in_err-write_third-clause-kept : goal.returns-in_err-write_third-clause-kept
 returns-in_err-write_third-clause-kept g c may =
     let old = c.args.conn.now in
@@ -82,7 +98,7 @@ returns-clause-survives g c =
     let later : c.args.from ≡ Three → ⊥ = λ e. true≢false (sym (c.if-is_third.ensures.only e)) in
     let same : end ≡ c.conn-2-1.given.0 = search rules in
     let begun = c.transaction-tx.ensures.begun in
-    subst (λ h. Survives (state g.S.Store old) (state g.S.Store h) (λ trees. MayUpgrade c.args.from (state g.S.Store old).now → LeavesUpgraded (state g.S.Store old).now trees)) same
+    subst (λ h. Survives (state g.S.Store old) (state g.S.Store h) (λ trees. (IsTrue (state g.S.Store old).is_open → MayUpgrade c.args.from (state g.S.Store old).now) → IsTrue (state g.S.Store old).is_open × LeavesUpgraded (state g.S.Store old).now trees)) same
     (survives_written g.S.Store old mid end c.args.from later c.in_ok-write_third.field-0 (rw begun at c.in_ok-write_third.ensures.step) (rw begun at c.write_third.ensures.survives) c.commit.ensures.survives)
 
 pub returns-in_err-write_third-clause-cause : goal.returns-in_err-write_third-clause-cause

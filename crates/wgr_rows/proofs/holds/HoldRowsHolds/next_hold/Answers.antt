@@ -14,6 +14,28 @@ returns-then-not-is_passed_over-clause-was_honest g c good = (c.loop-span.invari
 pub returns-clause-was_honest : goal.returns-clause-was_honest
 returns-clause-was_honest g c good = (c.loop-span.invariant.6 (c.in_ok-span.ensures.was_good good)).0
 
+pub returns-then-not-is_passed_over-clause-keeps : goal.returns-then-not-is_passed_over-clause-keeps
+returns-then-not-is_passed_over-clause-keeps g c =
+    let old = c.args.self.now in
+    let mid = c.loop-span.self in
+    let new = c.next_row.new.self in (
+      c.next_row.ensures.same_rows ∙ c.loop-span.invariant.0,
+      c.next_row.ensures.same_reference ∙ c.loop-span.invariant.1,
+      leaves_on g.S.Store old.rows.now.conn.now mid.rows.now.conn.now new.rows.now.conn.now old.network old.pool old.at mid.network mid.pool mid.at new.network new.pool new.at c.loop-span.invariant.2
+          (c.next_row.ensures.settings.0, c.next_row.ensures.settings.1, c.next_row.ensures.stays, c.next_row.ensures.blames),
+    )
+
+pub returns-clause-keeps : goal.returns-clause-keeps
+returns-clause-keeps g c =
+    let old = c.args.self.now in
+    let mid = c.loop-span.self in
+    let new = c.next_row.new.self in (
+      c.next_row.ensures.same_rows ∙ c.loop-span.invariant.0,
+      c.next_row.ensures.same_reference ∙ c.loop-span.invariant.1,
+      leaves_on g.S.Store old.rows.now.conn.now mid.rows.now.conn.now new.rows.now.conn.now old.network old.pool old.at mid.network mid.pool mid.at new.network new.pool new.at c.loop-span.invariant.2
+          (c.next_row.ensures.settings.0, c.next_row.ensures.settings.1, c.next_row.ensures.stays, c.next_row.ensures.blames),
+    )
+
 pub loop-span-preserved : goal.loop-span-preserved
 loop-span-preserved g c =
     let old = c.args.self.now in
