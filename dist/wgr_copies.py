@@ -16,9 +16,10 @@ from wgr_figures import fail
 # The version of the tables that the tools read by themselves, and those that `wgr migrate` takes to it.
 VERSION, EARLIER = 3, (1, 2)
 # Whether there is a row that only a later wgr writes, and that the tools don't know.
-LATER = "SELECT EXISTS (SELECT * FROM second) OR EXISTS (SELECT * FROM reader)"
-# What `wgr show --json` says of a tenant and of a network.
+LATER = "SELECT EXISTS (SELECT * FROM second)"
+# What `wgr show --json` says of a tenant, also where one of its tokens only reads, and of a network.
 TENANT = {"name", "tokens", "networks"}
+TENANTS = [TENANT, TENANT | {"readers"}]
 NETWORK = {"name", "pool", "host", "port", "server", "capacity", "peers", "routes"}
 # A log with this header alone has nothing that isn't in the database's file.
 EMPTY_LOG = 56
@@ -80,8 +81,8 @@ def explain(why, path):
 
 def is_known(tenant):
     """Whether no more is said of a tenant than the tools read: another version may have more, such as a second pool."""
-    tokens, networks = tenant["tokens"], tenant["networks"]
-    return set(tenant) == TENANT and all(isinstance(token, str) for token in tokens) and all(set(network) == NETWORK for network in networks)
+    tokens, networks = [*tenant["tokens"], *tenant.get("readers", [])], tenant["networks"]
+    return set(tenant) in TENANTS and all(isinstance(token, str) for token in tokens) and all(set(network) == NETWORK for network in networks)
 
 
 def tenants_in(shown, place):
@@ -97,7 +98,7 @@ def fault_of(link):
     try:
         versions = link.execute("SELECT version FROM meta").fetchall()
         if versions == [(VERSION,)] and link.execute(LATER).fetchone() != (0,):
-            return "a register of a later wgr, with second pools or tokens that only read"
+            return "a register of a later wgr, with second pools"
     except sqlite3.Error as error:
         return f"no register: {error}"
     if versions in [[(version,)] for version in EARLIER]:

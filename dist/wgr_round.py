@@ -15,7 +15,7 @@ from urllib.parse import urlsplit
 
 from wgr_asking import Deadline, NoReply, Refused
 from wgr_interface import Failed, Gone, Interface, Peer, Wanted, carry_out, change_of, missing
-from wgr_kept import Kept
+from wgr_kept import NUMBER, Kept
 from wgr_replies import File, are_the_same, networks_of_list, peers_of_list
 from wgr_settings import Fault, Settings, ordinary_interface, read_preshared
 
@@ -27,6 +27,8 @@ TRIES = 3
 CLIFF = 5
 # Those whose lease ends within so many seconds don't count.
 SOON = 60
+# After so many seconds a token that only reads tries to report again: it may have been granted anew, with the full right.
+TRY_AGAIN = 3600
 # What the register answers where a token is good, and the network isn't there.
 ENDED = (404, "no_such_network")
 
@@ -293,7 +295,7 @@ class Network:
         status and nothing else. In place of its prefixes, each has the server's address: that of a key which is no longer
         known would lead to a new peer, and refuses the whole."""
         mark = hashlib.sha256(self.settings.token.encode()).hexdigest()
-        if self.kept.read("reads-only") == mark:
+        if self.only_reads(mark):
             return
         address = ipaddress.ip_network(file.address.partition("/")[0])
         lines = [f"(none)\t{self.public()}\t{file.port}\toff\n"]
@@ -315,10 +317,15 @@ class Network:
         else:
             self.note("reported", digest)
 
+    def only_reads(self, mark):
+        """Whether the register has said so of this token within an hour."""
+        told, _, since = self.kept.read("reads-only").partition(" ")
+        return told == mark and bool(NUMBER.fullmatch(since)) and 0 <= time.time() - int(since) < TRY_AGAIN
+
     def note_refused(self, refused, mark):
         if refused.status == 403:
-            self.say("the token only reads, so nothing is reported: one that may change the network reports handshakes too")
-            self.note("reads-only", mark)
+            self.say("the token only reads, so nothing is reported: one with the full right reports handshakes too")
+            self.note("reads-only", f"{mark} {int(time.time())}")
         elif refused.error == "wrong_server":
             raise Fault("the key is not that of the network")
         elif refused.status == 409:

@@ -46,7 +46,7 @@ FIGURES = {
 }
 # Of the service, after two requests and an order; it holds the register from which the copy was made.
 SERVICE = {
-    **{f'wgr_service_requests_total{{status="{status}"}}': 0 for status in [200, 400, 401, 404, 405, 409, 411, 413, 503]},
+    **{f'wgr_service_requests_total{{status="{status}"}}': 0 for status in [200, 400, 401, 403, 404, 405, 409, 411, 413, 503]},
     'wgr_service_requests_total{status="200"}': 1,
     'wgr_service_requests_total{status="401"}': 1,
     **{f'wgr_service_orders_total{{status="{status}"}}': 0 for status in [0, 1]},

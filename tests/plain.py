@@ -36,6 +36,8 @@ MEMBERS = {
     "renew": ["end"],
     "unroute": ["prefix"],
 }
+# What changes a network, which a token that only reads may not ask.
+CHANGES = {"add", "revoke", "move", "route", "renew", "unroute", "adopt"}
 MOST_END, MOST_COUNT = 2**53 - 1, 2**63 - 1
 
 
@@ -173,7 +175,8 @@ def digest_of(token):
 
 class Register:
     def __init__(self):
-        self.tenants, self.tokens = {}, {}
+        # Each token's tenant, and the tokens that only read.
+        self.tenants, self.tokens, self.readers = {}, {}, set()
 
     def answer(self, now, text):
         """The reply to a message."""
@@ -202,6 +205,8 @@ class Register:
     def asked(self, now, digest, what, words, members):
         if digest not in self.tokens:
             raise Refused(401, "unknown_token")
+        if what in CHANGES and digest in self.readers:
+            raise Refused(403, "read_only")
         networks = self.tenants[self.tokens[digest]]
         if what == "networks":
             return serving.done({"networks": [self.shown(name, networks[name]) for name in sorted(networks)]})
@@ -227,26 +232,30 @@ class Register:
             "pool": str(network.pool), "server": network.server,
         }
 
-    def order(self, word, *words, text=b""):
+    def order(self, word, *words, text=b"", **options):
         """Why an order is refused; nothing where it is done."""
-        return getattr(self, word.replace("-", "_"))(*words, *([digest_of(text)] if word.startswith("token") else []))
+        token = {"digest": digest_of(text)} if word.startswith("token") else {}
+        return getattr(self, word.replace("-", "_"))(*words, **token, **options)
 
     def tenant_add(self, name):
         if name in self.tenants:
             return "name_held"
         self.tenants[name] = {}
 
-    def token_grant(self, tenant, digest):
+    def token_grant(self, tenant, digest, right="full"):
         if tenant not in self.tenants:
             return "no_such_tenant"
         if digest in self.tokens:
             return "digest_held"
         self.tokens[digest] = tenant
+        if right == "read":
+            self.readers.add(digest)
 
     def token_end(self, digest):
         if digest not in self.tokens:
             return "no_such_token"
         del self.tokens[digest]
+        self.readers.discard(digest)
 
     def network_add(self, tenant, name, pool, host, port, key, capacity):
         if tenant not in self.tenants:

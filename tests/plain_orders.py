@@ -9,6 +9,7 @@ MOST_LINE = 4_096
 FIELDS = {
     "tenant-add": ["name"],
     "token-grant": ["tenant", "token"],
+    "token-grant RIGHT": ["tenant", "right", "token"],
     "token-end": ["token"],
     "network-add": ["tenant", "name", "pool", "host", "port", "key", "capacity"],
     "network-end": ["tenant", "name"],
@@ -32,8 +33,12 @@ def value_of(field, text):
     """What the text of a field says; nothing where it isn't of the field's form."""
     if field in ("tenant", "name"):
         return text if re.fullmatch("[a-z0-9-]{1,32}", text) else None
+    if field == "right":
+        return text if text in ("full", "read") else None
     if field == "token":
         return digest_of(text.encode()) if re.fullmatch("[!-~]{1,128}", text) else None
+    if field == "right":
+        return text if text in ("full", "read") else None
     if field == "digest":
         return bytes.fromhex(text) if re.fullmatch("[0-9A-Fa-f]{64}", text) else None
     if field == "key":
@@ -50,9 +55,11 @@ def order_in(text):
         word, *texts = line.decode().split(" ") if end else [""]
     except UnicodeDecodeError:
         return None
-    fields = FIELDS.get(word, [])
+    fields = FIELDS["token-grant RIGHT"] if word == "token-grant" and len(texts) == 3 else FIELDS.get(word, [])
     if word == "token-end" and len(texts) == 2 and texts[0] == "--digest":
         fields, texts = ["digest"], texts[1:]
+    if word == "token-grant" and len(texts) == 3:
+        fields = ["tenant", "right", "token"]
     if not fields or len(texts) != len(fields):
         return None
     return word, list(zip(fields, texts))
@@ -63,10 +70,11 @@ def answer_line(register, text):
     order = order_in(text)
     if order is None:
         return b"2 bad_order\n"
-    word, values = order[0], []
+    word, values = order[0], {}
     for field, given in order[1]:
-        values.append(value_of(field, given))
-        if values[-1] is None:
+        value = value_of(field, given)
+        if value is None:
             return f"2 bad_field {field}\n".encode()
-    why = getattr(register, word.replace("-", "_"))(*values)
+        values["digest" if field == "token" else field] = value
+    why = getattr(register, word.replace("-", "_"))(**values)
     return f"2 {why}\n".encode() if why else b"0 done\n"

@@ -90,6 +90,8 @@ def command(database, order):
     if word == "network-add":
         options = [f"--{name}={value}" for name, value in zip(OPTIONS, fields[2:], strict=True)]
         fields = fields[:2]
+    if word == "token-grant" and len(fields) == 2:
+        options, fields = [f"--right={fields[1]}"], fields[:1]
     return program.run([word, *options, "--", database, *fields], text)
 
 

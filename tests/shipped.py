@@ -21,7 +21,7 @@ BEFORE = "wgr: not_a_register: its tables are of an earlier version, and wgr mig
 # And of one that they read by themselves.
 ANOTHER = "no register whose tables have version 3"
 OLD = "a register of an earlier version, which wgr migrate takes to this one"
-NEW = "a register of a later wgr, with second pools or tokens that only read"
+NEW = "a register of a later wgr, with second pools"
 
 # In place of systemd: `wgr.service` is the process whose number is in the file `main`. It notes what it is asked.
 SYSTEMCTL = """

@@ -12,7 +12,7 @@ import unittest
 from pathlib import Path
 
 from program import LIMIT, Left, in_time
-from serving import PEERS, SERVER_KEY, TOKEN, refused
+from serving import PEERS, SERVER_KEY, TOKEN, order, refused
 from shipped import Shipped
 from tools import needs
 
@@ -102,6 +102,10 @@ def unknown(_):
     return refused(401, "unknown_token")
 
 
+def read_only(_):
+    return refused(403, "read_only")
+
+
 class Client(Shipped):
     def setUp(self):
         super().setUp()
@@ -167,6 +171,28 @@ class Peers(Client):
         self.assertEqual(self.peers(), [])
         self.assertEqual(self.client("revoke", "office", "1"), Left(1, b"", b"wgr-client: refused: no_such_peer\n"))
         self.assertEqual(self.client("list", "lab"), Left(1, b"", b"wgr-client: refused: no_such_network\n"))
+
+    def test_a_token_that_only_reads(self):
+        """It lists, and changes nothing: no key is left of a peer that isn't added."""
+        self.server.process.kill()
+        self.server.process.wait()
+        order("token-grant", self.database, "acme", "--right", "read", token="reads")
+        self.server = self.serve()
+        self.url = f"http://127.0.0.1:{self.server.port}"
+        self.assertEqual(self.client("add", "office", "laptop.conf"), Left(0, b"peer 1: laptop.conf\n"))
+        (one,) = self.peers()
+        told = b"wgr-client: refused: read_only: the token only reads\n"
+        rows = [
+            (["networks"], Left(0, b"office\t10.8.0.0/24\tvpn.example.net:51820\t4096\n")),
+            (["list", "office"], Left(0, f"1\t\t10.8.0.2/32\t0\t{one['key']}\n".encode())),
+            (["add", "office", "desk.conf"], Left(1, b"", told)),
+            (["revoke", "office", "1"], Left(1, b"", told)),
+        ]
+        names = self.names(".")
+        for words, due in rows:
+            with self.subTest(words):
+                self.assertEqual(self.client(*words, WGR_TOKEN="reads"), due)
+        self.assertEqual((self.peers(), self.names(".")), ([one], names))
 
     def test_replies_that_are_lost(self):
         """What is asked is done once, whether the request or its reply was lost, by one run or by two."""
@@ -261,6 +287,8 @@ class Peers(Client):
             ("a label that is none", [*good, "--label", "\t"], [], "refused: bad_field, field label", False),
             ("no such network", ["add", "lab", "laptop.conf"], [], "refused: no_such_network", False),
             ("nobody's token", good, [unknown], "refused: unknown_token", False),
+            ("a token that only reads", good, [read_only], "refused: read_only: the token only reads", False),
+            ("a reply that is lost, then a token that only reads", good, [lost, read_only], "refused: read_only: the token only reads", True),
             ("a try that a proxy can't pass on, then a refusal behind the look for the key", outside, [bad_gateway], "refused: outside_pool", False),
             ("a reply that is lost, then a refusal before it", good, [lost, unknown], "refused: unknown_token", True),
             ("a refusal to show the file", good, [lambda reply: reply, unknown], "refused: unknown_token", True),

@@ -49,6 +49,7 @@ SHOWN = [
 COMMANDS = [
     ("tenant-add", ["cato"], b""),
     ("token-grant", ["acme"], b"new"),
+    ("token-grant", ["acme", "--right", "read"], b"new"),
     ("token-end", [], b"abc"),
     ("token-end", ["--digest", "ba7816bf8f01cfea414140de5dae2223b00361a396177a9cb410ff61f20015ad"], b""),
     ("network-add", ["acme", "more", *options(pool="10.9.0.0/24", port="1")], b""),

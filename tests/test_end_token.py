@@ -12,11 +12,13 @@ from pathlib import Path
 
 from program import Left
 from serving import PEERS, TOKEN, done, key, network_add, order, peer, refused, request
-from shipped import BEFORE, OTHER, Shipped
+from shipped import BEFORE, OTHER, Shipped, rows_of
 from test_batch import batch
 
 # The tenants, and their tokens.
-TOKENS = {"acme": [TOKEN, "acme-2"], "bolt": ["bolt-1"], "corp": []}
+TOKENS = {"acme": [TOKEN, "acme-2", "acme-reads"], "bolt": ["bolt-1"], "corp": []}
+# Those that only read.
+READERS = ["acme-reads"]
 DIGESTS = {token: hashlib.sha256(token.encode()).hexdigest() for tokens in TOKENS.values() for token in tokens}
 NOBODYS = hashlib.sha256(b"nobody").hexdigest()
 
@@ -25,7 +27,8 @@ ENDINGS = [
     ("one of two tokens", ["--digest", DIGESTS[TOKEN]], [TOKEN]),
     ("a digest in capital letters", ["--digest", DIGESTS["acme-2"].upper()], ["acme-2"]),
     ("the only token of its tenant", ["--digest", DIGESTS["bolt-1"]], ["bolt-1"]),
-    ("all tokens of a tenant", ["--tenant", "acme"], [TOKEN, "acme-2"]),
+    ("one that only reads", ["--digest", DIGESTS["acme-reads"]], ["acme-reads"]),
+    ("all tokens of a tenant", ["--tenant", "acme"], [TOKEN, "acme-2", "acme-reads"]),
     ("the one token of a tenant", ["--tenant", "bolt"], ["bolt-1"]),
 ]
 
@@ -56,6 +59,10 @@ REFUSED = [
 ]
 
 
+# The words of a grant that gives another right than the full one.
+RIGHT = {token: ["--right", "read"] for token in READERS}
+
+
 def dump(path):
     """All rows, as Python's SQLite writes them, of a file that nobody changes."""
     with closing(sqlite3.connect(f"file:{path}?mode=ro&immutable=1", uri=True)) as link:
@@ -72,7 +79,7 @@ class Tokens(Shipped):
                 order("tenant-add", self.database, tenant)
             for token in tokens:
                 if token != TOKEN:
-                    order("token-grant", self.database, tenant, token=token)
+                    order("token-grant", self.database, tenant, *RIGHT.get(token, []), token=token)
         network_add(self.database, "bolt", "lab", "10.9.0.0/24", port="7")
         messages = [request("POST", PEERS, {"key": key(number)}) for number in [1, 2]]
         self.assertEqual(batch(self.database, 0, messages).out.count(b" 200 OK"), 2)
@@ -116,7 +123,8 @@ class EndToken(Tokens):
                 kept = self.ended(*words)
                 digests = [f"X'{DIGESTS[token].upper()}'" for token in tokens]
                 due = [line for line in rows if not any(digest in line for digest in digests)]
-                self.assertEqual(len(due), len(rows) - len(tokens))
+                # One that only reads has a row more.
+                self.assertEqual(len(due), len(rows) - len(tokens) - len({*tokens} & {*READERS}))
                 self.assertEqual(dump(self.database), due)
                 self.assertTrue(Path(kept).read_bytes() == self.before)
                 self.assertEqual([os.stat(path).st_mode for path in [self.database, kept]], [mode, mode])
@@ -124,13 +132,17 @@ class EndToken(Tokens):
 
     def test_it_leaves_what_the_order_leaves(self):
         """The rows are those that `wgr token-end` leaves where the text is at hand, and the token can be granted anew."""
-        order("token-end", self.database, token="acme-2")
-        due = dump(self.database)
-        Path(self.database).write_bytes(self.before)
-        self.ended("--digest", DIGESTS["acme-2"])
-        self.assertEqual(dump(self.database), due)
-        order("token-grant", self.database, "corp", token="acme-2")
-        self.assertEqual(self.are_good(), list(DIGESTS))
+        for token in ["acme-2", *READERS]:
+            with self.subTest(token):
+                Path(self.database).write_bytes(self.before)
+                order("token-end", self.database, token=token)
+                due = dump(self.database)
+                Path(self.database).write_bytes(self.before)
+                self.ended("--digest", DIGESTS[token])
+                self.assertEqual(dump(self.database), due)
+                order("token-grant", self.database, "corp", token=token)
+                self.assertEqual(self.are_good(), list(DIGESTS))
+                self.assertEqual(rows_of(self.database, "SELECT count(*) FROM reader"), [(0 if token in READERS else len(READERS),)])
 
     def test_refusals(self):
         """The file is the same, byte for byte, and nothing is left beside it."""
@@ -192,7 +204,8 @@ class EndToken(Tokens):
         names = self.names(".")
         for name, words, of in [("all", [], TOKENS), ("one tenant's", ["--tenant", "acme"], ["acme"]), ("none", ["--tenant", "corp"], [])]:
             with self.subTest(name):
-                text = "".join(f"{tenant} {digest}\n" for tenant, digest in lines if tenant in of)
+                ends = {DIGESTS[token]: " read" for token in READERS}
+                text = "".join(f"{tenant} {digest}{ends.get(digest, '')}\n" for tenant, digest in lines if tenant in of)
                 self.assertEqual(self.end("--list", *words), Left(0, text.encode()))
                 self.assert_untouched(self.before, names)
         with self.subTest("of a copy, while the register is served"):
@@ -218,7 +231,8 @@ class EndToken(Tokens):
                     self.assert_untouched(before, names)
         Path(self.database).write_bytes(self.before)
         tenant = {"name": "acme", "tokens": [NOBODYS], "networks": []}
-        for name, more in [("a tenant", {"until": 1}), ("a token", {"tokens": [{"digest": NOBODYS, "reads": True}]})]:
+        others = [("a tenant", {"until": 1}), ("a token", {"tokens": [{"digest": NOBODYS, "reads": True}]}), ("a reader", {"readers": [{"digest": NOBODYS}]})]
+        for name, more in others:
             self.stand_in("wgr", f"echo '{json.dumps({'tenants': [tenant | more]})}'")
             for words, of in [(["--list"], self.database), (["--tenant", "acme"], "acme"), (["--tenant", "acme", "--orders", "orders"], "acme")]:
                 with self.subTest(name, words=words):
@@ -251,7 +265,8 @@ class ByTheService(Tokens):
                 self.assertEqual(self.opening(self.server), [token for token in DIGESTS if token not in tokens])
                 for token in tokens:
                     tenant = next(tenant for tenant, of in TOKENS.items() if token in of)
-                    self.assertEqual(self.run_script("wgr", "send", "orders", "token-grant", tenant, text=token), Left(0, b"done\n"))
+                    right = ["read"] if token in READERS else []
+                    self.assertEqual(self.run_script("wgr", "send", "orders", "token-grant", tenant, *right, text=token), Left(0, b"done\n"))
         self.assertEqual(self.copy(), self.copied)
 
     def test_one_that_has_ended_since(self):
@@ -269,7 +284,7 @@ class ByTheService(Tokens):
         self.stand_in("wgr", f'[[ "$*" != *token-end* || -e $ROOM/granted ]] || {{ touch $ROOM/granted; {granted}; }}\nexec {real} "$@"')
         self.assertEqual(self.run_script("wgr-end-token", "--orders", "orders", "--tenant", "acme"), Left(0, b"done\n"))
         self.assertTrue((self.folder / "granted").exists())
-        for token in [TOKEN, "acme-2", "later", "meanwhile"]:
+        for token in [*TOKENS["acme"], "later", "meanwhile"]:
             with self.subTest(token):
                 self.assertEqual(self.server.ask("GET", "/networks", token=token), refused(401, "unknown_token"))
 

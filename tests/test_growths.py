@@ -64,6 +64,8 @@ ASKED = {
     "a new peer with all members": request("POST", PEERS, {"key": key(5), "label": "five", "address": "10.8.0.50", "end": 200, "keepalive": 9}),
     "a long body": request("POST", PEERS, f'{{"key":"{key(5)}"{70_000 * " "}}}'.encode()),
     "a key that is held": request("POST", PEERS, {"key": key(1)}),
+    "a new peer with a token that only reads": request("POST", PEERS, {"key": key(5)}, "reads"),
+    "the peers with one": request("GET", PEERS, token="reads"),
     "no JSON": request("POST", PEERS, b"[" * 1_000),
     "a bad field": request("POST", PEERS, {"key": "x"}),
     "an address": request("POST", f"{PEERS}/1/address", {"address": "10.8.0.20"}),
@@ -109,8 +111,10 @@ ORDERS = {
     "a tenant": (["tenant-add", "cato"], b"", DONE),
     "a tenant that is there": (["tenant-add", "acme"], b"", refused_order("name_held")),
     "a token": (["token-grant", "acme"], b"new", DONE),
+    "a token that only reads": (["token-grant", "acme", "--right", "read"], b"new", DONE),
     "a token that is there": (["token-grant", "acme"], b"abc", refused_order("digest_held")),
     "an end of a token": (["token-end"], b"abc", DONE),
+    "an end of a token that only reads": (["token-end"], b"reads", DONE),
     "an end of no token": (["token-end"], b"none", refused_order("no_such_token")),
     "a network": (["network-add", "acme", "more", *options(**MORE)], b"", DONE),
     "a pool that overlaps": (list(HELD), b"", refused_order("pool_overlaps acme office")),
@@ -125,10 +129,11 @@ def rows(database):
 
 
 def make_base(folder):
-    """A register of two tenants; bolt's network has as many peers as it may."""
+    """A register of two tenants, one of which has a token that only reads; bolt's network has as many peers as it may."""
     database = make_register(folder)
     order("tenant-add", database, "bolt")
     order("token-grant", database, "bolt", token="xyz")
+    order("token-grant", database, "acme", "--right", "read", token="reads")
     network_add(database, "bolt", "lab", "10.9.0.0/24", port="51821", capacity="40")
     theirs = [request("POST", "/networks/lab/peers", {"key": key(of)}, "xyz") for of in range(10, 50)]
     left = batch(database, 7, BASE + theirs)

@@ -16,9 +16,10 @@ from serving import PEERS, SERVER_KEY, key, network_add, order, request
 from shipped import ANOTHER, BEFORE, NEW, OLD, OTHER, Shipped, rows_of
 from test_batch import batch
 
-# The SHA-256 of `abc` and of `xyz`.
+# The SHA-256 of `abc`, of `xyz` and of `abd`.
 ABC = "ba7816bf8f01cfea414140de5dae2223b00361a396177a9cb410ff61f20015ad"
 XYZ = "3608bca1e44ea6c4d268eb6db02260269892c0b42b86bbf1e77a6fa16c3c9282"
+ABD = "a52d159f262b2c6ddb724a61840befc36eb30c88877a4030b65cbe86298449c9"
 LAB = "/networks/lab/peers"
 DUMP = f"(none)\t{SERVER_KEY}\t51820\toff\n{key(1)}\t(none)\t(none)\t10.8.0.2/32\t1700000000\t5\t6\toff\n".encode()
 
@@ -88,6 +89,22 @@ DAY = [
         "a tenant with a token", [("order", "tenant-add", "bolt"), ("order", "token-grant", "bolt", "xyz")],
         [{"change": "tenant_added", "tenant": "bolt"}, {"change": "token_added", "tenant": "bolt", "digest": XYZ}],
     ),
+    (
+        "a token that only reads", [("order", "token-grant", "bolt", "read", "abd")],
+        [{"change": "token_added", "tenant": "bolt", "digest": ABD, "right": "read"}],
+    ),
+    (
+        "it is granted anew, with the full right", [("order", "token-end", "abd"), ("order", "token-grant", "bolt", "full", "abd")],
+        [{"change": "token_changed", "tenant": "bolt", "digest": ABD, "right": "full", "was": {"right": "read"}}],
+    ),
+    (
+        "and as one that only reads", [("order", "token-end", "abd"), ("order", "token-grant", "bolt", "read", "abd")],
+        [{"change": "token_changed", "tenant": "bolt", "digest": ABD, "right": "read", "was": {"right": "full"}}],
+    ),
+    (
+        "it ends", [("order", "token-end", "abd")],
+        [{"change": "token_removed", "tenant": "bolt", "digest": ABD, "right": "read"}],
+    ),
     ("the token ends", [("order", "token-end", "xyz")], [{"change": "token_removed", "tenant": "bolt", "digest": XYZ}]),
     (
         "an IPv6 network with a peer", [("network", "lab", "fd00:8::/64", "2001:db8::1", "7"), add(6, LAB)],
@@ -128,8 +145,11 @@ class History(Shipped):
         elif kind == "change":
             self.assertEqual(self.run_script("wgr-change-network", self.database, "acme", *words).status, 0)
         else:
-            token = {"token-grant": words[2:], "token-end": words[1:]}.get(words[0], ())
-            order(words[0], self.database, *words[1 : len(words) - len(token)], token=token[0] if token else None)
+            word, *rest = words
+            token = rest.pop() if word.startswith("token") else None
+            if word == "token-grant":
+                rest[1:] = [f"--right={right}" for right in rest[1:]]
+            order(word, self.database, *rest, token=token)
 
     def copy(self, turn):
         path = self.folder / f"20260101T0000{turn:02}.500Z.db"
@@ -252,6 +272,7 @@ class Pools(Shipped):
             ("a good one", "UPDATE meta SET version = 3", None),
             ("of another version", "UPDATE meta SET version = 9", OTHER),
             ("of an earlier version", "UPDATE meta SET version = 1", BEFORE),
+            ("with a token that only reads", "INSERT INTO reader SELECT digest FROM token", None),
             ("with rows that aren't good", "UPDATE network SET tenant = 9", "wgr: not_good"),
             ("with a second pool", "INSERT INTO second VALUES (1, 6, zeroblob(16), 64)", "wgr: not_good"),
         ]
@@ -358,7 +379,7 @@ class Changes(Shipped):
             ("of another version", "UPDATE meta SET version = 9", OTHER, ANOTHER),
             ("of an earlier version", "UPDATE meta SET version = 2", BEFORE.format(self.database), OLD),
             ("with a second pool", "INSERT INTO second VALUES (1, 6, zeroblob(16), 64)", "wgr: not_good", NEW),
-            ("without a table", "DROP TABLE reader", OTHER, "no register: no such table: reader"),
+            ("without a table", "DROP TABLE second", OTHER, "no register: no such table: second"),
         ]
         good = Path(self.database).read_bytes()
         for name, sql, why, is_what in rows:

@@ -123,16 +123,16 @@ class LongRun(unittest.TestCase):
                 (self.by_batch if place % 2 else self.by_serve)(now, asked)
             self.look_at_all()
             # The script reaches what it should compare.
-            self.assertLessEqual({200, 400, 401, 404, 405, 409, 411, 413}, {int(reply[9:12]) for reply in self.seen})
-            self.assertGreater(len({reply.partition(b'{"error":"')[2].partition(b'"')[0] for reply in self.seen}), 18)
+            self.assertLessEqual({200, 400, 401, 403, 404, 405, 409, 411, 413}, {int(reply[9:12]) for reply in self.seen})
+            self.assertGreater(len({reply.partition(b'{"error":"')[2].partition(b'"')[0] for reply in self.seen}), 19)
             tell("random events", EVENTS, f"compared, {len(self.seen)} replies differ")
 
     def order(self, words, token):
         word, *values = words
-        options = dict(zip(values[2::2], values[3::2])) if word == "network-add" else {}
-        if options:
-            values = [*values[:2], options["--pool"], options["--host"], int(options["--port"]), options["--key"], int(options["--capacity"])]
-        why = self.plain.order(word, *values, text=token)
+        fixed = 1 if word == "token-grant" else 2
+        options = {name.removeprefix("--"): value for name, value in zip(values[fixed::2], values[fixed + 1 :: 2])}
+        options |= {name: int(options[name]) for name in ["port", "capacity"] if name in options}
+        why = self.plain.order(word, *values[:fixed], text=token, **options)
         due = Left(2, b"", f"wgr: {why}\n".encode()) if why else Left(0, b"done\n")
         self.assertEqual(run([word, self.database, *words[1:]], token), due, words)
 

@@ -11,7 +11,7 @@ from earlier import EARLIER, READER, SECOND, make, make_logged, rows_of, schema_
 from faulty import scratch
 from program import Left, run, without_room
 from register_file import DONE, TABLES, Files, failed
-from serving import SERVER_KEY, Server, key, make_register, network_add, order, request
+from serving import SERVER_KEY, TOKEN, Server, key, make_register, network_add, order, refused, request
 from test_batch import batch
 from test_open import BROKEN as BROKEN_ROWS
 from test_open import ROWS
@@ -91,7 +91,7 @@ UNCOUNTED = [
 ]
 BAD = "UPDATE network SET capacity = 4097"
 POOL = "INSERT INTO second VALUES (1, 6, x'fd000009000000000000000000000000', 64)"
-READS = f"INSERT INTO reader SELECT digest FROM token"
+READS = "INSERT INTO reader SELECT digest FROM token"
 
 # The version, what is done to the register first, and why it is refused; of the faults that meet, the first decides.
 REFUSED = [
@@ -133,7 +133,7 @@ REFUSED = [
     ("a row that is no good, in version 3", 3, [BAD], "not_good"),
     ("a second pool in version 2", 2, [POOL], "not_good"),
     ("a second pool in version 3", 3, [POOL], "not_good"),
-    ("a token that only reads", 3, [READS], "not_good"),
+    ("a reader of no token", 3, ["INSERT INTO reader VALUES (zeroblob(32))"], "not_good"),
     ("version 9 and a table `second`", 1, ["UPDATE meta SET version = 9", "CREATE TABLE second (text TEXT)"], "not_a_register"),
     ("version 9 and a row that is no good", 1, ["UPDATE meta SET version = 9", BAD], "not_a_register"),
     ("rowids that nothing counts, and a table `second`", 1, [*UNCOUNTED, SECOND], "not_a_register"),
@@ -205,6 +205,21 @@ class Done(Migrations):
         self.assertEqual(run(["show", self.db]), Left(0, SHOWN))
         self.assertEqual(batch(self.db, NOW, ASKED), Left(0, ANSWERS.read_bytes()))
 
+    def test_each_token_is_full(self):
+        """A change with a token from before is done; the token can be granted anew as one that only reads."""
+        add, refusal = request("POST", PEERS, {"key": key(7)}), refused(403, "read_only")
+        for version in [1, 2]:
+            with self.subTest(version=version):
+                self.db = self.path(f"{version}.db")
+                make(self.db, version, self.good)
+                self.assertEqual(self.migrate(), DONE)
+                self.assertIn(b" 200 OK", batch(self.db, 7, [add]).out)
+                order("token-end", self.db, token=TOKEN)
+                order("token-grant", self.db, "acme", "--right", "read", token=TOKEN)
+                self.assertEqual(batch(self.db, 7, [add]), Left(0, refusal))
+                self.assertEqual(self.migrate(), DONE)
+                self.assertEqual(batch(self.db, 7, [add]), Left(0, refusal))
+
     def test_a_second_time(self):
         """The register of the present version is as it was, byte for byte."""
         for version in [1, 2]:
@@ -217,7 +232,7 @@ class Done(Migrations):
 
     def test_the_present_version(self):
         """Also where its tables stand behind others, and where no table counts rowids that are counted: other commands open it."""
-        for name, statements in [("as it was made", None), ("without entries", ()), ("beside a table", NOTE), ("rowids that nothing counts", UNCOUNTED)]:
+        for name, statements in [("as it was made", None), ("without entries", ()), ("tokens that only read", [READS]), ("beside a table", NOTE), ("rowids that nothing counts", UNCOUNTED)]:
             with self.subTest(name):
                 self.db = self.path(f"{name}.db")
                 if statements is None:
@@ -241,10 +256,13 @@ class Done(Migrations):
                 order("token-grant", path, "acme", token="abc")
                 order("token-grant", path, "acme", token="new")
                 order("token-end", path, token="new")
+                for token in ["reads", "ends"]:
+                    order("token-grant", path, "acme", "--right", "read", token=token)
+                order("token-end", path, token="ends")
                 network_add(path, "acme", "office", "10.8.0.0/24")
                 network_add(path, "acme", "lab", "10.9.0.0/24", port="1")
             asked = [message for message in ASKED if b"xyz" not in message]
-            asked.append(request("POST", "/networks/lab/peers", {"key": key(1)}))
+            asked += [request("POST", "/networks/lab/peers", {"key": key(1)}, token) for token in ["reads", "abc"]]
             self.assertEqual(batch(self.db, 7, asked), batch(made, 7, asked))
             for path in [made, self.db]:
                 order("network-end", path, "acme", "lab")
@@ -313,6 +331,7 @@ class Refused(Migrations):
                 shutil.copyfile(good, made)
                 with closing(sqlite3.connect(made)) as file:
                     file.executescript(sql)
+                # The first version has no such rows.
                 if rows_of(made)["second"] or rows_of(made)["reader"]:
                     continue
                 make(self.db, 1, made)

@@ -12,7 +12,6 @@ DEFINITION = re.compile(r"(?m)^(?:abbrev |unfoldable )?pub (?:record |data )?(?!
 # Each is one idea: `wgr_tables` has for the register's database what `wgr_sql` has for any. Give a new definition
 # a name of its own.
 SHARED = """
-IsSound: opening rows
 Stands: sql tables
 StepsFrom: sql tables
 StepsOn: sql tables

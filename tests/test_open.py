@@ -95,8 +95,15 @@ BROKEN = [
     ("an allowed prefix of no network", ROUTE.format("network = 9")),
     ("a second pool", f"INSERT INTO second VALUES (1, 6, x'fd{15 * '00'}', 64)"),
     ("a second pool of no network", f"INSERT INTO second VALUES (9, 6, x'fd{15 * '00'}', 64)"),
-    ("a token that only reads", "INSERT INTO reader SELECT digest FROM token WHERE tenant = 1"),
-    ("one of no token", f"INSERT INTO reader VALUES ({key_blob(7)})"),
+    ("a reader of no token", f"INSERT INTO reader VALUES ({key_blob(7)})"),
+    ("one beside a good one", f"INSERT INTO reader SELECT digest FROM token WHERE tenant = 1; INSERT INTO reader VALUES ({key_blob(7)})"),
+    ("one whose token ended", "INSERT INTO reader SELECT digest FROM token; DELETE FROM token WHERE tenant = 2"),
+    ("one in a register without a token", f"DELETE FROM token; INSERT INTO reader VALUES ({key_blob(7)})"),
+    ("one of 31 bytes", "INSERT INTO reader SELECT substr(digest, 1, 31) FROM token WHERE tenant = 1"),
+    ("one of 33 bytes", "INSERT INTO reader SELECT CAST(digest || x'00' AS BLOB) FROM token WHERE tenant = 1"),
+    ("one of no bytes", "INSERT INTO reader VALUES (x'')"),
+    ("a token's text in place of its digest", "INSERT INTO reader VALUES (CAST('acme' AS BLOB))"),
+    ("a token of 31 bytes that only reads", "UPDATE token SET digest = substr(digest, 1, 31) WHERE tenant = 1; INSERT INTO reader SELECT digest FROM token"),
 ]
 
 # None of these does.
@@ -110,6 +117,12 @@ GOOD = [
     ("a lease that is over", PEER.format("until = 1")),
     ("a route at full length", ROUTE.format(f"lo = {address('10.8.0.9')}, hi = {address('10.8.0.9')}, length = 32")),
     ("all addresses as a route", ROUTE.format(f"lo = {address('0.0.0.0')}, hi = {address('255.255.255.255')}, length = 0")),
+    ("a token that only reads", "INSERT INTO reader SELECT digest FROM token WHERE tenant = 1"),
+    ("the other one", "INSERT INTO reader SELECT digest FROM token WHERE tenant = 2"),
+    ("all tokens, in the order of their digests", "INSERT INTO reader SELECT digest FROM token ORDER BY digest"),
+    ("and in the other", "INSERT INTO reader SELECT digest FROM token ORDER BY digest DESC"),
+    ("a reader at another rowid", "INSERT INTO reader (rowid, digest) SELECT -9, digest FROM token WHERE tenant = 1"),
+    ("a reader in a table made anew", f"DROP TABLE second; DROP TABLE reader; {READER}; {SECOND}; INSERT INTO reader SELECT digest FROM token WHERE tenant = 1"),
     ("a table of one's own", "CREATE TABLE note (id INTEGER PRIMARY KEY, text TEXT)"),
     ("tables of second pools and of tokens that only read, made anew behind it", f"DROP TABLE second; DROP TABLE reader; CREATE TABLE note (text TEXT); {READER}; {SECOND}"),
 ]

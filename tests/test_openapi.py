@@ -125,10 +125,12 @@ class Page(unittest.TestCase):
 
     def test_refusals(self):
         self.assertEqual({found["operationId"] for _, _, found in operations()}, set(REFUSALS))
-        for _, _, found in operations():
+        for _, method, found in operations():
             absent, conflict = REFUSALS[found["operationId"]]
             with self.subTest(found["operationId"]):
                 self.assertEqual((errors(found, "404"), errors(found, "409")), (absent, conflict))
+                # A token that only reads may ask nothing but the operations that are a GET.
+                self.assertEqual(errors(found, "403"), set() if method == "get" else {"read_only"})
                 self.assertLessEqual({"400", "401", "411", "413", "429", "502", "503", "504"}, set(found["responses"]))
         with self.subTest("those of API.md"):
             rows = re.findall(r"(?m)^\| (4\d\d|503) \| `(\w+)` \|", (DOCS / "API.md").read_text())

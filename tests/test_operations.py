@@ -26,6 +26,7 @@ FOLLOWED = {
     ("Several registers on one host", 0): "by hand",
     ("Orders", 0): "package",
     ("A customer gets a token", 0): "package",
+    ("A server's token", 0): "by hand",
     ("A customer gets a network", 0): "package",
     ("Another token without a gap", 0): "package",
     ("A lost or leaked token", 0): "package",
@@ -314,8 +315,8 @@ class ByHand(Story):
 
     def give_a_token(self):
         self.do("printf abc > acme.token", "printf 'Authorization: Bearer abc\\n' > acme.header")
-        self.do("printf def > acme-sync.token")
-        self.order("tenant-add acme", "token-grant acme < acme.token", "token-grant acme < acme-sync.token")
+        self.order("tenant-add acme", "token-grant acme < acme.token")
+        self.follow("A server's token")
         self.assertEqual(self.ask("/networks"), (200, {"networks": []}))
         self.do("wgr-backup copies", "cp copies/*.db copy.db")
         self.follow("TLS and slow clients", 2)
@@ -327,6 +328,8 @@ class ByHand(Story):
         self.assertEqual(self.ask("/networks/office/peers", {"key": key(1), "label": "laptop"})[0], 200)
         self.do("systemctl start wgr-sync@acme-office")
         self.assertEqual(self.do("ip netns exec acme-office wg show acme-office peers").split(), [key(1)])
+        # Its token only reads.
+        self.assertTrue((self.host.inside("/var/lib/wgr-sync/acme-office/reads-only")).exists())
         self.do("systemctl stop wgr-net@acme-office")
         self.assertEqual(self.host.show("wgr-sync@acme-office.timer", "ActiveState", "UnitFileState"), ("inactive", "enabled"))
         self.do("wgr-backup copies", 'cp "$(ls copies/*.db | tail -n 1)" register.db')

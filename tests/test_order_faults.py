@@ -19,8 +19,14 @@ from test_stops import ORDERS, EachStop, Order
 
 DONE, NO_MEMORY = b"0 done\n", b"1 no_memory\n"
 STRIDE = 1 if WHOLE else 23
-# The orders in the form of their lines.
-SENT = {word: (word, *(each for each in words if not each.startswith("--")), *([text.decode()] if text else [])) for word, (words, text) in ORDERS.items()}
+
+
+def sent(word, words, text):
+    """The order in the form of its line."""
+    return (word, *(each for each in words if not each.startswith("--")), *([text.decode()] if text else []))
+
+
+SENT = {name: sent(*order) for name, order in ORDERS.items()}
 
 
 class Sent(Order):
@@ -42,7 +48,7 @@ class Sent(Order):
         answer = b""
         # It may have been killed, or have ended.
         with suppress(OSError):
-            answer = answered(socket, line(SENT[self.word]))
+            answer = answered(socket, line(sent(self.word, self.words, self.text)))
             server.send(LOOK)
         left = server.ended()
         faulty.disarm()
@@ -61,7 +67,7 @@ class Sent(Order):
 @needs_faults()
 class Stops(EachStop, unittest.TestCase):
     def words(self, base):
-        return {f"{word} over a socket": Sent(base, word, *words) for word, words in ORDERS.items()}
+        return {f"{name} over a socket": Sent(base, *order) for name, order in ORDERS.items()}
 
 
 @needs_faults()

@@ -31,11 +31,24 @@ LINES = [
     ("a blank before", b" tenant-add bolt\n", BAD, True),
     ("a blank behind", b"tenant-add bolt \n", BAD, True),
     ("a tab between", b"tenant-add\tbolt\n", BAD, True),
-    ("two blanks before a token", b"token-grant acme  new\n", BAD, True),
+    ("two blanks before a token", b"token-grant acme  new\n", b"2 bad_field right\n", True),
     ("a token with a blank", b"token-end a b c\n", BAD, True),
     ("a field too many", b"tenant-add bolt more\n", BAD, True),
     ("a token too few", b"token-grant acme\n", BAD, True),
-    ("a token too many", b"token-grant acme new more\n", BAD, True),
+    ("a token too many", b"token-grant acme new more\n", b"2 bad_field right\n", True),
+    ("a right in capitals", b"token-grant acme Read new\n", b"2 bad_field right\n", True),
+    ("a right with more behind", b"token-grant acme reader new\n", b"2 bad_field right\n", True),
+    ("a right behind the token", b"token-grant acme new read\n", b"2 bad_field right\n", True),
+    ("a right before the tenant", b"token-grant read acme new\n", b"2 bad_field right\n", True),
+    ("a right as an option", b"token-grant acme --right read new\n", BAD, True),
+    ("a token too many behind a right", b"token-grant acme read new more\n", BAD, True),
+    ("a right of a malformed tenant", b"token-grant Acme Read new\n", b"2 bad_field tenant\n", True),
+    ("a malformed right and a malformed token", b"token-grant acme Read \x7f\n", b"2 bad_field right\n", True),
+    ("a malformed token behind a right", b"token-grant acme read \x7f\n", b"2 bad_field token\n", True),
+    ("no token behind a right", b"token-grant acme read \n", b"2 bad_field token\n", True),
+    ("a token that a tenant has, with another right", b"token-grant acme read abc\n", b"2 digest_held\n", True),
+    ("a token for nobody, with a right", b"token-grant bolt read new\n", b"2 no_such_tenant\n", True),
+    ("a token that a tenant has, for nobody", b"token-grant bolt read abc\n", b"2 no_such_tenant\n", True),
     ("a field too few of a network", OFFICE_LINE.replace(b" 4096\n", b"\n"), BAD, True),
     ("a field too many of a network", OFFICE_LINE.replace(b"\n", b" 1\n"), BAD, True),
     ("a name too few", b"network-end acme\n", BAD, True),
@@ -47,7 +60,7 @@ LINES = [
     ("a word with more behind", b"tenant-added bolt\n", BAD, True),
     ("a register before the name", b"tenant-add register.db bolt\n", BAD, True),
     ("another option", b"token-end --tenant acme\n", BAD, True),
-    ("a digest behind another word", b"token-grant --digest " + DIGEST.hex().encode() + b" acme\n", BAD, True),
+    ("a digest behind another word", b"token-grant --digest " + DIGEST.hex().encode() + b" acme\n", b"2 bad_field right\n", True),
     ("no UTF-8", b"tenant-add \xff\n", BAD, True),
     ("a letter cut", b"tenant-add \xc3\n", BAD, True),
     ("half a pair of UTF-16", b"tenant-add \xed\xa0\x80\n", BAD, True),
@@ -72,6 +85,12 @@ DONE = [
     ("a name that begins with a hyphen", b"tenant-add -x\n", b"0 done\n", True),
     ("a token that is an option", b"token-grant acme --digest\n", b"0 done\n", True),
     ("the end of that token", b"token-end --digest\n", b"0 done\n", True),
+    ("a token that only reads", b"token-grant acme read new\n", b"0 done\n", True),
+    ("its end", b"token-end new\n", b"0 done\n", True),
+    ("a token that is a right's word", b"token-grant acme read\n", b"0 done\n", True),
+    ("one with a right's word that only reads", b"token-grant acme read full\n", b"0 done\n", True),
+    ("their ends", b"token-end read\n", b"0 done\n", True),
+    ("and", b"token-end full\n", b"0 done\n", True),
     ("a digest in capitals", b"token-end --digest " + DIGEST.hex().upper().encode() + b"\n", b"0 done\n", True),
 ]
 
@@ -103,7 +122,7 @@ class Raw(Sending):
                 self.assertEqual(answered(self.socket, text, False), due)
         self.end(server)
         self.assertEqual(self.query("SELECT name FROM tenant ORDER BY name"), [("-x",), ("acme",), ("cato",), ("eris",)])
-        self.assertEqual(self.query("SELECT digest FROM token"), [])
+        self.assertEqual(self.query("SELECT digest FROM token UNION ALL SELECT digest FROM reader"), [])
 
     def test_bytes_that_come_one_at_a_time(self):
         server = self.serve(count=1)
@@ -164,6 +183,8 @@ class FromFiles(Sending):
             (LONGEST, b"2 bad_field name\n"),
             (b"\xff\n", BAD),
             (b"token-grant bolt second\n", b"0 done\n"),
+            (b"token-grant bolt read third\n", b"0 done\n"),
+            (b"token-grant bolt full third\n", b"2 digest_held\n"),
             (b"token-end abc\n", b"0 done\n"),
             (b"token-end abc\n", b"2 no_such_token\n"),
             (b"token-end --digest " + hashlib.sha256(b"second").hexdigest().encode() + b"\n", b"0 done\n"),
@@ -175,7 +196,8 @@ class FromFiles(Sending):
         self.assertEqual(left, Left(2, b"".join(due for _, due in lines)))
         self.assertEqual(self.query("SELECT name FROM tenant ORDER BY name"), [("acme",), ("bolt",)])
         self.assertEqual(self.query("SELECT name FROM network"), [("lab",)])
-        self.assertEqual(self.query("SELECT * FROM token"), [])
+        third = [(hashlib.sha256(b"third").digest(),)]
+        self.assertEqual([self.query(f"SELECT digest FROM {table}") for table in ["token", "reader"]], [third, third])
 
     def test_the_status_is_the_greatest(self):
         rows = [

@@ -44,7 +44,11 @@ class Orders(Hostile):
         elif words == ["token-end"] and pick < 0.5:
             fields += ["--digest", digest_of(token).hex()]
         elif token:
+            # Now and then a right that is none, or a word too many.
+            fields += rarely(self.random, [[]], [["Read"], [""], ["full"]], 0.2) if len(fields) > 1 else []
             fields.append(token.decode())
+        if len(words) > 1 and pick > 0.97:
+            fields[1] = "nobody"
         text = " ".join(fields).encode() + b"\n"
         if self.random.random() < 0.02:
             return self.random.choice(ODD)
@@ -76,10 +80,10 @@ class Lists(unittest.TestCase):
 
     def look_at_what_was_reached(self):
         """The script reaches what it should compare. A short one of another seed may lack some of it."""
-        self.assertLessEqual({200, 400, 401, 404, 409}, {int(reply[9:12]) for reply in self.replies})
+        self.assertLessEqual({200, 400, 401, 403, 404, 409}, {int(reply[9:12]) for reply in self.replies})
         wanted = "name_held no_such_tenant digest_held no_such_token no_network port_held bad_order bad_field done pool_overlaps"
         self.assertLessEqual(set(wanted.split()), {answer.split()[1].decode() for answer in self.answers})
-        self.assertLessEqual({"name", "tenant", "token", "pool"}, {answer.split()[2].decode() for answer in self.answers if b" bad_field " in answer})
+        self.assertLessEqual({"name", "tenant", "right", "token", "pool"}, {answer.split()[2].decode() for answer in self.answers if b" bad_field " in answer})
 
     def kinds(self, first):
         """Of each five events, some two are orders; the first ones add the tenants and their tokens."""
@@ -141,7 +145,8 @@ class Lists(unittest.TestCase):
             }
             for each, network in sorted(self.plain.tenants[name].items())
         ]
-        return {"name": name, "tokens": tokens, "networks": networks}
+        readers = [digest for digest in tokens if bytes.fromhex(digest) in self.plain.readers]
+        return {"name": name, "tokens": tokens, **({"readers": readers} if readers else {}), "networks": networks}
 
     def look_at_all(self):
         """At moment 0 all peers are live. The rows of tenants, tokens and networks are those of the plain register."""
@@ -156,6 +161,7 @@ class Lists(unittest.TestCase):
             self.assertEqual(sorted(names.values()), sorted(self.plain.tenants))
             tokens = {digest: names[tenant] for digest, tenant in file.execute("SELECT digest, tenant FROM token")}
             self.assertEqual(tokens, self.plain.tokens)
+            self.assertEqual({digest for (digest,) in file.execute("SELECT digest FROM reader")}, self.plain.readers)
             columns = "tenant, name, lo, family, length, host, port, capacity"
             found = {(names[row[0]], row[1]): row[2:] for row in file.execute(f"SELECT {columns} FROM network")}
         plain = {(tenant, name): self.row_of(network) for tenant, networks in self.plain.tenants.items() for name, network in networks.items()}

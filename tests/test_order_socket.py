@@ -288,7 +288,9 @@ class Stalls(Sending):
 KILLED = [
     BOLT,
     ("token-grant", "acme", "new"),
+    ("token-grant", "acme", "read", "new"),
     ("token-end", "abc"),
+    ("token-end", "reads"),
     ("token-end", "--digest", DIGEST.hex()),
     ("network-add", "acme", "lab", "10.9.0.0/24", "h", "1", OFFICE["key"], "9"),
     ("network-end", "acme", "office"),
@@ -300,7 +302,7 @@ class Killed(Sending):
         super().setUp()
         self.init(("tenant-add", "acme"))
         self.grant("acme")
-        self.do(("network-add", "acme", "office", *OFFICE.values()))
+        self.do(("token-grant", "acme", "read", "reads"), ("network-add", "acme", "office", *OFFICE.values()))
 
     def test_what_is_acknowledged_stays(self):
         """A service is killed right behind the answer; the register that is opened again has what the command leaves."""

@@ -28,12 +28,19 @@ IN_TURN = [
     ("token-grant", "acme", "second"),
     ("token-grant", "-x", 128 * "~"),
     ("token-grant", "b-0", "--digest"),
+    ("token-grant", "acme", "read", "reads"),
+    ("token-grant", "b-0", "full", "writes"),
+    ("token-grant", "b-0", "read"),
+    ("token-grant", "-x", "read", "full"),
     NETWORK,
     ("network-add", "b-0", "v6", "FD00:0::/64", "2001:DB8:0:0:0:0:0:1", "0000000000000065535", K0, "0001"),
     ("network-add", "-x", "-n", "10.9.0.0/30", "-H", "1", S, "4096"),
     ("token-end", "second"),
     ("token-end", "--digest"),
     ("token-end", "--digest", DIGEST.hex()),
+    ("token-end", "reads"),
+    ("token-grant", "acme", "reads"),
+    ("token-end", "--digest", hashlib.sha256(b"full").hexdigest()),
     ("network-end", "-x", "-n"),
     ("tenant-add", 32 * "a"),
 ]
@@ -120,8 +127,9 @@ class Refused(Sending):
         self.do(GRANT)
         self.serve()
         for tenant in ["acme", "bolt"]:
-            with self.subTest(tenant):
-                self.assertEqual(send(self.socket, ("token-grant", tenant, "abc")), refused("digest_held"))
+            for right in [[], ["full"], ["read"]]:
+                with self.subTest(tenant, right=right):
+                    self.assertEqual(send(self.socket, ("token-grant", tenant, *right, "abc")), refused("digest_held"))
 
     def test_a_digest_that_nobody_has(self):
         self.init(ACME)
@@ -161,9 +169,13 @@ class Refused(Sending):
             values = [good[name] if place < count else "_" for place, name in enumerate(good)]
             with self.subTest(field):
                 self.assertEqual(send(self.socket, ("network-add", *values)), refused(f"bad_field {field}"))
-        for order, field in [(("network-end", "_", "_"), "tenant"), (("token-grant", "_", 129 * "a"), "tenant")]:
+        firsts = [(("network-end", "_", "_"), "tenant"), (("token-grant", "_", 129 * "a"), "tenant")]
+        for order, field in [*firsts, (("token-grant", "_", "read", "a"), "tenant"), (("token-grant", "acme", "read", 129 * "a"), "token")]:
             with self.subTest(order=order):
                 self.assertEqual(send(self.socket, order), refused(f"bad_field {field}"))
+        for order, field in [(("token-grant", "_", "Read", "a"), "tenant"), (("token-grant", "acme", "Read", 129 * "a"), "right")]:
+            with self.subTest(order=order):
+                self.assertEqual(tell_line(self.socket, order), (2, f"bad_field {field}"))
 
     def test_ill_formed_tokens(self):
         self.init(ACME)
@@ -172,7 +184,7 @@ class Refused(Sending):
             # Of these, some make no line either.
             whole = text.strip(b"\n") and not set(text) & set(b" \n")
             due = [refused("bad_field token")] + ([] if whole else [refused("bad_order")])
-            for order in [("token-grant", "acme"), ("token-end",)]:
+            for order in [("token-grant", "acme"), ("token-grant", "acme", "read"), ("token-end",)]:
                 with self.subTest(name, order=order):
                     self.assertIn(send(self.socket, (*order, text.decode())), due)
         server.send(LIST)
@@ -196,6 +208,8 @@ class Refused(Sending):
             ("an empty field", ("tenant-add", "")),
             ("a field with a blank", ("tenant-add", "ac me")),
             ("a field that is a blank", ("tenant-add", " ")),
+            ("a right that is none", ("token-grant", "acme", "write", "new")),
+            ("two rights", ("token-grant", "acme", "read", "full", "new")),
             ("a field with a line's end", ("tenant-add", "acme\n")),
             ("4,097 bytes in all", ("tenant-add", 4_085 * "x")),
         ]
@@ -213,7 +227,8 @@ class Refused(Sending):
         folder = os.open(self.folder, os.O_RDONLY)
         self.addCleanup(os.close, folder)
         server = self.serve(count=1)
-        for words in [["token-grant", "acme", "secret"], ["token-end", "abc"], ["--digest", SECOND, "token-grant", "acme"], ["token-end", "--", "--digest", SECOND]]:
+        whole = [["token-grant", "acme", "secret"], ["token-grant", "acme", "Read"], ["token-grant", "acme", "read", "secret"], ["token-grant", "acme", "secret", "read"]]
+        for words in [*whole, ["token-end", "abc"], ["--digest", SECOND, "token-grant", "acme"], ["token-end", "--", "--digest", SECOND]]:
             for path in [self.socket, self.path("none")]:
                 with self.subTest(words=words, path=path):
                     self.assertEqual(run(["send", path, *words], stdin=folder), refused("bad_order"))
@@ -231,7 +246,7 @@ class Refused(Sending):
         hexes = ["--digest", SECOND]
         rows = [["tenant-add", "--json"], ["--json", "tenant-add"], ["tenant-add", "bolt", "--json"], ["token-grant", "--json"], ["token-grant", "acme", "--json"]]
         rows += [["token-end", "--json"], ["token-end", "--json", *hexes], ["network-end", "acme", "--json"], ["network-end", "acme", "office", "--json"]]
-        rows += [["backup", "--json"], ["backup", self.path("copy.db"), "--json"], ["status", "--json"]]
+        rows += [["token-grant", "acme", "read", "--json"], ["backup", "--json"], ["backup", self.path("copy.db"), "--json"], ["status", "--json"]]
         rows += [[*words, *hexes] for words in [["tenant-add"], ["tenant-add", "bolt"], ["network-end", "acme", "office"], ["status"], ["show"], ["show", "acme"], ["show", "--json"]]]
         for words in rows:
             with self.subTest(words=words):
@@ -298,6 +313,18 @@ class Between(Sending):
                 self.assertEqual(send(self.socket, end), DONE)
                 self.assertFalse(self.asks(server, "second"))
                 self.assertTrue(self.asks(server, "own"))
+
+    def test_a_token_gets_another_right(self):
+        """It ends, and is granted anew; the next request has the new right."""
+        self.do(NETWORK)
+        server = self.serve()
+        add = request("POST", PEERS, {"key": key(1)}, "second")
+        for right, due in [("read", refused_request(403, "read_only")), ("full", done(peer(1, 1, "10.8.0.2/32"))), ("read", refused_request(403, "read_only"))]:
+            with self.subTest(right):
+                self.assertEqual(send(self.socket, ("token-grant", "acme", right, "second")), DONE)
+                self.assertEqual(server.send(add), due)
+                self.assertEqual(send(self.socket, ("token-end", "second")), DONE)
+                self.assertEqual(server.send(add), refused_request(401, "unknown_token"))
 
     def test_an_order_between_two_requests(self):
         self.do(GRANT)

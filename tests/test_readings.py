@@ -33,14 +33,14 @@ ADDED = [request("POST", PEERS, {"key": key(number)}, "test") for number in rang
 ADDED += [request("POST", f"{PEERS}/{number}/routes", {"prefix": f"192.168.{number}.0/24"}, "test") for number in [1, 1, 2, 12]]
 
 HEADER = "TENANT  NETWORK  POOL  ENDPOINT  CAPACITY  PEERS  ROUTES\n"
-STATUSES = ["200", "400", "401", "404", "405", "409", "411", "413", "503"]
+STATUSES = ["200", "400", "401", "403", "404", "405", "409", "411", "413", "503"]
 # A message of which the head says that its body is too long.
 TOO_LARGE = f"POST {PEERS} HTTP/1.1\r\nContent-Length: 2097153\r\n\r\n".encode()
 # One whose head doesn't say how long its body is.
 NO_LENGTH = f"POST {PEERS} HTTP/1.1\r\nAuthorization: Bearer test\r\n\r\n".encode()
 
 
-def status_text(requests=(0,) * 9, orders=(0, 0, 0), failed=0, rows=(0, 0, 0, 0, 0), kept=(0, 0)):
+def status_text(requests=(0,) * 10, orders=(0, 0, 0), failed=0, rows=(0, 0, 0, 0, 0), kept=(0, 0)):
     """What `status` shows but for its first line: by the status of a reply, by that of an order, of the rows, of what is in memory."""
     lines = [f'wgr_service_requests_total{{status="{status}"}} {count}' for status, count in zip(STATUSES, requests, strict=True)]
     lines += [f'wgr_service_orders_total{{status="{status}"}} {count}' for status, count in enumerate(orders)]
@@ -177,6 +177,7 @@ class Status(Reading):
 
     def test_requests_are_counted_by_the_status_of_their_reply(self):
         self.make_two()
+        self.do(("token-grant", "acme", "read", "reads"))
         server = self.serve()
         held = {"key": key(1)}
         asked = [
@@ -185,6 +186,7 @@ class Status(Reading):
             ("400", b"GET\r\n\r\n"),
             ("400", b""),
             ("401", request("GET", PEERS, token="nobodys")),
+            *3 * [("403", request("POST", PEERS, held, "reads"))],
             *2 * [("404", request("GET", "/networks/none/peers", token="test"))],
             ("405", request("DELETE", "/networks", token="test")),
             *5 * [("409", request("POST", PEERS, held, "test"))],
@@ -193,7 +195,7 @@ class Status(Reading):
         ]
         for status, message in asked:
             self.assertIn(f"HTTP/1.1 {status} ".encode(), server.send(message, close=not message))
-        self.assertEqual(self.status()[1], status_text(requests=(3, 4, 1, 2, 1, 5, 1, 1, 0), rows=(2, 1, 2, 12, 3), kept=(2, 0)))
+        self.assertEqual(self.status()[1], status_text(requests=(3, 4, 1, 3, 2, 1, 5, 1, 1, 0), rows=(2, 2, 2, 12, 3), kept=(2, 0)))
 
     def test_orders_are_counted_by_their_status(self):
         self.init()
@@ -216,7 +218,7 @@ class Status(Reading):
             faulty.arm(call=0, how=ONCE)
             self.assertEqual(send(self.socket, ("tenant-add", "bolt")), failed("store"))
             faulty.disarm()
-            due = status_text(requests=(0, 0, 0, 0, 0, 0, 0, 0, 1), orders=(0, 1, 0), rows=(2, 1, 2, 12, 3), kept=(self.figure("networks_in_memory"), 0))
+            due = status_text(requests=(0, 0, 0, 0, 0, 0, 0, 0, 0, 1), orders=(0, 1, 0), rows=(2, 1, 2, 12, 3), kept=(self.figure("networks_in_memory"), 0))
             self.assertEqual(self.status()[1], due)
 
     def test_connections_that_failed(self):
@@ -227,7 +229,7 @@ class Status(Reading):
         link.setsockopt(socket.SOL_SOCKET, socket.SO_LINGER, struct.pack("ii", 1, 0))  # end by a reset
         link.close()
         server.send(request("GET", "/networks"))
-        self.assertEqual(self.status()[1], status_text(requests=(0, 0, 1, 0, 0, 0, 0, 0, 0), failed=1))
+        self.assertEqual(self.status()[1], status_text(requests=(0, 0, 1, 0, 0, 0, 0, 0, 0, 0), failed=1))
         with self.subTest("one of the orders' socket"):
             with connect(self.socket) as link:
                 link.sendall(b"tenant-add")

@@ -19,12 +19,12 @@ from program import Left
 from register_file import DONE, failed, network_row, put
 from serving import SERVER_KEY, key, make_register, network_add, request
 from test_batch import batch
-from test_growths import ADD, FOLLOWING, LOOK, MORE, NOW, ORDERS, UNAVAILABLE, files, make_base, rows
+from test_growths import ADD, ASKED, FOLLOWING, LOOK, MORE, NOW, ORDERS, UNAVAILABLE, files, make_base, rows
 
-WORDS = {name: ORDERS[name][:2] for name in ["a tenant", "a token", "an end of a token", "a network", "an end of a full network"]}
+WORDS = {name: ORDERS[name][:2] for name in ["a tenant", "a token", "a token that only reads", "an end of a token that only reads", "a network", "an end of a full network"]}
 NOBODYS = FOLLOWING[1].replace(b"abc", b"no")
 # Requests, each alone: a reading, a change, and one that no register is asked.
-REQUESTS = {"a list": LOOK, "a new peer": ADD, "the networks": FOLLOWING[1], "a token of nobody": NOBODYS}
+REQUESTS = {"a list": LOOK, "a new peer": ADD, "the networks": FOLLOWING[1], "a token of nobody": NOBODYS, "a token that only reads": ASKED["a new peer with a token that only reads"]}
 # The same on a network of which no page is kept, where the first two read only the rows that they need.
 LARGE = {
     "an owner": request("GET", "/networks/large/owner/10.9.0.9"),

@@ -68,6 +68,24 @@ class Done(Files):
         tenant = self.query("SELECT id FROM tenant")[0][0]
         digests = {DIGEST, hashlib.sha256(b"second").digest()}
         self.assertEqual(set(self.query("SELECT digest, tenant FROM token")), {(d, tenant) for d in digests})
+        self.assertEqual(self.query("SELECT digest FROM reader"), [])
+
+    def test_token_grant_with_a_right(self):
+        """The digest of a token that only reads is in a table of its own too, and goes with the token."""
+        self.init(("tenant-add", "acme"))
+        readers = []
+        for name, words in [("full", ["--right", "full"]), ("read", ["--right", "read"]), ("read too", ["--right=read"])]:
+            with self.subTest(name):
+                self.assertEqual(self.order("token-grant", "acme", *words, text=name.replace(" ", "-").encode()), DONE)
+                readers += [(hashlib.sha256(name.replace(" ", "-").encode()).digest(),)] * ("read" in name)
+                self.assertEqual(self.query("SELECT digest FROM reader ORDER BY rowid"), readers)
+        self.assertEqual(len(self.query("SELECT digest FROM token")), 3)
+        for name, words, text in [("by its text", [], b"read\n"), ("by its digest", ["--digest", hashlib.sha256(b"read-too").hexdigest()], b"")]:
+            with self.subTest(name):
+                self.assertEqual(self.order("token-end", *words, text=text), DONE)
+                readers.pop(0)
+                self.assertEqual(self.query("SELECT digest FROM reader"), readers)
+        self.assertEqual(self.query("SELECT digest FROM token"), [(hashlib.sha256(b"full").digest(),)])
 
     def test_token_end(self):
         self.init(("tenant-add", "acme"))
@@ -144,6 +162,7 @@ class Done(Files):
 REFUSALS = [
     ("a tenant twice", [ACME], ["tenant-add", "acme"], b"", "name_held"),
     ("a token for nobody", [ACME], ["token-grant", "bolt"], TOKEN, "no_such_tenant"),
+    ("one that only reads, for nobody", [ACME], ["token-grant", "bolt", "--right", "read"], TOKEN, "no_such_tenant"),
     ("a token that nobody has", [ACME], ["token-end"], b"other", "no_such_token"),
     ("a network of nobody", [ACME], ["network-add", "bolt", "office", *options()], b"", "no_such_tenant"),
     ("a name twice", [ACME, NETWORK], ["network-add", "acme", "office", *options(pool="10.9.0.0/24", port="1")], b"", "name_held"),
@@ -163,6 +182,7 @@ REFUSALS = [
 ]
 
 NAME_32 = "a" * 32
+NOT_RIGHTS = ["", "Read", "READ", "reads", "read ", " read", "write", "full,read", "fulL", "0", "é"]
 NOT_NAMES = ["", "a" * 33, "Acme", "a_b", "a.b", "é", "a b"]
 NOT_NUMBERS = ["", "0", "-1", "+1", "1.0", "0x1", "1e3", " 1", "1 ", "²", "9" * 19, "9" * 20, "0" * 20 + "1", "9223372036854775808"]
 
@@ -203,9 +223,18 @@ class Refused(Files):
         self.init(ACME, BOLT)
         self.grant("acme")
         for tenant in ["acme", "bolt"]:
-            with self.subTest(tenant):
-                self.assertEqual(self.order("token-grant", tenant, text=b"abc\n"), refused("digest_held"))
+            for right in [[], ["--right=full"], ["--right=read"]]:
+                with self.subTest(tenant, right=right):
+                    self.assertEqual(self.order("token-grant", tenant, *right, text=b"abc\n"), refused("digest_held"))
         self.assertEqual(self.query("SELECT digest FROM token"), [(DIGEST,)])
+        self.assertEqual(self.query("SELECT digest FROM reader"), [])
+        with self.subTest("one that only reads"):
+            self.assertEqual(self.order("token-grant", "acme", "--right", "read", text=b"xyz"), DONE)
+            before = self.rows()
+            for right in [[], ["--right=full"], ["--right=read"]]:
+                self.assertEqual(self.order("token-grant", "bolt", *right, text=b"xyz"), refused("digest_held"))
+            self.assertEqual(self.order("token-grant", "cato", text=b"xyz"), refused("no_such_tenant"))
+            self.assertEqual(self.rows(), before)
 
     def test_the_first_of_several_that_overlap(self):
         self.init(
@@ -222,6 +251,7 @@ class Refused(Files):
         # No database is there, and none is made.
         rows = [("tenant-add", [text], "name") for text in NOT_NAMES]
         rows += [("token-grant", [text], "tenant") for text in NOT_NAMES]
+        rows += [("token-grant", ["acme", f"--right={text}"], "right") for text in NOT_RIGHTS]
         rows += [("network-end", [text, "office"], "tenant") for text in NOT_NAMES]
         rows += [("network-end", ["acme", text], "name") for text in NOT_NAMES]
         rows += [("network-add", [text, "office", *options()], "tenant") for text in NOT_NAMES]
@@ -250,6 +280,12 @@ class Refused(Files):
             self.assertEqual(self.order("network-end", "_", "_"), refused("bad_field tenant"))
         with self.subTest("the tenant before the token"):
             self.assertEqual(self.order("token-grant", "_", text=b""), refused("bad_field tenant"))
+        with self.subTest("the tenant before the right"):
+            self.assertEqual(self.order("token-grant", "--right=_", "_", text=TOKEN), refused("bad_field tenant"))
+        with self.subTest("the right before the token"):
+            self.assertEqual(self.order("token-grant", "acme", "--right", "_", text=b""), refused("bad_field right"))
+        with self.subTest("the token behind a right"):
+            self.assertEqual(self.order("token-grant", "acme", "--right", "read", text=b""), refused("bad_field token"))
 
     def test_limits(self):
         self.init(("tenant-add", NAME_32))

@@ -14,6 +14,7 @@ from register_file import ACME, BOLT, DONE, NETWORK, TABLES, TOKEN, Files, faile
 WORDS = [
     ("tenant-add", ["acme"], b""),
     ("token-grant", ["acme"], TOKEN),
+    ("token-grant", ["acme", "--right", "read"], TOKEN),
     ("token-end", [], TOKEN),
     ("network-add", ["acme", "office", *options()], b""),
     ("network-end", ["acme", "office"], b""),
@@ -23,6 +24,7 @@ WORDS = [
 BROKEN = [
     ("a token of no tenant", "INSERT INTO token VALUES (zeroblob(32), 7)"),
     ("a short digest", "UPDATE token SET digest = x'00'"),
+    ("a reader of no token", "INSERT INTO reader VALUES (zeroblob(32))"),
     ("a name that is none", "UPDATE tenant SET name = 'Acme'"),
     ("an id beyond the last", "UPDATE tenant SET id = 65537"),
     ("a network of no tenant", "UPDATE network SET tenant = 7"),

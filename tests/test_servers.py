@@ -1,5 +1,6 @@
 """What a WireGuard server does by itself: starts without the register, endings of networks and tokens, what it tells."""
 
+import json
 import os
 import time
 import unittest
@@ -7,7 +8,7 @@ from pathlib import Path
 
 from following import PING, TOOLS, OneNetwork, inside, private_key, public_key, run
 from program import in_time
-from serving import reply
+from serving import order, reply
 from test_follow import wait_until
 from test_namespaces import Client
 from tools import needs
@@ -182,20 +183,46 @@ class Told(OneNetwork):
             self.net.sync()
             self.assertEqual(self.net.peers(), {key})
 
+    def order(self, *words, token):
+        """An order while the register isn't served."""
+        self.register.__exit__()
+        order(words[0], self.database, *words[1:], token=token)
+        self.between.register = self.register = self.serve(self.database)
+
     def test_a_token_that_only_reads(self):
-        """The interface follows; that nothing is reported is said once for each token."""
-        self.between.instead = {"dump": reply(404, {"error": "read_only"}).replace(b"404 Not Found", b"403 Forbidden")}
-        said = []
-        for token in ["abc", "abc", "other"]:
+        """The interface follows, and no round fails; that nothing is reported is said once an hour, and for each token."""
+        for token in ["reads", "other"]:
+            self.order("token-grant", "acme", "--right", "read", token=token)
+        state = self.net.folder / "state"
+        said, hour = [], 3600
+        for token, passed in [("reads", 0), ("reads", hour - 60), ("other", 0), ("other", 0), ("reads", 0), ("reads", hour + 1), ("reads", -60)]:
             self.net.write("token", token)
-            if token == "other":
-                self.register.__exit__()
-                run(self.register.process.args[0], "token-grant", self.database, "acme", text=token)
-                self.between.register = self.register = self.serve(self.database)
-            self.register_add(token)
-            told = self.net.sync()
-            said.append("the token only reads" in told.stderr)
-        self.assertEqual((said, len(self.net.peers())), ([True, False, True], 3))
+            if passed:
+                # As though it had been said so long ago.
+                mark, since = (state / "reads-only").read_text().split(" ")
+                (state / "reads-only").write_text(f"{mark} {int(since) - passed}")
+            self.register_add("abc")
+            said.append("the token only reads" in self.net.sync().stderr)
+        self.assertEqual((said, len(self.net.peers())), ([True, False, True, False, True, True, True], 7))
+        self.assertEqual(self.reported(), 0)
+        with self.subTest("it is granted anew, with the full right"):
+            self.order("token-end", token="reads")
+            self.order("token-grant", "acme", token="reads")
+            self.net.sync()
+            self.assertEqual(self.reported(), 0)
+            (state / "reads-only").write_text(f"{mark} {int(time.time()) - hour - 1}")
+            self.net.sync()
+            self.assertEqual(self.reported(), 7)
+        with self.subTest("what an earlier release kept, of the token alone"):
+            (state / "reads-only").write_text(mark)
+            (state / "reported").unlink()
+            self.assertNotIn("the token only reads", self.net.sync().stderr)
+            self.assertTrue((state / "reported").exists())
+
+    def reported(self):
+        """How many peers have a status."""
+        told = self.register.ask("GET", "/networks/office/peers").partition(b"\r\n\r\n")[2]
+        return sum(peer["status"] is not None for peer in json.loads(told)["peers"])
 
     def register_add(self, token):
         key = public_key(private_key())

@@ -44,6 +44,18 @@ SHOWN = [
 ]
 
 
+# The SHA-256 of tokens that are granted beside `test`.
+ABC, FIRST, SECOND = (hashlib.sha256(text).hexdigest() for text in [b"abc", b"first", b"second"])
+# The table of tokens where `abc` and `first` only read.
+RIGHTS = f"""\
+TENANT  TOKEN                                                             RIGHT
+acme    {TEST}  full
+acme    {ABC}  read
+dune    {SECOND}  full
+globex  {FIRST}  read
+"""
+
+
 def pool_text(family, low, length):
     return f"{ipaddress.IPv4Address(low[12:]) if family == 4 else ipaddress.IPv6Address(low)}/{length}"
 
@@ -74,6 +86,41 @@ class Show(Reading):
             with self.subTest(name, by="socket"):
                 self.assertEqual(shown(self.socket, "show", *words).decode(), due)
                 self.assertEqual(send(self.socket, ("show", *words)), Left(0, due.encode()))
+
+    def test_tokens_that_only_read(self):
+        """A third column where one that is shown only reads, and a member of JSON; without one, all is as it was before there were any."""
+        self.make_two()
+        without = [(words, self.show(*words)) for words in [[], ["--json"], ["acme"], ["acme", "--json"], ["globex"], ["globex", "--json"]]]
+        self.do(("token-grant", "acme", "read", "abc"), ("token-grant", "globex", "read", "first"))
+        self.do(("tenant-add", "dune"), ("token-grant", "dune", "second"))
+        acme = ACME_JSON.replace(f'["{TEST}"]', f'["{TEST}","{ABC}"],"readers":["{ABC}"]')
+        globex = GLOBEX_JSON.replace("[]", f'["{FIRST}"],"readers":["{FIRST}"]', 1)
+        dune = f'{{"name":"dune","tokens":["{SECOND}"],"networks":[]}}'
+        head, *lines = RIGHTS.splitlines(keepends=True)
+        rows = [
+            ("all", [], RIGHTS),
+            ("one with both", ["acme"], head + lines[0] + lines[1]),
+            ("one that has no other", ["globex"], head + lines[3]),
+            ("one that has none", ["dune"], f"TENANT  TOKEN\ndune    {SECOND}\n"),
+            ("all, as JSON", ["--json"], f'{{"tenants":[{acme},{dune},{globex}]}}\n'),
+            ("one with both, as JSON", ["acme", "--json"], f'{{"tenants":[{acme}]}}\n'),
+            ("one that has no other, as JSON", ["globex", "--json"], f'{{"tenants":[{globex}]}}\n'),
+            ("one that has none, as JSON", ["dune", "--json"], f'{{"tenants":[{dune}]}}\n'),
+        ]
+        for name, words, due in rows:
+            with self.subTest(name):
+                self.assertEqual(self.show(*words).rpartition("\n\n")[2], due)
+        server = self.serve()
+        for name, words, due in rows:
+            with self.subTest(name, by="socket"):
+                self.assertEqual(shown(self.socket, "show", *words).decode().rpartition("\n\n")[2], due)
+        server.process.kill()
+        server.process.wait()
+        self.do(("token-end", "abc"), ("token-end", "first"), ("token-end", "second"))
+        self.change("DELETE FROM tenant WHERE name = 'dune'")
+        for words, due in without:
+            with self.subTest("once they ended", words=words):
+                self.assertEqual(self.show(*words), due)
 
     def test_no_tenant(self):
         self.init()
@@ -119,6 +166,7 @@ a       {digests[2]}
         """The table and the JSON of what SQLite reads, of all tenants or of one."""
         names = sorted(found for (found,) in self.query("SELECT name FROM tenant", database) if name in (None, found))
         tokens = sorted(self.query("SELECT tenant.name, lower(hex(digest)) FROM token JOIN tenant ON tenant.id = token.tenant", database))
+        readers = {digest for (digest,) in self.query("SELECT lower(hex(digest)) FROM reader", database)}
         networks = self.query(
             "SELECT tenant.name, network.name, family, lo, length, host, port, server, capacity, (SELECT count(*) FROM peer WHERE network = network.id), "
             "(SELECT count(*) FROM allowed WHERE network = network.id AND kind = 'route') FROM network JOIN tenant ON tenant.id = network.tenant", database
@@ -129,17 +177,23 @@ a       {digests[2]}
             shown_rows = [(tenant, row[0], pool_text(*row[1:4]), f"[{row[4]}]:{row[5]}" if ":" in row[4] else f"{row[4]}:{row[5]}", *map(str, row[7:])) for row in own]
             rows += shown_rows or [(tenant, *6 * "-")]
             members = [{"name": row[0], "pool": pool_text(*row[1:4]), "host": row[4], "port": row[5], "server": base64.b64encode(row[6]).decode(), "capacity": row[7], "peers": row[8], "routes": row[9]} for row in own]
-            tenants.append({"name": tenant, "tokens": [digest for owner, digest in tokens if owner == tenant], "networks": members})
+            held = [digest for owner, digest in tokens if owner == tenant]
+            reading = {"readers": [digest for digest in held if digest in readers]}
+            tenants.append({"name": tenant, "tokens": held, **(reading if reading["readers"] else {}), "networks": members})
         table = table_of(rows)
-        if any(tenant["tokens"] for tenant in tenants):
-            table += "\n" + table_of([("TENANT", "TOKEN"), *(row for row in tokens if row[0] in names)])
+        listed = [(*row, "read" if row[1] in readers else "full") for row in tokens if row[0] in names]
+        if listed:
+            # The third column is there where it tells something.
+            columns = 3 if any(row[2] == "read" for row in listed) else 2
+            table += "\n" + table_of([row[:columns] for row in [("TENANT", "TOKEN", "RIGHT"), *listed]])
         return table, json.dumps({"tenants": tenants}, separators=(",", ":")) + "\n"
 
     def test_a_larger_register(self):
-        """2,000 networks of 40 tenants, and 500 tokens: by a file and by the socket, as SQLite reads a copy."""
+        """2,000 networks of 40 tenants, and 500 tokens, of which each seventh only reads: by a file and by the socket, as SQLite reads a copy."""
         self.init()
         put(self.db, "tenant", [(row, f"t{row * 7919 % 1009}") for row in range(1, 41)])
         put(self.db, "token", [(hashlib.sha256(b"%d" % row).digest(), row % 39 + 1) for row in range(500)])
+        put(self.db, "reader", [(hashlib.sha256(b"%d" % row).digest(),) for row in range(499, 0, -7)])
         networks = [network_row(row, row % 38 + 1, f"n{row * 31 % 2003}", pool_of(row)[0], f"h{row}.example.net", row) for row in range(1, 2_001)]
         put(self.db, "network", networks)
         copy = self.path("copy.db")

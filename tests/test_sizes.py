@@ -100,6 +100,7 @@ def small_network(place):
 FULL = [
     ("tenant", lambda place: (place, f"t{place}"), ["tenant-add", "more"]),
     ("token", lambda place: (digest_of(str(place)), 1), ["token-grant", "acme"]),
+    ("token", lambda place: (digest_of(str(place)), 1), ["token-grant", "acme", "--right", "read"]),
     ("network", small_network, ["network-add", "acme", "more", *options(pool="10.200.0.0/24", host="b")]),
 ]
 

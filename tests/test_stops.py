@@ -37,11 +37,13 @@ ASKED = [
 ]
 CHANGES = {0, 1, 3, 5}
 ORDERS = {
-    "tenant-add": (["cato"], b""),
-    "token-grant": (["acme"], b"new"),
-    "token-end": ([], b"xyz"),
-    "network-add": (["acme", "more", *options(**{**OFFICE, "pool": "10.10.0.0/24", "port": "51822"})], b""),
-    "network-end": (["acme", "office"], b""),
+    "tenant-add": ("tenant-add", ["cato"], b""),
+    "token-grant": ("token-grant", ["acme"], b"new"),
+    "token-grant of one that only reads": ("token-grant", ["acme", "--right", "read"], b"new"),
+    "token-end": ("token-end", [], b"xyz"),
+    "token-end of one that only reads": ("token-end", [], b"reads"),
+    "network-add": ("network-add", ["acme", "more", *options(**{**OFFICE, "pool": "10.10.0.0/24", "port": "51822"})], b""),
+    "network-end": ("network-end", ["acme", "office"], b""),
 }
 
 
@@ -363,7 +365,7 @@ class EachStop:
 @needs_faults()
 class Stops(EachStop, unittest.TestCase):
     def words(self, base):
-        orders = {word: Order(base, word, *words) for word, words in ORDERS.items()}
+        orders = {name: Order(base, *order) for name, order in ORDERS.items()}
         migrations = {}
         for version in [1, 2]:
             earlier = f"{base}.{version}"

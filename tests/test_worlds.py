@@ -49,7 +49,8 @@ class Script:
         if kind < 0.65:
             return ["network-end", tenant, name], tenant, b""
         if kind < 0.9:
-            return ["token-grant", tenant], tenant, token.encode()
+            right = [] if kind < 0.82 else ["--right", "full" if kind < 0.86 else "read"]
+            return ["token-grant", tenant, *right], tenant, token.encode()
         return ["token-end"], tenant, token.encode()
 
     def address(self):
@@ -130,7 +131,7 @@ class Worlds(unittest.TestCase):
             seen |= {json.loads(reply.partition(b"\r\n\r\n")[2]).get("error") for _, reply in given if b'{"error"' in reply}
         # The script reaches what it should compare.
         self.assertLessEqual({b'{"address"', b'{"peers"', b'{"networks"', b'{"added"', b'{"revoked"'}, seen)
-        self.assertLessEqual({"unknown_token", "no_such_network", "key_held", "address_held", "pool_full"}, seen)
+        self.assertLessEqual({"unknown_token", "read_only", "no_such_network", "key_held", "address_held", "pool_full"}, seen)
 
     def do_order(self, script, everybody, own):
         words, tenant, token = script.order()

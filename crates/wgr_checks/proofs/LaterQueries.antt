@@ -1,4 +1,4 @@
--- What the queries of the tables that are found by their names show.
+-- What the query of second pools shows.
 use Rattle.std.proofs.Common.{◌≡◌, ◌↔◌, ◌==◌, ℕ, Bool, true, false, IsTrue, List, [], ◌∷◌, codes, filter, length, slice_get, refl, sym, ap, subst, ◌∙◌, arith}
 use Rattle.std.proofs.lemmas.List.Sorted.{length_permutation}
 use Rattle.std.proofs.Math.ListN.{length-map}
@@ -28,15 +28,12 @@ use Rattle.wgr_sql.proofs.Compiles.{Compiles, command_is, given, got, held, plai
 use Rattle.wgr_sql.proofs.NamedLemmas.{holds, tree_is}
 use Rattle.wgr_sql.proofs.PlainSelects.{IsSimple}
 use Rattle.wgr_sql.proofs.TextParts.{expr_in, select_in, text_in}
-use Rattle.wgr_columns.specs.Layout.{HasReader, HasSecond, column_of, first_free_tree, reader_table_at, second_table_at}
+use Rattle.wgr_columns.specs.Layout.{HasSecond, column_of, first_free_tree, second_table_at}
 use Rattle.wgr_columns.proofs.Statements.{never_refused}
-use Rattle.sqlite.specs.Kind.TheVariants.{Blob, Integer}
+use Rattle.sqlite.specs.Kind.TheVariants.{Integer}
 
 abbrev pub seconds_text : List ℕ
 seconds_text = codes "SELECT network FROM second"
-
-abbrev pub readers_text : List ℕ
-readers_text = codes "SELECT digest FROM reader"
 
 module _ (schema : Schema) (at tree : ℕ) where
   pub seconds_compile : Holds schema (codes "second") at (second_table_at tree) → Compiles schema seconds_text (Select (record { lets = []; body = plain_query tree [] (col 1 0 ∷ []) [] }) (codes "network" ∷ [])) 0
@@ -68,40 +65,6 @@ module _ (schema : Schema) (at tree : ℕ) where
         parsed = p;
         is = select_is schema seconds_text p q _ refl refl refl
             (column_read schema (codes "second") at (second_table_at tree) h q core src simple a x (text_in (out-Shown a)) refl refl refl refl (codes "network") 0 (column_of (codes "network") Integer false) refl refl refl refl);
-        whole = omega arith;
-        names = refl;
-        text_is = refl;
-      }
-
-  pub readers_compile : Holds schema (codes "reader") at (reader_table_at tree) → Compiles schema readers_text (Select (record { lets = []; body = plain_query tree [] (col 1 1 ∷ []) [] }) (codes "digest" ∷ [])) 0
-  unfolding everything got held
-  readers_compile h =
-      let p = got (first readers_text) refl in
-      let q = held (select_in p.statement) refl in
-      let core = (written_select.out-Select q).first in
-      let src = held (slice_get (out-Core core).from 0) refl in
-      let a = held (slice_get (out-Core core).shown 0) refl in
-      let x = held (expr_in (out-Shown a)) refl in
-      let simple : IsSimple (codes "reader") q core src = record {
-        first = refl;
-        with = refl;
-        others = refl;
-        limit = refl;
-        offset = refl;
-        from = refl;
-        group = refl;
-        having = refl;
-        distinct = refl;
-        table_is = refl;
-        alias = refl;
-        using = refl;
-        inner = refl;
-        on = refl;
-      } in
-      record {
-        parsed = p;
-        is = select_is schema readers_text p q _ refl refl refl
-            (column_read schema (codes "reader") at (reader_table_at tree) h q core src simple a x (text_in (out-Shown a)) refl refl refl refl (codes "digest") 0 (column_of (codes "digest") Blob true) refl refl refl refl);
         whole = omega arith;
         names = refl;
         text_is = refl;
@@ -153,44 +116,24 @@ module _ (first_tree : ℕ) (name : List ℕ) (form : ℕ → Table) (tree_so : 
         plain = subst (AsksPlainly schema []) (sym (understood_is schema text _ 0 means)) (λ limit trees e refused. never_refused _ fine limit (overlay trees [] h.tree) refused);
       }
 
--- ---- the two tables
+-- ---- second pools
 
 second_tree : (tree : ℕ) → (second_table_at tree).tree ≡ tree
 second_tree tree = refl
 
-reader_tree : (tree : ℕ) → (reader_table_at tree).tree ≡ tree
-reader_tree tree = refl
-
 second_holds : (schema : Schema) (h : HasSecond schema) → Holds schema (codes "second") h.at (second_table_at h.tree)
 second_holds schema h = holds first_free_tree (codes "second") second_table_at second_tree schema h
-
-reader_holds : (schema : Schema) (h : HasReader schema) → Holds schema (codes "reader") h.at (reader_table_at h.tree)
-reader_holds schema h = holds first_free_tree (codes "reader") reader_table_at reader_tree schema h
 
 seconds_mean : (schema : Schema) (h : HasSecond schema) → Compiles schema seconds_text (Select (record { lets = []; body = plain_query h.tree [] (col 1 0 ∷ []) [] }) (codes "network" ∷ [])) 0
 seconds_mean schema h = seconds_compile schema h.at h.tree (second_holds schema h)
 
-readers_mean : (schema : Schema) (h : HasReader schema) → Compiles schema readers_text (Select (record { lets = []; body = plain_query h.tree [] (col 1 1 ∷ []) [] }) (codes "digest" ∷ [])) 0
-readers_mean schema h = readers_compile schema h.at h.tree (reader_holds schema h)
-
 pub no_seconds_shown : (old new : State) → HasSecond old.now.schema → (rows : List Row) → Shown seconds_text [] old new rows → (rows ≡ []) ↔ (rows_named old.now (codes "second") ≡ [])
 no_seconds_shown = none_shown first_free_tree (codes "second") second_table_at second_tree 0 (codes "network" ∷ []) seconds_text seconds_mean
 
-pub no_readers_shown : (old new : State) → HasReader old.now.schema → (rows : List Row) → Shown readers_text [] old new rows → (rows ≡ []) ↔ (rows_named old.now (codes "reader") ≡ [])
-no_readers_shown = none_shown first_free_tree (codes "reader") reader_table_at reader_tree 1 (codes "digest" ∷ []) readers_text readers_mean
-
 pub seconds_plain : (schema : Schema) → HasSecond schema → IsPlain (understood schema seconds_text)
 seconds_plain = is_plain first_free_tree (codes "second") second_table_at second_tree 0 (codes "network" ∷ []) seconds_text seconds_mean
-
-pub readers_plain : (schema : Schema) → HasReader schema → IsPlain (understood schema readers_text)
-readers_plain = is_plain first_free_tree (codes "reader") reader_table_at reader_tree 1 (codes "digest" ∷ []) readers_text readers_mean
 
 pub seconds_answered : (schema : Schema) → HasSecond schema → IsAnswered schema seconds_text []
 seconds_answered schema h =
     is_answered first_free_tree (codes "second") second_table_at second_tree 0 (codes "network" ∷ []) seconds_text seconds_mean schema h
     (accepts_is schema (codes "second") h.at (second_table_at h.tree) (second_holds schema h) [] (col 1 0 ∷ []) [] [] refl)
-
-pub readers_answered : (schema : Schema) → HasReader schema → IsAnswered schema readers_text []
-readers_answered schema h =
-    is_answered first_free_tree (codes "reader") reader_table_at reader_tree 1 (codes "digest" ∷ []) readers_text readers_mean schema h
-    (accepts_is schema (codes "reader") h.at (reader_table_at h.tree) (reader_holds schema h) [] (col 1 1 ∷ []) [] [] refl)

@@ -50,7 +50,7 @@ keyed_by_rowids rows own = record {
 }
 
 -- where no row stands twice
-rowids_apart : (rows : List Row) → ((r s : Row) → Has rows r → Has rows s → Rowid r ≡ Rowid s → r ≡ s) → IsDistinct is_same (map Digest rows) → IsDistinct int_eq (map Rowid rows)
+pub rowids_apart : (rows : List Row) → ((r s : Row) → Has rows r → Has rows s → Rowid r ≡ Rowid s → r ≡ s) → IsDistinct is_same (map Digest rows) → IsDistinct int_eq (map Rowid rows)
 unfolding IsDistinct
 rowids_apart [] once apart = tt
 rowids_apart (r ∷ rows) once apart = (

@@ -1,5 +1,5 @@
 -- How the tests of rows relate to a register's consistency.
-use Rattle.std.specs.Prelude.{◌≡◌, ◌<◌, ◌≤◌, ◌↔◌, ℕ, List, length, map, true, nat_eq}
+use Rattle.std.specs.Prelude.{◌≡◌, ◌<◌, ◌≤◌, ◌↔◌, ℕ, List, length, map, codes, true, nat_eq}
 use Rattle.std.specs.List.{AllByRecursion, IsDistinct}
 use Rattle.sqlite_value.specs.Order.{Row}
 use Rattle.sqlite.specs.Effect.{Database, IsDatabase}
@@ -8,13 +8,15 @@ use Rattle.wgr_pool.specs.Pool.{IsPool}
 use Rattle.wgr_peers.specs.Host.{IsHost}
 use Rattle.wgr_peers.specs.Limits.{IsCapacity, IsPort}
 use Rattle.wgr_core.specs.Forms.{IsKey}
-use Rattle.wgr_model.specs.Consistent.{IsDigest, IsId, IsName, IsTenant, has_tenant, overlaps, same_endpoint, same_slot, max_entries}
+use Rattle.wgr_model.specs.Consistent.{IsDigest, IsId, IsName, IsTenant, has_digest, has_tenant, overlaps, same_endpoint, same_slot, max_entries}
 use Rattle.wgr_model.specs.Rows.{NetworkRow}
-use Rattle.wgr_columns.specs.Layout.{network_tree, tenant_tree, token_tree}
-use Rattle.wgr_columns.specs.Decode.{AreNetworks, AreTenants, AreTokens, network_in, tenant_in, token_in, AreAllowed, ArePeers, HaveKinds, HaveStatuses, allowed_in, peer_in}
+use Rattle.wgr_sql.specs.Named.{rows_named}
+use Rattle.wgr_columns.specs.Layout.{HasReader, network_tree, tenant_tree, token_tree}
+use Rattle.wgr_columns.specs.Decode.{AreNetworks, AreReaders, AreTenants, AreTokens, network_in, reader_in, tenant_in, token_in, AreAllowed, ArePeers, HaveKinds, HaveStatuses, allowed_in, peer_in}
 use Rattle.wgr_columns.specs.LaidOut.{IsLaidOut}
 use Rattle.wgr_checks.specs.TenantRows.{AreGoodTenants, AreIdsOf}
-use Rattle.wgr_checks.specs.TokenRows.{AreGoodTokens}
+use Rattle.wgr_checks.specs.TokenRows.{AreGoodTokens, HaveOwnDigests}
+use Rattle.wgr_checks.specs.ReaderRows.{AreGoodReaders}
 use Rattle.wgr_checks.specs.NetworkRows.{AreGoodNetworks}
 use Rattle.wgr_checks.specs.Sorted.{AreAmong}
 use Rattle.wgr_checks.specs.PeerRows.{AreWrittenPeers}
@@ -34,6 +36,12 @@ pub record AreConsistentTokens (tenants rows : List Row) : Type 0 where
   pub digests : IsDistinct is_same (map (λ t. t.digest) (map token_in rows))
   pub owners : AllByRecursion (λ t. has_tenant (map tenant_in tenants) t.tenant ≡ true) (map token_in rows)
   pub few : length (map token_in rows) ≤ max_entries
+
+-- the same for the rows of tokens that only read, and the digests in them
+pub record AreConsistentReaders (tokens rows : List Row) : Type 0 where
+  pub written : AreReaders rows
+  pub apart : IsDistinct is_same (map reader_in rows)
+  pub among : AllByRecursion (λ d. has_digest (map token_in tokens) d ≡ true) (map reader_in rows)
 
 -- each value in a network's row is of its form
 pub record HasGoodValues (w : NetworkRow) : Type 0 where
@@ -63,6 +71,10 @@ GoodTenantsAreConsistent = (db : Database) → IsLaidOut db.schema → IsDatabas
 abbrev pub GoodTokensAreConsistent : Type 0
 GoodTokensAreConsistent = (db : Database) → IsLaidOut db.schema → IsDatabase db → AreGoodTenants (db.trees tenant_tree) → (ids : List ℕ) → AreIdsOf (db.trees tenant_tree) ids
     → AreGoodTokens ids (db.trees token_tree) ↔ AreConsistentTokens (db.trees tenant_tree) (db.trees token_tree)
+
+abbrev pub GoodReadersAreConsistent : Type 0
+GoodReadersAreConsistent = (db : Database) → HasReader db.schema → IsDatabase db → HaveOwnDigests (db.trees token_tree)
+    → AreGoodReaders (db.trees token_tree) (rows_named db (codes "reader")) ↔ AreConsistentReaders (db.trees token_tree) (rows_named db (codes "reader"))
 
 abbrev pub GoodNetworksAreConsistent : Type 0
 GoodNetworksAreConsistent = (db : Database) → IsLaidOut db.schema → IsDatabase db → AreGoodTenants (db.trees tenant_tree) → (ids : List ℕ) → AreIdsOf (db.trees tenant_tree) ids

@@ -1,6 +1,7 @@
 pub mod Sorted
 pub mod TenantRows
 pub mod TokenRows
+pub mod ReaderRows
 pub mod NetworkRows
 pub mod OwnRows
 pub mod PeerRows

@@ -1,5 +1,5 @@
 //! What follows from the definitions. Each function does nothing: its contract is the law.
-ghost use Rattle.wgr_checks.specs.Laws.{GoodNetworksAreConsistent, GoodTenantsAreConsistent, GoodTokensAreConsistent};
+ghost use Rattle.wgr_checks.specs.Laws.{GoodNetworksAreConsistent, GoodReadersAreConsistent, GoodTenantsAreConsistent, GoodTokensAreConsistent};
 ghost use Rattle.wgr_checks.specs.Laws.{WrittenAllowedAreAllowed, WrittenPeersArePeers};
 
 /// `read_tenants` requires of the rows what a register's consistency requires of its tenants, and no more.
@@ -11,6 +11,12 @@ pub fn good_tenants_are_consistent()
 /// requires of its tokens, and no more.
 pub fn good_tokens_are_consistent()
     ensures { GoodTokensAreConsistent }
+{}
+
+/// `readers_are_good` requires of the rows, given good digests of tokens, what a register's consistency
+/// requires of its tokens that only read, and no more.
+pub fn good_readers_are_consistent()
+    ensures { GoodReadersAreConsistent }
 {}
 
 /// `read_networks` requires of the rows, given the ids of good tenants, what a register's consistency

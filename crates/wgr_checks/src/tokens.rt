@@ -46,8 +46,8 @@ fn rowids_of(alloc: Global, rows: &[Row]) -> Result<Option<Vec<i64>>, Fault>
     Ok(Some(all))
 }
 
-// The digests in these rows.
-fn digests_of(alloc: Global, rows: &[Row]) -> Result<Option<Vec<[u8; 32]>>, Fault>
+/// The digests in these rows.
+pub(crate) fn digests_of(alloc: Global, rows: &[Row]) -> Result<Option<Vec<[u8; 32]>>, Fault>
     ensures some { IfOk result (λ found. IfSome found (λ all. AllByRecursion (λ r. IsDigestAt r token.DIGEST) rows.now × (all.items ≡ map (λ r. bytes_at r token.DIGEST) rows.now))) }
     ensures none { IfOk result (λ found. IfNone found (AllByRecursion (λ r. IsDigestAt r token.DIGEST) rows.now → ⊥)) }
     ensures memory { IfErr result (λ why. why ≡ NoMemory) }
@@ -118,8 +118,8 @@ fn rows_by_rowid<S: Alter>(conn: &mut Connection<S>) -> Result<Vec<Row>, Fault>
     )
 }
 
-// The digests of the tokens, in their order.
-fn rows_by_digest<S: Alter>(conn: &mut Connection<S>) -> Result<Vec<Row>, Fault>
+/// The digests of the tokens, in their order.
+pub(crate) fn rows_by_digest<S: Alter>(conn: &mut Connection<S>) -> Result<Vec<Row>, Fault>
     requires idle { conn.old.in_transaction ≡ false }
     ensures idle { conn.new.in_transaction ≡ false }
     ensures listed { HasCleanDisk (state S.Store conn.new) → Laid (state S.Store conn.old) → IfOk result (λ rows. IsTrue (state S.Store conn.old).is_open × ListsSorted digest_values token.DIGEST ((state S.Store conn.old).now.trees token_tree) rows.items) }

@@ -53,9 +53,24 @@ tenant_add : asked_by (codes "tenant-add" ∷ codes "a.db" ∷ codes "acme" ∷ 
 unfolding clap_on_literals
 tenant_add = refl
 
-token_grant : asked_by (codes "token-grant" ∷ codes "a.db" ∷ codes "acme" ∷ []) ≡ Some (Operate (codes "a.db") (TokenGrant (codes "acme")))
+token_grant : asked_by (codes "token-grant" ∷ codes "a.db" ∷ codes "acme" ∷ []) ≡ Some (Operate (codes "a.db") (TokenGrant (codes "acme") None))
 unfolding clap_on_literals
 token_grant = refl
+
+token_grant_to_read : asked_by (codes "token-grant" ∷ codes "a.db" ∷ codes "acme" ∷ codes "--right" ∷ codes "read" ∷ [])
+    ≡ Some (Operate (codes "a.db") (TokenGrant (codes "acme") (Some (codes "read"))))
+unfolding clap_on_literals
+token_grant_to_read = refl
+
+token_grant_of_a_right_first : asked_by (codes "token-grant" ∷ codes "--right=full" ∷ codes "a.db" ∷ codes "acme" ∷ [])
+    ≡ Some (Operate (codes "a.db") (TokenGrant (codes "acme") (Some (codes "full"))))
+unfolding clap_on_literals
+token_grant_of_a_right_first = refl
+
+-- a right stands behind its option alone, and so does a token nowhere
+token_grant_with_a_third_value : asked_by (codes "token-grant" ∷ codes "a.db" ∷ codes "acme" ∷ codes "read" ∷ []) ≡ None
+unfolding clap_on_literals
+token_grant_with_a_third_value = refl
 
 token_end : asked_by (codes "token-end" ∷ codes "a.db" ∷ []) ≡ Some (Operate (codes "a.db") TokenEnd)
 unfolding clap_on_literals

@@ -71,9 +71,9 @@ migrate_app = db_app (codes "migrate")
 abbrev pub tenant_add_app : App
 tenant_add_app = with_value (codes "name") (db_app (codes "tenant-add"))
 
--- `token-grant DB TENANT`
+-- `token-grant DB TENANT [--right R]`
 abbrev pub token_grant_app : App
-token_grant_app = with_value (codes "tenant") (db_app (codes "token-grant"))
+token_grant_app = with_choice (codes "right") (with_value (codes "tenant") (db_app (codes "token-grant")))
 
 -- `token-end DB [--digest HEX]`
 abbrev pub token_end_app : App
@@ -177,7 +177,7 @@ abbrev pub token_grant_in : List Row → Option Asked
 token_grant_in rows =
     with_first (codes "db") rows (λ db.
     with_first (codes "tenant") rows (λ tenant.
-    Some (Operate db (TokenGrant tenant))))
+    Some (Operate db (TokenGrant tenant (first_of (codes "right") rows)))))
 
 -- the end of a token by its digest, or of the one that is given apart
 abbrev pub end_by : Option Text → OrderAsked

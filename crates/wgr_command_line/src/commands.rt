@@ -134,7 +134,14 @@ fn token_grant_command<'a>(alloc: Global) -> Result<Command<'a>, Error>
         "Grants a tenant a token",
         help::TOKEN_GRANT,
     )?;
-    Ok(command.arg(value(alloc, "tenant", "TENANT", "The tenant's name"))?)
+    let command = command.arg(value(alloc, "tenant", "TENANT", "The tenant's name"))?;
+    let right = choice(
+        alloc,
+        "right",
+        "R",
+        "What the token allows: `full`, the default, or `read`",
+    );
+    Ok(command.arg(right)?)
 }
 
 fn token_end_command<'a>(alloc: Global) -> Result<Command<'a>, Error>

@@ -99,8 +99,13 @@ printable ASCII characters without spaces. Anyone who has it can act for the ten
 register keeps only its SHA-256. A tenant may have several tokens. Prints `done` once the
 token is granted.
 
+With `--right read` the token only reads: it gets the tenant's networks, their peers and routes,
+and the configuration files, and a request that changes a network is answered 403, `read_only`.
+A token keeps its right: to change it, end the token and grant it again.
+
 Messages on standard error, with the exit status, and what to do:
   wgr: bad_field tenant  2  TENANT does not have the form of a name: correct it
+  wgr: bad_field right   2  R is neither `full` nor `read`: correct it
   wgr: bad_field token   2  standard input is not one line with a token: correct it
   wgr: no_such_tenant    2  no tenant has the name: add it with `wgr tenant-add`
   wgr: digest_held       2  a tenant already has the token: generate another
@@ -216,6 +221,7 @@ FILE or standard input has one order per line, as for `wgr send`: its words sepa
 spaces, with the token as the last word of `token-grant` and of `token-end`:
   tenant-add NAME
   token-grant TENANT TOKEN
+  token-grant TENANT RIGHT TOKEN
   token-end TOKEN
   token-end --digest HEX
   network-add TENANT NAME POOL HOST PORT KEY CAPACITY
@@ -245,9 +251,9 @@ Example:
 
 pub(crate) const SHOW: &str = "\
 Prints what the register in DB has, of all tenants or of TENANT alone: a table of networks, with
-how many peers and routes each has, and a table of tokens. With --json it is one line of JSON.
-No entry is changed. Of a token only the digest is known, its SHA-256, as
-`wgr token-end --digest` takes it.
+how many peers and routes each has, and a table of tokens, with their rights if one of them only
+reads. With --json it is one line of JSON. No entry is changed. Of a token only the digest is
+known, its SHA-256, as `wgr token-end --digest` takes it.
 
 No other program may have DB open. A running service shows the same: use `wgr send PATH show`.
 
@@ -335,7 +341,7 @@ pub(crate) const SEND: &str = "\
 Sends an order to the service that listens at PATH (`wgr serve` with --orders), and prints
 `done` once it is carried out. The words are the order's name and its fields, by position:
   tenant-add NAME
-  token-grant TENANT
+  token-grant TENANT [RIGHT]
   token-end
   token-end --digest HEX
   network-add TENANT NAME POOL HOST PORT KEY CAPACITY

@@ -116,9 +116,10 @@ pub(crate) fn token_grant<'a>(found: &ArgMatches<'a>) -> Option<Invocation<'a>>
 {
     let db = first(found, "db")?;
     let tenant = first(found, "tenant")?;
+    let right = first(found, "right");
     Some(Invocation::Operate {
         db,
-        order: OrderWords::TokenGrant { tenant },
+        order: OrderWords::TokenGrant { tenant, right },
     })
 }
 

@@ -17,13 +17,14 @@ use Rattle.wgr_model.specs.Rows.{NetworkRow, family_number}
 use Rattle.wgr_sql.proofs.TableLemmas.{cast_null, cast_int, put_one}
 use Rattle.wgr_columns.specs.Layout.{tenant_table_at, token_table_at, network_table_at}
 use Rattle.wgr_columns.specs.Decode.{IsRegister, tenant_in, token_in, network_in, network_numbers, number_at, bytes_at, bytes_of, number_of, family_of}
-use Rattle.wgr_tables.specs.Writes.{TenantComes, TokenComes, NetworkComes}
+use Rattle.wgr_tables.specs.Writes.{TenantComes, NetworkComes}
 use Rattle.wgr_columns.proofs.FieldLemmas.{family_back}
 use Rattle.wgr_columns.proofs.ByteLemmas.{number_back}
 use Rattle.wgr_tables.proofs.EditLemmas.{tenants_after, register_tenants, tokens_after, register_tokens, networks_after, register_networks}
 use Rattle.wgr_tables.proofs.Made.{Made}
 use Rattle.wgr_tables.proofs.WriteLemmas.{row_inserted}
 use Rattle.wgr_tables.proofs.WrittenLemmas.{IsWritten, written_put}
+use Rattle.wgr_entries.specs.OrderSteps.{TokenRowComes}
 use Rattle.wgr_entries.specs.Stops.{network_params}
 use Rattle.wgr_entries.proofs.Meanings.{insert_tenant_text, insert_tenant_means, tenant_values, insert_token_text, insert_token_means, token_values, insert_network_text, insert_network_means, network_values}
 
@@ -48,7 +49,7 @@ tenant_came old new register id name count ran =
       made = (map tenant_in (put_row row rows), IsPermutation-map tenant_in (row ∷ rows) (put_row row rows) (put_one row rows done.1), tenants_after old.now new.now _ register done.0.sound done.0.edits);
     }
 
-pub token_came : (old new : State) (register : IsRegister old.now) (digest : Bytes) (tenant count : ℕ) → Executes insert_token_text (Blob digest ∷ Int (pos tenant) ∷ []) old new (Ok count) → Made (TokenComes (record { digest = digest; tenant = tenant })) old.now new.now
+pub token_came : (old new : State) (register : IsRegister old.now) (digest : Bytes) (tenant count : ℕ) → Executes insert_token_text (Blob digest ∷ Int (pos tenant) ∷ []) old new (Ok count) → Made (TokenRowComes (record { digest = digest; tenant = tenant })) old.now new.now
 token_came old new register digest tenant count ran =
     let rows = old.now.trees 3 in
     let params : Row = Blob digest ∷ Int (pos tenant) ∷ [] in

@@ -23,17 +23,16 @@ use Rattle.wgr_sql.proofs.RowLemmas.{equal_nats, map_filter}
 use Rattle.wgr_sql.proofs.Values.{and_true, blob_at}
 use Rattle.wgr_columns.specs.Layout.{schema_with, token_table_at, network_table_at, peer_table_at, allowed_table_at}
 use Rattle.wgr_columns.specs.Decode.{IsKindAt, IsStatusRow, IsRegister, tables_of, token_in, network_in, peer_in, allowed_in, number_at, bytes_at, network_numbers, peer_numbers, allowed_numbers, allowed_addresses}
-use Rattle.wgr_tables.specs.Writes.{TokenGoes}
 use Rattle.wgr_tables.proofs.EditLemmas.{tokens_after, register_tokens, networks_after, register_networks, peers_after, register_peers, allowed_after, register_allowed}
 use Rattle.wgr_tables.proofs.LeftRows.{rows_keyed, not_true, not_false}
 use Rattle.wgr_tables.proofs.Made.{Made}
 use Rattle.wgr_tables.proofs.SameBytes.{same_blobs}
 use Rattle.wgr_tables.proofs.WriteLemmas.{rows_deleted}
 use Rattle.wgr_tables.proofs.WrittenLemmas.{each_filter, written_filter}
-use Rattle.wgr_entries.specs.OrderSteps.{NetworkAllowedGoes, NetworkGoes, NetworkRowGoes, NetworkPeersGo}
+use Rattle.wgr_entries.specs.OrderSteps.{NetworkAllowedGoes, NetworkGoes, NetworkRowGoes, NetworkPeersGo, TokenRowGoes}
 use Rattle.wgr_entries.proofs.Meanings.{drop_token_text, drop_token_means, drop_allowed_text, drop_allowed_means, drop_peers_text, drop_peers_means, drop_network_text, drop_network_means, at_place}
 
-pub token_gone : (old new : State) (register : IsRegister old.now) (digest : Bytes) (count : ℕ) → Executes drop_token_text (Blob digest ∷ []) old new (Ok count) → Made (TokenGoes digest) old.now new.now
+pub token_gone : (old new : State) (register : IsRegister old.now) (digest : Bytes) (count : ℕ) → Executes drop_token_text (Blob digest ∷ []) old new (Ok count) → Made (TokenRowGoes digest) old.now new.now
 token_gone old new register digest count ran =
     let params : Row = Blob digest ∷ [] in
     let rows = old.now.trees 3 in

@@ -15,3 +15,5 @@ pub mod ReaderTexts
 pub mod ReaderRows
 pub mod ReaderLemmas
 pub mod ThirdLemmas
+-- A token with its right.
+pub mod TokenLemmas

@@ -1,5 +1,5 @@
 -- Calls on the tables of the third version, which are found by their names.
-use Rattle.std.specs.Prelude.{◌≡◌, IsTrue, Result, List, IfErr, false}
+use Rattle.std.specs.Prelude.{◌≡◌, IsTrue, Result, List, IfErr, false, ⊤}
 use Rattle.sqlite.specs.Effect.{Database}
 use Rattle.sqlite.specs.State.{HasCleanDisk, State, Survives}
 use Rattle.sqlite.specs.Store.{Ghosts}
@@ -31,6 +31,10 @@ pub record IsThirdRegister (db : Database) : Type 0 where
 -- a step of a transaction changes the rows of such a register as `P` says, which is one afterwards too
 abbrev pub StepsOnThird : {X E : Type 0} → (Tables → Tables → Type 0) → State → State → Result X E → Type 0
 StepsOnThird P old new r = steps.StepsOn IsThirdRegister (steps.Makes IsThirdRegister tables_of P) old new r
+
+-- a step of a transaction commits nothing, whatever the rows are
+abbrev pub StepsAnyhow : {X E : Type 0} → State → State → Result X E → Type 0
+StepsAnyhow old new r = steps.StepsOn (λ _. ⊤) (λ _ _. ⊤) old new r
 
 -- If a step of a transaction on such a register fails, that has a cause, or the step stops so at its rows.
 abbrev pub FailsOnThird : {X : Type 0} → (Tables → Type 0) → State → State → Result X Fault → Type 0

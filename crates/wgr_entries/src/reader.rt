@@ -16,7 +16,7 @@ ghost use Rattle.wgr_tables.specs.Standing.{Stands};
 ghost use Rattle.wgr_tables.specs.Writes.{Written};
 ghost use Rattle.wgr_entries.specs.Kept.{AreOf};
 ghost use Rattle.wgr_entries.specs.Readers.{AreReadersOf, ReaderComes, ReaderGoes, ReaderStays, ReaderStaysOut, ShowReader, stored_reader};
-ghost use Rattle.wgr_entries.specs.ThirdVersion.{FailsOnThird, IsThird, OnlyReadsThird, StepsOnThird};
+ghost use Rattle.wgr_entries.specs.ThirdVersion.{FailsOnThird, IsThird, OnlyReadsThird, StepsAnyhow, StepsOnThird};
 
 use sqlite::types::ValueRef;
 use sqlite::{Alter, Connection, Row, Transaction};
@@ -103,6 +103,7 @@ pub fn insert_reader<S: Alter>(
 ) -> Result<usize, Fault>
     ensures same_reference { tx.new.conn.ghost_name ≡ tx.old.conn.ghost_name }
     ensures step { HasCleanDisk (state S.Store tx.new.conn.now) → StepsOnThird (ReaderComes digest.now) (state S.Store tx.old.conn.now) (state S.Store tx.new.conn.now) result }
+    ensures keeps { HasCleanDisk (state S.Store tx.new.conn.now) → StepsAnyhow (state S.Store tx.old.conn.now) (state S.Store tx.new.conn.now) result }
     ensures survives { Survives (state S.Store tx.old.conn.now) (state S.Store tx.new.conn.now) (λ _. ⊥) }
     ensures cause { FailsOnThird (ReaderStaysOut digest.now) (state S.Store tx.old.conn.now) (state S.Store tx.new.conn.now) result }
 {
@@ -117,6 +118,7 @@ pub fn insert_reader<S: Alter>(
 pub fn drop_reader<S: Alter>(tx: &mut Transaction<'_, S>, digest: &[u8; 32]) -> Result<usize, Fault>
     ensures same_reference { tx.new.conn.ghost_name ≡ tx.old.conn.ghost_name }
     ensures step { HasCleanDisk (state S.Store tx.new.conn.now) → StepsOnThird (ReaderGoes digest.now) (state S.Store tx.old.conn.now) (state S.Store tx.new.conn.now) result }
+    ensures keeps { HasCleanDisk (state S.Store tx.new.conn.now) → StepsAnyhow (state S.Store tx.old.conn.now) (state S.Store tx.new.conn.now) result }
     ensures survives { Survives (state S.Store tx.old.conn.now) (state S.Store tx.new.conn.now) (λ _. ⊥) }
     ensures cause { FailsOnThird (ReaderStays digest.now) (state S.Store tx.old.conn.now) (state S.Store tx.new.conn.now) result }
 {

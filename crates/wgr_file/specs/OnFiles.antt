@@ -26,7 +26,7 @@ use Rattle.wgr_schema.specs.declared.version.Version.{Version}
 use Rattle.wgr_schema.specs.declared.version.Version.TheVariants.{Three}
 use Rattle.wgr_schema.specs.Fresh.{IsFresh, no_schema}
 use Rattle.wgr_columns.specs.Decode.{tables_of}
-use Rattle.wgr_opening.specs.Good.{IsGood, IsReady, IsSound}
+use Rattle.wgr_opening.specs.Good.{IsGood, IsReady, HasSoundRows}
 use Rattle.wgr_opening.specs.Migrated.{IsMigrated, MayMigrate}
 
 -- ---- what the files held as they were opened
@@ -98,7 +98,7 @@ WereTaken g start closed = HeldIn g start closed (λ db. (version : Version) →
 
 -- the rows, of whatever version, aren't those of a consistent register
 abbrev pub WereUnsound : {D : Type 0} → disk.Ghosts D → Image → Option (Files D) → Type 0
-WereUnsound g start closed = HeldIn g start closed (λ db. IsSound db → ⊥)
+WereUnsound g start closed = HeldIn g start closed (λ db. HasSoundRows db → ⊥)
 
 -- ---- commands
 

@@ -170,6 +170,11 @@ unauthorized : reply_bytes status.Unauthorized Json [] (codes "{\"error\":\"unkn
 unfolding first_lines last_lines digits
 unauthorized = refl
 
+forbidden : reply_bytes status.Forbidden Json [] (codes "{\"error\":\"read_only\"}")
+    ≡ codes "HTTP/1.1 403 Forbidden\r\nContent-Type: application/json\r\nContent-Length: 21\r\nConnection: close\r\n\r\n{\"error\":\"read_only\"}"
+unfolding first_lines last_lines digits
+forbidden = refl
+
 method_not_allowed : reply_bytes status.MethodNotAllowed Text (codes "GET, POST") []
     ≡ codes "HTTP/1.1 405 Method Not Allowed\r\nContent-Type: text/plain\r\nContent-Length: 0\r\nAllow: GET, POST\r\nConnection: close\r\n\r\n"
 unfolding first_lines last_lines digits

@@ -15,6 +15,7 @@ abbrev pub extra_line : StatusCode → List ℕ → List ℕ
 extra_line status.Done allow = []
 extra_line status.BadRequest allow = []
 extra_line status.Unauthorized allow = codes "WWW-Authenticate: Bearer\r\n"
+extra_line status.Forbidden allow = []
 extra_line status.NotFound allow = []
 extra_line status.MethodNotAllowed allow = codes "Allow: " ++ allow ++ codes "\r\n"
 extra_line status.Conflict allow = []

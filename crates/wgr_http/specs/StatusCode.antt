@@ -7,6 +7,7 @@ abbrev pub status_number : StatusCode → ℕ
 status_number status.Done = 200
 status_number status.BadRequest = 400
 status_number status.Unauthorized = 401
+status_number status.Forbidden = 403
 status_number status.NotFound = 404
 status_number status.MethodNotAllowed = 405
 status_number status.Conflict = 409
@@ -18,6 +19,7 @@ abbrev pub reason : StatusCode → List ℕ
 reason status.Done = codes "OK"
 reason status.BadRequest = codes "Bad Request"
 reason status.Unauthorized = codes "Unauthorized"
+reason status.Forbidden = codes "Forbidden"
 reason status.NotFound = codes "Not Found"
 reason status.MethodNotAllowed = codes "Method Not Allowed"
 reason status.Conflict = codes "Conflict"

@@ -75,6 +75,7 @@ fn push_extra_line(status: StatusCode, allow: &[u8], reply: &mut Vec<u8>) -> Res
         }
         StatusCode::Done
         | StatusCode::BadRequest
+        | StatusCode::Forbidden
         | StatusCode::NotFound
         | StatusCode::Conflict
         | StatusCode::LengthRequired

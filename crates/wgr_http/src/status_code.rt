@@ -12,6 +12,8 @@ pub enum StatusCode {
     BadRequest,
     /// 401 Unauthorized
     Unauthorized,
+    /// 403 Forbidden
+    Forbidden,
     /// 404 Not Found
     NotFound,
     /// 405 Method Not Allowed
@@ -35,6 +37,7 @@ impl StatusCode {
             StatusCode::Done => 200,
             StatusCode::BadRequest => 400,
             StatusCode::Unauthorized => 401,
+            StatusCode::Forbidden => 403,
             StatusCode::NotFound => 404,
             StatusCode::MethodNotAllowed => 405,
             StatusCode::Conflict => 409,
@@ -52,6 +55,7 @@ impl StatusCode {
             StatusCode::Done => "OK",
             StatusCode::BadRequest => "Bad Request",
             StatusCode::Unauthorized => "Unauthorized",
+            StatusCode::Forbidden => "Forbidden",
             StatusCode::NotFound => "Not Found",
             StatusCode::MethodNotAllowed => "Method Not Allowed",
             StatusCode::Conflict => "Conflict",

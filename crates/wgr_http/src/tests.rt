@@ -321,6 +321,7 @@ fn replies(rt: HostRuntime) -> io::Result<()> {
             "401 Unauthorized",
             "WWW-Authenticate: Bearer\r\n",
         ),
+        (StatusCode::Forbidden, "403 Forbidden", ""),
         (StatusCode::NotFound, "404 Not Found", ""),
         (
             StatusCode::MethodNotAllowed,

@@ -133,7 +133,7 @@ committed r t u h n rows good held settings done = record {
   networks = subst (λ xs. IsPermutation xs u.networks) (map_map network_row (with_next h.id n.next) r.networks ∙ sym (rows_put h n settings.pool settings.host settings.port settings.server settings.capacity r.networks good.slots good.network_ids held))
       (IsPermutation-trans (map (with_next h.id n.next) (map network_row r.networks)) (map (with_next h.id n.next) t.networks) u.networks (IsPermutation-map (with_next h.id n.next) (map network_row r.networks) t.networks rows.networks) done.networks);
   seconds = done.seconds ∙ rows.seconds;
-  readers = done.readers ∙ rows.readers;
+  readers = subst (IsPermutation r.readers) (sym done.readers) rows.readers;
   peers = replaced peer_rows (λ a. a.network) own_peers r good h held n t.peers u.peers rows.peers done.peers;
   allowed = replaced allowed_rows (λ a. a.network) own_allowed r good h held n t.allowed u.allowed rows.allowed done.allowed;
   keyed = done.keyed;

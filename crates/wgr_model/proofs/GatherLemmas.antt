@@ -212,5 +212,6 @@ pub gathered : (r : Register) (t : Tables) → AreRowsOf r t → IsConsistent r 
 gathered r t rows good = record {
   tenants = rows.tenants;
   tokens = rows.tokens;
+  readers = rows.readers;
   networks = subst (λ xs. IsPermutation xs (map (network_entry_of t) t.networks)) (map_map network_row (network_entry_of t) r.networks ∙ map_itself (λ h. network_entry_of t (network_row h)) r.networks (λ h k. network_entry_read r t rows good h k)) (IsPermutation-map (network_entry_of t) (map network_row r.networks) t.networks rows.networks);
 }

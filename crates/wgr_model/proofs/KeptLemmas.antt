@@ -26,10 +26,12 @@ use Rattle.wgr_core.specs.Outcome.{IsAsked}
 use Rattle.wgr_core.specs.declared.command.Command.{Command}
 use Rattle.wgr_core.specs.declared.refusal.CommandRefusal.{CommandRefusal}
 use Rattle.wgr_core.specs.declared.reply.Reply.{Reply}
-use Rattle.wgr_model.specs.Consistent.{IsConsistent, IsDigest, IsNetworkEntry, IsId, IsName, endpoint, has_tenant, is_pool, is_pool_length, overlaps, pool_of, same_endpoint, same_slot, slot}
-use Rattle.wgr_model.specs.Register.{Bytes, NetworkEntry, Register, Tenant, id_of, is_same}
-use Rattle.wgr_model.specs.Steps.{AddNetwork, AddTenant, Ask, BadPool, Decided, DigestHeld, EndNetwork, EndToken, Event, Grant, IsProper, IsProperCommand, IsUnused, NameHeld, Networks, NoNetwork, NoSuchToken, OrderRefusal, PortHeld, RegisterFull, Settings, act, acted, ask, asked, first_refusal, given, grant_checks, granted, has_digest, has_endpoint, has_name, has_network, has_slot, is_done, is_full, listed, name_of, network_added, network_at, network_checks, network_ended, new_network, ordered, outcome, overlapping, pool_refusal, put_network, refuse, tenant_checks, tenant_of_token, with_network, with_new_network, with_tenant, with_token, without_network, without_token}
-use Rattle.wgr_model.proofs.LookLemmas.{none_some}
+use Rattle.wgr_model.specs.Consistent.{IsConsistent, IsDigest, IsNetworkEntry, IsId, IsName, endpoint, has_digest, has_tenant, is_pool, is_pool_length, overlaps, pool_of, same_endpoint, same_slot, slot}
+use Rattle.wgr_model.specs.declared.right.Right.{Right}
+use Rattle.wgr_model.specs.declared.right.Right.TheVariants.{Full, Read}
+use Rattle.wgr_model.specs.Register.{Bytes, NetworkEntry, Register, Tenant, Token, id_of, is_same, right_of}
+use Rattle.wgr_model.specs.Steps.{AddNetwork, AddTenant, Ask, BadPool, Decided, DigestHeld, EndNetwork, EndToken, Event, Grant, IsProper, IsProperCommand, IsUnused, NameHeld, Networks, NoNetwork, NoSuchToken, OrderRefusal, PortHeld, ReadOnly, RegisterFull, Settings, act, acted, allows, ask, asked, first_refusal, given, grant_checks, granted, has_endpoint, has_name, has_network, has_slot, is_done, is_full, listed, name_of, network_added, network_at, network_checks, network_ended, new_network, ordered, outcome, overlapping, pool_refusal, put_network, refuse, tenant_checks, tenant_of_token, with_network, with_new_network, with_reader, with_tenant, with_token, without_network, without_reader, without_token}
+use Rattle.wgr_model.proofs.LookLemmas.{is_same_refl, no_reader, none_some, same_exact}
 use Rattle.wgr_model.proofs.SeenLemmas.{is_accepted, not_refused, passed}
 
 -- ---- lists
@@ -68,6 +70,13 @@ distinct_filter e f p (x ∷ xs) u = keep (p x) (distinct_filter e f p xs (IsDis
   keep true rest = IsDistinct-cons e (f x) (map f (filter p xs)) (all_map_filter (λ y. e (f x) y ≡ false) f p xs (IsDistinct-head e (f x) (map f xs) u)) rest
   keep false rest = rest
 
+distinct_left : {A : Type 0} (e : A → A → Bool) (p : A → Bool) (xs : List A) → IsDistinct e xs → IsDistinct e (filter p xs)
+distinct_left e p [] u = u
+distinct_left e p (x ∷ xs) u = keep (p x) (distinct_left e p xs (IsDistinct-tail e x xs u)) where
+  keep : (b : Bool) → IsDistinct e (filter p xs) → IsDistinct e (cond b (x ∷ filter p xs) (filter p xs))
+  keep true rest = IsDistinct-cons e x (filter p xs) (all_filter (λ y. e x y ≡ false) p xs (IsDistinct-head e x xs u)) rest
+  keep false rest = rest
+
 pub shorter : {A : Type 0} (p : A → Bool) (xs : List A) → length (filter p xs) ≤ length xs
 shorter p [] = omega arith
 shorter p (x ∷ xs) = grind (arith, shorter p xs)
@@ -81,6 +90,44 @@ more_tenants id t ts h = grind (arith, nat_tests, h)
 first_tenant : (id : ℕ) (q : Bytes) (ts : List Tenant) → id_of ts q ≡ Some id → has_tenant ts id ≡ true
 first_tenant id q [] h = absurd (none_some h)
 first_tenant id q (t ∷ ts) h = grind (arith, nat_tests, h, first_tenant id q ts)
+
+-- ---- the tokens that only read
+more_tokens : (d : Bytes) (t : Token) (ts : List Token) → has_digest ts d ≡ true → has_digest (t ∷ ts) d ≡ true
+more_tokens d t ts h = by_test (is_same d t.digest) where
+  by_test : (b : Bool) → (b || has_digest ts d) ≡ true
+  by_test true = refl
+  by_test false = h
+
+reader_joins : (right : Right) (d : Bytes) (readers : List Bytes) → list_any (is_same d) readers ≡ false → IsDistinct is_same readers → IsDistinct is_same (with_reader right d readers)
+reader_joins Full d readers free u = u
+reader_joins Read d readers free u = joins is_same d readers free u
+
+still_known : (t : Token) (ts : List Token) (readers : List Bytes) → AllByRecursion (λ x. has_digest ts x ≡ true) readers → AllByRecursion (λ x. has_digest (t ∷ ts) x ≡ true) readers
+still_known t ts readers all = weaken (λ x. has_digest ts x ≡ true) (λ x. has_digest (t ∷ ts) x ≡ true) (λ x. more_tokens x t ts) readers all
+
+reader_known : (right : Right) (d : Bytes) (t : Token) (ts : List Token) (readers : List Bytes) → is_same d t.digest ≡ true → AllByRecursion (λ x. has_digest ts x ≡ true) readers → AllByRecursion (λ x. has_digest (t ∷ ts) x ≡ true) (with_reader right d readers)
+reader_known Full d t ts readers same all = still_known t ts readers all
+reader_known Read d t ts readers same all = (ap (λ b. b || has_digest ts d) same, still_known t ts readers all)
+
+-- the digests of the tokens that stay
+digest_stays : (ts : List Token) (d x : Bytes) → is_same d x ≡ false → has_digest ts x ≡ true → has_digest (filter (λ t. not (is_same d t.digest)) ts) x ≡ true
+digest_stays [] d x other h = h
+digest_stays (t ∷ ts) d x other h = by_test (is_same d t.digest) (is_same x t.digest) refl refl h (digest_stays ts d x other) where
+  rest : List Token
+  rest = filter (λ t. not (is_same d t.digest)) ts
+
+  by_test : (b c : Bool) → is_same d t.digest ≡ b → is_same x t.digest ≡ c → (c || has_digest ts x) ≡ true → (has_digest ts x ≡ true → has_digest rest x ≡ true) → has_digest (cond (not b) (t ∷ rest) rest) x ≡ true
+  by_test true true e f g more = absurd (true≢false (sym (ap (is_same d) (same_exact x t.digest f) ∙ e) ∙ other))
+  by_test true false e f g more = more g
+  by_test false true e f g more = ap (λ b. b || has_digest rest x) f
+  by_test false false e f g more = ap (λ b. b || has_digest rest x) f ∙ more g
+
+readers_stay : (ts : List Token) (d : Bytes) (readers : List Bytes) → AllByRecursion (λ x. has_digest ts x ≡ true) readers → AllByRecursion (λ x. has_digest (filter (λ t. not (is_same d t.digest)) ts) x ≡ true) (without_reader d readers)
+readers_stay ts d [] all = tt
+readers_stay ts d (x ∷ xs) all = by_test (is_same d x) refl (readers_stay ts d xs all.1) where
+  by_test : (b : Bool) → is_same d x ≡ b → AllByRecursion (λ x. has_digest (filter (λ t. not (is_same d t.digest)) ts) x ≡ true) (without_reader d xs) → AllByRecursion (λ x. has_digest (filter (λ t. not (is_same d t.digest)) ts) x ≡ true) (cond (not b) (x ∷ without_reader d xs) (without_reader d xs))
+  by_test true e rest = rest
+  by_test false e rest = (digest_stays ts d x e all.0, rest)
 
 -- ---- a network put in its place
 put_keys : {B : Type 0} (f : NetworkEntry → B) (hs : List NetworkEntry) (id : ℕ) (name : Bytes) (n old : NetworkValue) → ((h : NetworkEntry) → h.network ≡ old → f (record h { network = n }) ≡ f h) → network_at hs id name ≡ Some old → map f (with_network hs id name n) ≡ map f hs
@@ -182,11 +229,13 @@ module _ (r : Register) (good : IsConsistent r) where
     names = good.names;
     ids = good.ids;
     digests = good.digests;
+    readers = good.readers;
     slots = subst (IsDistinct same_slot) (sym (keys slot (λ h _. refl))) good.slots;
     network_ids = subst (IsDistinct nat_eq) (sym (keys (λ h. h.id) (λ h _. refl))) good.network_ids;
     endpoints = subst (IsDistinct same_endpoint) (sym (keys endpoint (λ h x i. ((settings.host ∙ ap (λ m. m.host) (sym x)) i, (settings.port ∙ ap (λ m. m.port) (sym x)) i)))) good.endpoints;
     pools = subst (IsDistinct overlaps) (sym (keys pool_of (λ h x. settings.pool ∙ ap (λ m. m.pool) (sym x)))) good.pools;
     token_tenants = good.token_tenants;
+    reader_tokens = good.reader_tokens;
     network_tenants = put_all (λ h. has_tenant r.tenants h.tenant ≡ true) r.networks t name done.1 (λ h x. x) good.network_tenants;
     tenants = good.tenants;
     tokens = good.tokens;
@@ -218,9 +267,12 @@ module _ (r : Register) (good : IsConsistent r) where
   asked_stays t name now command None is_asked e = good
   asked_stays t name now command (Some n) is_asked e = acted_stays t name now command n is_asked e (act n now command) refl
 
-  ask_stays : (name : Bytes) (now : ℕ) (command : Command) (token : Option ℕ) → IsProperCommand command → IsConsistent (ask r name now command token).1
-  ask_stays name now command None is_asked = good
-  ask_stays name now command (Some t) is_asked = asked_stays t name now command (network_at r.networks t name) is_asked refl
+  ask_stays : (digest name : Bytes) (now : ℕ) (command : Command) (token : Option ℕ) → IsProperCommand command → IsConsistent (ask r digest name now command token).1
+  ask_stays digest name now command None is_asked = good
+  ask_stays digest name now command (Some t) is_asked = by_right (allows (right_of r.readers digest) command) where
+    by_right : (b : Bool) → IsConsistent (if b then asked now command r t name (network_at r.networks t name) else (ReadOnly, r)).1
+    by_right true = asked_stays t name now command (network_at r.networks t name) is_asked refl
+    by_right false = good
 
   listed_stays : (token : Option ℕ) → IsConsistent (listed r token).1
   listed_stays None = good
@@ -238,11 +290,13 @@ module _ (r : Register) (good : IsConsistent r) where
     names = joins is_same name (map (λ t. t.name) r.tenants) free good.names;
     ids = joins nat_eq new (map (λ t. t.id) r.tenants) unused.1 good.ids;
     digests = good.digests;
+    readers = good.readers;
     slots = good.slots;
     network_ids = good.network_ids;
     endpoints = good.endpoints;
     pools = good.pools;
     token_tenants = weaken (λ t. has_tenant r.tenants t.tenant ≡ true) (λ t. has_tenant (record { id = new; name = name } ∷ r.tenants) t.tenant ≡ true) (λ t. more_tenants t.tenant (record { id = new; name = name }) r.tenants) r.tokens good.token_tenants;
+    reader_tokens = good.reader_tokens;
     network_tenants = weaken (λ t. has_tenant r.tenants t.tenant ≡ true) (λ t. has_tenant (record { id = new; name = name } ∷ r.tenants) t.tenant ≡ true) (λ t. more_tenants t.tenant (record { id = new; name = name }) r.tenants) r.networks good.network_tenants;
     tenants = (record { id = unused.0; name = is_name }, good.tenants);
     tokens = good.tokens;
@@ -252,16 +306,18 @@ module _ (r : Register) (good : IsConsistent r) where
     few_networks = good.few_networks;
   }
 
-  token_stays : (digest tenant : Bytes) (id : ℕ) → IsDigest digest → id_of r.tenants tenant ≡ Some id → has_digest r.tokens digest ≡ false → is_full r.tokens ≡ false → IsConsistent (with_token r digest id)
-  token_stays digest tenant id is_digest e free few = record {
+  token_stays : (digest tenant : Bytes) (id : ℕ) (right : Right) → IsDigest digest → id_of r.tenants tenant ≡ Some id → has_digest r.tokens digest ≡ false → is_full r.tokens ≡ false → IsConsistent (with_token r digest id right)
+  token_stays digest tenant id right is_digest e free few = record {
     names = good.names;
     ids = good.ids;
     digests = joins is_same digest (map (λ t. t.digest) r.tokens) free good.digests;
+    readers = reader_joins right digest r.readers (no_reader r.tokens r.readers digest good.reader_tokens free) good.readers;
     slots = good.slots;
     network_ids = good.network_ids;
     endpoints = good.endpoints;
     pools = good.pools;
     token_tenants = (first_tenant id tenant r.tenants e, good.token_tenants);
+    reader_tokens = reader_known right digest (record { digest = digest; tenant = id }) r.tokens r.readers (is_same_refl digest) good.reader_tokens;
     network_tenants = good.network_tenants;
     tenants = good.tenants;
     tokens = (is_digest, good.tokens);
@@ -276,11 +332,13 @@ module _ (r : Register) (good : IsConsistent r) where
     names = good.names;
     ids = good.ids;
     digests = distinct_filter is_same (λ t. t.digest) _ r.tokens good.digests;
+    readers = distinct_left is_same _ r.readers good.readers;
     slots = good.slots;
     network_ids = good.network_ids;
     endpoints = good.endpoints;
     pools = good.pools;
     token_tenants = all_filter (λ t. has_tenant r.tenants t.tenant ≡ true) _ r.tokens good.token_tenants;
+    reader_tokens = readers_stay r.tokens digest r.readers good.reader_tokens;
     network_tenants = good.network_tenants;
     tenants = good.tenants;
     tokens = all_filter (λ t. IsDigest t.digest) _ r.tokens good.tokens;
@@ -295,11 +353,13 @@ module _ (r : Register) (good : IsConsistent r) where
     names = good.names;
     ids = good.ids;
     digests = good.digests;
+    readers = good.readers;
     slots = distinct_filter same_slot slot _ r.networks good.slots;
     network_ids = distinct_filter nat_eq (λ h. h.id) _ r.networks good.network_ids;
     endpoints = distinct_filter same_endpoint endpoint _ r.networks good.endpoints;
     pools = distinct_filter overlaps pool_of _ r.networks good.pools;
     token_tenants = good.token_tenants;
+    reader_tokens = good.reader_tokens;
     network_tenants = all_filter (λ t. has_tenant r.tenants t.tenant ≡ true) _ r.networks good.network_tenants;
     tenants = good.tenants;
     tokens = good.tokens;
@@ -314,11 +374,13 @@ module _ (r : Register) (good : IsConsistent r) where
     names = good.names;
     ids = good.ids;
     digests = good.digests;
+    readers = good.readers;
     slots = joins same_slot (id, name) (map slot r.networks) free good.slots;
     network_ids = joins nat_eq new (map (λ h. h.id) r.networks) unused.1 good.network_ids;
     endpoints = joins same_endpoint (n.host, n.port) (map endpoint r.networks) port good.endpoints;
     pools = joins overlaps n.pool (map pool_of r.networks) apart good.pools;
     token_tenants = good.token_tenants;
+    reader_tokens = good.reader_tokens;
     network_tenants = (first_tenant id tenant r.tenants e, good.network_tenants);
     tenants = good.tenants;
     tokens = good.tokens;
@@ -328,12 +390,12 @@ module _ (r : Register) (good : IsConsistent r) where
     few_networks = omega (arith, room r.networks few);
   }
 
-  granted_stays : (tenant digest : Bytes) (id : Option ℕ) → IsDigest digest → id_of r.tenants tenant ≡ id → IsConsistent (granted r digest id).1
-  granted_stays tenant digest None is_digest e = good
-  granted_stays tenant digest (Some id) is_digest e = gives (with_token r digest id) (grant_checks r digest) λ ok.
+  granted_stays : (tenant digest : Bytes) (right : Right) (id : Option ℕ) → IsDigest digest → id_of r.tenants tenant ≡ id → IsConsistent (granted r digest right id).1
+  granted_stays tenant digest right None is_digest e = good
+  granted_stays tenant digest right (Some id) is_digest e = gives (with_token r digest id right) (grant_checks r digest) λ ok.
       let first = passed (refuse (has_digest r.tokens digest) DigestHeld) (refuse (is_full r.tokens) RegisterFull ∷ []) ok in
       let last = passed (refuse (is_full r.tokens) RegisterFull) [] first.1 in
-      token_stays digest tenant id is_digest e (not_refused (has_digest r.tokens digest) DigestHeld first.0) (not_refused (is_full r.tokens) RegisterFull last.0)
+      token_stays digest tenant id right is_digest e (not_refused (has_digest r.tokens digest) DigestHeld first.0) (not_refused (is_full r.tokens) RegisterFull last.0)
 
   added_stays : (tenant name : Bytes) (s : Settings) (new : ℕ) → IsProper (AddNetwork tenant name s) → (id : Option ℕ) → (is_done (network_added r name s new id).0 ≡ true → IsId new × (has_network r.networks new ≡ false)) → id_of r.tenants tenant ≡ id → IsConsistent (network_added r name s new id).1
   added_stays tenant name s new proper None unused e = good
@@ -359,13 +421,13 @@ module _ (r : Register) (good : IsConsistent r) where
   -- a consistent register stays consistent
   pub step_stays : (e : Event) (new : ℕ) → (is_done (outcome r e new).0 ≡ true → IsUnused r e new) → IsProper e → IsConsistent (outcome r e new).1
   step_stays (Decided digest reply) new unused proper = good
-  step_stays (Ask digest name now command) new unused proper = ask_stays name now command (tenant_of_token r.tokens digest) proper
+  step_stays (Ask digest name now command) new unused proper = ask_stays digest name now command (tenant_of_token r.tokens digest) proper
   step_stays (Networks digest) new unused proper = listed_stays (tenant_of_token r.tokens digest)
   step_stays (AddTenant name) new unused proper = gives (with_tenant r name new) (tenant_checks r name) λ ok.
       let first = passed (refuse (has_name r.tenants name) NameHeld) (refuse (is_full r.tenants) RegisterFull ∷ []) ok in
       let last = passed (refuse (is_full r.tenants) RegisterFull) [] first.1 in
       tenant_stays name new proper (unused (is_accepted r (with_tenant r name new) (tenant_checks r name) ok)) (not_refused (has_name r.tenants name) NameHeld first.0) (not_refused (is_full r.tenants) RegisterFull last.0)
-  step_stays (Grant tenant digest) new unused proper = granted_stays tenant digest (id_of r.tenants tenant) proper refl
+  step_stays (Grant tenant digest right) new unused proper = granted_stays tenant digest right (id_of r.tenants tenant) proper refl
   step_stays (EndToken digest) new unused proper = gives (without_token r digest) (refuse (not (has_digest r.tokens digest)) NoSuchToken ∷ []) λ _. token_gone_stays digest
   step_stays (AddNetwork tenant name settings) new unused proper = added_stays tenant name settings new proper (id_of r.tenants tenant) unused refl
   step_stays (EndNetwork tenant name) new unused proper = ended_stays name (id_of r.tenants tenant)

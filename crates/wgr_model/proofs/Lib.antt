@@ -27,6 +27,7 @@ pub mod RuleLemmas
 pub mod ExistLemmas
 pub mod OrderRowLemmas
 pub mod AskRowLemmas
+pub mod ReaderLemmas
 pub mod RowRunLemmas
 pub mod RowWorldLemmas
 pub mod StopLemmas

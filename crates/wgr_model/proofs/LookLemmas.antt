@@ -1,17 +1,19 @@
 -- The test of bytes, and look-ups in lists.
-use Rattle.std.proofs.Common.{is_none, ◌≡◌, ℕ, Bool, true, false, not, ◌&&◌, List, [], ◌∷◌, map, filter, Some, None, Option, nat_eq, refl, sym, ap, ◌∙◌, arith, true≢false}
+use Rattle.std.proofs.Common.{is_none, ◌≡◌, ℕ, Bool, true, false, cond, not, ◌&&◌, ◌||◌, List, [], ◌∷◌, map, filter, Some, None, Option, nat_eq, refl, sym, ap, ◌∙◌, arith, true≢false}
 use Rattle.std.specs.Prelude.{if◌then◌else◌}
 use Rattle.std.specs.List.{list_any, IsDistinct, AllByRecursion}
 use Rattle.std.specs.Ordering.{nat_cmp, eq_by_cmp}
-use Rattle.std.specs.Cmp.{eq_by_cmp_equiv, IsEquivalence}
+use Rattle.std.specs.Cmp.{eq_by_cmp_equiv, Equal-is, IsEquivalence}
 use Rattle.std.specs.Cmp.Lexicographic.{slice_cmp, nat_list_cmp_total}
-use Rattle.std.specs.FinMap.{find}
+use Rattle.std.specs.FinMap.{find, slice_cmp-IsAntisymmetric, nat_cmp-IsAntisymmetric, IsAntisymmetric}
 use Rattle.std.proofs.lemmas.Bool.Decides.{nat_tests}
 use Rattle.std.proofs.lemmas.Map.Keys.{IsDistinct-head, IsDistinct-tail}
 use Rattle.wgr_core.specs.Network.{NetworkValue}
-use Rattle.wgr_model.specs.Consistent.{has_tenant, same_slot, slot}
-use Rattle.wgr_model.specs.Register.{Bytes, NetworkEntry, Tenant, Token, digests_of, id_of, is_same, networks_of}
-use Rattle.wgr_model.specs.Steps.{network_at, tenant_of_token, with_network}
+use Rattle.wgr_model.specs.Consistent.{has_digest, has_tenant, same_slot, slot}
+use Rattle.wgr_model.specs.declared.right.Right.{Right}
+use Rattle.wgr_model.specs.declared.right.Right.TheVariants.{Full, Read}
+use Rattle.wgr_model.specs.Register.{Bytes, NetworkEntry, Tenant, Token, digests_of, id_of, is_same, networks_of, right_of}
+use Rattle.wgr_model.specs.Steps.{network_at, tenant_of_token, with_network, with_reader, without_reader}
 
 pub is_same_equiv : IsEquivalence is_same
 unfolding is_same
@@ -35,6 +37,25 @@ pub is_same_is : (x y : Bytes) → eq_by_cmp (slice_cmp nat_cmp) x y ≡ is_same
 unfolding is_same
 is_same_is x y = refl
 
+pub bytes_differ : IsAntisymmetric (slice_cmp nat_cmp)
+bytes_differ = slice_cmp-IsAntisymmetric nat_cmp-IsAntisymmetric
+
+pub same_exact : (x y : Bytes) → is_same x y ≡ true → x ≡ y
+unfolding is_same
+same_exact x y e = bytes_differ x y ((Equal-is (slice_cmp nat_cmp x y)).0 e)
+
+-- a look-up among values that each belong to their key
+pub find_paired : {X : Type 0} (f : Bytes → X) (ds : List Bytes) (q : Bytes) → find (slice_cmp nat_cmp) q (map {B = Bytes × X} (λ d. (d, f d)) ds) ≡ (if list_any (is_same q) ds then Some (f q) else None)
+unfolding is_same
+find_paired f [] q = refl
+find_paired {X} f (d ∷ ds) q = by_test (is_same q d) refl (find_paired f ds q) where
+  rest : Option X
+  rest = find (slice_cmp nat_cmp) q (map {B = Bytes × X} (λ x. (x, f x)) ds)
+
+  by_test : (b : Bool) → is_same q d ≡ b → rest ≡ (if list_any (is_same q) ds then Some (f q) else None) → cond b (Some (f d)) rest ≡ (if b || list_any (is_same q) ds then Some (f q) else None)
+  by_test true e others = ap (λ x. Some (f x)) (sym (same_exact q d e))
+  by_test false e others = others
+
 pub find_network : (hs : List NetworkEntry) (id : ℕ) (q : Bytes) → find (slice_cmp nat_cmp) q (networks_of hs id) ≡ network_at hs id q
 find_network [] id q = refl
 find_network (h ∷ hs) id q = grind (arith, nat_tests, find_network hs id q, is_same_is q h.name)
@@ -44,7 +65,7 @@ none_later f d x [] all e = refl
 none_later f d x (y ∷ ys) all e = grind (arith, nat_tests, all.0, is_same_congr d (f x) (f y) e, none_later f d x ys all.1 e)
 
 -- a digest is a tenant's exactly where the token's row says so
-in_digests : (ts : List Token) (id : ℕ) (d : Bytes) → list_any (is_same d) (map (λ t. t.digest) ts) ≡ false → list_any (is_same d) (digests_of ts id) ≡ false
+pub in_digests : (ts : List Token) (id : ℕ) (d : Bytes) → list_any (is_same d) (map (λ t. t.digest) ts) ≡ false → list_any (is_same d) (digests_of ts id) ≡ false
 in_digests [] id d e = refl
 in_digests (t ∷ ts) id d e = grind (arith, nat_tests, in_digests ts id d)
 
@@ -113,6 +134,35 @@ network_gone (h ∷ hs) id i name q = grind (arith, nat_tests, network_gone hs i
 pub digest_gone : (ts : List Token) (id : ℕ) (d q : Bytes) → list_any (is_same q) (digests_of (filter (λ t. not (is_same d t.digest)) ts) id) ≡ (not (is_same q d) && list_any (is_same q) (digests_of ts id))
 digest_gone [] id d q = grind (arith, nat_tests)
 digest_gone (t ∷ ts) id d q = grind (arith, nat_tests, digest_gone ts id d q, is_same_congr q d t.digest, joined d q t.digest)
+
+-- the rights after a token is granted, and after one ends
+pub right_granted : (right : Right) (readers : List Bytes) (d q : Bytes) → list_any (is_same d) readers ≡ false → right_of (with_reader right d readers) q ≡ (if is_same q d then right else right_of readers q)
+right_granted Full readers d q free = by_test (is_same q d) refl where
+  by_test : (b : Bool) → is_same q d ≡ b → right_of readers q ≡ (if b then Full else right_of readers q)
+  by_test true e = ap (λ x. right_of readers x) (same_exact q d e) ∙ ap (λ b. if b then Read else Full) free
+  by_test false e = refl
+right_granted Read readers d q free = by_test (is_same q d) where
+  by_test : (b : Bool) → (if b || list_any (is_same q) readers then Read else Full) ≡ (if b then Read else right_of readers q)
+  by_test true = refl
+  by_test false = refl
+
+reader_gone : (readers : List Bytes) (d q : Bytes) → list_any (is_same q) (without_reader d readers) ≡ (not (is_same q d) && list_any (is_same q) readers)
+reader_gone [] d q = grind (arith, nat_tests)
+reader_gone (x ∷ xs) d q = grind (arith, nat_tests, reader_gone xs d q, is_same_congr q d x, joined d q x)
+
+pub right_ended : (readers : List Bytes) (d q : Bytes) → right_of (without_reader d readers) q ≡ (if is_same q d then Full else right_of readers q)
+right_ended readers d q = ap (λ b. if b then Read else Full) (reader_gone readers d q) ∙ by_test (is_same q d) where
+  by_test : (b : Bool) → (if not b && list_any (is_same q) readers then Read else Full) ≡ (if b then Full else right_of readers q)
+  by_test true = refl
+  by_test false = refl
+
+-- what is no token's digest doesn't stand among those that only read
+pub no_reader : (ts : List Token) (readers : List Bytes) (d : Bytes) → AllByRecursion (λ x. has_digest ts x ≡ true) readers → has_digest ts d ≡ false → list_any (is_same d) readers ≡ false
+no_reader ts [] d all free = refl
+no_reader ts (x ∷ xs) d all free = by_test (is_same d x) refl (no_reader ts xs d all.1 free) where
+  by_test : (b : Bool) → is_same d x ≡ b → list_any (is_same d) xs ≡ false → (b || list_any (is_same d) xs) ≡ false
+  by_test true e rest = absurd (true≢false (sym all.0 ∙ ap (has_digest ts) (sym (same_exact d x e)) ∙ free))
+  by_test false e rest = rest
 
 pub none_some : {A : Type 0} {a : A} → ◌≡◌ {A = Option A} None (Some a) → ⊥
 none_some {A} e = true≢false (ap is_none e)

@@ -16,11 +16,13 @@ use Rattle.wgr_core.specs.Network.{NetworkValue}
 use Rattle.wgr_core.specs.declared.command.Command.{Command}
 use Rattle.wgr_core.specs.declared.refusal.CommandRefusal.{CommandRefusal}
 use Rattle.wgr_core.specs.declared.reply.Reply.{Reply}
-use Rattle.wgr_model.specs.Consistent.{IsConsistent, endpoint, is_pool, overlaps, same_endpoint, same_slot, slot}
+use Rattle.wgr_model.specs.Consistent.{IsConsistent, endpoint, has_digest, is_pool, overlaps, same_endpoint, same_slot, slot}
 use Rattle.wgr_model.specs.Laws.{Has, OrderIsNoAccount}
-use Rattle.wgr_model.specs.Register.{Bytes, NetworkEntry, IsSame, Register, Tenant, Token, id_of, is_same}
+use Rattle.wgr_model.specs.declared.right.Right.{Right}
+use Rattle.wgr_model.specs.declared.right.Right.TheVariants.{Full, Read}
+use Rattle.wgr_model.specs.Register.{Bytes, NetworkEntry, IsSame, Register, Tenant, Token, id_of, is_same, right_of}
 use Rattle.wgr_model.specs.Rows.{HaveSame}
-use Rattle.wgr_model.specs.Steps.{AddNetwork, AddTenant, Answer, Ask, BadPool, Decided, Declined, DigestHeld, EndNetwork, EndToken, Event, Grant, IsUnused, Listed, NameHeld, Networks, NoNetwork, NoSuchNetwork, NoSuchTenant, NoSuchToken, OrderRefusal, EventOutcome, Plain, PoolOverlaps, PortHeld, Refused, RegisterFull, Settings, UnknownToken, act, acted, ask, asked, first_of, first_refusal, given, grant_checks, granted, has_digest, has_endpoint, has_slot, is_full, listed, name_of, network_added, network_at, network_checks, network_ended, new_network, ordered, outcome, overlapping, pool_refusal, put_network, refuse, tenant_checks, tenant_of_token, with_network, with_new_network, with_tenant, with_token, without_network, without_token}
+use Rattle.wgr_model.specs.Steps.{AddNetwork, AddTenant, Answer, Ask, BadPool, Decided, Declined, DigestHeld, EndNetwork, EndToken, Event, Grant, IsUnused, Listed, NameHeld, Networks, NoNetwork, NoSuchNetwork, NoSuchTenant, NoSuchToken, OrderRefusal, EventOutcome, Plain, PoolOverlaps, PortHeld, ReadOnly, Refused, RegisterFull, Settings, UnknownToken, act, acted, allows, ask, asked, first_of, first_refusal, given, grant_checks, granted, has_endpoint, has_slot, is_full, listed, name_of, network_added, network_at, network_checks, network_ended, new_network, ordered, outcome, overlapping, pool_refusal, put_network, refuse, tenant_checks, tenant_of_token, with_network, with_new_network, with_reader, with_tenant, with_token, without_network, without_reader, without_token}
 use Rattle.wgr_model.proofs.CollectLemmas.{from_map, has_map}
 use Rattle.wgr_model.proofs.GatherLemmas.{eqb_self, in_filter}
 use Rattle.wgr_model.proofs.KeptLemmas.{distinct_filter}
@@ -28,7 +30,7 @@ use Rattle.wgr_model.proofs.LookLemmas.{is_same_congr, is_same_refl, is_same_sym
 use Rattle.wgr_model.proofs.MemberLemmas.{permuted}
 use Rattle.wgr_model.proofs.PoolLemmas.{has_first, least_first, pair_cmp, pair_total}
 use Rattle.wgr_model.proofs.RunLemmas.{same_trans}
-use Rattle.wgr_model.proofs.SameLemmas.{find_permutation, has_permutation, same_at, same_consistent, same_id, same_network, slot_sym, slot_tells}
+use Rattle.wgr_model.proofs.SameLemmas.{find_permutation, has_permutation, same_at, same_consistent, same_id, same_network, same_right, slot_sym, slot_tells}
 
 -- ---- lists
 
@@ -49,6 +51,14 @@ filter_same p xs ys same a = (
 -- what a test leaves of lists whose keys are apart
 pub filter_permutation : {A B : Type 0} (f : A → B) (e : B → B → Bool) → ((b : B) → e b b ≡ true) → ((a b : B) → e a b ≡ e b a) → (p : A → Bool) (xs ys : List A) → IsDistinct e (map f xs) → IsDistinct e (map f ys) → IsPermutation xs ys → IsPermutation (filter p xs) (filter p ys)
 filter_permutation f e itself flips p xs ys u v same = permuted f e itself flips (filter p xs) (filter p ys) (distinct_filter e f p xs u) (distinct_filter e f p ys v) (filter_same p xs ys same)
+
+-- the same of values that are their own keys
+map_id : {A : Type 0} (xs : List A) → map (λ x. x) xs ≡ xs
+map_id [] = refl
+map_id (x ∷ xs) = ap (λ ys. x ∷ ys) (map_id xs)
+
+pub reader_permutation : (p : Bytes → Bool) (xs ys : List Bytes) → IsDistinct is_same xs → IsDistinct is_same ys → IsPermutation xs ys → IsPermutation (filter p xs) (filter p ys)
+reader_permutation p xs ys u v same = filter_permutation (λ d. d) is_same is_same_refl is_same_sym p xs ys (subst (IsDistinct is_same) (sym (map_id xs)) u) (subst (IsDistinct is_same) (sym (map_id ys)) v) same
 
 any_same : {A B : Type 0} (test : B → Bool) (f : A → B) (xs ys : List A) → IsPermutation xs ys → list_any test (map f xs) ≡ list_any test (map f ys)
 any_same test f xs ys same = list_any-IsPermutation test (map f xs) (map f ys) (IsPermutation-map f xs ys same)
@@ -156,6 +166,7 @@ module _ (r s : Register) (same : IsSame r s) (good : IsConsistent r) where
   put_same id name n = record {
     tenants = same.tenants;
     tokens = same.tokens;
+    readers = same.readers;
     networks = subst (λ xs. IsPermutation xs (with_network s.networks id name n)) (sym (put_is_map r.networks id name n good.slots))
         (subst (IsPermutation (map (put_in id name n) r.networks)) (sym (put_is_map s.networks id name n there.slots)) (IsPermutation-map (put_in id name n) r.networks s.networks same.networks));
   }
@@ -168,9 +179,12 @@ module _ (r s : Register) (same : IsSame r s) (good : IsConsistent r) where
   asked_alike now command id name None = alike NoSuchNetwork
   asked_alike now command id name (Some n) = acted_alike id name (act n now command)
 
-  ask_alike : (name : Bytes) (now : ℕ) (command : Command) (token : Option ℕ) → AreAlike (ask r name now command token) (ask s name now command token)
-  ask_alike name now command None = alike UnknownToken
-  ask_alike name now command (Some id) = subst (λ n. AreAlike (asked now command r id name (network_at r.networks id name)) (asked now command s id name n)) (same_network r s same good id name) (asked_alike now command id name (network_at r.networks id name))
+  ask_alike : (digest name : Bytes) (now : ℕ) (command : Command) (token : Option ℕ) → AreAlike (ask r digest name now command token) (ask s digest name now command token)
+  ask_alike digest name now command None = alike UnknownToken
+  ask_alike digest name now command (Some id) = subst (λ right. AreAlike (ask r digest name now command (Some id)) (if allows right command then asked now command s id name (network_at s.networks id name) else (ReadOnly, s))) (same_right r s same good digest) (by_right (allows (right_of r.readers digest) command)) where
+    by_right : (b : Bool) → AreAlike (if b then asked now command r id name (network_at r.networks id name) else (ReadOnly, r)) (if b then asked now command s id name (network_at s.networks id name) else (ReadOnly, s))
+    by_right true = subst (λ n. AreAlike (asked now command r id name (network_at r.networks id name)) (asked now command s id name n)) (same_network r s same good id name) (asked_alike now command id name (network_at r.networks id name))
+    by_right false = alike ReadOnly
 
   listed_alike : (token : Option ℕ) → AreAlike (listed r token) (listed s token)
   listed_alike None = alike UnknownToken
@@ -182,17 +196,24 @@ module _ (r s : Register) (same : IsSame r s) (good : IsConsistent r) where
     by_why None = record { answer = refl; entries = done }
     by_why (Some why) = alike (Refused why)
 
-  granted_alike : (digest : Bytes) (id : Option ℕ) → AreAlike (granted r digest id) (granted s digest id)
-  granted_alike digest None = alike (Refused NoSuchTenant)
-  granted_alike digest (Some id) = ordered_alike (grant_checks r digest) (grant_checks s digest) (with_token r digest id) (with_token s digest id)
+  readers_alike : (right : Right) (digest : Bytes) → IsPermutation (with_reader right digest r.readers) (with_reader right digest s.readers)
+  readers_alike Full digest = same.readers
+  readers_alike Read digest = IsPermutation-cons digest r.readers s.readers same.readers
+
+  readers_left : (digest : Bytes) → IsPermutation (without_reader digest r.readers) (without_reader digest s.readers)
+  readers_left digest = reader_permutation (λ d. not (is_same digest d)) r.readers s.readers good.readers there.readers same.readers
+
+  granted_alike : (digest : Bytes) (right : Right) (id : Option ℕ) → AreAlike (granted r digest right id) (granted s digest right id)
+  granted_alike digest right None = alike (Refused NoSuchTenant)
+  granted_alike digest right (Some id) = ordered_alike (grant_checks r digest) (grant_checks s digest) (with_token r digest id right) (with_token s digest id right)
       (ap₂ (λ a b. first_refusal (refuse a DigestHeld ∷ refuse b RegisterFull ∷ [])) (any_same (is_same digest) (λ t. t.digest) r.tokens s.tokens same.tokens) (full_same r.tokens s.tokens same.tokens))
-      (record { tenants = same.tenants; tokens = IsPermutation-cons (record { digest = digest; tenant = id }) r.tokens s.tokens same.tokens; networks = same.networks })
+      (record { tenants = same.tenants; tokens = IsPermutation-cons (record { digest = digest; tenant = id }) r.tokens s.tokens same.tokens; readers = readers_alike right digest; networks = same.networks })
 
   added_alike : (name : Bytes) (set : Settings) (new : ℕ) (id : Option ℕ) → AreAlike (network_added r name set new id) (network_added s name set new id)
   added_alike name set new None = alike (Refused NoSuchTenant)
   added_alike name set new (Some id) = ordered_alike (network_checks r id name set) (network_checks s id name set) (with_new_network r new id name (new_network set)) (with_new_network s new id name (new_network set))
       (λ i. first_refusal (refuse (slots i) NameHeld ∷ refuse (not (is_pool set.pool)) BadPool ∷ same_overlapping set.pool i ∷ refuse (ports i) PortHeld ∷ refuse (full_same r.networks s.networks same.networks i) RegisterFull ∷ []))
-      (record { tenants = same.tenants; tokens = same.tokens; networks = IsPermutation-cons (record { id = new; tenant = id; name = name; network = new_network set }) r.networks s.networks same.networks }) where
+      (record { tenants = same.tenants; tokens = same.tokens; readers = same.readers; networks = IsPermutation-cons (record { id = new; tenant = id; name = name; network = new_network set }) r.networks s.networks same.networks }) where
         slots : has_slot r.networks id name ≡ has_slot s.networks id name
         slots = any_same (same_slot (id, name)) slot r.networks s.networks same.networks
 
@@ -203,21 +224,21 @@ module _ (r s : Register) (same : IsSame r s) (good : IsConsistent r) where
   ended_alike name None = alike (Refused NoSuchTenant)
   ended_alike name (Some id) = ordered_alike (refuse (not (has_slot r.networks id name)) NoNetwork ∷ []) (refuse (not (has_slot s.networks id name)) NoNetwork ∷ []) (without_network r id name) (without_network s id name)
       (ap (λ b. first_refusal (refuse (not b) NoNetwork ∷ [])) (any_same (same_slot (id, name)) slot r.networks s.networks same.networks))
-      (record { tenants = same.tenants; tokens = same.tokens; networks = filter_permutation slot same_slot slot_itself slot_sym (λ h. not (same_slot (id, name) (slot h))) r.networks s.networks good.slots there.slots same.networks }) where
+      (record { tenants = same.tenants; tokens = same.tokens; readers = same.readers; networks = filter_permutation slot same_slot slot_itself slot_sym (λ h. not (same_slot (id, name) (slot h))) r.networks s.networks good.slots there.slots same.networks }) where
         slot_itself : (a : ℕ × Bytes) → same_slot a a ≡ true
         slot_itself a = ap₂ (λ x y. x && y) (eqb_self a.0) (is_same_refl a.1)
 
   pub outcome_alike : (e : Event) (new : ℕ) → AreAlike (outcome r e new) (outcome s e new)
   outcome_alike (Decided digest reply) new = alike (Plain reply)
-  outcome_alike (Ask digest name now command) new = subst (λ t. AreAlike (ask r name now command (tenant_of_token r.tokens digest)) (ask s name now command t)) (same_token digest) (ask_alike name now command (tenant_of_token r.tokens digest))
+  outcome_alike (Ask digest name now command) new = subst (λ t. AreAlike (ask r digest name now command (tenant_of_token r.tokens digest)) (ask s digest name now command t)) (same_token digest) (ask_alike digest name now command (tenant_of_token r.tokens digest))
   outcome_alike (Networks digest) new = subst (λ t. AreAlike (listed r (tenant_of_token r.tokens digest)) (listed s t)) (same_token digest) (listed_alike (tenant_of_token r.tokens digest))
   outcome_alike (AddTenant name) new = ordered_alike (tenant_checks r name) (tenant_checks s name) (with_tenant r name new) (with_tenant s name new)
       (ap₂ (λ a b. first_refusal (refuse a NameHeld ∷ refuse b RegisterFull ∷ [])) (any_same (is_same name) (λ t. t.name) r.tenants s.tenants same.tenants) (full_same r.tenants s.tenants same.tenants))
-      (record { tenants = IsPermutation-cons (record { id = new; name = name }) r.tenants s.tenants same.tenants; tokens = same.tokens; networks = same.networks })
-  outcome_alike (Grant tenant digest) new = subst (λ t. AreAlike (granted r digest (id_of r.tenants tenant)) (granted s digest t)) (same_id r s same good tenant) (granted_alike digest (id_of r.tenants tenant))
+      (record { tenants = IsPermutation-cons (record { id = new; name = name }) r.tenants s.tenants same.tenants; tokens = same.tokens; readers = same.readers; networks = same.networks })
+  outcome_alike (Grant tenant digest right) new = subst (λ t. AreAlike (granted r digest right (id_of r.tenants tenant)) (granted s digest right t)) (same_id r s same good tenant) (granted_alike digest right (id_of r.tenants tenant))
   outcome_alike (EndToken digest) new = ordered_alike (refuse (not (has_digest r.tokens digest)) NoSuchToken ∷ []) (refuse (not (has_digest s.tokens digest)) NoSuchToken ∷ []) (without_token r digest) (without_token s digest)
       (ap (λ b. first_refusal (refuse (not b) NoSuchToken ∷ [])) (any_same (is_same digest) (λ t. t.digest) r.tokens s.tokens same.tokens))
-      (record { tenants = same.tenants; tokens = filter_permutation (λ t. t.digest) is_same is_same_refl is_same_sym (λ t. not (is_same digest t.digest)) r.tokens s.tokens good.digests there.digests same.tokens; networks = same.networks })
+      (record { tenants = same.tenants; tokens = filter_permutation (λ t. t.digest) is_same is_same_refl is_same_sym (λ t. not (is_same digest t.digest)) r.tokens s.tokens good.digests there.digests same.tokens; readers = readers_left digest; networks = same.networks })
   outcome_alike (AddNetwork tenant name settings) new = subst (λ t. AreAlike (network_added r name settings new (id_of r.tenants tenant)) (network_added s name settings new t)) (same_id r s same good tenant) (added_alike name settings new (id_of r.tenants tenant))
   outcome_alike (EndNetwork tenant name) new = subst (λ t. AreAlike (network_ended r name (id_of r.tenants tenant)) (network_ended s name t)) (same_id r s same good tenant) (ended_alike name (id_of r.tenants tenant))
 
@@ -226,13 +247,13 @@ module _ (r s : Register) (same : IsSame r s) (good : IsConsistent r) where
   still_unused (Ask digest name now command) new is = tt
   still_unused (Networks digest) new is = tt
   still_unused (AddTenant name) new is = (is.0, sym (any_same (nat_eq new) (λ t. t.id) r.tenants s.tenants same.tenants) ∙ is.1)
-  still_unused (Grant tenant digest) new is = tt
+  still_unused (Grant tenant digest right) new is = tt
   still_unused (EndToken digest) new is = tt
   still_unused (AddNetwork tenant name settings) new is = (is.0, sym (any_same (nat_eq new) (λ h. h.id) r.networks s.networks same.networks) ∙ is.1)
   still_unused (EndNetwork tenant name) new is = tt
 
 same_sym : (r s : Register) → IsSame r s → IsSame s r
-same_sym r s same = record { tenants = IsPermutation-sym r.tenants s.tenants same.tenants; tokens = IsPermutation-sym r.tokens s.tokens same.tokens; networks = IsPermutation-sym r.networks s.networks same.networks }
+same_sym r s same = record { tenants = IsPermutation-sym r.tenants s.tenants same.tenants; tokens = IsPermutation-sym r.tokens s.tokens same.tokens; readers = IsPermutation-sym r.readers s.readers same.readers; networks = IsPermutation-sym r.networks s.networks same.networks }
 
 -- what is a step on some entries is one on the same entries in another order
 pub order_is_no_account : OrderIsNoAccount

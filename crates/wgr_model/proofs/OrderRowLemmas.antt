@@ -6,16 +6,18 @@ use Rattle.std.proofs.lemmas.Map.Keys.{IsDistinct-IsPermutation}
 use Rattle.wgr_pool.proofs.Bools.{not_true}
 use Rattle.wgr_model.specs.Consistent.{IsConsistent, same_slot, slot}
 use Rattle.wgr_model.specs.Laws.{Has}
-use Rattle.wgr_model.specs.Register.{NetworkEntry, Register, Token, is_same}
+use Rattle.wgr_model.specs.declared.right.Right.{Right}
+use Rattle.wgr_model.specs.declared.right.Right.TheVariants.{Full, Read}
+use Rattle.wgr_model.specs.Register.{Bytes, NetworkEntry, Register, Token, is_same}
 use Rattle.wgr_model.specs.RowRules.{NetworksGain, NetworksLose, TenantsGain, TokensGain, TokensLose}
 use Rattle.wgr_model.specs.Rows.{HaveSame, NetworkRow, allowed_rows, network_row, peer_rows}
-use Rattle.wgr_model.specs.Steps.{new_network, without_network}
+use Rattle.wgr_model.specs.Steps.{new_network, with_reader, without_network, without_reader}
 use Rattle.wgr_model.proofs.CollectLemmas.{from_flat, has_flat}
 use Rattle.wgr_model.proofs.CommitLemmas.{own_allowed, own_peers, self_slot}
 use Rattle.wgr_model.proofs.GatherLemmas.{eqb_self, in_filter, map_map}
 use Rattle.wgr_model.proofs.HolderLemmas.{one_or_apart}
 use Rattle.wgr_model.proofs.LookLemmas.{is_same_refl, is_same_sym}
-use Rattle.wgr_model.proofs.OrderLemmas.{filter_permutation, from_filter}
+use Rattle.wgr_model.proofs.OrderLemmas.{filter_permutation, from_filter, reader_permutation}
 use Rattle.wgr_model.proofs.SameLemmas.{eqb_sym, slot_sym}
 
 pub tenants_gain : TenantsGain
@@ -31,21 +33,26 @@ tenants_gain r t name new tenants rows more = record {
   keyed = record { peer_keys = rows.keyed.peer_keys; allowed_keys = rows.keyed.allowed_keys; address_keys = rows.keyed.address_keys };
 }
 
+-- one row more where the token only reads
+reader_gains : (right : Right) (digest : Bytes) (old held : List Bytes) → IsPermutation old held → IsPermutation (with_reader right digest old) (with_reader right digest held)
+reader_gains Full digest old held same = same
+reader_gains Read digest old held same = IsPermutation-cons digest old held same
+
 pub tokens_gain : TokensGain
-tokens_gain r t digest id tokens rows more = record {
+tokens_gain r t digest id right tokens readers rows more also = record {
   meta = rows.meta;
   tenants = rows.tenants;
   tokens = IsPermutation-trans (record { digest = digest; tenant = id } ∷ r.tokens) (record { digest = digest; tenant = id } ∷ t.tokens) tokens (IsPermutation-cons (record { digest = digest; tenant = id }) r.tokens t.tokens rows.tokens) more;
   networks = rows.networks;
   seconds = rows.seconds;
-  readers = rows.readers;
+  readers = IsPermutation-trans (with_reader right digest r.readers) (with_reader right digest t.readers) readers (reader_gains right digest r.readers t.readers rows.readers) also;
   peers = rows.peers;
   allowed = rows.allowed;
   keyed = record { peer_keys = rows.keyed.peer_keys; allowed_keys = rows.keyed.allowed_keys; address_keys = rows.keyed.address_keys };
 }
 
 pub tokens_lose : TokensLose
-tokens_lose r t digest tokens rows good less =
+tokens_lose r t digest tokens readers rows good less also =
     let keep = λ (x : Token). not (is_same digest x.digest) in
     let apart = IsDistinct-IsPermutation is_same is_same_sym (map (λ x. x.digest) r.tokens) (map (λ x. x.digest) t.tokens) (IsPermutation-map (λ x. x.digest) r.tokens t.tokens rows.tokens) good.digests in
     record {
@@ -54,7 +61,8 @@ tokens_lose r t digest tokens rows good less =
       tokens = IsPermutation-trans (filter keep r.tokens) (filter keep t.tokens) tokens (filter_permutation (λ x. x.digest) is_same is_same_refl is_same_sym keep r.tokens t.tokens good.digests apart rows.tokens) less;
       networks = rows.networks;
       seconds = rows.seconds;
-      readers = rows.readers;
+      readers = IsPermutation-trans (without_reader digest r.readers) (without_reader digest t.readers) readers
+          (reader_permutation (λ d. not (is_same digest d)) r.readers t.readers good.readers (IsDistinct-IsPermutation is_same is_same_sym r.readers t.readers rows.readers good.readers) rows.readers) also;
       peers = rows.peers;
       allowed = rows.allowed;
       keyed = record { peer_keys = rows.keyed.peer_keys; allowed_keys = rows.keyed.allowed_keys; address_keys = rows.keyed.address_keys };
@@ -130,7 +138,7 @@ networks_lose r t u h rows good held gone =
       networks = subst (λ xs. IsPermutation xs u.networks) (sym (ap (map network_row) (left r good h held) ∙ map_filter network_row keep r.networks))
           (IsPermutation-trans (filter keep (map network_row r.networks)) (filter keep t.networks) u.networks (filter_permutation (λ w. w.id) nat_eq eqb_self eqb_sym keep (map network_row r.networks) t.networks ids apart rows.networks) gone.networks);
       seconds = gone.seconds ∙ rows.seconds;
-      readers = gone.readers ∙ rows.readers;
+      readers = subst (IsPermutation r.readers) (sym gone.readers) rows.readers;
       peers = subst (λ xs. HaveSame (flat_map peer_rows xs) u.peers) (sym (left r good h held)) (rows_left r good h held peer_rows (λ a. a.network) own_peers t.peers u.peers rows.peers gone.peers);
       allowed = subst (λ xs. HaveSame (flat_map allowed_rows xs) u.allowed) (sym (left r good h held)) (rows_left r good h held allowed_rows (λ a. a.network) own_allowed t.allowed u.allowed rows.allowed gone.allowed);
       keyed = gone.keyed;

@@ -1,12 +1,13 @@
 -- Single orders.
-use Rattle.std.proofs.Common.{◌≡◌, ℕ, Bool, true, false, not, List, [], ◌∷◌, ◌++◌, map, nat_eq, Some, None, Option, Err, is_some, refl, sym, ap, ap₂, subst, ◌∙◌, ◌<◌, arith}
+use Rattle.std.proofs.Common.{◌≡◌, ℕ, Bool, true, false, not, List, [], ◌∷◌, ◌++◌, map, nat_eq, Some, None, Option, is_some, refl, sym, ap, ap₂, subst, ◌∙◌, arith}
 use Rattle.std.specs.List.{list_any}
 use Rattle.std.specs.List.Sorted.{IsPermutation}
 use Rattle.std.proofs.lemmas.List.Sorted.{IsPermutation-append_comm, IsPermutation-refl}
 use Rattle.std.proofs.lemmas.Bool.Decides.{nat_tests}
-use Rattle.wgr_model.specs.Consistent.{IsId, is_pool}
+use Rattle.wgr_model.specs.Consistent.{IsId, has_digest, is_pool}
+use Rattle.wgr_model.specs.declared.right.Right.{Right}
 use Rattle.wgr_model.specs.Register.{Bytes, NetworkEntry, IsSame, Register, Tenant, Token, id_of}
-use Rattle.wgr_model.specs.Steps.{AddNetwork, AddTenant, BadPool, DigestHeld, Done, EndNetwork, EndToken, Event, Grant, IsStep, NameHeld, NoNetwork, NoSuchTenant, NoSuchToken, OrderRefusal, EventOutcome, PortHeld, Refused, RegisterFull, Settings, first_refusal, given, granted, has_digest, has_endpoint, has_name, has_slot, is_full, network_added, network_at, network_checks, network_ended, new_network, ordered, outcome, overlapping, pool_refusal, refuse, tenant_of_token, with_new_network, with_tenant, with_token, without_network, without_token}
+use Rattle.wgr_model.specs.Steps.{AddNetwork, AddTenant, BadPool, DigestHeld, Done, EndNetwork, EndToken, Event, Grant, IsStep, NameHeld, NoNetwork, NoSuchTenant, NoSuchToken, OrderRefusal, EventOutcome, PortHeld, Refused, RegisterFull, Settings, first_refusal, given, granted, has_endpoint, has_name, has_slot, is_full, network_added, network_at, network_checks, network_ended, new_network, ordered, outcome, overlapping, pool_refusal, refuse, tenant_of_token, with_new_network, with_reader, with_tenant, with_token, without_network, without_token}
 use Rattle.wgr_model.proofs.CallLemmas.{quiet, step_is}
 use Rattle.wgr_model.proofs.RunLemmas.{same_itself}
 use Rattle.wgr_model.proofs.SameLemmas.{eqb_sym}
@@ -43,8 +44,8 @@ module _ (r : Register) (name : Bytes) where
   no_more_tenants free full = refused r (AddTenant name) RegisterFull (ap₂ (λ a b. ordered (refuse a NameHeld ∷ refuse b RegisterFull ∷ []) r (with_tenant r name 0)) (name_is_held r.tenants name ∙ free) full)
 
   pub tenant_added : (s : Register) (new : ℕ) → is_some (id_of r.tenants name) ≡ false → is_full r.tenants ≡ false → IsId new → list_any (nat_eq new) (map (λ (t : Tenant). t.id) r.tenants) ≡ false
-      → s.tenants ≡ r.tenants ++ record { id = new; name = name } ∷ [] → s.tokens ≡ r.tokens → s.networks ≡ r.networks → IsStep r (AddTenant name) Done s
-  tenant_added s new free some_room id unused tenants tokens networks =
+      → s.tenants ≡ r.tenants ++ record { id = new; name = name } ∷ [] → s.tokens ≡ r.tokens → s.readers ≡ r.readers → s.networks ≡ r.networks → IsStep r (AddTenant name) Done s
+  tenant_added s new free some_room id unused tenants tokens readers networks =
       let o : EventOutcome = (Done, with_tenant r name new) in
       step_is r s (AddTenant name) new o
       (ap₂ (λ a b. ordered (refuse a NameHeld ∷ refuse b RegisterFull ∷ []) r (with_tenant r name new)) (name_is_held r.tenants name ∙ free) some_room)
@@ -52,30 +53,32 @@ module _ (r : Register) (name : Bytes) where
       (record {
         tenants = at_end (record { id = new; name = name }) r.tenants s.tenants tenants;
         tokens = subst (IsPermutation r.tokens) (sym tokens) (IsPermutation-refl r.tokens);
+        readers = subst (IsPermutation r.readers) (sym readers) (IsPermutation-refl r.readers);
         networks = subst (IsPermutation r.networks) (sym networks) (IsPermutation-refl r.networks);
       })
 
-module _ (r : Register) (tenant digest : Bytes) where
-  pub nobody_granted : id_of r.tenants tenant ≡ None → IsStep r (Grant tenant digest) (Refused NoSuchTenant) r
-  nobody_granted none = refused r (Grant tenant digest) NoSuchTenant (ap (granted r digest) none)
+module _ (r : Register) (tenant digest : Bytes) (right : Right) where
+  pub nobody_granted : id_of r.tenants tenant ≡ None → IsStep r (Grant tenant digest right) (Refused NoSuchTenant) r
+  nobody_granted none = refused r (Grant tenant digest right) NoSuchTenant (ap (granted r digest right) none)
 
   module _ (id : ℕ) (known : id_of r.tenants tenant ≡ Some id) where
-    pub digest_held : is_some (tenant_of_token r.tokens digest) ≡ true → IsStep r (Grant tenant digest) (Refused DigestHeld) r
-    digest_held held = refused r (Grant tenant digest) DigestHeld (ap (granted r digest) known ∙ ap (λ b. ordered (refuse b DigestHeld ∷ refuse (is_full r.tokens) RegisterFull ∷ []) r (with_token r digest id)) (digest_is_held r.tokens digest ∙ held))
+    pub digest_held : is_some (tenant_of_token r.tokens digest) ≡ true → IsStep r (Grant tenant digest right) (Refused DigestHeld) r
+    digest_held held = refused r (Grant tenant digest right) DigestHeld (ap (granted r digest right) known ∙ ap (λ b. ordered (refuse b DigestHeld ∷ refuse (is_full r.tokens) RegisterFull ∷ []) r (with_token r digest id right)) (digest_is_held r.tokens digest ∙ held))
 
-    pub no_more_tokens : is_some (tenant_of_token r.tokens digest) ≡ false → is_full r.tokens ≡ true → IsStep r (Grant tenant digest) (Refused RegisterFull) r
-    no_more_tokens free full = refused r (Grant tenant digest) RegisterFull (ap (granted r digest) known ∙ ap₂ (λ a b. ordered (refuse a DigestHeld ∷ refuse b RegisterFull ∷ []) r (with_token r digest id)) (digest_is_held r.tokens digest ∙ free) full)
+    pub no_more_tokens : is_some (tenant_of_token r.tokens digest) ≡ false → is_full r.tokens ≡ true → IsStep r (Grant tenant digest right) (Refused RegisterFull) r
+    no_more_tokens free full = refused r (Grant tenant digest right) RegisterFull (ap (granted r digest right) known ∙ ap₂ (λ a b. ordered (refuse a DigestHeld ∷ refuse b RegisterFull ∷ []) r (with_token r digest id right)) (digest_is_held r.tokens digest ∙ free) full)
 
-    pub token_granted : (s : Register) → is_some (tenant_of_token r.tokens digest) ≡ false → is_full r.tokens ≡ false → s.tokens ≡ r.tokens ++ record { digest = digest; tenant = id } ∷ [] → s.tenants ≡ r.tenants → s.networks ≡ r.networks
-        → IsStep r (Grant tenant digest) Done s
-    token_granted s free some_room tokens tenants networks =
-        let o : EventOutcome = (Done, with_token r digest id) in
-        step_is r s (Grant tenant digest) 0 o
-        (ap (granted r digest) known ∙ ap₂ (λ a b. ordered (refuse a DigestHeld ∷ refuse b RegisterFull ∷ []) r (with_token r digest id)) (digest_is_held r.tokens digest ∙ free) some_room)
+    pub token_granted : (s : Register) → is_some (tenant_of_token r.tokens digest) ≡ false → is_full r.tokens ≡ false → s.tokens ≡ r.tokens ++ record { digest = digest; tenant = id } ∷ [] → IsPermutation (with_reader right digest r.readers) s.readers → s.tenants ≡ r.tenants → s.networks ≡ r.networks
+        → IsStep r (Grant tenant digest right) Done s
+    token_granted s free some_room tokens readers tenants networks =
+        let o : EventOutcome = (Done, with_token r digest id right) in
+        step_is r s (Grant tenant digest right) 0 o
+        (ap (granted r digest right) known ∙ ap₂ (λ a b. ordered (refuse a DigestHeld ∷ refuse b RegisterFull ∷ []) r (with_token r digest id right)) (digest_is_held r.tokens digest ∙ free) some_room)
         (λ _. tt)
         (record {
           tenants = subst (IsPermutation r.tenants) (sym tenants) (IsPermutation-refl r.tenants);
           tokens = at_end (record { digest = digest; tenant = id }) r.tokens s.tokens tokens;
+          readers = readers;
           networks = subst (IsPermutation r.networks) (sym networks) (IsPermutation-refl r.networks);
         })
 
@@ -116,8 +119,8 @@ module _ (r : Register) (tenant name : Bytes) (settings : Settings) where
     not_added why is = refused r (AddNetwork tenant name settings) why (ap (network_added r name settings 0) known ∙ ap (λ o. given o r (with_new_network r 0 id name (new_network settings))) is)
 
     pub network_added_is : (s : Register) (new : ℕ) → first_refusal (network_checks r id name settings) ≡ None → IsId new → list_any (nat_eq new) (map (λ (h : NetworkEntry). h.id) r.networks) ≡ false
-        → s.networks ≡ r.networks ++ record { id = new; tenant = id; name = name; network = new_network settings } ∷ [] → s.tenants ≡ r.tenants → s.tokens ≡ r.tokens → IsStep r (AddNetwork tenant name settings) Done s
-    network_added_is s new passed is_id unused networks tenants tokens =
+        → s.networks ≡ r.networks ++ record { id = new; tenant = id; name = name; network = new_network settings } ∷ [] → s.tenants ≡ r.tenants → s.tokens ≡ r.tokens → s.readers ≡ r.readers → IsStep r (AddNetwork tenant name settings) Done s
+    network_added_is s new passed is_id unused networks tenants tokens readers =
         let o : EventOutcome = (Done, with_new_network r new id name (new_network settings)) in
         step_is r s (AddNetwork tenant name settings) new o
         (ap (network_added r name settings new) known ∙ ap (λ o. given o r (with_new_network r new id name (new_network settings))) passed)
@@ -125,6 +128,7 @@ module _ (r : Register) (tenant name : Bytes) (settings : Settings) where
         (record {
           tenants = subst (IsPermutation r.tenants) (sym tenants) (IsPermutation-refl r.tenants);
           tokens = subst (IsPermutation r.tokens) (sym tokens) (IsPermutation-refl r.tokens);
+          readers = subst (IsPermutation r.readers) (sym readers) (IsPermutation-refl r.readers);
           networks = at_end (record { id = new; tenant = id; name = name; network = new_network settings }) r.networks s.networks networks;
         })
 

@@ -14,6 +14,7 @@ use Rattle.wgr_core.specs.declared.command.Command.TheVariants as command
 use Rattle.wgr_core.specs.declared.reply.Reply.TheVariants as reply
 use Rattle.wgr_core.specs.Network.{NetworkValue}
 use Rattle.wgr_model.specs.Consistent.{IsConsistent, IsDigest, is_pool, overlaps}
+use Rattle.wgr_model.specs.declared.right.Right.TheVariants.{Full, Read}
 use Rattle.wgr_model.specs.Register.{Bytes, NetworkEntry, IsSame, Register, Tenant, Token, empty_register, is_same}
 use Rattle.wgr_model.specs.Rows.{AllowedRow, AreRowsOf, NetworkRow, PeerRow, Tables, register_of}
 use Rattle.wgr_model.specs.RowLaws.{AreConsistent, IsRowStep}
@@ -66,7 +67,7 @@ abbrev token : ℕ → Token
 token id = record { digest = replicate 32 id; tenant = id }
 
 abbrev house : List NetworkEntry → Register
-house networks = record { tenants = bolt ∷ acme ∷ []; tokens = token 2 ∷ token 1 ∷ []; networks = networks }
+house networks = record { tenants = bolt ∷ acme ∷ []; tokens = token 2 ∷ token 1 ∷ []; readers = []; networks = networks }
 
 -- peer 1 of acme's has the route, peer 2's lease ends at 100, and bolt's peer has the key of acme's first
 abbrev full_house : Register
@@ -95,8 +96,8 @@ with_tenants = left (record empty_register { tenants = acme ∷ [] }) (record em
 
 with_tokens : IsConsistent (house [])
 unfolding is_same
-with_tokens = left (record (house []) { tokens = token 1 ∷ [] }) (house []) (Grant (codes "bolt") (replicate 32 2)) Done 0
-    (left (record (house []) { tokens = [] }) (record (house []) { tokens = token 1 ∷ [] }) (Grant (codes "acme") (replicate 32 1)) Done 0 with_tenants (is_digest 1 (omega arith)) (λ _. tt) refl)
+with_tokens = left (record (house []) { tokens = token 1 ∷ [] }) (house []) (Grant (codes "bolt") (replicate 32 2) Full) Done 0
+    (left (record (house []) { tokens = [] }) (record (house []) { tokens = token 1 ∷ [] }) (Grant (codes "acme") (replicate 32 1) Full) Done 0 with_tenants (is_digest 1 (omega arith)) (λ _. tt) refl)
     (is_digest 2 (omega arith)) (λ _. tt) refl
 
 with_office : IsConsistent (house (office 1 [] [] ∷ []))
@@ -222,3 +223,10 @@ adding =
     let s : Register = house (lab 2 (peer 1 1 (address 9 2) 0 ∷ []) ∷ later ∷ []) in
     let answer = added (peer 3 3 (address 8 3) 0) later.network in
     on_rows (Ask (replicate 32 1) (codes "office") 100 (add 3 0)) answer s (tt, (refl, no_label, omega arith, omega arith)) (step_is full_house s (Ask (replicate 32 1) (codes "office") 100 (add 3 0)) 0 (answer, s) refl (λ _. tt) (same_itself s))
+
+-- a second token of bolt's, which only reads: a row more of each kind, and every other row stays
+reader_granted : IsRowStep rows (Grant (codes "bolt") (replicate 32 3) Read) Done (record rows { tokens = record { digest = replicate 32 3; tenant = 2 } ∷ token 2 ∷ token 1 ∷ []; readers = replicate 32 3 ∷ [] })
+unfolding is_same
+reader_granted =
+    let s : Register = record full_house { tokens = record { digest = replicate 32 3; tenant = 2 } ∷ token 2 ∷ token 1 ∷ []; readers = replicate 32 3 ∷ [] } in
+    on_rows (Grant (codes "bolt") (replicate 32 3) Read) Done s (is_digest 3 (omega arith)) (step_is full_house s (Grant (codes "bolt") (replicate 32 3) Read) 0 (Done, s) refl (λ _. tt) (same_itself s))

@@ -30,7 +30,7 @@ same_rows r s t same rows = record {
   tokens = IsPermutation-trans s.tokens r.tokens t.tokens (IsPermutation-sym r.tokens s.tokens same.tokens) rows.tokens;
   networks = IsPermutation-trans (map network_row s.networks) (map network_row r.networks) t.networks (IsPermutation-sym (map network_row r.networks) (map network_row s.networks) (IsPermutation-map network_row r.networks s.networks same.networks)) rows.networks;
   seconds = rows.seconds;
-  readers = rows.readers;
+  readers = IsPermutation-trans s.readers r.readers t.readers (IsPermutation-sym r.readers s.readers same.readers) rows.readers;
   peers = flat_same peer_rows r.networks s.networks t.peers same.networks rows.peers;
   allowed = flat_same allowed_rows r.networks s.networks t.allowed same.networks rows.allowed;
   keyed = rows.keyed;
@@ -96,7 +96,7 @@ no_rows_consistent = rows_consistent empty_register no_rows (record {
   tokens = IsPermutation-refl [];
   networks = IsPermutation-refl [];
   seconds = λ i. [];
-  readers = λ i. [];
+  readers = IsPermutation-refl [];
   peers = λ a. ((λ h. h), (λ h. h));
   allowed = λ a. ((λ h. h), (λ h. h));
   keyed = record { peer_keys = tt; allowed_keys = tt; address_keys = tt };

@@ -1,5 +1,5 @@
 -- What consistency says of single rows.
-use Rattle.std.proofs.Common.{◌≡◌, ℕ, Bool, true, false, cond, not, ◌&&◌, List, [], ◌∷◌, map, filter, Some, nat_eq, refl, sym, ap, ap₂, subst, ◌∙◌, true≢false, ◌⊎◌, inl, inr, is_some}
+use Rattle.std.proofs.Common.{◌≡◌, ℕ, Bool, true, false, cond, not, ◌&&◌, ◌||◌, List, [], ◌∷◌, map, filter, Some, nat_eq, refl, sym, ap, ap₂, subst, ◌∙◌, true≢false, ◌⊎◌, inl, inr, is_some}
 use Rattle.std.specs.List.{list_any}
 use Rattle.std.proofs.lemmas.List.Elements.{recursion_from_All}
 use Rattle.std.specs.Cmp.Lexicographic.{nat_list_eq_equiv}
@@ -11,7 +11,8 @@ use Rattle.wgr_pool.specs.PrefixTests.{full, same_prefix}
 use Rattle.wgr_peers.specs.Peers.{IsApart, peer_of, same_key}
 use Rattle.wgr_peers.specs.declared.peer.Peer.{Peer}
 use Rattle.wgr_core.specs.Network.{IsNetwork, IsRoute, server_address}
-use Rattle.wgr_model.specs.Consistent.{IsNetworkEntry}
+use Rattle.wgr_model.specs.Consistent.{IsNetworkEntry, has_digest}
+use Rattle.wgr_model.specs.Register.{Bytes, Token, is_same}
 use Rattle.wgr_model.specs.Laws.{Has}
 use Rattle.wgr_model.specs.RowLaws.{AreConsistent}
 use Rattle.wgr_model.specs.RowRules.{ConsistentRowsKeepRules, IsAddressOf, IsPeerOf, IsRouteOf}
@@ -19,6 +20,7 @@ use Rattle.wgr_model.specs.Rows.{AllowedRow, NetworkRow, PeerRow, Tables, addres
 use Rattle.wgr_model.proofs.CollectLemmas.{from_append, from_flat, from_map, has_flat, has_left, has_map}
 use Rattle.wgr_model.proofs.GatherLemmas.{eqb_self, in_filter}
 use Rattle.wgr_model.proofs.HolderLemmas.{member, one_or_apart, one_or_related}
+use Rattle.wgr_model.proofs.LookLemmas.{same_exact}
 use Rattle.wgr_model.proofs.SameLemmas.{at_has, eqb_sym}
 
 pub none_at : {A : Type 0} (f : A → Bool) (xs : List A) (a : A) → list_any f xs ≡ false → Has xs a → f a ≡ false
@@ -145,5 +147,13 @@ module _ (t : Tables) (is : AreConsistent t) where
         ap₂ (λ z v. same_prefix z.prefix v.prefix) (sym x.2) (sym y.2)
         ∙ none_at (λ e. same_prefix x.0.0 (full e.address)) (network_entry_of t w).network.peers y.0 (not_address w x.0 hw x.1).0 (subst (λ z. Has (network_entry_of t z).network.peers y.0) one y.1)
 
+-- a digest that is there is a token's
+digest_there : (ts : List Token) (d : Bytes) → has_digest ts d ≡ true → (x : Token) × Has ts x × (x.digest ≡ d)
+digest_there [] d h = absurd (true≢false (sym h))
+digest_there (t ∷ ts) d h = by_test (is_same d t.digest) refl h (digest_there ts d) where
+  by_test : (b : Bool) → is_same d t.digest ≡ b → (b || has_digest ts d) ≡ true → (has_digest ts d ≡ true → (x : Token) × Has ts x × (x.digest ≡ d)) → (x : Token) × Has (t ∷ ts) x × (x.digest ≡ d)
+  by_test true e g rest = (t, inl refl, sym (same_exact d t.digest e))
+  by_test false e g rest = let x = rest g in (x.0, inr x.1, x.2)
+
 pub rows_keep_rules : ConsistentRowsKeepRules
-rows_keep_rules t is = record { peers = peers_keep t is; keys = keys_keep t is; one_address = one_address_keeps t is; allowed = allowed_keep t is; routes_apart = routes_keep t is }
+rows_keep_rules t is = record { readers = λ d h. digest_there t.tokens d (at_has (λ x. has_digest t.tokens x ≡ true) t.readers d is.consistent.reader_tokens h); one_reader = is.consistent.readers; peers = peers_keep t is; keys = keys_keep t is; one_address = one_address_keeps t is; allowed = allowed_keep t is; routes_apart = routes_keep t is }

@@ -15,12 +15,13 @@ use Rattle.wgr_model.proofs.SameLemmas.{same_consistent, same_view}
 use Rattle.wgr_model.proofs.SeenLemmas.{step_sees}
 
 pub same_itself : (r : Register) → IsSame r r
-same_itself r = record { tenants = IsPermutation-refl r.tenants; tokens = IsPermutation-refl r.tokens; networks = IsPermutation-refl r.networks }
+same_itself r = record { tenants = IsPermutation-refl r.tenants; tokens = IsPermutation-refl r.tokens; readers = IsPermutation-refl r.readers; networks = IsPermutation-refl r.networks }
 
 pub same_trans : (r s t : Register) → IsSame r s → IsSame s t → IsSame r t
 same_trans r s t a b = record {
   tenants = IsPermutation-trans r.tenants s.tenants t.tenants a.tenants b.tenants;
   tokens = IsPermutation-trans r.tokens s.tokens t.tokens a.tokens b.tokens;
+  readers = IsPermutation-trans r.readers s.readers t.readers a.readers b.readers;
   networks = IsPermutation-trans r.networks s.networks t.networks a.networks b.networks;
 }
 
@@ -31,11 +32,13 @@ empty_consistent = record {
   names = tt;
   ids = tt;
   digests = tt;
+  readers = tt;
   slots = tt;
   network_ids = tt;
   endpoints = tt;
   pools = tt;
   token_tenants = tt;
+  reader_tokens = tt;
   network_tenants = tt;
   tenants = tt;
   tokens = tt;

@@ -1,4 +1,5 @@
 -- The order of rows is of no account.
+use Rattle.std.specs.Prelude.{if◌then◌else◌}
 use Rattle.std.proofs.Common.{◌≡◌, ℕ, ◌≤◌, Bool, true, false, cond, ◌&&◌, ◌||◌, List, [], ◌∷◌, map, find, Some, None, Option, nat_eq, refl, sym, ap, ap₂, subst, ◌∙◌, arith, true≢false, option_map, ◌⊎◌, inl, inr, IsPermutation}
 use Rattle.std.specs.List.{list_any, IsDistinct, AllByRecursion}
 use Rattle.std.proofs.lemmas.List.Elements.{recursion_from_All, All-from_recursion}
@@ -7,12 +8,13 @@ use Rattle.std.proofs.lemmas.Map.Keys.{IsDistinct-head, IsDistinct-tail, IsDisti
 use Rattle.std.proofs.lemmas.Bool.Decides.{nat_tests}
 use Rattle.wgr_text.specs.Prefix.{PrefixValue}
 use Rattle.wgr_pool.specs.PrefixTests.{covers}
-use Rattle.wgr_model.specs.Consistent.{IsConsistent, IsDigest, IsNetworkEntry, IsTenant, endpoint, has_tenant, overlaps, pool_of, same_endpoint, same_slot, slot}
+use Rattle.wgr_model.specs.Consistent.{IsConsistent, IsDigest, IsNetworkEntry, IsTenant, endpoint, has_digest, has_tenant, overlaps, pool_of, same_endpoint, same_slot, slot}
 use Rattle.wgr_model.specs.Laws.{Has}
-use Rattle.wgr_model.specs.Register.{Bytes, NetworkEntry, IsSame, Register, Tenant, Token, digests_of, id_of, is_same, tenant_view, view_at, view_of}
+use Rattle.wgr_model.specs.declared.right.Right.TheVariants.{Full, Read}
+use Rattle.wgr_model.specs.Register.{Bytes, NetworkEntry, IsSame, Register, Tenant, Token, digests_of, id_of, is_same, right_of, tenant_view, view_at, view_of}
 use Rattle.wgr_model.specs.Steps.{network_at}
 use Rattle.wgr_model.proofs.LookLemmas.{is_same_congr, is_same_sym}
-use Rattle.wgr_model.proofs.ViewLemmas.{contains_view, get_view, same_digests, same_networks}
+use Rattle.wgr_model.proofs.ViewLemmas.{get_view, right_view, same_entries, same_networks}
 
 -- ---- one row is found whatever the order
 more : {A : Type 0} (x : A) (xs ys : List A) → AllByRecursion (Has ys) xs → AllByRecursion (Has (x ∷ ys)) xs
@@ -111,16 +113,21 @@ module _ (r s : Register) (same : IsSame r s) (good : IsConsistent r) where
   known : (id : ℕ) → has_tenant r.tenants id ≡ true → has_tenant s.tenants id ≡ true
   known id e = sym (list_any-IsPermutation (nat_eq id) (map (λ t. t.id) r.tenants) (map (λ t. t.id) s.tenants) (IsPermutation-map (λ t. t.id) r.tenants s.tenants same.tenants)) ∙ e
 
+  known_digest : (d : Bytes) → has_digest r.tokens d ≡ true → has_digest s.tokens d ≡ true
+  known_digest d e = sym (list_any-IsPermutation (is_same d) (map (λ t. t.digest) r.tokens) (map (λ t. t.digest) s.tokens) (IsPermutation-map (λ t. t.digest) r.tokens s.tokens same.tokens)) ∙ e
+
   pub same_consistent : IsConsistent s
   same_consistent = record {
     names = keys (λ t. t.name) is_same is_same_sym r.tenants s.tenants same.tenants good.names;
     ids = keys (λ t. t.id) nat_eq eqb_sym r.tenants s.tenants same.tenants good.ids;
     digests = keys (λ t. t.digest) is_same is_same_sym r.tokens s.tokens same.tokens good.digests;
+    readers = IsDistinct-IsPermutation is_same is_same_sym r.readers s.readers same.readers good.readers;
     slots = keys slot same_slot slot_sym r.networks s.networks same.networks good.slots;
     network_ids = keys (λ h. h.id) nat_eq eqb_sym r.networks s.networks same.networks good.network_ids;
     endpoints = keys endpoint same_endpoint endpoint_sym r.networks s.networks same.networks good.endpoints;
     pools = keys pool_of overlaps overlaps_sym r.networks s.networks same.networks good.pools;
     token_tenants = each (λ t. has_tenant r.tenants t.tenant ≡ true) (λ t. has_tenant s.tenants t.tenant ≡ true) (λ t. known t.tenant) r.tokens s.tokens same.tokens good.token_tenants;
+    reader_tokens = each (λ d. has_digest r.tokens d ≡ true) (λ d. has_digest s.tokens d ≡ true) known_digest r.readers s.readers same.readers good.reader_tokens;
     network_tenants = each (λ h. has_tenant r.tenants h.tenant ≡ true) (λ h. has_tenant s.tenants h.tenant ≡ true) (λ h. known h.tenant) r.networks s.networks same.networks good.network_tenants;
     tenants = each IsTenant IsTenant (λ t x. x) r.tenants s.tenants same.tenants good.tenants;
     tokens = each (λ t. IsDigest t.digest) (λ t. IsDigest t.digest) (λ t x. x) r.tokens s.tokens same.tokens good.tokens;
@@ -139,10 +146,13 @@ module _ (r s : Register) (same : IsSame r s) (good : IsConsistent r) where
   same_digest : (i : ℕ) (d : Bytes) → list_any (is_same d) (digests_of r.tokens i) ≡ list_any (is_same d) (digests_of s.tokens i)
   same_digest i d = digest_found r.tokens i d ∙ list_any-IsPermutation (λ t. nat_eq t.tenant i && is_same d t.digest) r.tokens s.tokens same.tokens ∙ sym (digest_found s.tokens i d)
 
+  pub same_right : (d : Bytes) → right_of r.readers d ≡ right_of s.readers d
+  same_right d = ap (λ b. if b then Read else Full) (list_any-IsPermutation (is_same d) r.readers s.readers same.readers)
+
   pub same_at : (x : Option ℕ) → view_of r x ≡ view_of s x
   same_at None = refl
   same_at (Some i) = λ j. record {
-    digests = same_digests (view_at r i).digests (view_at s i).digests (λ d. contains_view r i d ∙ same_digest i d ∙ sym (contains_view s i d)) j;
+    rights = same_entries (view_at r i).rights (view_at s i).rights (λ d. right_view r i d ∙ ap₂ (λ b right. if b then Some right else None) (same_digest i d) (same_right d) ∙ sym (right_view s i d)) j;
     networks = same_networks (view_at r i).networks (view_at s i).networks (λ q. get_view r i q ∙ same_network i q ∙ sym (get_view s i q)) j;
   }
 

@@ -91,7 +91,7 @@ module _ (r : Register) where
   has_step (AddTenant name) =
       let id = some_id (map (λ t. t.id) r.tenants) in
       step_at (AddTenant name) id.0 (λ done. id.1 (tenant_room r name (all_passed (tenant_checks r name) r (with_tenant r name id.0) done)))
-  has_step (Grant tenant digest) = step_at (Grant tenant digest) 0 (λ _. tt)
+  has_step (Grant tenant digest right) = step_at (Grant tenant digest right) 0 (λ _. tt)
   has_step (EndToken digest) = step_at (EndToken digest) 0 (λ _. tt)
   has_step (AddNetwork tenant name settings) =
       let id = some_id (map (λ h. h.id) r.networks) in

@@ -1,24 +1,29 @@
 -- The law of two worlds.
-use Rattle.std.proofs.Common.{◌≡◌, Bool, true, false, ◌&&◌, List, [], ◌∷◌, Some, None, refl, sym, ap, ap₂, ◌∙◌, true≢false}
+use Rattle.std.proofs.Common.{◌≡◌, Bool, true, false, ◌&&◌, List, [], ◌∷◌, Option, Some, None, is_some, refl, sym, ap, ap₂, ◌∙◌, true≢false}
 use Rattle.std.specs.Prelude.{if◌then◌else◌}
-use Rattle.std.specs.FinSet as set_
+use Rattle.std.specs.FinMap as map_
+use Rattle.std.specs.Option.{option_map}
 use Rattle.wgr_model.specs.Register.{Bytes, View, is_same}
 use Rattle.wgr_model.specs.Steps.{AddNetwork, AddTenant, Answer, Ask, Decided, EndNetwork, EndToken, Event, Grant, Networks, is_done}
-use Rattle.wgr_model.specs.Tenants.{in_front, is_own_event, own_events, tenant_after, tenant_answer, tenant_run, answers_given}
+use Rattle.wgr_model.specs.Tenants.{after_allowed, answer_allowed, in_front, is_own_event, knows, own_events, tenant_after, tenant_answer, tenant_run, answers_given}
 
 -- what isn't the tenant's has no answer and changes nothing
 if_false : {A : Type 0} (b : Bool) (x y : A) → b ≡ false → (if b then x else y) ≡ y
 if_false true x y e = absurd (true≢false e)
 if_false false x y e = refl
 
+unknown : {A : Type 0} (x : Option A) → is_some x ≡ false → x ≡ None
+unknown (Some a) e = absurd (true≢false e)
+unknown None e = refl
+
 pub not_own : (me : Bytes) (v : View) (e : Event) (done : Bool) → is_own_event me v e done ≡ false → (tenant_answer v e ≡ None) × (tenant_after me v e done ≡ v)
 not_own me v (Decided None answer) done h = (refl, refl)
-not_own me v (Decided (Some digest) answer) done h = (if_false (set_.contains v.digests digest) _ _ h, refl)
-not_own me v (Ask digest name now command) done h = (if_false (set_.contains v.digests digest) _ _ h, if_false (set_.contains v.digests digest) _ _ h)
-not_own me v (Networks digest) done h = (if_false (set_.contains v.digests digest) _ _ h, refl)
+not_own me v (Decided (Some digest) answer) done h = (if_false (knows v digest) _ _ h, refl)
+not_own me v (Ask digest name now command) done h = let none = unknown (map_.get v.rights digest) h in (ap (option_map (λ right. answer_allowed right now command (map_.get v.networks name))) none, ap (after_allowed v name now command) none)
+not_own me v (Networks digest) done h = (if_false (knows v digest) _ _ h, refl)
 not_own me v (AddTenant name) done h = (refl, refl)
-not_own me v (Grant tenant digest) done h = (refl, if_false (done && is_same me tenant) _ _ h)
-not_own me v (EndToken digest) done h = (refl, if_false (done && set_.contains v.digests digest) _ _ h)
+not_own me v (Grant tenant digest right) done h = (refl, if_false (done && is_same me tenant) _ _ h)
+not_own me v (EndToken digest) done h = (refl, if_false (done && knows v digest) _ _ h)
 not_own me v (AddNetwork tenant name network) done h = (refl, if_false (done && is_same me tenant) _ _ h)
 not_own me v (EndNetwork tenant name) done h = (refl, if_false (done && is_same me tenant) _ _ h)
 

@@ -9,7 +9,7 @@ use Rattle.wgr_peers.specs.Host.{IsHost}
 use Rattle.wgr_peers.specs.Name.{is_name}
 use Rattle.wgr_core.specs.Network.{IsNetwork}
 use Rattle.wgr_core.specs.Forms.{HasForms}
-use Rattle.wgr_model.specs.Register.{Bytes, Tenant, NetworkEntry, Register, is_same}
+use Rattle.wgr_model.specs.Register.{Bytes, Tenant, Token, NetworkEntry, Register, is_same}
 
 -- ---- forms
 
@@ -64,6 +64,9 @@ pool_of h = h.network.pool
 abbrev pub has_tenant : List Tenant → ℕ → Bool
 has_tenant ts id = list_any (nat_eq id) (map (λ t. t.id) ts)
 
+abbrev pub has_digest : List Token → Bytes → Bool
+has_digest ts digest = list_any (is_same digest) (map (λ t. t.digest) ts)
+
 pub record IsTenant (t : Tenant) : Type 0 where
   pub id : IsId t.id
   pub name : IsName t.name
@@ -81,11 +84,13 @@ pub record IsConsistent (r : Register) : Type 0 where
   pub names : IsDistinct is_same (map (λ t. t.name) r.tenants)
   pub ids : IsDistinct nat_eq (map (λ t. t.id) r.tenants)
   pub digests : IsDistinct is_same (map (λ t. t.digest) r.tokens)
+  pub readers : IsDistinct is_same r.readers
   pub slots : IsDistinct same_slot (map slot r.networks)
   pub network_ids : IsDistinct nat_eq (map (λ h. h.id) r.networks)
   pub endpoints : IsDistinct same_endpoint (map endpoint r.networks)
   pub pools : IsDistinct overlaps (map pool_of r.networks)
   pub token_tenants : AllByRecursion (λ t. has_tenant r.tenants t.tenant ≡ true) r.tokens
+  pub reader_tokens : AllByRecursion (λ d. has_digest r.tokens d ≡ true) r.readers
   pub network_tenants : AllByRecursion (λ h. has_tenant r.tenants h.tenant ≡ true) r.networks
   pub tenants : AllByRecursion IsTenant r.tenants
   pub tokens : AllByRecursion (λ t. IsDigest t.digest) r.tokens

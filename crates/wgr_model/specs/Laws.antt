@@ -5,10 +5,12 @@ use Rattle.std.specs.FinMap as map_
 use Rattle.wgr_text.specs.Prefix.{PrefixValue, AreDisjoint}
 use Rattle.wgr_pool.specs.Pool.{IsPool}
 use Rattle.wgr_peers.specs.declared.peer.Peer.{Peer}
+use Rattle.wgr_core.specs.declared.command.Command.{Command}
 use Rattle.wgr_core.specs.Network.{NetworkValue}
-use Rattle.wgr_model.specs.Register.{Bytes, Register, View, NetworkEntry, IsSame, empty_register, tenant_view}
+use Rattle.wgr_model.specs.declared.right.Right.TheVariants.{Read}
+use Rattle.wgr_model.specs.Register.{Bytes, Register, View, NetworkEntry, IsSame, empty_register, right_of, tenant_view}
 use Rattle.wgr_model.specs.Consistent.{IsConsistent, IsId, is_pool, overlaps, max_entries}
-use Rattle.wgr_model.specs.Steps.{AddNetwork, Event, Answer, Done, PoolOverlaps, Settings, IsProper, IsStep, comes_before, is_done, overlapping, pool_refusal}
+use Rattle.wgr_model.specs.Steps.{AddNetwork, Ask, Event, Answer, Done, PoolOverlaps, Settings, IsProper, IsProperCommand, IsStep, comes_before, is_done, overlapping, pool_refusal}
 use Rattle.wgr_model.specs.Tenants.{Agree, FitsAnswer, own_events, tenant_after, tenant_answer, tenant_run, answers_given}
 use Rattle.wgr_model.specs.Runs.{Served, AreProper, IsRun, acknowledged}
 
@@ -56,6 +58,11 @@ TwoWorlds = (me : Bytes) (v : View) (es fs : List (Event × Answer)) → own_eve
 -- the order of entries doesn't matter: a step is one on the same entries in whatever order
 abbrev pub OrderIsNoAccount : Type 0
 OrderIsNoAccount = (r s : Register) (e : Event) (answer : Answer) (u : Register) → IsSame r s → IsConsistent r → IsStep r e answer u → IsStep s e answer u
+
+-- by a token that only reads nobody's view changes
+abbrev pub ReadersOnlyRead : Type 0
+ReadersOnlyRead = (r s : Register) (digest name : Bytes) (now : ℕ) (command : Command) (answer : Answer) → IsConsistent r → IsProperCommand command → right_of r.readers digest ≡ Read
+    → IsStep r (Ask digest name now command) answer s → (me : Bytes) → tenant_view s me ≡ tenant_view r me
 
 -- ---- the definitions can be met: every event has a step
 

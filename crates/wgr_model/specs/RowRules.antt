@@ -1,15 +1,16 @@
 -- What consistency says about single rows, and what the orders must do to the rows.
 use Rattle.std.specs.Prelude.{◌≡◌, ℕ, ◌<◌, ◌≤◌, ◌⊎◌, ◌↔◌, true, false, not, nat_eq, List, ◌∷◌}
-use Rattle.std.specs.List.{filter}
+use Rattle.std.specs.List.{filter, IsDistinct}
 use Rattle.std.specs.List.Sorted.{IsPermutation}
 use Rattle.wgr_text.specs.Prefix.{IsAddr, IsPrefix}
 use Rattle.wgr_pool.specs.Allot.{is_assignable}
 use Rattle.wgr_pool.specs.PrefixTests.{full, same_prefix}
 use Rattle.wgr_peers.specs.Peers.{same_key}
 use Rattle.wgr_core.specs.Network.{server_address}
+use Rattle.wgr_model.specs.declared.right.Right.{Right}
 use Rattle.wgr_model.specs.Register.{Bytes, NetworkEntry, Register, Tenant, Token, is_same}
 use Rattle.wgr_model.specs.Consistent.{IsConsistent}
-use Rattle.wgr_model.specs.Steps.{Settings, new_network, with_new_network, with_tenant, with_token, without_network, without_token}
+use Rattle.wgr_model.specs.Steps.{Settings, new_network, with_new_network, with_reader, with_tenant, with_token, without_network, without_reader, without_token}
 use Rattle.wgr_model.specs.Laws.{Has}
 use Rattle.wgr_model.specs.Rows.{AllowedRow, NetworkRow, PeerRow, Tables, AreKeyed, AreRowsOf, last_of, network_row, peer_id}
 use Rattle.wgr_model.specs.RowLaws.{AreConsistent}
@@ -43,6 +44,10 @@ pub record IsRouteOf (w : NetworkRow) (p : PeerRow) (a : AllowedRow) : Type 0 wh
   pub not_server : same_prefix a.prefix (full (server_address w.pool)) ≡ false
 
 pub record RowRules (t : Tables) : Type 0 where
+  -- each token that only reads has a row among the tokens
+  pub readers : (d : Bytes) → Has t.readers d → (x : Token) × Has t.tokens x × (x.digest ≡ d)
+  -- and no digest stands twice among those that only read
+  pub one_reader : IsDistinct is_same t.readers
   -- each peer belongs to a network that exists, and has an address row
   pub peers : (p : PeerRow) → Has t.peers p → (w : NetworkRow) × (a : AllowedRow) × Has t.networks w × Has t.allowed a × IsPeerOf w p × IsAddressOf w p a
   -- no two peers of a network have the same key
@@ -57,19 +62,22 @@ pub record RowRules (t : Tables) : Type 0 where
 abbrev pub ConsistentRowsKeepRules : Type 0
 ConsistentRowsKeepRules = (t : Tables) → AreConsistent t → RowRules t
 
--- ---- what an order must do: one row more or less, and every other row as it was
+-- ---- what an order must do: one row more or less, and every other row as it was; a token that only
+-- reads has one more row
 
 abbrev pub TenantsGain : Type 0
 TenantsGain = (r : Register) (t : Tables) (name : Bytes) (new : ℕ) (tenants : List Tenant) → AreRowsOf r t
     → IsPermutation (record { id = new; name = name } ∷ t.tenants) tenants → AreRowsOf (with_tenant r name new) (record t { tenants = tenants })
 
 abbrev pub TokensGain : Type 0
-TokensGain = (r : Register) (t : Tables) (digest : Bytes) (id : ℕ) (tokens : List Token) → AreRowsOf r t
-    → IsPermutation (record { digest = digest; tenant = id } ∷ t.tokens) tokens → AreRowsOf (with_token r digest id) (record t { tokens = tokens })
+TokensGain = (r : Register) (t : Tables) (digest : Bytes) (id : ℕ) (right : Right) (tokens : List Token) (readers : List Bytes) → AreRowsOf r t
+    → IsPermutation (record { digest = digest; tenant = id } ∷ t.tokens) tokens → IsPermutation (with_reader right digest t.readers) readers
+    → AreRowsOf (with_token r digest id right) (record t { tokens = tokens; readers = readers })
 
 abbrev pub TokensLose : Type 0
-TokensLose = (r : Register) (t : Tables) (digest : Bytes) (tokens : List Token) → AreRowsOf r t → IsConsistent r
-    → IsPermutation (filter (λ x. not (is_same digest x.digest)) t.tokens) tokens → AreRowsOf (without_token r digest) (record t { tokens = tokens })
+TokensLose = (r : Register) (t : Tables) (digest : Bytes) (tokens : List Token) (readers : List Bytes) → AreRowsOf r t → IsConsistent r
+    → IsPermutation (filter (λ x. not (is_same digest x.digest)) t.tokens) tokens → IsPermutation (without_reader digest t.readers) readers
+    → AreRowsOf (without_token r digest) (record t { tokens = tokens; readers = readers })
 
 abbrev pub NetworksGain : Type 0
 NetworksGain = (r : Register) (t : Tables) (new id : ℕ) (name : Bytes) (s : Settings) (networks : List NetworkRow) → AreRowsOf r t

@@ -138,7 +138,7 @@ abbrev pub IsFormed : Tables → ℕ → NetworkValue → Type 0
 IsFormed t id n = (w : NetworkRow) × Has t.networks w × (w.id ≡ id) × (n ≡ (network_entry_of t w).network)
 
 abbrev pub register_of : Tables → Register
-register_of t = record { tenants = t.tenants; tokens = t.tokens; networks = map (network_entry_of t) t.networks }
+register_of t = record { tenants = t.tenants; tokens = t.tokens; readers = t.readers; networks = map (network_entry_of t) t.networks }
 
 -- ---- from the register to the rows
 
@@ -176,16 +176,16 @@ HaveSame {A} xs ys = (a : A) → Has xs a ↔ Has ys a
 abbrev pub third_version : List MetaRow
 third_version = record { version = 3 } ∷ []
 
--- The rows are those of the register, in whatever order: its tenants, tokens and networks; for each
--- peer one row, and one of its address at full length; and one for each route. No network has a second
--- pool, and no token only reads.
+-- The rows are those of the register, in whatever order: its tenants, tokens and networks; one for each
+-- token that only reads; for each peer one row, and one of its address at full length; and one for each
+-- route. No network has a second pool.
 pub record AreRowsOf (r : Register) (t : Tables) : Type 0 where
   pub meta : t.meta ≡ third_version
   pub tenants : IsPermutation r.tenants t.tenants
   pub tokens : IsPermutation r.tokens t.tokens
   pub networks : IsPermutation (map network_row r.networks) t.networks
   pub seconds : t.seconds ≡ []
-  pub readers : t.readers ≡ []
+  pub readers : IsPermutation r.readers t.readers
   pub peers : HaveSame (flat_map peer_rows r.networks) t.peers
   pub allowed : HaveSame (flat_map allowed_rows r.networks) t.allowed
   pub keyed : AreKeyed t

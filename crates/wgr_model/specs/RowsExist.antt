@@ -9,7 +9,7 @@ use Rattle.wgr_model.specs.RowLaws.{AreConsistent, IsRowStep}
 
 -- the rows of a register, entry by entry
 abbrev pub rows_of : Register → Tables
-rows_of r = record { meta = third_version; tenants = r.tenants; tokens = r.tokens; networks = map network_row r.networks; seconds = []; readers = []; peers = flat_map peer_rows r.networks; allowed = flat_map allowed_rows r.networks }
+rows_of r = record { meta = third_version; tenants = r.tenants; tokens = r.tokens; networks = map network_row r.networks; seconds = []; readers = r.readers; peers = flat_map peer_rows r.networks; allowed = flat_map allowed_rows r.networks }
 
 -- every consistent register has rows
 abbrev pub RowsExist : Type 0

@@ -12,10 +12,12 @@ use Rattle.wgr_core.specs.declared.command.Command.{Command}
 use Rattle.wgr_core.specs.declared.refusal.CommandRefusal.{CommandRefusal}
 use Rattle.wgr_core.specs.declared.reply.Reply.{Reply}
 use Rattle.wgr_core.specs.Network.{NetworkValue}
-use Rattle.wgr_core.specs.Outcome.{IsAsked, outcome_of}
+use Rattle.wgr_core.specs.Outcome.{IsAsked, is_reading, outcome_of}
 use Rattle.wgr_core.specs.Forms.{IsFormedCommand, IsKey}
-use Rattle.wgr_model.specs.Register.{Bytes, Tenant, Token, NetworkEntry, Register, IsSame, id_of, is_same, view_at}
-use Rattle.wgr_model.specs.Consistent.{IsDigest, IsId, IsName, endpoint, has_tenant, is_pool, overlaps, same_endpoint, same_slot, slot, max_entries}
+use Rattle.wgr_model.specs.declared.right.Right.{Right}
+use Rattle.wgr_model.specs.declared.right.Right.TheVariants.{Full, Read}
+use Rattle.wgr_model.specs.Register.{Bytes, Tenant, Token, NetworkEntry, Register, IsSame, id_of, is_same, right_of, view_at}
+use Rattle.wgr_model.specs.Consistent.{IsDigest, IsId, IsName, endpoint, has_digest, has_tenant, is_pool, overlaps, same_endpoint, same_slot, slot, max_entries}
 
 -- what a command gives on a network: a refusal, or a reply and the network after it
 unfoldable pub act : NetworkValue → ℕ → Command → Result (Reply × NetworkValue) CommandRefusal
@@ -39,7 +41,7 @@ pub data Event : Type 0 where
   Ask : (digest name : Bytes) (now : ℕ) (command : Command) → Event
   Networks : (digest : Bytes) → Event
   AddTenant : (name : Bytes) → Event
-  Grant : (tenant digest : Bytes) → Event
+  Grant : (tenant digest : Bytes) (right : Right) → Event
   EndToken : (digest : Bytes) → Event
   AddNetwork : (tenant name : Bytes) (settings : Settings) → Event
   EndNetwork : (tenant name : Bytes) → Event
@@ -54,7 +56,7 @@ IsProperSettings s = IsHost s.host × IsPort s.port × IsCapacity s.capacity × 
 abbrev pub IsProper : Event → Type 0
 IsProper (Ask digest name now command) = IsProperCommand command
 IsProper (AddTenant name) = IsName name
-IsProper (Grant tenant digest) = IsDigest digest
+IsProper (Grant tenant digest right) = IsDigest digest
 IsProper (AddNetwork tenant name settings) = IsName name × IsProperSettings settings
 IsProper _ = ⊤
 
@@ -74,13 +76,15 @@ pub data OrderRefusal : Type 0 where
 
 -- A reply that the bytes decided; what a command replies, with the network after it, from which
 -- files are written; its refusal; a tenant's networks in the order of their names; no tenant with
--- the token, or no network of the name; and an order that is done, or its refusal.
+-- the token, a token that only reads and a command that changes, or no network of the name; and an
+-- order that is done, or its refusal.
 pub data Answer : Type 0 where
   Plain : (reply : Bytes) → Answer
   Replied : (reply : Reply) (network : NetworkValue) → Answer
   Declined : (why : CommandRefusal) → Answer
   Listed : (networks : List (Bytes × NetworkValue)) → Answer
   UnknownToken : Answer
+  ReadOnly : Answer
   NoSuchNetwork : Answer
   Done : Answer
   Refused : (why : OrderRefusal) → Answer
@@ -122,9 +126,15 @@ abbrev pub asked : ℕ → Command → Register → ℕ → Bytes → Option Net
 asked now command r id name None = (NoSuchNetwork, r)
 asked now command r id name (Some n) = acted r id name (act n now command)
 
-abbrev pub ask : Register → Bytes → ℕ → Command → Option ℕ → EventOutcome
-ask r name now command None = (UnknownToken, r)
-ask r name now command (Some id) = asked now command r id name (network_at r.networks id name)
+-- whether a token of this right may ask the command
+abbrev pub allows : Right → Command → Bool
+allows Full command = true
+allows Read command = is_reading command
+
+-- the right is asked before the network is looked for
+abbrev pub ask : Register → Bytes → Bytes → ℕ → Command → Option ℕ → EventOutcome
+ask r digest name now command None = (UnknownToken, r)
+ask r digest name now command (Some id) = if allows (right_of r.readers digest) command then asked now command r id name (network_at r.networks id name) else (ReadOnly, r)
 
 abbrev pub listed : Register → Option ℕ → EventOutcome
 listed r None = (UnknownToken, r)
@@ -152,9 +162,6 @@ ordered checks r s = given (first_refusal checks) r s
 
 abbrev pub has_name : List Tenant → Bytes → Bool
 has_name ts name = list_any (is_same name) (map (λ t. t.name) ts)
-
-abbrev pub has_digest : List Token → Bytes → Bool
-has_digest ts digest = list_any (is_same digest) (map (λ t. t.digest) ts)
 
 abbrev pub has_slot : List NetworkEntry → ℕ → Bytes → Bool
 has_slot hs id name = list_any (same_slot (id, name)) (map slot hs)
@@ -193,11 +200,19 @@ new_network s = record { pool = s.pool; host = s.host; port = s.port; server = s
 abbrev pub with_tenant : Register → Bytes → ℕ → Register
 with_tenant r name new = record r { tenants = record { id = new; name = name } ∷ r.tenants }
 
-abbrev pub with_token : Register → Bytes → ℕ → Register
-with_token r digest id = record r { tokens = record { digest = digest; tenant = id } ∷ r.tokens }
+abbrev pub with_reader : Right → Bytes → List Bytes → List Bytes
+with_reader Full digest readers = readers
+with_reader Read digest readers = digest ∷ readers
 
+abbrev pub with_token : Register → Bytes → ℕ → Right → Register
+with_token r digest id right = record r { tokens = record { digest = digest; tenant = id } ∷ r.tokens; readers = with_reader right digest r.readers }
+
+abbrev pub without_reader : Bytes → List Bytes → List Bytes
+without_reader digest readers = filter (λ d. not (is_same digest d)) readers
+
+-- the token goes with its right, so a later token of this digest has the right that it is given
 abbrev pub without_token : Register → Bytes → Register
-without_token r digest = record r { tokens = filter (λ t. not (is_same digest t.digest)) r.tokens }
+without_token r digest = record r { tokens = filter (λ t. not (is_same digest t.digest)) r.tokens; readers = without_reader digest r.readers }
 
 abbrev pub with_new_network : Register → ℕ → ℕ → Bytes → NetworkValue → Register
 with_new_network r new id name n = record r { networks = record { id = new; tenant = id; name = name; network = n } ∷ r.networks }
@@ -220,9 +235,9 @@ network_checks r id name s =
     ∷ refuse (is_full r.networks) RegisterFull
     ∷ []
 
-abbrev pub granted : Register → Bytes → Option ℕ → EventOutcome
-granted r digest None = (Refused NoSuchTenant, r)
-granted r digest (Some id) = ordered (grant_checks r digest) r (with_token r digest id)
+abbrev pub granted : Register → Bytes → Right → Option ℕ → EventOutcome
+granted r digest right None = (Refused NoSuchTenant, r)
+granted r digest right (Some id) = ordered (grant_checks r digest) r (with_token r digest id right)
 
 abbrev pub network_added : Register → Bytes → Settings → ℕ → Option ℕ → EventOutcome
 network_added r name s new None = (Refused NoSuchTenant, r)
@@ -237,10 +252,10 @@ network_ended r name (Some id) = ordered (refuse (not (has_slot r.networks id na
 -- what an event gives, where `new` is the id of the tenant or network that it adds
 abbrev pub outcome : Register → Event → ℕ → EventOutcome
 outcome r (Decided digest reply) new = (Plain reply, r)
-outcome r (Ask digest name now command) new = ask r name now command (tenant_of_token r.tokens digest)
+outcome r (Ask digest name now command) new = ask r digest name now command (tenant_of_token r.tokens digest)
 outcome r (Networks digest) new = listed r (tenant_of_token r.tokens digest)
 outcome r (AddTenant name) new = ordered (tenant_checks r name) r (with_tenant r name new)
-outcome r (Grant tenant digest) new = granted r digest (id_of r.tenants tenant)
+outcome r (Grant tenant digest right) new = granted r digest right (id_of r.tenants tenant)
 outcome r (EndToken digest) new = ordered (refuse (not (has_digest r.tokens digest)) NoSuchToken ∷ []) r (without_token r digest)
 outcome r (AddNetwork tenant name settings) new = network_added r name settings new (id_of r.tenants tenant)
 outcome r (EndNetwork tenant name) new = network_ended r name (id_of r.tenants tenant)

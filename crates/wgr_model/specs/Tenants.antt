@@ -1,16 +1,21 @@
 -- What one tenant alone gets from an event, given what it sees: nothing else of the register is used.
-use Rattle.std.specs.Prelude.{◌≡◌, ℕ, Bool, false, ◌&&◌, if◌then◌else◌, List, [], ◌∷◌, Option, Some, None, Result, Ok, Err, MatchOption, ⊤}
+use Rattle.std.specs.Prelude.{◌≡◌, ℕ, Bool, false, ◌&&◌, if◌then◌else◌, List, [], ◌∷◌, Option, Some, None, is_some, Result, Ok, Err, MatchOption, ⊤}
 use Rattle.std.specs.FinMap as map_
-use Rattle.std.specs.FinSet as set_
+use Rattle.std.specs.Option.{option_map}
 use Rattle.wgr_core.specs.declared.command.Command.{Command}
 use Rattle.wgr_core.specs.declared.refusal.CommandRefusal.{CommandRefusal}
 use Rattle.wgr_core.specs.declared.reply.Reply.{Reply}
 use Rattle.wgr_core.specs.Network.{NetworkValue}
+use Rattle.wgr_model.specs.declared.right.Right.{Right}
 use Rattle.wgr_model.specs.Register.{Bytes, View, is_same}
-use Rattle.wgr_model.specs.Steps.{Event, Answer, act, is_done, new_network, Decided, Ask, Networks, AddTenant, Grant, EndToken, AddNetwork, EndNetwork, Plain, Replied, Declined, Listed, NoSuchNetwork}
+use Rattle.wgr_model.specs.Steps.{Event, Answer, act, allows, is_done, new_network, Decided, Ask, Networks, AddTenant, Grant, EndToken, AddNetwork, EndNetwork, Plain, Replied, Declined, Listed, ReadOnly, NoSuchNetwork}
 
 abbrev pub put_view : View → Bytes → NetworkValue → View
 put_view v name n = record v { networks = map_.insert v.networks name n }
+
+-- whether the token of this digest is the tenant's
+abbrev pub knows : View → Bytes → Bool
+knows v digest = is_some (map_.get v.rights digest)
 
 -- ---- the answer
 
@@ -22,12 +27,15 @@ abbrev pub answer_asked : ℕ → Command → Option NetworkValue → Answer
 answer_asked now command None = NoSuchNetwork
 answer_asked now command (Some n) = answer_acted (act n now command)
 
+abbrev pub answer_allowed : Right → ℕ → Command → Option NetworkValue → Answer
+answer_allowed right now command n = if allows right command then answer_asked now command n else ReadOnly
+
 -- the answer to a request of the tenant's; to any other event the tenant has none
 abbrev pub tenant_answer : View → Event → Option Answer
 tenant_answer v (Decided None reply) = None
-tenant_answer v (Decided (Some digest) reply) = if set_.contains v.digests digest then Some (Plain reply) else None
-tenant_answer v (Ask digest name now command) = if set_.contains v.digests digest then Some (answer_asked now command (map_.get v.networks name)) else None
-tenant_answer v (Networks digest) = if set_.contains v.digests digest then Some (Listed (map_.entries v.networks)) else None
+tenant_answer v (Decided (Some digest) reply) = if knows v digest then Some (Plain reply) else None
+tenant_answer v (Ask digest name now command) = option_map (λ right. answer_allowed right now command (map_.get v.networks name)) (map_.get v.rights digest)
+tenant_answer v (Networks digest) = if knows v digest then Some (Listed (map_.entries v.networks)) else None
 tenant_answer v _ = None
 
 -- ---- what the tenant has after it
@@ -40,15 +48,20 @@ abbrev pub after_asked : View → Bytes → ℕ → Command → Option NetworkVa
 after_asked v name now command None = v
 after_asked v name now command (Some n) = after_acted v name (act n now command)
 
+-- nothing where the token isn't the tenant's, or its right doesn't allow the command
+abbrev pub after_allowed : View → Bytes → ℕ → Command → Option Right → View
+after_allowed v name now command None = v
+after_allowed v name now command (Some right) = if allows right command then after_asked v name now command (map_.get v.networks name) else v
+
 -- A command of the tenant changes its network of that name. Only accepted orders about the tenant
 -- count; `done` says whether an order was accepted.
 abbrev pub tenant_after : Bytes → View → Event → Bool → View
 tenant_after me v (Decided digest reply) done = v
-tenant_after me v (Ask digest name now command) done = if set_.contains v.digests digest then after_asked v name now command (map_.get v.networks name) else v
+tenant_after me v (Ask digest name now command) done = after_allowed v name now command (map_.get v.rights digest)
 tenant_after me v (Networks digest) done = v
 tenant_after me v (AddTenant name) done = v
-tenant_after me v (Grant tenant digest) done = if done && is_same me tenant then record v { digests = set_.insert v.digests digest } else v
-tenant_after me v (EndToken digest) done = if done && set_.contains v.digests digest then record v { digests = set_.remove v.digests digest } else v
+tenant_after me v (Grant tenant digest right) done = if done && is_same me tenant then record v { rights = map_.insert v.rights digest right } else v
+tenant_after me v (EndToken digest) done = if done && knows v digest then record v { rights = map_.remove v.rights digest } else v
 tenant_after me v (AddNetwork tenant name settings) done = if done && is_same me tenant then put_view v name (new_network settings) else v
 tenant_after me v (EndNetwork tenant name) done = if done && is_same me tenant then record v { networks = map_.remove v.networks name } else v
 
@@ -81,12 +94,12 @@ Agree (a ∷ rest) [] = ⊥
 -- whether the tenant is answered, or what it has may change
 abbrev pub is_own_event : Bytes → View → Event → Bool → Bool
 is_own_event me v (Decided None reply) done = false
-is_own_event me v (Decided (Some digest) reply) done = set_.contains v.digests digest
-is_own_event me v (Ask digest name now command) done = set_.contains v.digests digest
-is_own_event me v (Networks digest) done = set_.contains v.digests digest
+is_own_event me v (Decided (Some digest) reply) done = knows v digest
+is_own_event me v (Ask digest name now command) done = knows v digest
+is_own_event me v (Networks digest) done = knows v digest
 is_own_event me v (AddTenant name) done = false
-is_own_event me v (Grant tenant digest) done = done && is_same me tenant
-is_own_event me v (EndToken digest) done = done && set_.contains v.digests digest
+is_own_event me v (Grant tenant digest right) done = done && is_same me tenant
+is_own_event me v (EndToken digest) done = done && knows v digest
 is_own_event me v (AddNetwork tenant name settings) done = done && is_same me tenant
 is_own_event me v (EndNetwork tenant name) done = done && is_same me tenant
 

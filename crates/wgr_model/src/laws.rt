@@ -1,6 +1,6 @@
 //! What follows from the model. Each function does nothing: its contract is the law.
-ghost use Rattle.wgr_model.specs.Laws.{AnIdIsUnused, EmptyIsConsistent, EveryEventHasAStep, FirstIsNamed, NetworksAreAsAsked, OrderIsNoAccount, OverlapsAreDecided, PoolsAreDecided, RunsAreIsolated, StepsAreIsolated, TwoWorlds};
-ghost use Rattle.wgr_model.specs.RowAsks.{ChangesReplaceRows, NetworksAreFound, ReadingsLeaveRows, RefusalsLeaveRows};
+ghost use Rattle.wgr_model.specs.Laws.{AnIdIsUnused, EmptyIsConsistent, EveryEventHasAStep, FirstIsNamed, NetworksAreAsAsked, OrderIsNoAccount, OverlapsAreDecided, PoolsAreDecided, ReadersOnlyRead, RunsAreIsolated, StepsAreIsolated, TwoWorlds};
+ghost use Rattle.wgr_model.specs.RowAsks.{ChangesReplaceRows, NetworksAreFound, ReadersLeaveRows, ReadingsLeaveRows, RefusalsLeaveRows};
 ghost use Rattle.wgr_model.specs.RowLaws.{CommitsReplace, NoRowsAreConsistent, OrderIsUnseen, RowsAreIsolated, RowsAreRead, RowsOfTwoWorlds, RowsStayConsistent};
 ghost use Rattle.wgr_model.specs.RowRules.{ConsistentRowsKeepRules, NetworksGain, NetworksLose, TenantsGain, TokensGain, TokensLose};
 ghost use Rattle.wgr_model.specs.RowsExist.{EveryEventHasARowStep, RowsExist, StepsHaveRows};
@@ -33,6 +33,11 @@ pub fn runs_are_isolated()
 /// A tenant can't distinguish two worlds that agree on its own events.
 pub fn worlds_are_alike()
     ensures { TwoWorlds }
+{}
+
+/// By a request with a token that only reads nobody's view changes.
+pub fn readers_only_read()
+    ensures { ReadersOnlyRead }
 {}
 
 /// The rows of a consistent register are read back as that register, in whatever order they are;
@@ -114,6 +119,7 @@ pub fn orders_change_rows()
 pub fn asks_change_rows()
     ensures found { NetworksAreFound }
     ensures refusals { RefusalsLeaveRows }
+    ensures readers { ReadersLeaveRows }
     ensures readings { ReadingsLeaveRows }
     ensures changes { ChangesReplaceRows }
 {}

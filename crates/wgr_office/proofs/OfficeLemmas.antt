@@ -11,7 +11,7 @@ use Rattle.wgr_core.specs.declared.reply.Reply.TheVariants as reply
 use Rattle.wgr_http.specs.declared.status_code.StatusCode.TheVariants as status
 use Rattle.wgr_model.specs.Register.{Bytes}
 use Rattle.wgr_model.specs.Rows.{register_of}
-use Rattle.wgr_model.specs.Steps.{Answer, Decided, Declined, Done, Event, Listed, NoSuchNetwork, Plain, Refused, Replied, UnknownToken}
+use Rattle.wgr_model.specs.Steps.{Answer, Decided, Declined, Done, Event, Listed, NoSuchNetwork, Plain, ReadOnly, Refused, Replied, UnknownToken}
 use Rattle.wgr_model.proofs.CallLemmas.{quiet}
 use Rattle.wgr_office.specs.Pages.{IsAnsweredAs, IsEnd, IsPageMade, IsReadAs, Responds, answer_bytes, event_of, fault_page, given_shown, page, page_if}
 use Rattle.wgr_office.specs.declared.answer.Answer as given
@@ -40,6 +40,7 @@ shown_as now (Replied reply network) text is = page_of (given_of now (Replied re
 shown_as now (Declined why) text is = cc
 shown_as now (Listed networks) text is = page_of (given_of now (Listed networks)) text is
 shown_as now UnknownToken text is = cc
+shown_as now ReadOnly text is = cc
 shown_as now NoSuchNetwork text is = cc
 shown_as now Done text is = cc
 shown_as now (Refused why) text is = cc
@@ -75,6 +76,9 @@ module _ {S : Type 0} (g : Ghosts S) (conn : Held S) (db : Database) (late : Lis
   responds r (Err ask_fault.UnknownToken) (givens.Reply reply) is ends = λ clean. (UnknownToken, is, db, ends.1 clean, (refl, ends.0))
   responds r (Err ask_fault.UnknownToken) givens.Unavailable is ends = at_more g conn db late (event_of now r) ends.0
   responds r (Err ask_fault.UnknownToken) (givens.Order done) is ends = absurd is
+  responds r (Err ask_fault.ReadOnly) (givens.Reply reply) is ends = λ clean. (ReadOnly, is, db, ends.1 clean, (refl, ends.0))
+  responds r (Err ask_fault.ReadOnly) givens.Unavailable is ends = at_more g conn db late (event_of now r) ends.0
+  responds r (Err ask_fault.ReadOnly) (givens.Order done) is ends = absurd is
   responds r (Err ask_fault.NoSuchNetwork) (givens.Reply reply) is ends = λ clean. (NoSuchNetwork, is, db, ends.1 clean, (refl, ends.0))
   responds r (Err ask_fault.NoSuchNetwork) givens.Unavailable is ends = at_more g conn db late (event_of now r) ends.0
   responds r (Err ask_fault.NoSuchNetwork) (givens.Order done) is ends = absurd is

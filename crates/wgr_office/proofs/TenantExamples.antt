@@ -1,12 +1,11 @@
 -- What one tenant alone has of a request or an order, and which of them are its own.
 use Rattle.std.proofs.Common.{◌≡◌, ◌⊎◌, ℕ, Bool, true, false, [], ◌∷◌, None, Some, refl}
 use Rattle.std.specs.FinMap as map_
-use Rattle.std.specs.FinSet as set_
 use Rattle.std.specs.declared.vec.Vec.{Vec}
 use Rattle.std.specs.declared.alloc.Global.{Global}
 use Rattle.wgr_model.specs.Register.{Bytes, View}
 use Rattle.wgr_model.specs.Steps.{AddTenant, Done, Event, Listed, Networks, Plain}
-use Rattle.wgr_model.specs.Tenants.{is_own_event, own_events, tenant_answer}
+use Rattle.wgr_model.specs.Tenants.{is_own_event, knows, own_events, tenant_answer}
 use Rattle.wgr_office.specs.Events.{Serves, unread}
 use Rattle.wgr_office.specs.Pages.{event_of, fault_page}
 use Rattle.wgr_office.specs.declared.answer.Answer.TheVariants as givens
@@ -14,7 +13,7 @@ use Rattle.wgr_office.specs.declared.run.Event.TheVariants as events
 use Rattle.wgr_request.specs.Request.{RequestView, Requests, refused}
 use Rattle.wgr_request.specs.declared.fault.RequestFault.{RequestFault}
 
-module _ (v : View) (digest : Bytes) (own : set_.contains v.digests digest ≡ true) where
+module _ (v : View) (digest : Bytes) (own : knows v digest ≡ true) where
   -- a request that its bytes refuse is the tenant's, if its token is
   refusals_are_answered : (now : ℕ) (why : RequestFault) → tenant_answer v (event_of now (refused why (Some digest))) ≡ Some (Plain (fault_page why))
   refusals_are_answered now why = rw own refl

@@ -1,7 +1,6 @@
 -- The law of two worlds, byte for byte.
 use Rattle.std.proofs.Common.{◌≡◌, ℕ, Bool, true, false, List, [], ◌∷◌, Option, Some, None, refl, sym, ap, ap₂, ◌∙◌, subst}
 use Rattle.std.specs.Prelude.{if◌then◌else◌}
-use Rattle.std.specs.FinSet as set_
 use Rattle.std.specs.declared.vec.Vec.{Vec}
 use Rattle.std.specs.declared.alloc.Global.{Global}
 use Rattle.wgr_orders.specs.Orders.{order_event}
@@ -9,7 +8,7 @@ use Rattle.wgr_model.specs.Register.{Bytes, View}
 use Rattle.wgr_model.specs.RowLaws.{rows_view}
 use Rattle.wgr_model.specs.Runs.{Served, acknowledged}
 use Rattle.wgr_model.specs.Steps.{Answer, Event, Listed, Plain, is_done}
-use Rattle.wgr_model.specs.Tenants.{is_own_event, own_events, tenant_after, tenant_answer, tenant_run}
+use Rattle.wgr_model.specs.Tenants.{is_own_event, knows, own_events, tenant_after, tenant_answer, tenant_run}
 use Rattle.wgr_orders.specs.declared.order.Order.{Order}
 use Rattle.wgr_orders.specs.declared.order.Order.TheVariants as ordered
 use Rattle.wgr_model.proofs.WorldLemmas.{not_own, two_worlds}
@@ -31,13 +30,13 @@ if_some false x a e = cc
 
 at_moment : (now : ℕ) (r : RequestView) (v : View) (a : Answer) → tenant_answer v (event_of now r) ≡ Some a → answer_bytes now a ≡ answer_bytes (moment_of (event_of now r)) a
 at_moment now (refused why None) v a e = cc
-at_moment now (refused why (Some digest)) v a e = subst (λ x. answer_bytes now x ≡ answer_bytes 0 x) (if_some (set_.contains v.digests digest) (Plain (fault_page why)) a e) refl
-at_moment now (networks digest) v a e = subst (λ x. answer_bytes now x ≡ answer_bytes 0 x) (if_some (set_.contains v.digests digest) (Listed _) a e) refl
+at_moment now (refused why (Some digest)) v a e = subst (λ x. answer_bytes now x ≡ answer_bytes 0 x) (if_some (knows v digest) (Plain (fault_page why)) a e) refl
+at_moment now (networks digest) v a e = subst (λ x. answer_bytes now x ≡ answer_bytes 0 x) (if_some (knows v digest) (Listed _) a e) refl
 at_moment now (ask digest name command) v a e = refl
 
 no_answer : (v : View) (order : Order) → tenant_answer v (order_event order) ≡ None
 no_answer v (ordered.AddTenant name) = refl
-no_answer v (ordered.Grant tenant digest) = refl
+no_answer v (ordered.Grant tenant digest right) = refl
 no_answer v (ordered.EndToken digest) = refl
 no_answer v (ordered.AddNetwork tenant name settings) = refl
 no_answer v (ordered.EndNetwork tenant name) = refl

@@ -11,7 +11,7 @@ use Rattle.wgr_core.specs.declared.reply.Reply.TheVariants as reply
 use Rattle.wgr_reply.specs.Bodies.{adopted_data, networks_data, owner_data, peers_data, revoked_data}
 use Rattle.wgr_reply.specs.Shown.{peer_data}
 use Rattle.wgr_model.specs.Register.{Bytes}
-use Rattle.wgr_model.specs.Steps.{Answer, Ask, Decided, Declined, Event, NoSuchNetwork, Networks, Plain, UnknownToken, IsProper}
+use Rattle.wgr_model.specs.Steps.{Answer, Ask, Decided, Declined, Event, NoSuchNetwork, Networks, Plain, ReadOnly, UnknownToken, IsProper}
 use Rattle.wgr_core.specs.RefusalNames.{refusal_name}
 use Rattle.wgr_reply.specs.Refused.{refusal_facts, refusal_status}
 use Rattle.wgr_reply.specs.Response.{Shown, done, fault_shown, json, plain, problem, shown_bytes, text}
@@ -62,6 +62,9 @@ page_if (Some given) = page given
 abbrev pub refusal_page : CommandRefusal → Bytes
 refusal_page why = shown_bytes (problem (refusal_status why) [] (refusal_name why.why) (refusal_facts why))
 
+abbrev pub read_only_page : Bytes
+read_only_page = shown_bytes (plain status.Forbidden (codes "read_only"))
+
 abbrev pub nowhere_page : Bytes
 nowhere_page = shown_bytes (plain status.NotFound (codes "no_such_network"))
 
@@ -70,6 +73,7 @@ abbrev pub answer_bytes : ℕ → Answer → Bytes
 answer_bytes now (Plain bytes) = bytes
 answer_bytes now (Declined why) = refusal_page why
 answer_bytes now UnknownToken = fault_page fault.UnknownToken
+answer_bytes now ReadOnly = read_only_page
 answer_bytes now NoSuchNetwork = nowhere_page
 answer_bytes now answer = page_if (given_of now answer)
 
@@ -108,5 +112,6 @@ abbrev pub IsEnd : Result (Vec ℕ Global) AskFault → given.Answer → Type 0
 IsEnd (Ok bytes) answer = answer ≡ givens.Reply (record { status = status.Done; bytes = bytes })
 IsEnd (Err (ask_fault.Refused why)) answer = IsPage (refusal_page why) answer
 IsEnd (Err ask_fault.UnknownToken) answer = IsPage (fault_page fault.UnknownToken) answer
+IsEnd (Err ask_fault.ReadOnly) answer = IsPage read_only_page answer
 IsEnd (Err ask_fault.NoSuchNetwork) answer = IsPage nowhere_page answer
 IsEnd (Err (ask_fault.Fault why)) answer = answer ≡ givens.Unavailable

@@ -74,6 +74,7 @@ pub(crate) fn ended(alloc: Global, asked: Result<Vec<u8>, AskFault>) -> Answer
         Err(AskFault::UnknownToken) => {
             made(write_response(alloc, Response::Fault(RequestFault::UnknownToken)))
         }
+        Err(AskFault::ReadOnly) => made(write_response(alloc, Response::ReadOnly)),
         Err(AskFault::NoSuchNetwork) => made(write_response(alloc, Response::NoSuchNetwork)),
         Err(AskFault::Fault(_)) => Answer::Unavailable,
     }

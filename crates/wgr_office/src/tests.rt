@@ -59,6 +59,8 @@ const BAD: &str = "400 Bad Request";
 
 const NOBODY: &str = "401 Unauthorized";
 
+const FORBIDDEN: &str = "403 Forbidden";
+
 const NOT_FOUND: &str = "404 Not Found";
 
 const CONFLICT: &str = "409 Conflict";

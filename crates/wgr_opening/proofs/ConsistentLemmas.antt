@@ -161,7 +161,7 @@ module _ (t : Tables) (good : AreConsistent t) where
       few = subst (λ k. k ≤ 65536) (length-map t.networks (network_entry_of t)) is.few_networks;
     };
     seconds = good.rows.seconds;
-    readers = good.rows.readers;
+    readers = record { digests = is.readers; tokens = is.reader_tokens };
     stored = λ w here. ((network_entry_of t w).network, told w here);
     peers = λ p here. let w = peer_of p here in (w.0, w.1, w.2);
     allowed = λ a here. let w = allowed_of a here in (w.0, w.1, w.2);

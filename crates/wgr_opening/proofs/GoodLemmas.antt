@@ -13,7 +13,8 @@ use Rattle.sqlite_rules.specs.Edit.{id_in}
 use Rattle.sqlite_rules.specs.Lists as rules
 use Rattle.sqlite_rules.proofs.ListLemmas.{all_from, all_has, some_from}
 use Rattle.wgr_pool.proofs.PrefixLemmas.{nat_eq_is}
-use Rattle.wgr_model.specs.Consistent.{IsNetworkEntry}
+use Rattle.wgr_model.specs.Consistent.{IsDigest, IsNetworkEntry}
+use Rattle.wgr_model.specs.Register.{Token, is_same}
 use Rattle.wgr_model.specs.Laws.{Has}
 use Rattle.wgr_model.specs.Rows.{NetworkRow, PeerRow, Tables, allowed_key, network_entry_of, number_in, same_allowed, same_pair}
 use Rattle.wgr_model.proofs.CollectLemmas.{from_map, has_map}
@@ -21,24 +22,31 @@ use Rattle.wgr_model.proofs.GatherLemmas.{eqb_self}
 use Rattle.wgr_model.proofs.SameLemmas.{has_permutation}
 use Rattle.wgr_sql.specs.Named.{rows_named}
 use Rattle.wgr_sql.proofs.Answers.{map-both}
-use Rattle.wgr_columns.specs.Decode.{AreTrees, allowed_in, network_in, number_at, peer_in, reader_in, second_in, tables_of, tenant_in}
+use Rattle.wgr_columns.specs.Decode.{AreTrees, allowed_in, bytes_at, network_in, number_at, peer_in, second_in, tables_of, tenant_in, token_in}
 use Rattle.wgr_core.specs.Network.{NetworkValue}
 use Rattle.wgr_tables.specs.Stored.{IsStored}
 use Rattle.wgr_tables.proofs.RouteRests.{allowed_self}
 use Rattle.wgr_tables.proofs.UniqueLemmas.{from_model, to_model}
+use Rattle.wgr_schema.specs.Versions.{IsOfVersion}
+use Rattle.wgr_schema.specs.declared.version.Version.TheVariants.{Three}
+use Rattle.wgr_schema.proofs.VersionLemmas.{meta_read}
 use Rattle.wgr_columns.specs.LaidOut.{IsLaidOut}
-use Rattle.wgr_columns.specs.Fields.{IsIntegerAt}
+use Rattle.wgr_columns.specs.Fields.{IsDigestAt, IsIntegerAt}
+use Rattle.wgr_columns.specs.Layout.{schema_with, token_table_at}
+use Rattle.wgr_sql.proofs.Values.{blob_at}
 use Rattle.wgr_checks.specs.Laws.{HasGoodValues}
 use Rattle.wgr_checks.specs.TenantRows.{AreGoodTenants, AreIdsOf}
-use Rattle.wgr_checks.specs.TokenRows.{AreGoodTokens}
+use Rattle.wgr_checks.specs.TokenRows.{AreGoodTokens, HaveOwnDigests}
 use Rattle.wgr_checks.specs.NetworkRows.{AreGoodNetworks}
-use Rattle.wgr_checks.proofs.TenantLaws.{good_is}
+use Rattle.wgr_checks.proofs.TenantLaws.{good_is, sound}
 use Rattle.wgr_checks.proofs.NetworkLaws.{good_networks_are}
 use Rattle.wgr_checks.proofs.TokenLaws.{good_tokens_are}
+use Rattle.wgr_checks.proofs.ReaderLaws.{good_readers_are}
+use Rattle.wgr_checks.specs.ReaderRows.{AreGoodReaders}
 use Rattle.wgr_checks.proofs.TokenLemmas.{int_is}
 use Rattle.wgr_checks.specs.PeerRows.{AreWrittenPeers, IsPeerRow}
 use Rattle.wgr_checks.specs.AllowedRows.{AreWrittenAllowed, IsAllowedRow}
-use Rattle.wgr_opening.specs.Good.{AreLaterEmpty, IsSound, StoresNetwork, as_third}
+use Rattle.wgr_opening.specs.Good.{AreLaterGood, HasSoundRows, StoresNetwork, as_third}
 use Rattle.wgr_opening.specs.Whole.{AreWhole, IsThere}
 use Rattle.wgr_opening.proofs.ConsistentLemmas.{consistent_is_whole, network_entry, pair_self}
 
@@ -65,7 +73,7 @@ none_from : {A B : Type 0} (f : A → B) (xs : List A) → map f xs ≡ [] → x
 none_from f [] none = refl
 none_from f (x ∷ xs) none = absurd (let e = none in cc)
 
-module _ (db : Database) (good : IsSound db) where
+module _ (db : Database) (good : HasSoundRows db) where
   abbrev t : Tables
   t = as_third (tables_of db)
 
@@ -167,6 +175,34 @@ module _ (db : Database) (good : IsSound db) where
         let row = from_map (λ (r : Row). number_at r 0) (db.trees 5) id listed in
         subst (StoresNetwork t) row.2 (whole.stored (network_in row.0) (has_map network_in (db.trees 5) row.0 row.1))))
 
-  -- and the tables that are found by their names have none
-  pub later_empty : AreLaterEmpty db
-  later_empty = (none_from second_in (rows_named db (codes "second")) whole.seconds, none_from reader_in (rows_named db (codes "reader")) whole.readers)
+  pub no_seconds : rows_named db (codes "second") ≡ []
+  no_seconds = none_from second_in (rows_named db (codes "second")) whole.seconds
+
+  -- the digests of its tokens are good
+  pub own_digests : HaveOwnDigests (db.trees 3)
+  own_digests =
+      let each = all_from_map (λ t. IsDigest t.digest) token_in (db.trees 3) whole.tokens.each in
+      record {
+        few = subst (λ n. n ≤ 65536) (length-map (db.trees 3) token_in) whole.tokens.few;
+        each = all_from (λ r. IsDigestAt r 1) (db.trees 3) (λ r here. (
+          blob_at (schema_with laid.others) db.trees (sound db laid database) (token_table_at 3) (inr (inr (inl refl))) r here 0 _ refl refl refl refl refl,
+          all_has (λ x. IsDigest (bytes_at x 1)) (db.trees 3) r each here,
+        ));
+        digests = subst (IsDistinct is_same) (map-both token_in (λ (t : Token). t.digest) (db.trees 3)) whole.tokens.digests;
+      }
+
+  -- one of the third version has the table of tokens that only read
+  pub later_good : IsOfVersion Three db → AreLaterGood db
+  later_good third = record {
+    seconds = no_seconds;
+    readers = (good_readers_are db third.2.1 database own_digests).1 (record {
+      written = (good.register.later (meta_read Three db third.1)).readers;
+      apart = whole.readers.digests;
+      among = whole.readers.tokens;
+    });
+  }
+
+-- where there is none that only reads, nothing is asked of the tokens
+pub none_reads : (tokens rows : List Row) → rows ≡ [] → AreGoodReaders tokens rows
+unfolding IsDistinct
+none_reads tokens rows none = subst (AreGoodReaders tokens) (sym none) (record { own_rowids = record { each = tt; rowids = tt }; of_tokens = record { each = tt; digests = tt; among = tt } })

@@ -1,5 +1,5 @@
 -- One reading after another, and what all of them tell.
-use Rattle.std.proofs.Common.{◌≡◌, ◌≤◌, ℕ, pos, Bool, true, false, ◌||◌, IsTrue, Ok, Err, Result, IfErr, List, [], ◌∷◌, length, map, nat_eq, refl, sym, ap, subst, ◌∙◌, inl, inr, unsigned_abs, arith, true≢false}
+use Rattle.std.proofs.Common.{◌≡◌, ◌≤◌, ℕ, codes, pos, Bool, true, false, ◌||◌, IsTrue, Ok, Err, Result, IfErr, List, [], ◌∷◌, length, map, nat_eq, refl, sym, ap, subst, ◌∙◌, inl, inr, unsigned_abs, arith, true≢false}
 use Rattle.std.specs.List.{AllByRecursion, IsDistinct, list_any}
 use Rattle.std.proofs.Math.ListN.{length-map}
 use Rattle.std.proofs.lemmas.List.Sorted.{IsPermutation-sym, length_permutation}
@@ -32,18 +32,20 @@ use Rattle.wgr_schema.specs.declared.version.Version.TheVariants.{One, Two, Thre
 use Rattle.wgr_schema.proofs.FreshLemmas.{none_written}
 use Rattle.wgr_schema.proofs.VersionLemmas.{meta_read}
 use Rattle.wgr_columns.specs.LaidOut.{IsLaidOut}
-use Rattle.wgr_columns.specs.Decode.{AreAllowed, ArePeers, AreReaders, AreSeconds, AreWritten, HasLater, HaveKinds, HaveStatuses, IsRegister, allowed_in, network_in, number_at, peer_in, reader_in, second_in, tables_of, tenant_in}
+use Rattle.wgr_columns.specs.Decode.{AreAllowed, ArePeers, AreSeconds, AreWritten, HasLater, HaveKinds, HaveStatuses, IsRegister, allowed_in, network_in, number_at, peer_in, second_in, tables_of, tenant_in}
 use Rattle.wgr_tables.specs.Standing.{Stands}
 use Rattle.wgr_tables.specs.Writes.{Writes}
 use Rattle.wgr_checks.specs.Sorted.{AreAmong}
 use Rattle.wgr_columns.specs.LaidOut.{Laid}
-use Rattle.wgr_checks.specs.Laws.{AreConsistentNetworks, AreConsistentTenants, AreConsistentTokens, HasGoodValues}
+use Rattle.wgr_sql.specs.Named.{rows_named}
+use Rattle.wgr_checks.specs.Laws.{AreConsistentNetworks, AreConsistentReaders, AreConsistentTenants, AreConsistentTokens, HasGoodValues}
 use Rattle.wgr_checks.specs.TenantRows.{AreIdsOf}
 use Rattle.wgr_checks.proofs.TenantLaws.{good_is}
 use Rattle.wgr_checks.proofs.NetworkLaws.{good_networks_are}
 use Rattle.wgr_checks.proofs.TokenLaws.{good_tokens_are}
+use Rattle.wgr_checks.proofs.ReaderLaws.{good_are}
 use Rattle.wgr_checks.proofs.MemberLaws.{allowed_are, peers_are}
-use Rattle.wgr_opening.specs.Good.{HasAll, HasEntries, HasTables, IsGood, IsReady, IsSound, StoresNetwork, as_third}
+use Rattle.wgr_opening.specs.Good.{HasAll, HasEntries, HasTables, IsGood, IsReady, HasSoundRows, StoresNetwork, as_third}
 use Rattle.wgr_opening.specs.Whole.{AreWhole, IsNamed, IsThere}
 use Rattle.wgr_opening.proofs.GoodLemmas.{stored_third}
 use Rattle.wgr_opening.proofs.WholeLemmas.{whole_is_consistent}
@@ -149,6 +151,9 @@ module _ (db : Database) (version : Version) (ready : IsReady version db) (datab
   allowed : AreAllowed (db.trees 10) × HaveKinds (db.trees 10) × AreAmong (map (λ a. a.network) (map allowed_in (db.trees 10))) ids
   allowed = allowed_are ids (db.trees 10) tables.allowed
 
+  readers : AreConsistentReaders (db.trees 3) (rows_named db (codes "reader"))
+  readers = good_are (db.trees 3) (rows_named db (codes "reader")) all.later.readers
+
   -- that of the third version has the tables which that has
   later_there : (v : Version) → IsOfVersion v db → t.meta ≡ third_version → HasLater db
   later_there One of third = absurd (other_version 1 refl (sym (meta_read One db of.1) ∙ third))
@@ -156,8 +161,8 @@ module _ (db : Database) (version : Version) (ready : IsReady version db) (datab
   later_there Three of third = record {
     second = of.2.0;
     reader = of.2.1;
-    seconds = subst AreSeconds (sym all.later.0) (none_written _ _ _);
-    readers = subst AreReaders (sym all.later.1) (none_written _ _ _);
+    seconds = subst AreSeconds (sym all.later.seconds) (none_written _ _ _);
+    readers = readers.written;
   }
 
   pub register : IsRegister db
@@ -197,14 +202,14 @@ module _ (db : Database) (version : Version) (ready : IsReady version db) (datab
       owners = networks.owners;
       few = networks.few;
     };
-    seconds = ap (map second_in) all.later.0;
-    readers = ap (map reader_in) all.later.1;
+    seconds = ap (map second_in) all.later.seconds;
+    readers = record { digests = readers.apart; tokens = readers.among };
     stored = λ w here. let it = at_has (StoresNetwork t) ids w.id told (has_id w here) in (it.0, stored_third t w.id it.0 it.1);
     peers = λ p here. there p.network (at_has (λ owner. list_any (λ id. nat_eq owner id) ids ≡ true) (map (λ (x : PeerRow). x.network) t.peers) p.network peers.2 (has_map (λ (x : PeerRow). x.network) t.peers p here));
     allowed = λ a here. there a.network (at_has (λ owner. list_any (λ id. nat_eq owner id) ids ≡ true) (map (λ (x : AllowedRow). x.network) t.allowed) a.network allowed.2 (has_map (λ (x : AllowedRow). x.network) t.allowed a here));
   }
 
-  pub is_sound : AllByRecursion (StoresNetwork t) ids → IsSound db
+  pub is_sound : AllByRecursion (StoresNetwork t) ids → HasSoundRows db
   is_sound told = record { register = register; consistent = whole_is_consistent (as_third t) (whole told) }
 
 -- the register that an open connection showed stands after a reading where it stood
@@ -214,8 +219,8 @@ pub stands_read : {S : Type 0} (g : Ghosts S) (old mid : Held S) → old.in_tran
 stands_read g old mid idle still live is settled law kept survives = stands_kept IsRegister Writes g old mid (state g old).now [] (stands_open IsRegister Writes g old idle live is settled law) kept still survives
 
 -- a sound register of the third version is good, and a good one is sound
-pub good_of : (db : Database) → IsOfVersion Three db → IsSound db → IsGood db
+pub good_of : (db : Database) → IsOfVersion Three db → HasSoundRows db → IsGood db
 good_of db of is = record { register = is.register; consistent = subst AreConsistent (sym (ap (λ m. record (tables_of db) { meta = m }) (meta_read Three db of.1))) is.consistent }
 
-pub sound_of : (db : Database) → IsGood db → IsSound db
+pub sound_of : (db : Database) → IsGood db → HasSoundRows db
 sound_of db is = record { register = is.register; consistent = subst AreConsistent (ap (λ m. record (tables_of db) { meta = m }) is.consistent.rows.meta) is.consistent }

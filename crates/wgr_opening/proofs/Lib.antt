@@ -2,7 +2,6 @@ pub mod ApartLemmas
 pub mod WholeLemmas
 pub mod OutlineLemmas
 pub mod JoinLemmas
-pub mod NextLemmas
 pub mod ConsistentLemmas
 pub mod GoodLemmas
 pub mod MigrateLemmas

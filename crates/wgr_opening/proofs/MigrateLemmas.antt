@@ -25,10 +25,10 @@ use Rattle.wgr_schema.specs.declared.version.Version.{Version}
 use Rattle.wgr_schema.specs.declared.version.Version.TheVariants.{One, Two, Three}
 use Rattle.wgr_schema.proofs.FreshLemmas.{none_written}
 use Rattle.wgr_schema.proofs.VersionLemmas.{meta_read}
-use Rattle.wgr_opening.specs.Good.{IsReady, IsReadyIn, IsSound}
+use Rattle.wgr_opening.specs.Good.{IsReady, IsReadyIn, HasSoundRows}
 use Rattle.wgr_opening.specs.Migrated.{AreCounted, IsMigrated, LeavesMigrated, MayMigrate}
 use Rattle.wgr_opening.specs.Outlines.{AreOutlines}
-use Rattle.wgr_opening.proofs.GoodLemmas.{later_empty}
+use Rattle.wgr_opening.proofs.GoodLemmas.{no_seconds}
 use Rattle.wgr_opening.proofs.JoinLemmas.{good_of, other_version}
 
 -- the third version, or an earlier one
@@ -56,14 +56,14 @@ no_meta : (b c : Bool) → (b || c) ≡ false → b ≡ false
 no_meta true c none = absurd (true≢false none)
 no_meta false c none = refl
 
-module _ (version : Version) (db : Database) (ready : IsReady version db) (may : MayMigrate version db) (sound : IsSound db) where
+module _ (version : Version) (db : Database) (ready : IsReady version db) (may : MayMigrate version db) (sound : HasSoundRows db) where
   pub may_upgrade : (version ≡ Three → ⊥) → MayUpgrade version db
   may_upgrade earlier = record {
     register = sound.register;
     version = may.0;
     free = ready.1;
     counted = counted version db.schema earlier may.1;
-    seconds = λ second. subst AreSeconds (sym (later_empty db sound).0) (none_written _ _ _);
+    seconds = λ second. subst AreSeconds (sym (no_seconds db sound)) (none_written _ _ _);
   }
 
   pub upgraded_migrated : (new : Database) → (version ≡ Three → ⊥) → IsUpgraded db new → IsMigrated db new
@@ -91,18 +91,18 @@ handed_on P (Err e) why is h = subst P (sym is) h
 -- all that was tested holds of the database at the call
 pub known_from : {S : Type 0} (g : Ghosts S) (version : Version) (old first mid : Held S) (P : Database → Type 0) → (HasCleanDisk (state g mid) → HasCleanDisk (state g first)) → IsKept (state g old) (state g first)
     → (HasCleanDisk (state g first) → IsReady version (state g old).now × MayMigrate version (state g old).now)
-    → (HasCleanDisk (state g mid) → IsReadyIn version (state g first) → IsTrue (state g first).is_open × IsSound (state g first).now × Stands g mid (state g first).now [] × P (state g first).now)
-    → HasCleanDisk (state g mid) → IsReady version (state g old).now × MayMigrate version (state g old).now × IsSound (state g old).now × Stands g mid (state g old).now [] × P (state g old).now
+    → (HasCleanDisk (state g mid) → IsReadyIn version (state g first) → IsTrue (state g first).is_open × HasSoundRows (state g first).now × Stands g mid (state g first).now [] × P (state g first).now)
+    → HasCleanDisk (state g mid) → IsReady version (state g old).now × MayMigrate version (state g old).now × HasSoundRows (state g old).now × Stands g mid (state g old).now [] × P (state g old).now
 known_from g version old first mid P back kept right good clean =
     let before = back clean in
     let is = right before in
     let it = good clean (λ live. subst (IsReady version) (sym (kept before live).1) is.0) in
     let same = (kept before it.0).1 in
-    (is.0, is.1, subst IsSound same it.1, subst (λ (d : Database). Stands g mid d []) same it.2, subst P same it.3)
+    (is.0, is.1, subst HasSoundRows same it.1, subst (λ (d : Database). Stands g mid d []) same it.2, subst P same it.3)
 
 -- The connection is `old` at the call, `mid` once all was tested, and `end` at the exit.
 module _ {S : Type 0} (g : Ghosts S) (version : Version) (old mid end : Held S) (P : Database → Type 0) (still : HasCleanDisk (state g end) → HasCleanDisk (state g mid))
-    (known : HasCleanDisk (state g mid) → IsReady version (state g old).now × MayMigrate version (state g old).now × IsSound (state g old).now × Stands g mid (state g old).now [] × P (state g old).now) where
+    (known : HasCleanDisk (state g mid) → IsReady version (state g old).now × MayMigrate version (state g old).now × HasSoundRows (state g old).now × Stands g mid (state g old).now [] × P (state g old).now) where
   abbrev was : Database
   was = (state g old).now
 
@@ -119,7 +119,7 @@ module _ {S : Type 0} (g : Ghosts S) (version : Version) (old mid end : Held S) 
   pub migrated : HasCleanDisk (state g end) → ((version ≡ Three → ⊥) → IsTrue (state g mid).is_open) → (MayUpgrade version (state g mid).now → IsUpgraded (state g mid).now (state g end).now)
       → (MayUpgrade version (state g mid).now → IsTrue (state g mid).is_open → Stands g end (state g end).now []) → (version ≡ Three → end ≡ mid) → (db : Database) × IsMigrated was db × Stands g end db []
   migrated clean live made stood same = by (age_of version) where
-    is : IsReady version was × MayMigrate version was × IsSound was × Stands g mid was [] × P was
+    is : IsReady version was × MayMigrate version was × HasSoundRows was × Stands g mid was [] × P was
     is = known (still clean)
 
     by : Age version → (db : Database) × IsMigrated was db × Stands g end db []

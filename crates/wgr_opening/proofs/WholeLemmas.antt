@@ -194,11 +194,13 @@ module _ (t : Tables) (whole : AreWhole t) where
     names = whole.tenants.names;
     ids = whole.tenants.ids;
     digests = whole.tokens.digests;
+    readers = whole.readers.digests;
     slots = subst (IsDistinct same_slot) (sym (map_map (network_entry_of t) slot t.networks)) whole.networks.slots;
     network_ids = subst (IsDistinct nat_eq) (sym (map_map (network_entry_of t) (λ h. h.id) t.networks)) whole.networks.ids;
     endpoints = subst (IsDistinct same_endpoint) (sym (map_map (network_entry_of t) endpoint t.networks)) whole.networks.endpoints;
     pools = subst (IsDistinct overlaps) (sym (map_map (network_entry_of t) pool_of t.networks)) whole.networks.pools;
     token_tenants = whole.tokens.owners;
+    reader_tokens = whole.readers.tokens;
     network_tenants = held_all (λ h. has_tenant t.tenants h.tenant ≡ true) (λ w here. at_has (λ x. has_tenant t.tenants x.tenant ≡ true) t.networks w whole.networks.owners here);
     tenants = whole.tenants.each;
     tokens = whole.tokens.each;
@@ -219,7 +221,7 @@ module _ (t : Tables) (whole : AreWhole t) where
     tokens = IsPermutation-refl t.tokens;
     networks = subst (λ l. IsPermutation l t.networks) (sym (map_map (network_entry_of t) network_row t.networks ∙ same_rows t.networks)) (IsPermutation-refl t.networks);
     seconds = whole.seconds;
-    readers = whole.readers;
+    readers = IsPermutation-refl t.readers;
     peers = λ a. (
       (λ h. let k = from_flat peer_rows (map (network_entry_of t) t.networks) a h in let w = from_map (network_entry_of t) t.networks k.0 k.1 in own_peer w.0 w.1 a (subst (λ (x : NetworkEntry). Has (peer_rows x) a) (sym w.2) k.2)),
       (λ h. let w = whole.peers a h in has_flat peer_rows (map (network_entry_of t) t.networks) (network_entry_of t w.0) a (has_map (network_entry_of t) t.networks w.0 w.1) (peer_here w.0 w.1 a h w.2)),

@@ -14,6 +14,7 @@ use Rattle.wgr_schema.specs.Versions.{AreFree, IsOfVersion}
 use Rattle.wgr_schema.specs.declared.version.Version.{Version}
 use Rattle.wgr_checks.specs.TenantRows.{AreGoodTenants, AreIdsOf}
 use Rattle.wgr_checks.specs.TokenRows.{AreGoodTokens}
+use Rattle.wgr_checks.specs.ReaderRows.{AreGoodReaders}
 use Rattle.wgr_checks.specs.NetworkRows.{AreGoodNetworks}
 use Rattle.wgr_checks.specs.PeerRows.{AreWrittenPeers}
 use Rattle.wgr_checks.specs.AllowedRows.{AreWrittenAllowed}
@@ -39,13 +40,14 @@ pub record HasTables (trees : Trees) (networks : List ℕ) : Type 0 where
   pub peers : AreWrittenPeers networks (trees peer_tree)
   pub allowed : AreWrittenAllowed networks (trees allowed_tree)
 
--- and the two tables that are found by their names have none
-abbrev pub AreLaterEmpty : Database → Type 0
-AreLaterEmpty db = (rows_named db (codes "second") ≡ []) × (rows_named db (codes "reader") ≡ [])
+-- and of tokens that only read; there is no second pool
+pub record AreLaterGood (db : Database) : Type 0 where
+  pub seconds : rows_named db (codes "second") ≡ []
+  pub readers : AreGoodReaders (db.trees token_tree) (rows_named db (codes "reader"))
 
 pub record HasAll (db : Database) (networks : List ℕ) : Type 0 where
   pub tables : HasTables db.trees networks
-  pub later : AreLaterEmpty db
+  pub later : AreLaterGood db
 
 -- the rows of the network of this id form a network that keeps the rules
 abbrev pub StoresNetwork : Tables → ℕ → Type 0
@@ -56,7 +58,7 @@ abbrev pub as_third : Tables → Tables
 as_third t = record t { meta = third_version }
 
 -- a register, of whatever version, whose other rows are consistent
-pub record IsSound (db : Database) : Type 0 where
+pub record HasSoundRows (db : Database) : Type 0 where
   pub register : IsRegister db
   pub consistent : AreConsistent (as_third (tables_of db))
 

@@ -13,7 +13,7 @@ use Rattle.wgr_columns.specs.Decode.{tables_of}
 use Rattle.wgr_schema.specs.Versions.{AreFree, IsOfVersion}
 use Rattle.wgr_schema.specs.declared.version.Version.{Version}
 use Rattle.wgr_schema.specs.declared.version.Version.TheVariants.{One, Two, Three}
-use Rattle.wgr_opening.specs.Good.{IsGood, IsSound, as_third}
+use Rattle.wgr_opening.specs.Good.{IsGood, HasSoundRows, as_third}
 
 -- where a table counts its rowids, the table of the counters is there, as SQLite has it
 abbrev pub AreCounted : Version → Schema → Type 0
@@ -27,7 +27,7 @@ MayMigrate version db = IsOfVersion version db × AreCounted version db.schema
 
 -- a migration of the register succeeds, but for want of memory and faults of the store
 pub record CanMigrate (version : Version) (db : Database) : Type 0 where
-  pub sound : IsSound db
+  pub sound : HasSoundRows db
   pub may : MayMigrate version db
   pub free : AreFree version db.schema
 

@@ -4,7 +4,7 @@ use Rattle.std.specs.List.{AllByRecursion, IsDistinct}
 use Rattle.wgr_peers.specs.Host.{IsHost}
 use Rattle.wgr_core.specs.Network.{NetworkValue}
 use Rattle.wgr_model.specs.Register.{is_same}
-use Rattle.wgr_model.specs.Consistent.{IsDigest, IsId, IsName, IsTenant, has_tenant, overlaps, same_endpoint, same_slot, max_entries}
+use Rattle.wgr_model.specs.Consistent.{IsDigest, IsId, IsName, IsTenant, has_digest, has_tenant, overlaps, same_endpoint, same_slot, max_entries}
 use Rattle.wgr_model.specs.Laws.{Has}
 use Rattle.wgr_model.specs.Rows.{AllowedRow, NetworkRow, PeerRow, Tables, third_version}
 use Rattle.wgr_model.specs.RowLaws.{AreConsistent}
@@ -21,6 +21,11 @@ pub record AreTokensApart (t : Tables) : Type 0 where
   pub digests : IsDistinct is_same (map (λ x. x.digest) t.tokens)
   pub owners : AllByRecursion (λ x. has_tenant t.tenants x.tenant ≡ true) t.tokens
   pub few : length t.tokens ≤ max_entries
+
+-- the tokens that only read
+pub record AreReadersApart (t : Tables) : Type 0 where
+  pub digests : IsDistinct is_same t.readers
+  pub tokens : AllByRecursion (λ d. has_digest t.tokens d ≡ true) t.readers
 
 -- the id, the name and the host of a network are of their forms
 pub record IsNamed (w : NetworkRow) : Type 0 where
@@ -43,14 +48,14 @@ IsThere t id = (w : NetworkRow) × Has t.networks w × (w.id ≡ id)
 
 -- The rows of each table are those of distinct entries, each network's rows form a network that
 -- keeps the rules, and no peer and no allowed prefix is of a network that doesn't exist. There is no second
--- pool, and no token that only reads.
+-- pool.
 pub record AreWhole (t : Tables) : Type 0 where
   pub meta : t.meta ≡ third_version
   pub tenants : AreTenantsApart t
   pub tokens : AreTokensApart t
   pub networks : AreNetworksApart t
   pub seconds : t.seconds ≡ []
-  pub readers : t.readers ≡ []
+  pub readers : AreReadersApart t
   pub stored : (w : NetworkRow) → Has t.networks w → (n : NetworkValue) × IsStored t w.id n
   pub peers : (p : PeerRow) → Has t.peers p → IsThere t p.network
   pub allowed : (a : AllowedRow) → Has t.allowed a → IsThere t a.network

@@ -20,7 +20,7 @@ ghost use Rattle.wgr_schema.specs.declared.version.Version.TheVariants.{Three};
 ghost use Rattle.wgr_schema.specs.declared.fault.RegisterFault.TheVariants.{EarlierVersion, NotARegister, NotEmpty, NotGood};
 ghost use Rattle.wgr_columns.specs.Decode.{tables_of};
 ghost use Rattle.wgr_tables.specs.Standing.{Stands};
-ghost use Rattle.wgr_opening.specs.Good.{IsGood, IsReadyIn, IsSound};
+ghost use Rattle.wgr_opening.specs.Good.{IsGood, IsReadyIn, HasSoundRows};
 ghost use Rattle.wgr_opening.specs.Outlines.{AreOutlines, outline_in};
 
 use crate::outlines::Outlines;
@@ -41,9 +41,9 @@ pub(crate) fn audit<S: Alter>(
     requires idle { conn.old.in_transaction ≡ false }
     ensures idle { conn.new.in_transaction ≡ false }
     ensures good { HasCleanDisk (state S.Store conn.new) → IsReadyIn version (state S.Store conn.old)
-        → IfOk result (λ found. IfSome found (λ outlines. IsTrue (state S.Store conn.old).is_open × IsSound (state S.Store conn.old).now × Stands S.Store conn.new (state S.Store conn.old).now [] × AreOutlines (outline_in outlines) (tables_of (state S.Store conn.old).now))) }
+        → IfOk result (λ found. IfSome found (λ outlines. IsTrue (state S.Store conn.old).is_open × HasSoundRows (state S.Store conn.old).now × Stands S.Store conn.new (state S.Store conn.old).now [] × AreOutlines (outline_in outlines) (tables_of (state S.Store conn.old).now))) }
     ensures only { HasCleanDisk (state S.Store conn.new) → IsReadyIn version (state S.Store conn.old)
-        → IfOk result (λ found. IsTrue (state S.Store conn.old).is_open × (IsSound (state S.Store conn.old).now → IsSome found)) }
+        → IfOk result (λ found. IsTrue (state S.Store conn.old).is_open × (HasSoundRows (state S.Store conn.old).now → IsSome found)) }
     ensures kept { (HasCleanDisk (state S.Store conn.new) → IsReadyIn version (state S.Store conn.old)) → IsKept (state S.Store conn.old) (state S.Store conn.new) }
     ensures clean { HasCleanDisk (state S.Store conn.new) → HasCleanDisk (state S.Store conn.old) }
     ensures survives { Survives (state S.Store conn.old) (state S.Store conn.new) (λ _. ⊥) }

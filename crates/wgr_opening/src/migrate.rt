@@ -14,7 +14,7 @@ ghost use Rattle.wgr_schema.specs.declared.version.Version.{Version};
 ghost use Rattle.wgr_schema.specs.declared.fault.RegisterFault.TheVariants.{EarlierVersion, NotARegister, NotEmpty, NotGood};
 ghost use Rattle.wgr_columns.specs.Decode.{tables_of};
 ghost use Rattle.wgr_tables.specs.Standing.{Stands};
-ghost use Rattle.wgr_opening.specs.Good.{IsReady, IsReadyIn, IsSound};
+ghost use Rattle.wgr_opening.specs.Good.{IsReady, IsReadyIn, HasSoundRows};
 ghost use Rattle.wgr_opening.specs.Migrated.{IsMigrated, LeavesMigrated, MayMigrate};
 ghost use Rattle.wgr_opening.specs.Outlines.{AreOutlines, outline_in};
 
@@ -89,8 +89,8 @@ fn audited<S: Alter>(
     requires idle { conn.old.in_transaction ≡ false }
     ensures idle { conn.new.in_transaction ≡ false }
     ensures good { HasCleanDisk (state S.Store conn.new) → IsReadyIn version (state S.Store conn.old)
-        → IfOk result (λ outlines. IsTrue (state S.Store conn.old).is_open × IsSound (state S.Store conn.old).now × Stands S.Store conn.new (state S.Store conn.old).now [] × AreOutlines (outline_in outlines) (tables_of (state S.Store conn.old).now)) }
-    ensures bad { HasCleanDisk (state S.Store conn.new) → IsReadyIn version (state S.Store conn.old) → result ≡ Err NotGood → IsTrue (state S.Store conn.old).is_open × (IsSound (state S.Store conn.old).now → ⊥) }
+        → IfOk result (λ outlines. IsTrue (state S.Store conn.old).is_open × HasSoundRows (state S.Store conn.old).now × Stands S.Store conn.new (state S.Store conn.old).now [] × AreOutlines (outline_in outlines) (tables_of (state S.Store conn.old).now)) }
+    ensures bad { HasCleanDisk (state S.Store conn.new) → IsReadyIn version (state S.Store conn.old) → result ≡ Err NotGood → IsTrue (state S.Store conn.old).is_open × (HasSoundRows (state S.Store conn.old).now → ⊥) }
     ensures foreign { result ≡ Err NotARegister → ⊥ }
     ensures taken { result ≡ Err NotEmpty → ⊥ }
     ensures earlier { result ≡ Err EarlierVersion → ⊥ }
@@ -122,7 +122,7 @@ pub fn migrate_tables<S: Alter>(
     ensures done { HasCleanDisk (state S.Store conn.new) → IfOk result (λ outlines. (db : Database) × IsMigrated (state S.Store conn.old).now db × Stands S.Store conn.new db [] × AreOutlines (outline_in outlines) (tables_of db)) }
     ensures foreign { HasCleanDisk (state S.Store conn.new) → result ≡ Err NotARegister → (version : Version) → MayMigrate version (state S.Store conn.old).now → ⊥ }
     ensures taken { HasCleanDisk (state S.Store conn.new) → result ≡ Err NotEmpty → (version : Version) → IsReady version (state S.Store conn.old).now → ⊥ }
-    ensures bad { HasCleanDisk (state S.Store conn.new) → result ≡ Err NotGood → IsSound (state S.Store conn.old).now → ⊥ }
+    ensures bad { HasCleanDisk (state S.Store conn.new) → result ≡ Err NotGood → HasSoundRows (state S.Store conn.old).now → ⊥ }
     ensures earlier { result ≡ Err EarlierVersion → ⊥ }
     ensures kept { OnErr result (IsKept (state S.Store conn.old) (state S.Store conn.new)) }
     ensures clean { HasCleanDisk (state S.Store conn.new) → HasCleanDisk (state S.Store conn.old) }

@@ -11,9 +11,9 @@ ghost use Rattle.wgr_columns.specs.Layout.{allowed_tree, peer_tree};
 ghost use Rattle.wgr_columns.specs.LaidOut.{Laid};
 ghost use Rattle.wgr_checks.specs.AllowedRows.{AreWrittenAllowed};
 ghost use Rattle.wgr_checks.specs.PeerRows.{AreWrittenPeers};
-ghost use Rattle.wgr_opening.specs.Good.{HasAll, HasEntries, HasNetworks, HasTables, IsReadyIn, IsSound};
+ghost use Rattle.wgr_opening.specs.Good.{HasAll, HasEntries, HasNetworks, HasTables, IsReadyIn, HasSoundRows};
 
-use crate::later::are_later_empty;
+use crate::later::are_later_good;
 use sqlite::{Alter, Connection};
 use std::alloc::Global;
 use wgr_checks::{
@@ -32,12 +32,12 @@ pub(crate) fn read_all<S: Alter>(
     requires idle { conn.old.in_transaction ≡ false }
     ensures idle { conn.new.in_transaction ≡ false }
     ensures some { HasCleanDisk (state S.Store conn.new) → IsReadyIn version (state S.Store conn.old) → IfOk result (λ found. IfSome found (λ ids. IsTrue (state S.Store conn.old).is_open × HasAll (state S.Store conn.old).now ids.items)) }
-    ensures none { HasCleanDisk (state S.Store conn.new) → IsReadyIn version (state S.Store conn.old) → IfOk result (λ found. IfNone found (IsTrue (state S.Store conn.old).is_open × (IsSound (state S.Store conn.old).now → ⊥))) }
+    ensures none { HasCleanDisk (state S.Store conn.new) → IsReadyIn version (state S.Store conn.old) → IfOk result (λ found. IfNone found (IsTrue (state S.Store conn.old).is_open × (HasSoundRows (state S.Store conn.old).now → ⊥))) }
     ensures kept { (HasCleanDisk (state S.Store conn.new) → IsReadyIn version (state S.Store conn.old)) → IsKept (state S.Store conn.old) (state S.Store conn.new) }
     ensures survives { Survives (state S.Store conn.old) (state S.Store conn.new) (λ _. ⊥) }
     ensures cause { (HasCleanDisk (state S.Store conn.new) → IsReadyIn version (state S.Store conn.old)) → IfErr result (HasCause (state S.Store conn.old) (state S.Store conn.new)) }
 {
-    if !are_later_empty(conn, version)? {
+    if !are_later_good(alloc, conn, version)? {
         return Ok(None);
     }
     read_tables(alloc, conn)
@@ -48,7 +48,7 @@ fn read_tables<S: Alter>(alloc: Global, conn: &mut Connection<S>) -> Result<Opti
     requires idle { conn.old.in_transaction ≡ false }
     ensures idle { conn.new.in_transaction ≡ false }
     ensures some { HasCleanDisk (state S.Store conn.new) → Laid (state S.Store conn.old) → IfOk result (λ found. IfSome found (λ ids. IsTrue (state S.Store conn.old).is_open × HasTables (state S.Store conn.old).now.trees ids.items)) }
-    ensures none { HasCleanDisk (state S.Store conn.new) → Laid (state S.Store conn.old) → IfOk result (λ found. IfNone found (IsTrue (state S.Store conn.old).is_open × (IsSound (state S.Store conn.old).now → ⊥))) }
+    ensures none { HasCleanDisk (state S.Store conn.new) → Laid (state S.Store conn.old) → IfOk result (λ found. IfNone found (IsTrue (state S.Store conn.old).is_open × (HasSoundRows (state S.Store conn.old).now → ⊥))) }
     ensures kept { (HasCleanDisk (state S.Store conn.new) → Laid (state S.Store conn.old)) → IsKept (state S.Store conn.old) (state S.Store conn.new) }
     ensures survives { Survives (state S.Store conn.old) (state S.Store conn.new) (λ _. ⊥) }
     ensures cause { (HasCleanDisk (state S.Store conn.new) → Laid (state S.Store conn.old)) → IfErr result (HasCause (state S.Store conn.old) (state S.Store conn.new)) }
@@ -70,7 +70,7 @@ fn read_network_entries<S: Alter>(
     requires idle { conn.old.in_transaction ≡ false }
     ensures idle { conn.new.in_transaction ≡ false }
     ensures some { HasCleanDisk (state S.Store conn.new) → Laid (state S.Store conn.old) → IfOk result (λ found. IfSome found (λ ids. IsTrue (state S.Store conn.old).is_open × HasNetworks (state S.Store conn.old).now.trees ids.items)) }
-    ensures none { HasCleanDisk (state S.Store conn.new) → Laid (state S.Store conn.old) → IfOk result (λ found. IfNone found (IsTrue (state S.Store conn.old).is_open × (IsSound (state S.Store conn.old).now → ⊥))) }
+    ensures none { HasCleanDisk (state S.Store conn.new) → Laid (state S.Store conn.old) → IfOk result (λ found. IfNone found (IsTrue (state S.Store conn.old).is_open × (HasSoundRows (state S.Store conn.old).now → ⊥))) }
     ensures kept { (HasCleanDisk (state S.Store conn.new) → Laid (state S.Store conn.old)) → IsKept (state S.Store conn.old) (state S.Store conn.new) }
     ensures survives { Survives (state S.Store conn.old) (state S.Store conn.new) (λ _. ⊥) }
     ensures cause { (HasCleanDisk (state S.Store conn.new) → Laid (state S.Store conn.old)) → IfErr result (HasCause (state S.Store conn.old) (state S.Store conn.new)) }
@@ -89,7 +89,7 @@ fn read_entries<S: Alter>(
     requires idle { conn.old.in_transaction ≡ false }
     ensures idle { conn.new.in_transaction ≡ false }
     ensures some { HasCleanDisk (state S.Store conn.new) → Laid (state S.Store conn.old) → IfOk result (λ found. IfSome found (λ ids. IsTrue (state S.Store conn.old).is_open × HasEntries (state S.Store conn.old).now.trees ids.items)) }
-    ensures none { HasCleanDisk (state S.Store conn.new) → Laid (state S.Store conn.old) → IfOk result (λ found. IfNone found (IsTrue (state S.Store conn.old).is_open × (IsSound (state S.Store conn.old).now → ⊥))) }
+    ensures none { HasCleanDisk (state S.Store conn.new) → Laid (state S.Store conn.old) → IfOk result (λ found. IfNone found (IsTrue (state S.Store conn.old).is_open × (HasSoundRows (state S.Store conn.old).now → ⊥))) }
     ensures kept { (HasCleanDisk (state S.Store conn.new) → Laid (state S.Store conn.old)) → IsKept (state S.Store conn.old) (state S.Store conn.new) }
     ensures survives { Survives (state S.Store conn.old) (state S.Store conn.new) (λ _. ⊥) }
     ensures cause { (HasCleanDisk (state S.Store conn.new) → Laid (state S.Store conn.old)) → IfErr result (HasCause (state S.Store conn.old) (state S.Store conn.new)) }

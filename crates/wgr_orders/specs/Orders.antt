@@ -25,7 +25,7 @@ refusal_of refused.RegisterFull = RegisterFull
 -- an order as an event
 abbrev pub order_event : order.Order → Event
 order_event (ordered.AddTenant name) = AddTenant name
-order_event (ordered.Grant tenant digest) = Grant tenant digest
+order_event (ordered.Grant tenant digest right) = Grant tenant digest right
 order_event (ordered.EndToken digest) = EndToken digest
 order_event (ordered.AddNetwork tenant name settings) = AddNetwork tenant name settings
 order_event (ordered.EndNetwork tenant name) = EndNetwork tenant name

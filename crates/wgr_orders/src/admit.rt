@@ -23,7 +23,7 @@ pub fn admit_network(
     name: &Name,
     settings: &Settings,
 ) -> Result<Result<u32, OrderRefusal>, AllocError>
-    ensures { IfOk result (λ admitted. IsAdmitted (record { tenants = tenants.now; tokens = []; networks = networks.now }) tenant name.now settings.now admitted) }
+    ensures { IfOk result (λ admitted. IsAdmitted (record { tenants = tenants.now; tokens = []; readers = []; networks = networks.now }) tenant name.now settings.now admitted) }
 {
     match checked_pool(alloc, tenants, networks, tenant, name, settings) {
         Ok(_) => Ok(Ok(new_id(alloc, networks)?)),
@@ -41,7 +41,7 @@ pub fn checked_pool(
     name: &Name,
     settings: &Settings,
 ) -> Result<Pool, OrderFault>
-    ensures { IsChecked (record { tenants = tenants.now; tokens = []; networks = networks.now }) id name.now settings.now result }
+    ensures { IsChecked (record { tenants = tenants.now; tokens = []; readers = []; networks = networks.now }) id name.now settings.now result }
 {
     if place_of(networks, id, name.as_bytes()).is_some() {
         return Err(OrderFault::Refused(OrderRefusal::NameHeld));

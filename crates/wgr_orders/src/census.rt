@@ -1,5 +1,13 @@
 //! All entries of a register, for an operator to look at.
 use crate::entries::{NetworkEntry, Tenant, Token};
+use wgr_model::Right;
+
+/// A token with its right.
+#[derive(Drop)]
+pub struct Granted {
+    pub token: Token,
+    pub right: Right,
+}
 
 /// A network as it was added, and how many peers and routes its rows have. A peer whose lease is over counts
 /// until a change of the network removes it.
@@ -14,6 +22,6 @@ pub struct Counted {
 #[derive(Drop)]
 pub struct Census {
     pub tenants: Vec<Tenant>,
-    pub tokens: Vec<Token>,
+    pub tokens: Vec<Granted>,
     pub networks: Vec<Counted>,
 }

@@ -4,6 +4,7 @@ ghost use Rattle.wgr_model.specs.Consistent.{is_pool};
 
 use std::marker::Model;
 use wgr_core::{Capacity, Host, Name, Pool, Port};
+use wgr_model::Right;
 use wgr_text::{Addr, Key};
 
 /// The settings of a new network, which an operator chooses.
@@ -51,12 +52,13 @@ pub enum Order {
     AddTenant {
         name: Name,
     },
-    /// A token for a tenant.
+    /// A token for a tenant, with this right.
     Grant {
         tenant: Name,
         digest: [u8; 32],
+        right: Right,
     },
-    /// The token is removed.
+    /// The token is removed, and its right with it.
     EndToken {
         digest: [u8; 32],
     },

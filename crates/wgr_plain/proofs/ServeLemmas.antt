@@ -6,8 +6,8 @@ use Rattle.wgr_plain.specs.declared.answer.Answer as answer
 use Rattle.wgr_plain.specs.declared.run.Event as event
 use Rattle.wgr_plain.specs.Calls.{AreAnswered, answer_of, model_event}
 use Rattle.wgr_model.specs.Register.{Register}
-use Rattle.wgr_model.specs.Runs.{AreProper, IsRun, IsServed, Served}
-use Rattle.wgr_model.specs.Steps.{Answer, Event, IsProper}
+use Rattle.wgr_model.specs.Runs.{IsRun, IsServed, Served}
+use Rattle.wgr_model.specs.Steps.{Answer, Event}
 use Rattle.wgr_model.proofs.RunLemmas.{same_itself}
 
 -- each event with its answer, as far as there are answers

@@ -1,5 +1,5 @@
 -- The calls of the plain register in the model's terms.
-use Rattle.std.specs.Prelude.{◌≡◌, ℕ, false, List, map, Option, Some, None, Result, Ok, Err}
+use Rattle.std.specs.Prelude.{◌≡◌, ℕ, false, List, [], ◌∷◌, ◌++◌, map, Option, Some, None, Result, Ok, Err}
 use Rattle.std.specs.Option.{option_map}
 use Rattle.wgr_core.specs.Network.{NetworkValue}
 use Rattle.wgr_core.specs.declared.refusal.CommandRefusal.{CommandRefusal}
@@ -11,16 +11,19 @@ use Rattle.wgr_plain.specs.declared.answer.Answer as answer
 use Rattle.wgr_plain.specs.declared.answer.Answer.TheVariants as answered
 use Rattle.wgr_plain.specs.declared.run.Event as event
 use Rattle.wgr_plain.specs.declared.run.Event.TheVariants as events
+use Rattle.wgr_model.specs.declared.right.Right.{Right}
+use Rattle.wgr_model.specs.declared.right.Right.TheVariants.{Full, Read}
 use Rattle.wgr_model.specs.Runs.{AreServed, Served}
 use Rattle.wgr_model.specs.Consistent.{IsId}
 use Rattle.wgr_model.specs.Register.{Bytes, NetworkEntry, Register}
-use Rattle.wgr_model.specs.Steps.{Event, Ask, Networks, Answer, Replied, Declined, Listed, UnknownToken, NoSuchNetwork, Done, Refused, Settings, IsStep, has_network, new_network}
+use Rattle.wgr_model.specs.Steps.{Event, Ask, Networks, Answer, Replied, Declined, Listed, UnknownToken, ReadOnly, NoSuchNetwork, Done, Refused, Settings, IsStep, has_network, new_network}
 
 abbrev pub answer_of : answer.Answer → Answer
 answer_of (answered.Replied reply network) = Replied reply network
 answer_of (answered.Declined why) = Declined why
 answer_of (answered.Listed networks) = Listed networks
 answer_of answered.UnknownToken = UnknownToken
+answer_of answered.ReadOnly = ReadOnly
 answer_of answered.NoSuchNetwork = NoSuchNetwork
 answer_of answered.Done = Done
 answer_of (answered.Refused why) = Refused (refusal_of why)
@@ -47,6 +50,11 @@ abbrev pub IsOrdered : Register → Event → Result Unit fault.OrderFault → R
 IsOrdered r event (Ok done) s = IsStep r event Done s
 IsOrdered r event (Err (faulted.Refused why)) s = IsStep r event (Refused (refusal_of why)) s
 IsOrdered r event (Err faulted.NoMemory) s = s ≡ r
+
+-- the digest at the end where the token only reads
+abbrev pub with_last : Right → Bytes → List Bytes → List Bytes
+with_last Full digest readers = readers
+with_last Read digest readers = readers ++ digest ∷ []
 
 -- a network of these settings, without peers, under an id that no other has
 abbrev pub IsNewNetworkEntry : List NetworkEntry → ℕ → Bytes → Settings → NetworkEntry → Type 0

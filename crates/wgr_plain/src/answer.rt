@@ -13,6 +13,8 @@ pub enum Answer {
     Listed(Items<(Name, Network)>),
     /// No tenant has the token.
     UnknownToken,
+    /// The token only reads, and the command changes.
+    ReadOnly,
     /// The tenant has no network of the name.
     NoSuchNetwork,
     /// The order is done.

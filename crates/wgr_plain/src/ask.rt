@@ -7,7 +7,7 @@ ghost use Rattle.wgr_plain.specs.Calls.{IsActed, answer_of};
 
 use crate::answer::Answer;
 use crate::listing::listed;
-use crate::look::tenant_of_token;
+use crate::look::{right_of, tenant_of_token};
 use crate::register::Register;
 use std::alloc::{AllocError, Global};
 use wgr_core::{ActFault, Change, Command, Items, Name, Network};
@@ -30,6 +30,10 @@ impl Register {
         let Some(id) = tenant_of_token(&self.tokens, digest) else {
             return Ok(Answer::UnknownToken);
         };
+        let right = right_of(&self.readers, digest);
+        if !right.allows(command) {
+            return Ok(Answer::ReadOnly);
+        }
         let Some(place) = place_of(&self.networks, id, name.as_bytes()) else {
             return Ok(Answer::NoSuchNetwork);
         };

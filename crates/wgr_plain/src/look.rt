@@ -1,11 +1,11 @@
 //! Lookups, each a walk along one list.
 ghost use Rattle.std.specs.Prelude.{◌≡◌, map, false, None, IfOk};
-ghost use Rattle.wgr_model.specs.Register.{id_of};
+ghost use Rattle.wgr_model.specs.Register.{id_of, right_of};
 ghost use Rattle.wgr_model.specs.Steps.{tenant_of_token};
 
 use crate::register::Token;
 use std::alloc::{AllocError, Global};
-use wgr_orders::{Tenant, is_same};
+use wgr_orders::{Right, Tenant, is_same};
 
 // The id of the tenant of this name.
 pub(crate) fn id_of(tenants: &[Tenant], name: &[u8]) -> Option<u32>
@@ -29,6 +29,18 @@ pub(crate) fn tenant_of_token(tokens: &[Token], digest: &[u8; 32]) -> Option<u32
         }
     }
     None
+}
+
+// The right of the token of this digest.
+pub(crate) fn right_of(readers: &[[u8; 32]], digest: &[u8; 32]) -> Right
+    ensures { result ≡ right_of readers.now digest.now }
+{
+    for reader in readers {
+        if is_same(digest, reader) {
+            return Right::Read;
+        }
+    }
+    Right::Full
 }
 
 // The ids of the tenants.

@@ -2,10 +2,10 @@
 ghost use Rattle.std.specs.Prelude.{◌≡◌, ◌++◌, ◌∷◌, [], not, false, IfOk, OnErr, OnOk};
 ghost use Rattle.std.specs.List.{filter};
 ghost use Rattle.wgr_orders.specs.Orders.{order_event};
-ghost use Rattle.wgr_plain.specs.Calls.{IsNewNetworkEntry, IsOrdered, answer_of};
+ghost use Rattle.wgr_plain.specs.Calls.{IsNewNetworkEntry, IsOrdered, answer_of, with_last};
 ghost use Rattle.wgr_model.specs.Consistent.{same_slot, slot};
 ghost use Rattle.wgr_model.specs.Register.{is_same};
-ghost use Rattle.wgr_model.specs.Steps.{AddNetwork, AddTenant, EndNetwork, EndToken, Grant, IsStep, is_full, new_network};
+ghost use Rattle.wgr_model.specs.Steps.{AddNetwork, AddTenant, EndNetwork, EndToken, Grant, IsStep, is_full, new_network, without_reader};
 
 use crate::answer::Answer;
 use crate::look::{id_of, tenant_ids, tenant_of_token};
@@ -13,8 +13,9 @@ use crate::register::{Register, Token};
 use std::alloc::{AllocError, Global};
 use wgr_core::{Name, Network, Pool};
 use wgr_orders::{
-    NetworkEntry, Order, OrderFault, OrderRefusal, Settings, Tenant, checked_pool, digest_has_form,
-    is_full, is_same, name_has_form, new_id, place_of, settings_have_forms, unused_id,
+    NetworkEntry, Order, OrderFault, OrderRefusal, Right, Settings, Tenant, checked_pool,
+    digest_has_form, is_full, is_same, name_has_form, new_id, place_of, settings_have_forms,
+    unused_id,
 };
 
 impl Register {
@@ -35,7 +36,11 @@ impl Register {
     {
         match order {
             Order::AddTenant { name } => self.add_tenant(alloc, name),
-            Order::Grant { tenant, digest } => self.grant(tenant, digest),
+            Order::Grant {
+                tenant,
+                digest,
+                right,
+            } => self.grant(tenant, digest, *right),
             Order::EndToken { digest } => self.end_token(digest),
             Order::AddNetwork {
                 tenant,
@@ -65,8 +70,8 @@ impl Register {
         Ok(())
     }
 
-    fn grant(&mut self, tenant: &Name, digest: &[u8; 32]) -> Result<(), OrderFault>
-        ensures { IsOrdered self.old (Grant tenant.now digest.now) result self.new }
+    fn grant(&mut self, tenant: &Name, digest: &[u8; 32], right: Right) -> Result<(), OrderFault>
+        ensures { IsOrdered self.old (Grant tenant.now digest.now right) result self.new }
     {
         let Some(id) = id_of(&self.tenants, tenant.as_bytes()) else {
             return Err(OrderFault::Refused(OrderRefusal::NoSuchTenant));
@@ -82,7 +87,7 @@ impl Register {
             tenant: id,
         };
         digest_has_form(digest);
-        push(&mut self.tokens, token)?;
+        put_token(&mut self.tokens, &mut self.readers, token, right)?;
         Ok(())
     }
 
@@ -93,6 +98,7 @@ impl Register {
             return Err(OrderFault::Refused(OrderRefusal::NoSuchToken));
         }
         drop_token(&mut self.tokens, digest);
+        drop_reader(&mut self.readers, digest);
         Ok(())
     }
 
@@ -177,11 +183,57 @@ fn push<T: Drop>(entries: &mut Vec<T>, entry: T) -> Result<(), AllocError>
     Ok(())
 }
 
+// Puts the token at the end, and its digest at the end of those that only read where it is one; if
+// memory runs out, both lists are as before.
+fn put_token(
+    tokens: &mut Vec<Token>,
+    readers: &mut Vec<[u8; 32]>,
+    token: Token,
+    right: Right,
+) -> Result<(), AllocError>
+    ensures tokens { OnOk result (tokens.new.items ≡ tokens.old.items ++ token ∷ []) }
+    ensures readers { OnOk result (readers.new.items ≡ with_last right token.digest readers.old.items) }
+    ensures tokens_undone { OnErr result (tokens.new.items ≡ tokens.old.items) }
+    ensures readers_undone { OnErr result (readers.new.items ≡ readers.old.items) }
+{
+    let before = readers.len();
+    put_reader(readers, &token.digest, right)?;
+    match push(tokens, token) {
+        Ok(()) => Ok(()),
+        Err(why) => {
+            readers.truncate(before);
+            Err(why)
+        }
+    }
+}
+
+// Puts the digest at the end where its token only reads; if memory runs out, the digests are as before.
+fn put_reader(
+    readers: &mut Vec<[u8; 32]>,
+    digest: &[u8; 32],
+    right: Right,
+) -> Result<(), AllocError>
+    ensures ok { OnOk result (readers.new.items ≡ with_last right digest.now readers.old.items) }
+    ensures err { OnErr result (readers.new.items ≡ readers.old.items) }
+{
+    match right {
+        Right::Full => Ok(()),
+        Right::Read => push(readers, *digest),
+    }
+}
+
 // Removes the token of this digest.
 fn drop_token(tokens: &mut Vec<Token>, digest: &[u8; 32])
     ensures { tokens.new.items ≡ filter (λ t. not (is_same digest.now t.digest)) tokens.old.items }
 {
     tokens.retain(|token| !is_same(digest, &token.digest));
+}
+
+// Removes the digest from those whose tokens only read.
+fn drop_reader(readers: &mut Vec<[u8; 32]>, digest: &[u8; 32])
+    ensures { readers.new.items ≡ without_reader digest.now readers.old.items }
+{
+    readers.retain(|reader| !is_same(digest, reader));
 }
 
 // Removes the network of this name of the tenant of this id.

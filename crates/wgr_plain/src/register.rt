@@ -1,4 +1,4 @@
-//! A register in memory: lists of tenants, tokens and networks.
+//! A register in memory: lists of tenants, tokens, the tokens that only read, and networks.
 ghost use Rattle.std.specs.Prelude.{◌≡◌};
 ghost use Rattle.wgr_model.specs.Register.{empty_register};
 ghost use Rattle.wgr_model.specs.Consistent.{IsConsistent};
@@ -22,12 +22,13 @@ impl Model for Token {
     ghost view = { λ t. record { digest = t.digest; tenant = t.tenant } };
 }
 
-/// A register in memory, plain and slow: three lists, and a walk for each lookup. A network is
+/// A register in memory, plain and slow: four lists, and a walk for each lookup. A network is
 /// kept as one value, where tables have rows; the laws say which rows represent it.
 #[derive(Drop)]
 pub struct Register {
     pub(crate) tenants: Vec<Tenant>,
     pub(crate) tokens: Vec<Token>,
+    pub(crate) readers: Vec<[u8; 32]>,
     pub(crate) networks: Vec<NetworkEntry>,
 }
 
@@ -37,9 +38,9 @@ impl Model for Register {
 
     ghost Value = { Register };
 
-    ghost view = { λ r. record { tenants = r.tenants.items; tokens = r.tokens.items; networks = r.networks.items } };
+    ghost view = { λ r. record { tenants = r.tenants.items; tokens = r.tokens.items; readers = r.readers.items; networks = r.networks.items } };
 
-    ghost invariant = { λ r. IsConsistent (record { tenants = r.tenants.items; tokens = r.tokens.items; networks = r.networks.items }) };
+    ghost invariant = { λ r. IsConsistent (record { tenants = r.tenants.items; tokens = r.tokens.items; readers = r.readers.items; networks = r.networks.items }) };
 }
 
 impl Register {
@@ -51,6 +52,7 @@ impl Register {
         Register {
             tenants: Vec::new(alloc),
             tokens: Vec::new(alloc),
+            readers: Vec::new(alloc),
             networks: Vec::new(alloc),
         }
     }

@@ -64,6 +64,7 @@ field of.Count = refl
 field of.Now = refl
 field of.Digest = refl
 field of.Token = refl
+field of.Right = refl
 
 -- ---- each reply
 

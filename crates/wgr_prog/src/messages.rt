@@ -20,7 +20,8 @@ pub(crate) const FAULT: u8 = 1;
 pub(crate) const REFUSED: u8 = 2;
 
 // Such a register is refused as none, and how to go on is said in a line of its own.
-const EARLIER_VERSION: &[u8] = b"wgr: not_a_register\nwgr: the tables are of an earlier version: 'wgr migrate' takes them to this one\n";
+const EARLIER_VERSION: &[u8] =
+    b"wgr: not_a_register\nwgr: the tables are of an earlier version: 'wgr migrate' takes them to this one\n";
 
 pub(crate) fn fault<E: Write>(err: &mut E, text: &[u8]) -> u8
     ensures status { result ≡ FAULT }

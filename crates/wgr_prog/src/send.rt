@@ -156,7 +156,7 @@ fn asks_token(words: &[&str], digest: Option<&str>) -> bool
     }
     match words {
         [word] => *word == "token-end",
-        [word, _] => *word == "token-grant",
+        [word, _] | [word, _, _] => *word == "token-grant",
         _ => false,
     }
 }

@@ -17,11 +17,11 @@ use Rattle.sqlite.specs.Held.{Held}
 use Rattle.wgr_peers.specs.Name.{is_name}
 use Rattle.wgr_model.specs.Consistent.{IsNetworkEntry, IsName, same_slot}
 use Rattle.wgr_model.specs.Laws.{Has}
-use Rattle.wgr_model.specs.Register.{Bytes, NetworkEntry, is_same}
+use Rattle.wgr_model.specs.Register.{Bytes, NetworkEntry, is_same, right_of}
 use Rattle.wgr_model.specs.RowLaws.{AreConsistent, IsRowStep}
 use Rattle.wgr_model.specs.Rows.{NetworkRow, Replaces, Tables, network_entry_of, register_of}
-use Rattle.wgr_model.specs.Steps.{Answer, Ask, Declined, Event, IsStep, NoSuchNetwork, Replied, UnknownToken, IsProperCommand, act, network_at, tenant_of_token}
-use Rattle.wgr_model.proofs.AskRowLemmas.{changes_replace_rows, networks_are_found, readings_leave_rows}
+use Rattle.wgr_model.specs.Steps.{Answer, Ask, Declined, Event, IsStep, NoSuchNetwork, ReadOnly, Replied, UnknownToken, IsProperCommand, act, allows, network_at, tenant_of_token}
+use Rattle.wgr_model.proofs.AskRowLemmas.{changes_replace_rows, networks_are_found, readers_leave_rows, readings_leave_rows}
 use Rattle.wgr_model.proofs.CallLemmas.{declined, nothing_asked, stranger_asks}
 use Rattle.wgr_model.proofs.CollectLemmas.{has_map}
 use Rattle.wgr_model.proofs.GatherLemmas.{eqb_self, map_map}
@@ -61,10 +61,13 @@ module _ (t : Tables) (is : AreConsistent t) (digest name : Bytes) (now : ℕ) (
   pub stranger : tenant_of_token t.tokens digest ≡ None → IsRowStep t (Ask digest name now command) UnknownToken t
   stranger none = still t (Ask digest name now command) UnknownToken is (stranger_asks (register_of t) digest name now command none)
 
-  pub nowhere : (tenant : ℕ) → tenant_of_token t.tokens digest ≡ Some tenant → network_at (register_of t).networks tenant name ≡ None → IsRowStep t (Ask digest name now command) NoSuchNetwork t
-  nowhere tenant known none = still t (Ask digest name now command) NoSuchNetwork is (nothing_asked (register_of t) digest name now command tenant known none)
+  pub refused_to_readers : (tenant : ℕ) → tenant_of_token t.tokens digest ≡ Some tenant → allows (right_of t.readers digest) command ≡ false → IsRowStep t (Ask digest name now command) ReadOnly t
+  refused_to_readers tenant known may_not = readers_leave_rows t tenant digest name now command is known may_not
 
-  module _ (id : ℕ) (n : NetworkValue) (found : IsFound t digest name id n) where
+  pub nowhere : (tenant : ℕ) → tenant_of_token t.tokens digest ≡ Some tenant → allows (right_of t.readers digest) command ≡ true → network_at (register_of t).networks tenant name ≡ None → IsRowStep t (Ask digest name now command) NoSuchNetwork t
+  nowhere tenant known may none = still t (Ask digest name now command) NoSuchNetwork is (nothing_asked (register_of t) digest name now command tenant known may none)
+
+  module _ (id : ℕ) (n : NetworkValue) (found : IsFound t digest name command id n) where
     -- with the row's own name and network
     abbrev w : NetworkRow
     w = found.row
@@ -75,12 +78,12 @@ module _ (t : Tables) (is : AreConsistent t) (digest name : Bytes) (now : ℕ) (
     pub refused_rows : (why : CommandRefusal) → Meets n (Err (act_fault.Refused why)) (outcome_of n now command) → IsRowStep t (Ask digest name now command) (Declined why) t
     refused_rows why e =
         at_name (Declined why) t (still t (Ask digest w.name now command) (Declined why) is
-        (declined (register_of t) digest w.name now command w.tenant found.tenant n why (networks_are_found t w is found.there ∙ ap Some (sym found.value)) (act_refused n now command why e)))
+        (declined (register_of t) digest w.name now command w.tenant found.tenant n why found.allowed (networks_are_found t w is found.there ∙ ap Some (sym found.value)) (act_refused n now command why e)))
 
     pub read_rows : (reply : Reply) → Meets n (Ok (reply, None)) (outcome_of n now command) → IsRowStep t (Ask digest name now command) (Replied reply n) t
     read_rows reply e =
         let held = (network_entry_of t w).network in
-        let step = readings_leave_rows t w digest now command reply is found.there found.tenant (subst (λ m. act m now command ≡ Ok (reply, m)) found.value (act_done n now command reply None e)) in
+        let step = readings_leave_rows t w digest now command reply is found.there found.tenant found.allowed (subst (λ m. act m now command ≡ Ok (reply, m)) found.value (act_done n now command reply None e)) in
         at_name (Replied reply n) t (subst (λ m. IsRowStep t (Ask digest w.name now command) (Replied reply m) t) (sym found.value) step)
 
     pub changed_rows : (u : Tables) (reply : Reply) (change : Change) → Meets n (Ok (reply, Some change)) (outcome_of n now command) → Replaces id (applied change (network_entry_of t w).network) t u
@@ -90,13 +93,23 @@ module _ (t : Tables) (is : AreConsistent t) (digest name : Bytes) (now : ℕ) (
         let after = applied change held in
         let acts : act held now command ≡ Ok (reply, after) = subst (λ m. act m now command ≡ Ok (reply, applied change m)) found.value (act_done n now command reply (Some change) e) in
         let at_id = subst (λ i. Replaces i after t u) (sym found.at) replaces in
-        let step = changes_replace_rows t u w digest now command (reply, after) is found.there found.tenant acts at_id in
+        let step = changes_replace_rows t u w digest now command (reply, after) is found.there found.tenant found.allowed acts at_id in
         at_name (Replied reply (applied change n)) u (subst (λ m. IsRowStep t (Ask digest w.name now command) (Replied reply (applied change m)) u) (sym found.value) step)
 
 -- an outcome on the network that a row forms is one on the network that is found
-pub at_found : (t : Tables) (digest name : Bytes) (id : ℕ) (n : NetworkValue) (found : IsFound t digest name id n) (now : ℕ) (command : Command) (r : Result (Reply × Option Change) ActFault)
+pub at_found : (t : Tables) (digest name : Bytes) (id : ℕ) (n : NetworkValue) {command : Command} (found : IsFound t digest name command id n) (now : ℕ) (r : Result (Reply × Option Change) ActFault)
     → Meets (network_entry_of t found.row).network r (outcome_of (network_entry_of t found.row).network now command) → Meets n r (outcome_of n now command)
-at_found t digest name id n found now command r met = subst (λ m. Meets m r (outcome_of m now command)) (sym found.value) met
+at_found t digest name id n {command = command} found now r met = subst (λ m. Meets m r (outcome_of m now command)) (sym found.value) met
+
+-- ---- what the right decides
+
+pub may_told : (may allowed : Bool) → may ≡ allowed → not may ≡ false → allowed ≡ true
+may_told true allowed told is = sym told
+may_told false allowed told is = absurd (true≢false is)
+
+pub may_not_told : (may allowed : Bool) → may ≡ allowed → not may ≡ true → allowed ≡ false
+may_not_told true allowed told is = absurd (true≢false (sym is))
+may_not_told false allowed told is = sym told
 
 -- ---- no network of the name
 
@@ -138,7 +151,7 @@ changing true is = absurd (true≢false (sym is))
 changing false is = refl
 
 module _ {S : Type 0} (g : Ghosts S) (shown : GivenValue → Bytes) (conn : Held S) (db : Database) (pending : List Written) (late : List Event) (consistent : AreConsistent (tables_of db)) (steps : AreSteps (tables_of db) pending late)
-    (digest name : Bytes) (now : ℕ) (command : Command) (proper : IsProperCommand command) (id : ℕ) (n : NetworkValue) (found : IsFound (tables_of db) digest name id n) (reply : Reply) where
+    (digest name : Bytes) (now : ℕ) (command : Command) (proper : IsProperCommand command) (id : ℕ) (n : NetworkValue) (found : IsFound (tables_of db) digest name command id n) (reply : Reply) where
   abbrev event : Event
   event = Ask digest name now command
 

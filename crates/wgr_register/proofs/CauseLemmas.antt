@@ -63,6 +63,7 @@ pub asked_clean : (old new : State) (r : Result (Vec ℕ Global) AskFault) → (
 asked_clean old new (Ok text) h = tt
 asked_clean old new (Err (fault.Refused why)) h = tt
 asked_clean old new (Err fault.UnknownToken) h = tt
+asked_clean old new (Err fault.ReadOnly) h = tt
 asked_clean old new (Err fault.NoSuchNetwork) h = tt
 asked_clean old new (Err (fault.Fault NoMemory)) h = tt
 asked_clean old new (Err (fault.Fault Store)) h = λ clean. h clean clean
@@ -72,6 +73,7 @@ pub fault_handed : (P : Fault → Type 0) (r : Result (Vec ℕ Global) AskFault)
 fault_handed P (Ok text) why is h = tt
 fault_handed P (Err (fault.Refused other)) why is h = tt
 fault_handed P (Err fault.UnknownToken) why is h = tt
+fault_handed P (Err fault.ReadOnly) why is h = tt
 fault_handed P (Err fault.NoSuchNetwork) why is h = tt
 fault_handed P (Err (fault.Fault other)) why is h = let same : other ≡ why = cc in subst P (sym same) h
 
@@ -81,6 +83,7 @@ row_handed P r (on_rows.Fault why) is h = fault_handed P r why is h
 row_handed P (Ok text) (on_rows.Refused why) is h = tt
 row_handed P (Err (fault.Refused other)) (on_rows.Refused why) is h = tt
 row_handed P (Err fault.UnknownToken) (on_rows.Refused why) is h = tt
+row_handed P (Err fault.ReadOnly) (on_rows.Refused why) is h = tt
 row_handed P (Err fault.NoSuchNetwork) (on_rows.Refused why) is h = tt
 row_handed P (Err (fault.Fault other)) (on_rows.Refused why) is h = absurd (let e : fault.Fault other ≡ fault.Refused (of_command why) = is in cc)
 
@@ -93,6 +96,7 @@ pub memory_alone : (old new : State) (r : Result (Vec ℕ Global) AskFault) → 
 memory_alone old new (Ok text) h = tt
 memory_alone old new (Err (fault.Refused why)) h = tt
 memory_alone old new (Err fault.UnknownToken) h = tt
+memory_alone old new (Err fault.ReadOnly) h = tt
 memory_alone old new (Err fault.NoSuchNetwork) h = tt
 memory_alone old new (Err (fault.Fault NoMemory)) h = tt
 memory_alone old new (Err (fault.Fault Store)) h = absurd (let e = h in cc)
@@ -100,6 +104,7 @@ memory_alone old new (Err (fault.Fault Store)) h = absurd (let e = h in cc)
 pub undone_memory : (e : AskFault) (why : ActFault) → e ≡ ask_fault why → IfFault (λ w. w ≡ NoMemory) (Err e)
 undone_memory (fault.Refused other) why is = tt
 undone_memory fault.UnknownToken why is = tt
+undone_memory fault.ReadOnly why is = tt
 undone_memory fault.NoSuchNetwork why is = tt
 undone_memory (fault.Fault other) act_fault.NoMemory is = cc
 undone_memory (fault.Fault other) (act_fault.Refused why) is = absurd (let e = is in cc)
@@ -109,6 +114,7 @@ pub stopped_clean : (P : Type 0) (old new : State) (r : Result (Vec ℕ Global) 
 stopped_clean P old new (Ok text) h = tt
 stopped_clean P old new (Err (fault.Refused why)) h = tt
 stopped_clean P old new (Err fault.UnknownToken) h = tt
+stopped_clean P old new (Err fault.ReadOnly) h = tt
 stopped_clean P old new (Err fault.NoSuchNetwork) h = tt
 stopped_clean P old new (Err (fault.Fault NoMemory)) h = tt
 stopped_clean P old new (Err (fault.Fault Store)) h = λ clean. h clean clean
@@ -117,6 +123,7 @@ pub stopped_after : (P : Type 0) (old mid new : State) (r : Result (Vec ℕ Glob
 stopped_after P old mid new (Ok text) s t h = tt
 stopped_after P old mid new (Err (fault.Refused why)) s t h = tt
 stopped_after P old mid new (Err fault.UnknownToken) s t h = tt
+stopped_after P old mid new (Err fault.ReadOnly) s t h = tt
 stopped_after P old mid new (Err fault.NoSuchNetwork) s t h = tt
 stopped_after P old mid new (Err (fault.Fault why)) s t h = cause_after old mid new P P (λ _. ⊥) (λ _. ⊤) s t (λ p. p) why h
 
@@ -129,6 +136,7 @@ pub memory_stops : (P : Type 0) (old new : State) (r : Result (Vec ℕ Global) A
 memory_stops P old new (Ok text) h = tt
 memory_stops P old new (Err (fault.Refused why)) h = tt
 memory_stops P old new (Err fault.UnknownToken) h = tt
+memory_stops P old new (Err fault.ReadOnly) h = tt
 memory_stops P old new (Err fault.NoSuchNetwork) h = tt
 memory_stops P old new (Err (fault.Fault NoMemory)) h = tt
 memory_stops P old new (Err (fault.Fault Store)) h = absurd (let e = h in cc)
@@ -145,7 +153,7 @@ reads_and_writes {g = g} {old = old} {mid = mid} {new = new} reads writes = reco
   survives = survives_then (state g old) (state g mid) (state g new) (λ _. ⊥) (λ _. ⊤) (λ _. ⊤) (λ _ trees none. tt) (λ _ trees any. tt) reads.survives writes.survives;
 }
 
-pub ask_stops : (t : Tables) (digest name : Bytes) (now : ℕ) (command : Command) (id : ℕ) (network : NetworkValue) (found : IsFound t digest name id network) (reply : Reply) (change : Option Change)
+pub ask_stops : (t : Tables) (digest name : Bytes) (now : ℕ) (command : Command) (id : ℕ) (network : NetworkValue) (found : IsFound t digest name command id network) (reply : Reply) (change : Option Change)
     → Meets network (Ok (reply, change)) (outcome_of network now command) → is_some change ≡ not (is_reading command) → StopsIf id change t → AskStops t digest name now command
 ask_stops t digest name now command id network found reply None made changes stops = absurd stops
 ask_stops t digest name now command id network found reply (Some change) made changes stops = record {

@@ -12,6 +12,8 @@ pub mod MemoryLemmas
 pub mod StayLemmas
 pub mod CauseLemmas
 pub mod OrderCauses
+pub mod ThirdLemmas
+pub mod RightLemmas
 pub mod LeftLemmas
 -- The definitions on small cases, by computation.
 pub mod Examples

@@ -125,7 +125,7 @@ module _ (t : Tables) (is : AreConsistent t) (id : ℕ) (ws : List NetworkRow) (
         absurd (is_found (fits q) own x (back x there.0 (first_true (nat_eq x.tenant id) (is_same q x.name) there.1)) there.1 h)
 
   abbrev alone : Register
-  alone = record { tenants = []; tokens = []; networks = own }
+  alone = record { tenants = []; tokens = []; readers = []; networks = own }
 
   same_map : (view_at (register_of t) id).networks ≡ (view_at alone id).networks
   same_map = same_networks (view_at (register_of t) id).networks (view_at alone id).networks

@@ -1,5 +1,5 @@
 -- The networks that a register keeps in memory, after what a call does to them and to the rows.
-use Rattle.std.proofs.Common.{◌≡◌, ℕ, false, List, [], Some, Result, Ok, Err, IsErrAnd, IsTrue, IsPermutation, map, nat_eq, sym, ap, subst, ◌∙◌, true≢false, inl, inr}
+use Rattle.std.proofs.Common.{◌≡◌, ℕ, true, false, List, [], Some, Result, Ok, Err, IsErrAnd, IsTrue, IsPermutation, map, nat_eq, sym, ap, subst, ◌∙◌, true≢false, inl, inr}
 use Rattle.std.specs.List.{IsDistinct}
 use Rattle.std.specs.Map.{keys_of, remove_entry}
 use Rattle.std.specs.declared.vec.Vec.{Vec}
@@ -17,10 +17,10 @@ use Rattle.wgr_core.specs.declared.command.Command.{Command}
 use Rattle.wgr_core.specs.declared.reply.Reply.{Reply}
 use Rattle.wgr_model.specs.Consistent.{same_slot, slot}
 use Rattle.wgr_model.specs.Laws.{Has}
-use Rattle.wgr_model.specs.Register.{Bytes, NetworkEntry}
+use Rattle.wgr_model.specs.Register.{Bytes, NetworkEntry, right_of}
 use Rattle.wgr_model.specs.RowLaws.{AreConsistent}
 use Rattle.wgr_model.specs.Rows.{IsFormed, NetworkRow, Replaces, Tables, network_entry_of, register_of}
-use Rattle.wgr_model.specs.Steps.{Ask, IsProperCommand, EventOutcome, Replied, act, outcome, put_network, tenant_of_token, with_network}
+use Rattle.wgr_model.specs.Steps.{Ask, IsProperCommand, EventOutcome, Replied, act, allows, outcome, put_network, tenant_of_token, with_network}
 use Rattle.wgr_model.proofs.AskRowLemmas.{asked_at}
 use Rattle.wgr_model.proofs.CollectLemmas.{from_map, has_map}
 use Rattle.wgr_model.proofs.CommitLemmas.{put_has, put_other}
@@ -65,7 +65,7 @@ formed_in u hs same h there =
     let row = from_map (network_entry_of u) u.networks h (has_permutation hs (map (network_entry_of u) u.networks) h same there) in
     (row.0, row.1, ap (λ k. k.id) row.2, sym (ap (λ k. k.network) row.2))
 
-module _ (t u : Tables) (is : AreConsistent t) (digest name : Bytes) (now : ℕ) (command : Command) (proper : IsProperCommand command) (id : ℕ) (n : NetworkValue) (found : IsFound t digest name id n)
+module _ (t u : Tables) (is : AreConsistent t) (digest name : Bytes) (now : ℕ) (command : Command) (proper : IsProperCommand command) (id : ℕ) (n : NetworkValue) (found : IsFound t digest name command id n)
     (reply : Reply) (change : Change) (meets : Meets n (Ok (reply, Some change)) (outcome_of n now command)) (replaces : Replaces id (applied change (network_entry_of t found.row).network) t u) where
   abbrev w : NetworkRow
   w = found.row
@@ -86,7 +86,7 @@ module _ (t u : Tables) (is : AreConsistent t) (digest name : Bytes) (now : ℕ)
   same_networks =
       let step = changed_rows t is digest name now command id n found u reply change meets replaces in
       let law = row_step t u (Ask digest name now command) (Replied reply (applied change n)) is proper step in
-      let put = subst (λ x. outcome (register_of t) (Ask digest x now command) 0 ≡ (Replied reply after, put_network (register_of t) w.tenant w.name after)) found.named (asked_at t is w found.there digest now command (reply, after) found.tenant acts) in
+      let put = subst (λ x. outcome (register_of t) (Ask digest x now command) 0 ≡ (Replied reply after, put_network (register_of t) w.tenant w.name after)) found.named (asked_at t is w found.there digest now command (reply, after) found.tenant found.allowed acts) in
       subst (λ (o : EventOutcome). IsPermutation o.1.networks (register_of u).networks) put law.1.rows.networks
 
   formed_after : (h : NetworkEntry) → Has (with_network held w.tenant w.name after) h → IsFormed u h.id h.network
@@ -108,14 +108,14 @@ module _ (t u : Tables) (is : AreConsistent t) (digest name : Bytes) (now : ℕ)
       let formed = formed_after (network_entry_of t v.0) (put_other (network_entry_of t w) after held (network_entry_of t v.0) (is_held v.0 v.1) apart) in
       subst (λ i. IsFormed u i m) v.2 (subst (IsFormed u v.0.id) (sym v.3) formed)
 
-pub found_formed : (t : Tables) (digest name : Bytes) (id : ℕ) (n : NetworkValue) → IsFound t digest name id n → IsFormed t id n
+pub found_formed : (t : Tables) (digest name : Bytes) {command : Command} (id : ℕ) (n : NetworkValue) → IsFound t digest name command id n → IsFormed t id n
 found_formed t digest name id n found = (found.row, found.there, found.at, found.value)
 
-pub found_so : (t : Tables) (digest name : Bytes) (tenant id : ℕ) (n : NetworkValue) → AreConsistent t → tenant_of_token t.tokens digest ≡ Some tenant
-    → ((w : NetworkRow) × Has t.networks w × IsSlotOf w tenant name × (w.id ≡ id)) → IsFormed t id n → IsFound t digest name id n
-found_so t digest name tenant id n is known named formed =
+pub found_so : (t : Tables) (digest name : Bytes) (command : Command) (tenant id : ℕ) (n : NetworkValue) → AreConsistent t → tenant_of_token t.tokens digest ≡ Some tenant → allows (right_of t.readers digest) command ≡ true
+    → ((w : NetworkRow) × Has t.networks w × IsSlotOf w tenant name × (w.id ≡ id)) → IsFormed t id n → IsFound t digest name command id n
+found_so t digest name command tenant id n is known allowed named formed =
     let same = one_row t is formed.0 named.0 formed.1 named.1 (formed.2 ∙ sym named.3) in
-    record { row = named.0; there = named.1; tenant = known ∙ ap Some (sym named.2.0); named = named.2.1; at = named.3; value = formed.3 ∙ ap (λ w. (network_entry_of t w).network) same }
+    record { row = named.0; there = named.1; tenant = known ∙ ap Some (sym named.2.0); allowed = allowed; named = named.2.1; at = named.3; value = formed.3 ∙ ap (λ w. (network_entry_of t w).network) same }
 
 -- ---- unless a fault ended the ask
 
@@ -123,6 +123,7 @@ pub unless : (r : Result (Vec ℕ Global) AskFault) (P : Type 0) → P → Unles
 unless (Ok text) P holds = holds
 unless (Err (fault.Refused why)) P holds = holds
 unless (Err fault.UnknownToken) P holds = holds
+unless (Err fault.ReadOnly) P holds = holds
 unless (Err fault.NoSuchNetwork) P holds = holds
 unless (Err (fault.Fault why)) P holds = tt
 
@@ -130,6 +131,7 @@ pub unless_map : (r : Result (Vec ℕ Global) AskFault) (P Q : Type 0) → (P �
 unless_map (Ok text) P Q tells holds = tells holds
 unless_map (Err (fault.Refused why)) P Q tells holds = tells holds
 unless_map (Err fault.UnknownToken) P Q tells holds = tells holds
+unless_map (Err fault.ReadOnly) P Q tells holds = tells holds
 unless_map (Err fault.NoSuchNetwork) P Q tells holds = tells holds
 unless_map (Err (fault.Fault why)) P Q tells holds = tt
 
@@ -137,6 +139,7 @@ pub unless_late : (r : Result (Vec ℕ Global) AskFault) (why : Fault) (P : Type
 unless_late (Ok text) why P is = absurd is
 unless_late (Err (fault.Refused other)) why P is = cc
 unless_late (Err fault.UnknownToken) why P is = cc
+unless_late (Err fault.ReadOnly) why P is = cc
 unless_late (Err fault.NoSuchNetwork) why P is = cc
 unless_late (Err (fault.Fault other)) why P is = tt
 
@@ -158,5 +161,6 @@ module _ {S : Type 0} (g : Ghosts S) where
   shows_if (Ok text) conn P shows = λ clean live. shows clean clean live
   shows_if (Err (fault.Refused why)) conn P shows = λ clean live. shows clean clean live
   shows_if (Err fault.UnknownToken) conn P shows = λ clean live. shows clean clean live
+  shows_if (Err fault.ReadOnly) conn P shows = λ clean live. shows clean clean live
   shows_if (Err fault.NoSuchNetwork) conn P shows = λ clean live. shows clean clean live
   shows_if (Err (fault.Fault why)) conn P shows = tt

@@ -50,7 +50,7 @@ files_so None id n m kept t u is after drops stay = subst (λ (l : Cached). AreC
 -- ---- what the connection shows
 
 module _ {S : Type 0} (g : Ghosts S) (conn : Held S) (db : Database) (pending : List Written) (consistent : AreConsistent (tables_of db)) (digest name : Bytes) (now : ℕ) (command : Command) (proper : IsProperCommand command) (id : ℕ) (n : NetworkValue)
-    (found : IsFound (tables_of db) digest name id n) (reply : Reply) (m : Memory) where
+    (found : IsFound (tables_of db) digest name command id n) (reply : Reply) (m : Memory) where
   -- what stays once the change, if there is one, is committed
   pub memory_so : (change : Option Change) → Meets n (Ok (reply, change)) (outcome_of n now command) → CommitsIf g conn db pending id (network_entry_of (tables_of db) found.row).network change
       → ((u : Tables) → IsAfter id n change (tables_of db) u → IsMemoryOf m u) → Shows g conn (IsMemoryOf m)

@@ -44,7 +44,7 @@ module _ (t : Tables) where
   full_settled (w ∷ ws) = ap (λ n. suc n) (full_settled ws)
 
   pub checks_settled : (ts : List Tenant) (ws : List NetworkRow) (id : ℕ) (name : Bytes) (s : Settings)
-      → first_refusal (network_checks (record { tenants = ts; tokens = t.tokens; networks = map (network_entry_of t) ws }) id name s) ≡ first_refusal (network_checks (record { tenants = ts; tokens = []; networks = map settled ws }) id name s)
+      → first_refusal (network_checks (record { tenants = ts; tokens = t.tokens; readers = t.readers; networks = map (network_entry_of t) ws }) id name s) ≡ first_refusal (network_checks (record { tenants = ts; tokens = []; readers = []; networks = map settled ws }) id name s)
   checks_settled ts ws id name s =
       λ i. first_refusal (refuse (list_any (same_slot (id, name)) (slots_settled ws i)) NameHeld ∷ refuse (not (is_pool s.pool)) BadPool ∷ pool_refusal (overlap_settled ts s.pool ws i)
       ∷ refuse (list_any (same_endpoint (s.host, s.port)) (endpoints_settled ws i)) PortHeld ∷ refuse (not (nat_lt (full_settled ws i) 65536)) RegisterFull ∷ [])
@@ -59,13 +59,13 @@ module _ (t : Tables) (is : AreConsistent t) (tenant name : Bytes) (s : Settings
   -- read in whatever order
   module _ (ts : List Tenant) (ws : List NetworkRow) (tenants : IsPermutation t.tenants ts) (networks : IsPermutation t.networks ws) (id : ℕ) (known : id_of t.tenants tenant ≡ Some id) where
     abbrev read : Register
-    read = record { tenants = ts; tokens = t.tokens; networks = map (network_entry_of t) ws }
+    read = record { tenants = ts; tokens = t.tokens; readers = t.readers; networks = map (network_entry_of t) ws }
 
     abbrev heads : Register
-    heads = record { tenants = ts; tokens = []; networks = map settled ws }
+    heads = record { tenants = ts; tokens = []; readers = []; networks = map settled ws }
 
     same : IsSame (register_of t) read
-    same = record { tenants = tenants; tokens = IsPermutation-refl t.tokens; networks = IsPermutation-map (network_entry_of t) t.networks ws networks }
+    same = record { tenants = tenants; tokens = IsPermutation-refl t.tokens; readers = IsPermutation-refl t.readers; networks = IsPermutation-map (network_entry_of t) t.networks ws networks }
 
     known_read : id_of ts tenant ≡ Some id
     known_read = sym (same_id (register_of t) read same is.consistent tenant) ∙ known
@@ -113,6 +113,6 @@ module _ (t : Tables) (is : AreConsistent t) (tenant name : Bytes) (s : Settings
 
 -- of other lists that are equal
 pub admits_by : (ts us : List Tenant) (hs ks : List NetworkEntry) (id : ℕ) (name : Bytes) (s : Settings) (r : Result ℕ OrderFault) → ts ≡ us → hs ≡ ks
-    → AdmitsNetwork (record { tenants = ts; tokens = []; networks = hs }) id name s r → AdmitsNetwork (record { tenants = us; tokens = []; networks = ks }) id name s r
+    → AdmitsNetwork (record { tenants = ts; tokens = []; readers = []; networks = hs }) id name s r → AdmitsNetwork (record { tenants = us; tokens = []; readers = []; networks = ks }) id name s r
 admits_by ts us hs ks id name s r same alike is =
-    subst (λ (x : List Tenant). AdmitsNetwork (record { tenants = x; tokens = []; networks = ks }) id name s r) same (subst (λ (x : List NetworkEntry). AdmitsNetwork (record { tenants = ts; tokens = []; networks = x }) id name s r) alike is)
+    subst (λ (x : List Tenant). AdmitsNetwork (record { tenants = x; tokens = []; readers = []; networks = ks }) id name s r) same (subst (λ (x : List NetworkEntry). AdmitsNetwork (record { tenants = ts; tokens = []; readers = []; networks = x }) id name s r) alike is)

@@ -4,12 +4,13 @@ use Rattle.std.specs.List.Sorted.{IsPermutation}
 use Rattle.std.specs.List.{list_any}
 use Rattle.std.proofs.lemmas.List.{length-map}
 use Rattle.std.proofs.lemmas.List.Sorted.{IsPermutation-refl, length_permutation, list_any-IsPermutation}
+use Rattle.wgr_model.specs.declared.right.Right.{Right}
 use Rattle.wgr_model.specs.Laws.{Has}
 use Rattle.wgr_model.specs.Register.{Bytes, Register, id_of, is_same}
 use Rattle.wgr_model.specs.RowLaws.{AreConsistent, IsRowStep}
 use Rattle.wgr_model.specs.Rows.{AreRowsOf, NetworkRow, Tables, network_entry_of, register_of}
 use Rattle.wgr_model.specs.RowRules.{Removes}
-use Rattle.wgr_model.specs.Steps.{AddTenant, DigestHeld, Done, EndNetwork, EndToken, Grant, NameHeld, NoNetwork, NoSuchTenant, NoSuchToken, Refused, RegisterFull, granted, is_full, network_at, ordered, refuse, tenant_of_token, with_tenant, with_token, without_network, without_token}
+use Rattle.wgr_model.specs.Steps.{AddTenant, DigestHeld, Done, EndNetwork, EndToken, Grant, NameHeld, NoNetwork, NoSuchTenant, NoSuchToken, Refused, RegisterFull, granted, is_full, network_at, ordered, refuse, tenant_of_token, with_tenant, with_token, without_network, without_reader, without_token}
 use Rattle.wgr_model.proofs.AskRowLemmas.{networks_are_found}
 use Rattle.wgr_model.proofs.CollectLemmas.{has_map}
 use Rattle.wgr_model.proofs.OrderRowLemmas.{networks_lose, tenants_gain, tokens_gain, tokens_lose}
@@ -29,7 +30,7 @@ module _ (t : Tables) (is : AreConsistent t) where
     after = without_token (register_of t) digest;
     step = token_ended (register_of t) digest (ap is_some known) (without_token (register_of t) digest) refl;
     rows = subst (AreRowsOf (without_token (register_of t) digest)) (sym made)
-        (tokens_lose (register_of t) t digest (filter (λ x. not (is_same digest x.digest)) t.tokens) is.rows is.consistent (IsPermutation-refl (filter (λ x. not (is_same digest x.digest)) t.tokens)));
+        (tokens_lose (register_of t) t digest (filter (λ x. not (is_same digest x.digest)) t.tokens) (without_reader digest t.readers) is.rows is.consistent (IsPermutation-refl (filter (λ x. not (is_same digest x.digest)) t.tokens)) (IsPermutation-refl (without_reader digest t.readers)));
   }
 
   module _ (tenant name : Bytes) where
@@ -63,27 +64,27 @@ module _ (t : Tables) (is : AreConsistent t) where
   abbrev r : Register
   r = register_of t
 
-  module _ (tenant digest : Bytes) where
-    pub nobody_gets : id_of t.tenants tenant ≡ None → IsRowStep t (Grant tenant digest) (Refused NoSuchTenant) t
-    nobody_gets none = still t (Grant tenant digest) (Refused NoSuchTenant) is (nobody_granted r tenant digest none)
+  module _ (tenant digest : Bytes) (right : Right) where
+    pub nobody_gets : id_of t.tenants tenant ≡ None → IsRowStep t (Grant tenant digest right) (Refused NoSuchTenant) t
+    nobody_gets none = still t (Grant tenant digest right) (Refused NoSuchTenant) is (nobody_granted r tenant digest right none)
 
     module _ (id : ℕ) (known : id_of t.tenants tenant ≡ Some id) where
-      pub held_already : (other : ℕ) → tenant_of_token t.tokens digest ≡ Some other → IsRowStep t (Grant tenant digest) (Refused DigestHeld) t
-      held_already other held = still t (Grant tenant digest) (Refused DigestHeld) is (digest_held r tenant digest id known (ap is_some held))
+      pub held_already : (other : ℕ) → tenant_of_token t.tokens digest ≡ Some other → IsRowStep t (Grant tenant digest right) (Refused DigestHeld) t
+      held_already other held = still t (Grant tenant digest right) (Refused DigestHeld) is (digest_held r tenant digest right id known (ap is_some held))
 
       module _ (free : tenant_of_token t.tokens digest ≡ None) where
-        pub tokens_full : is_full t.tokens ≡ true → IsRowStep t (Grant tenant digest) (Refused RegisterFull) t
-        tokens_full full = still t (Grant tenant digest) (Refused RegisterFull) is (no_more_tokens r tenant digest id known (ap is_some free) full)
+        pub tokens_full : is_full t.tokens ≡ true → IsRowStep t (Grant tenant digest right) (Refused RegisterFull) t
+        tokens_full full = still t (Grant tenant digest right) (Refused RegisterFull) is (no_more_tokens r tenant digest right id known (ap is_some free) full)
 
-        pub token_comes : is_full t.tokens ≡ false → (u : Tables) → Changes (TokenGained (record { digest = digest; tenant = id })) t u → IsRowStep t (Grant tenant digest) Done u
+        pub token_comes : is_full t.tokens ≡ false → (u : Tables) → Changes (TokenGained (record { digest = digest; tenant = id }) right) t u → IsRowStep t (Grant tenant digest right) Done u
         token_comes room u made =
-            let front = tokens_gain r t digest id made.0 is.rows made.1 in
+            let front = tokens_gain r t digest id right made.0 made.1 is.rows made.2 made.3 in
             record {
-              after = with_token r digest id;
-              step = step_is r (with_token r digest id) (Grant tenant digest) 0 (Done, with_token r digest id)
-                  (ap (granted r digest) known ∙ ap₂ (λ a b. ordered (refuse a DigestHeld ∷ refuse b RegisterFull ∷ []) r (with_token r digest id)) (digest_is_held r.tokens digest ∙ ap is_some free) room)
-                  (λ _. tt) (same_itself (with_token r digest id));
-              rows = subst (AreRowsOf (with_token r digest id)) (sym made.2) front;
+              after = with_token r digest id right;
+              step = step_is r (with_token r digest id right) (Grant tenant digest right) 0 (Done, with_token r digest id right)
+                  (ap (granted r digest right) known ∙ ap₂ (λ a b. ordered (refuse a DigestHeld ∷ refuse b RegisterFull ∷ []) r (with_token r digest id right)) (digest_is_held r.tokens digest ∙ ap is_some free) room)
+                  (λ _. tt) (same_itself (with_token r digest id right));
+              rows = subst (AreRowsOf (with_token r digest id right)) (sym made.4) front;
             }
 
   module _ (name : Bytes) where

@@ -16,7 +16,7 @@ use Rattle.wgr_core.specs.Refusals.{of_command}
 use Rattle.wgr_model.specs.Register.{Bytes}
 use Rattle.wgr_model.specs.RowLaws.{AreConsistent, IsRowStep}
 use Rattle.wgr_model.specs.Rows.{Tables}
-use Rattle.wgr_model.specs.Steps.{Answer, Declined, Event, IsProper, NoSuchNetwork, UnknownToken}
+use Rattle.wgr_model.specs.Steps.{Answer, Declined, Event, IsProper, NoSuchNetwork, ReadOnly, UnknownToken}
 use Rattle.wgr_orders.specs.Orders.{refusal_of}
 use Rattle.wgr_model.specs.Steps as answered
 use Rattle.wgr_orders.specs.declared.refusal.OrderRefusal as refusal
@@ -108,6 +108,7 @@ module _ {S : Type 0} (g : Ghosts S) where
   ask_if shown conn db late event now (Ok text) idle good consistent ends = λ clean. ends clean clean
   ask_if shown conn db late event now (Err (fault.Refused why)) idle good consistent ends = still_if conn db late event (Declined why) idle good consistent ends
   ask_if shown conn db late event now (Err fault.UnknownToken) idle good consistent ends = still_if conn db late event UnknownToken idle good consistent ends
+  ask_if shown conn db late event now (Err fault.ReadOnly) idle good consistent ends = still_if conn db late event ReadOnly idle good consistent ends
   ask_if shown conn db late event now (Err fault.NoSuchNetwork) idle good consistent ends = still_if conn db late event NoSuchNetwork idle good consistent ends
   ask_if shown conn db late event now (Err (fault.Fault why)) idle good consistent ends = at_if conn db (event ∷ late) idle good consistent ends
 
@@ -117,6 +118,7 @@ module _ {S : Type 0} (g : Ghosts S) where
   late_ends shown conn db late event now (Ok text) why is at = absurd is
   late_ends shown conn db late event now (Err (fault.Refused other)) why is at = cc
   late_ends shown conn db late event now (Err fault.UnknownToken) why is at = cc
+  late_ends shown conn db late event now (Err fault.ReadOnly) why is at = cc
   late_ends shown conn db late event now (Err fault.NoSuchNetwork) why is at = cc
   late_ends shown conn db late event now (Err (fault.Fault other)) why is at = at
 
@@ -134,6 +136,7 @@ module _ {S : Type 0} (g : Ghosts S) where
       let same : other ≡ why = cc in
       (at, λ clean. subst (λ x. IsRowStep (tables_of db) event (Declined x) (tables_of db)) (sym same) (refuses why refl))
   undone_ends shown conn db late event now (Err fault.UnknownToken) (act_fault.Refused why) is at refuses = cc
+  undone_ends shown conn db late event now (Err fault.ReadOnly) (act_fault.Refused why) is at refuses = cc
   undone_ends shown conn db late event now (Err fault.NoSuchNetwork) (act_fault.Refused why) is at refuses = cc
   undone_ends shown conn db late event now (Err (fault.Fault other)) (act_fault.Refused why) is at refuses = cc
 
@@ -152,6 +155,7 @@ module _ {S : Type 0} (g : Ghosts S) where
   ask_somewhere shown conn db late event now (Ok text) ends = with_somewhere conn db late event _ ends
   ask_somewhere shown conn db late event now (Err (fault.Refused why)) ends = λ clean. (db, late, ends.0)
   ask_somewhere shown conn db late event now (Err fault.UnknownToken) ends = λ clean. (db, late, ends.0)
+  ask_somewhere shown conn db late event now (Err fault.ReadOnly) ends = λ clean. (db, late, ends.0)
   ask_somewhere shown conn db late event now (Err fault.NoSuchNetwork) ends = λ clean. (db, late, ends.0)
   ask_somewhere shown conn db late event now (Err (fault.Fault why)) ends = λ clean. (db, event ∷ late, ends)
 

@@ -5,13 +5,13 @@ use Rattle.sqlite.specs.Held.{Held, state}
 use Rattle.sqlite.specs.State.{HasCleanDisk}
 use Rattle.sqlite.specs.Store.{Ghosts}
 use Rattle.wgr_core.specs.Network.{NetworkValue}
-use Rattle.wgr_model.specs.Consistent.{same_slot, slot}
+use Rattle.wgr_model.specs.Consistent.{has_digest, same_slot, slot}
 use Rattle.wgr_model.specs.Laws.{Has}
 use Rattle.wgr_model.specs.Register.{Bytes, NetworkEntry, Register, id_of}
 use Rattle.wgr_model.specs.RowLaws.{AreConsistent, IsRowStep}
 use Rattle.wgr_model.specs.Rows.{IsFormed, NetworkRow, Tables, network_entry_of, register_of}
 use Rattle.wgr_model.specs.Steps.{AddNetwork, AddTenant, Answer, EndNetwork, EndToken, Event, Grant, IsProper, NoNetwork, NoSuchToken, OrderRefusal}
-use Rattle.wgr_model.specs.Steps.{first_refusal, given, grant_checks, granted, has_digest, has_slot, network_added, network_checks, network_ended, new_network, outcome, refuse, tenant_checks, with_new_network, with_tenant, with_token, without_network, without_token}
+use Rattle.wgr_model.specs.Steps.{first_refusal, given, grant_checks, granted, has_slot, network_added, network_checks, network_ended, new_network, outcome, refuse, tenant_checks, with_new_network, with_tenant, with_token, without_network, without_token}
 use Rattle.wgr_model.proofs.CollectLemmas.{has_map}
 use Rattle.wgr_model.proofs.GatherLemmas.{eqb_self, in_filter}
 use Rattle.wgr_model.proofs.HolderLemmas.{one_or_apart}
@@ -58,10 +58,10 @@ either None r s h before after = after
 
 left_by : (r : Register) (event : Event) (new : ℕ) → EndsNone event → (h : NetworkEntry) → Has r.networks h → Has (outcome r event new).1.networks h
 left_by r (AddTenant name) new none h there = either (first_refusal (tenant_checks r name)) r (with_tenant r name new) h there there
-left_by r (Grant tenant digest) new none h there = on (id_of r.tenants tenant) where
-  on : (o : Option ℕ) → Has (granted r digest o).1.networks h
+left_by r (Grant tenant digest right) new none h there = on (id_of r.tenants tenant) where
+  on : (o : Option ℕ) → Has (granted r digest right o).1.networks h
   on None = there
-  on (Some id) = either (first_refusal (grant_checks r digest)) r (with_token r digest id) h there there
+  on (Some id) = either (first_refusal (grant_checks r digest)) r (with_token r digest id right) h there there
 left_by r (EndToken digest) new none h there = either (first_refusal (refuse (not (has_digest r.tokens digest)) NoSuchToken ∷ [])) r (without_token r digest) h there there
 left_by r (AddNetwork tenant name s) new none h there = on (id_of r.tenants tenant) where
   on : (o : Option ℕ) → Has (network_added r name s new o).1.networks h

@@ -29,6 +29,7 @@ abbrev pub IfFault : (Fault → Type 0) → Result (Vec ℕ Global) AskFault →
 IfFault P (Ok text) = Unit {0}
 IfFault P (Err (fault.Refused why)) = Unit {0}
 IfFault P (Err fault.UnknownToken) = Unit {0}
+IfFault P (Err fault.ReadOnly) = Unit {0}
 IfFault P (Err fault.NoSuchNetwork) = Unit {0}
 IfFault P (Err (fault.Fault why)) = P why
 
@@ -43,7 +44,7 @@ pub record AskStops (t : Tables) (digest name : Bytes) (now : ℕ) (command : Co
   pub changes : is_reading command ≡ false
   pub id : ℕ
   pub network : NetworkValue
-  pub found : IsFound t digest name id network
+  pub found : IsFound t digest name command id network
   pub reply : Reply
   pub change : Change
   pub made : Meets network (Ok (reply, Some change)) (outcome_of network now command)

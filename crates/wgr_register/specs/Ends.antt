@@ -11,14 +11,15 @@ use Rattle.wgr_core.specs.Network.{NetworkValue}
 use Rattle.wgr_core.specs.Outcome.{is_reading}
 use Rattle.wgr_core.specs.Refusals.{of_command}
 use Rattle.wgr_core.specs.declared.change.Change.{Change}
+use Rattle.wgr_core.specs.declared.command.Command.{Command}
 use Rattle.wgr_core.specs.declared.fault.ActFault.{ActFault}
 use Rattle.wgr_core.specs.declared.fault.ActFault.TheVariants as act_fault
 use Rattle.wgr_orders.specs.Orders.{IsAdmitted, refusal_of}
 use Rattle.wgr_model.specs.Laws.{Has}
-use Rattle.wgr_model.specs.Register.{Bytes, Register}
+use Rattle.wgr_model.specs.Register.{Bytes, Register, right_of}
 use Rattle.wgr_model.specs.RowLaws.{IsRowStep}
 use Rattle.wgr_model.specs.Rows.{NetworkRow, Tables, network_entry_of}
-use Rattle.wgr_model.specs.Steps.{Answer, Ask, Declined, Event, NoSuchNetwork, Replied, Settings, UnknownToken, tenant_of_token}
+use Rattle.wgr_model.specs.Steps.{Answer, Ask, Declined, Event, NoSuchNetwork, ReadOnly, Replied, Settings, UnknownToken, allows, tenant_of_token}
 use Rattle.wgr_model.specs.Steps as answered
 use Rattle.wgr_sql.specs.declared.fault.Fault.TheVariants.{NoMemory}
 use Rattle.wgr_columns.specs.Decode.{tables_of}
@@ -62,6 +63,7 @@ abbrev pub AskEnds : {S : Type 0} → Ghosts S → (GivenValue → Bytes) → He
 AskEnds g shown conn db late event now (Ok text) = EndsWith g conn db late event (ShowsAnswer shown now text.items)
 AskEnds g shown conn db late event now (Err (fault.Refused why)) = EndsStill g conn db late event (Declined why)
 AskEnds g shown conn db late event now (Err fault.UnknownToken) = EndsStill g conn db late event UnknownToken
+AskEnds g shown conn db late event now (Err fault.ReadOnly) = EndsStill g conn db late event ReadOnly
 AskEnds g shown conn db late event now (Err fault.NoSuchNetwork) = EndsStill g conn db late event NoSuchNetwork
 AskEnds g shown conn db late event now (Err (fault.Fault why)) = EndsLate g conn db late event
 
@@ -96,11 +98,13 @@ abbrev pub FailsIf : {S : Type 0} → Ghosts S → Held S → Database → List 
 FailsIf g conn db pending id network None = ⊥
 FailsIf g conn db pending id network (Some change) = Stands g conn db (Replaced id (applied change network) ∷ pending)
 
--- the network of this name that the tenant of the token has, and the id of its row
-pub record IsFound (t : Tables) (digest name : Bytes) (id : ℕ) (network : NetworkValue) : Type 0 where
+-- the network of this name that the tenant of the token has, and the id of its row; the token may ask the
+-- command
+pub record IsFound (t : Tables) (digest name : Bytes) (command : Command) (id : ℕ) (network : NetworkValue) : Type 0 where
   pub row : NetworkRow
   pub there : Has t.networks row
   pub tenant : tenant_of_token t.tokens digest ≡ Some row.tenant
+  pub allowed : allows (right_of t.readers digest) command ≡ true
   pub named : row.name ≡ name
   pub at : row.id ≡ id
   pub value : network ≡ (network_entry_of t row).network

@@ -41,6 +41,7 @@ abbrev pub UnlessFault : Result (Vec ℕ Global) AskFault → Type 0 → Type 0
 UnlessFault (Ok text) P = P
 UnlessFault (Err (fault.Refused why)) P = P
 UnlessFault (Err fault.UnknownToken) P = P
+UnlessFault (Err fault.ReadOnly) P = P
 UnlessFault (Err fault.NoSuchNetwork) P = P
 UnlessFault (Err (fault.Fault why)) P = Unit {0}
 

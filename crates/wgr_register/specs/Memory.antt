@@ -32,7 +32,7 @@ pub record IsAfter (id : ℕ) (n : NetworkValue) (change : Option Change) (t u :
 -- an order that ends no network
 abbrev pub EndsNone : Event → Type 0
 EndsNone (AddTenant name) = Unit {0}
-EndsNone (Grant tenant digest) = Unit {0}
+EndsNone (Grant tenant digest right) = Unit {0}
 EndsNone (EndToken digest) = Unit {0}
 EndsNone (AddNetwork tenant name settings) = Unit {0}
 EndsNone event = ⊥

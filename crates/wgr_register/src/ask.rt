@@ -5,14 +5,15 @@ ghost use Rattle.sqlite.specs.State.{HasCleanDisk};
 ghost use Rattle.sqlite.specs.Held.{state};
 ghost use Rattle.wgr_core.specs.Outcome.{is_reading};
 ghost use Rattle.wgr_model.specs.Laws.{Has};
-ghost use Rattle.wgr_model.specs.Register.{Bytes};
+ghost use Rattle.wgr_model.specs.Register.{Bytes, right_of};
 ghost use Rattle.wgr_model.specs.RowLaws.{AreConsistent};
 ghost use Rattle.wgr_model.specs.Rows.{IsFormed, NetworkRow, Tables, network_entry_of, register_of};
-ghost use Rattle.wgr_model.specs.Steps.{Ask, Event, network_at};
+ghost use Rattle.wgr_model.specs.Steps.{Ask, Event, allows, network_at};
 ghost use Rattle.wgr_sql.specs.Causes.{HasCause, HasCauseOr};
 ghost use Rattle.wgr_sql.specs.declared.fault.Fault.TheVariants.{NoMemory};
 ghost use Rattle.wgr_columns.specs.Decode.{tables_of};
 ghost use Rattle.wgr_entries.specs.Lookups.{IsSlotOf};
+ghost use Rattle.wgr_entries.specs.ThirdVersion.{IsThird, OnlyReadsThird};
 ghost use Rattle.wgr_tables.specs.Standing.{MayWrite, OnlyReads, Stands};
 ghost use Rattle.wgr_tables.specs.Writes.{Written};
 ghost use Rattle.wgr_conf.specs.Files.{server_config};
@@ -31,7 +32,8 @@ use crate::memory::Memory;
 use sqlite::{Alter, Connection};
 use std::alloc::Global;
 use wgr_core::{Change, Command, Form, Name, Network};
-use wgr_entries::{network_id, tenant_of_token};
+use wgr_entries::{is_reader, network_id, tenant_of_token};
+use wgr_model::Right;
 use wgr_rows::row_act;
 use wgr_tables::{Fault, NetworkChange, commit, load_network};
 
@@ -56,6 +58,25 @@ fn take_network<S: Alter>(
         Some(network) => Ok(network),
         None => Err(Fault::Store),
     }
+}
+
+// Whether the token of this digest may ask the command. Of one that only reads, no row is looked up.
+fn may_ask<S: Alter>(
+    conn: &mut Connection<S>,
+    digest: &[u8; 32],
+    command: &Command,
+) -> Result<bool, Fault>
+    requires idle { conn.old.in_transaction ≡ false }
+    ensures reads { OnlyReadsThird S.Store conn.old conn.new }
+    ensures told { (db : Database) (pending : List Written) → Stands S.Store conn.old db pending → IsThird (tables_of db) → HasCleanDisk (state S.Store conn.new)
+        → IfOk result (λ may. may ≡ allows (right_of (tables_of db).readers digest.now) command.now) }
+    ensures cause { (db : Database) (pending : List Written) → Stands S.Store conn.old db pending → IsThird (tables_of db) → IfErr result (HasCause (state S.Store conn.old) (state S.Store conn.new)) }
+{
+    if Right::Read.allows(command) {
+        return Ok(true);
+    }
+    let reader = is_reader(conn, digest)?;
+    Ok(!reader)
 }
 
 // The id of the row of the network of this name that the tenant of this id has.
@@ -117,12 +138,12 @@ fn act_on<S: Alter, R: Render>(
 ) -> Result<Vec<u8>, AskFault>
     requires idle { conn.old.in_transaction ≡ false }
     ensures keeps { MayWrite S.Store conn.old conn.new }
-    ensures ends { (db : Database) (late : List Event) (digest name : Bytes) → StandsAt S.Store conn.old db late → IsFound (tables_of db) digest name id network
+    ensures ends { (db : Database) (late : List Event) (digest name : Bytes) → StandsAt S.Store conn.old db late → IsFound (tables_of db) digest name command.now id network
         → AskEnds S.Store R.shown conn.new db late (Ask digest name now command.now) now result }
-    ensures memory { (db : Database) (late : List Event) (digest name : Bytes) → StandsAt S.Store conn.old db late → IsFound (tables_of db) digest name id network → IsMemoryOf memory.old (tables_of db)
+    ensures memory { (db : Database) (late : List Event) (digest name : Bytes) → StandsAt S.Store conn.old db late → IsFound (tables_of db) digest name command.now id network → IsMemoryOf memory.old (tables_of db)
         → UnlessFault result (Shows S.Store conn.new (IsMemoryOf memory.new)) }
     ensures reading { is_reading command.now ≡ true → IfFault (λ why. why ≡ NoMemory) result }
-    ensures stops { (db : Database) (late : List Event) (digest name : Bytes) → StandsAt S.Store conn.old db late → IsFound (tables_of db) digest name id network → IfFault (HasCauseOr (AskStops (tables_of db) digest name now command.now) (state S.Store conn.old) (state S.Store conn.new)) result }
+    ensures stops { (db : Database) (late : List Event) (digest name : Bytes) → StandsAt S.Store conn.old db late → IsFound (tables_of db) digest name command.now id network → IfFault (HasCauseOr (AskStops (tables_of db) digest name now command.now) (state S.Store conn.old) (state S.Store conn.new)) result }
 {
     command.forms_hold();
     let (reply, change) = match network.act(alloc, now, command) {
@@ -155,12 +176,12 @@ fn act_on_rows<S: Alter, R: Render>(
     requires idle { conn.old.in_transaction ≡ false }
     requires directed { is_directed command.now ≡ true }
     ensures keeps { MayWrite S.Store conn.old conn.new }
-    ensures ends { (db : Database) (late : List Event) (digest name : Bytes) (n : NetworkValue) → StandsAt S.Store conn.old db late → IsFound (tables_of db) digest name id n → IsMemoryOf memory.old (tables_of db)
+    ensures ends { (db : Database) (late : List Event) (digest name : Bytes) (n : NetworkValue) → StandsAt S.Store conn.old db late → IsFound (tables_of db) digest name command.now id n → IsMemoryOf memory.old (tables_of db)
         → AskEnds S.Store R.shown conn.new db late (Ask digest name now command.now) now result }
-    ensures memory { (db : Database) (late : List Event) (digest name : Bytes) (n : NetworkValue) → StandsAt S.Store conn.old db late → IsFound (tables_of db) digest name id n → IsMemoryOf memory.old (tables_of db)
+    ensures memory { (db : Database) (late : List Event) (digest name : Bytes) (n : NetworkValue) → StandsAt S.Store conn.old db late → IsFound (tables_of db) digest name command.now id n → IsMemoryOf memory.old (tables_of db)
         → UnlessFault result (Shows S.Store conn.new (IsMemoryOf memory.new)) }
-    ensures cause { (db : Database) (late : List Event) (digest name : Bytes) (n : NetworkValue) → StandsAt S.Store conn.old db late → IsFound (tables_of db) digest name id n → is_reading command.now ≡ true → IfFault (HasCause (state S.Store conn.old) (state S.Store conn.new)) result }
-    ensures stops { (db : Database) (late : List Event) (digest name : Bytes) (n : NetworkValue) → StandsAt S.Store conn.old db late → IsFound (tables_of db) digest name id n → IsMemoryOf memory.old (tables_of db) → IfFault (HasCauseOr (AskStops (tables_of db) digest name now command.now) (state S.Store conn.old) (state S.Store conn.new)) result }
+    ensures cause { (db : Database) (late : List Event) (digest name : Bytes) (n : NetworkValue) → StandsAt S.Store conn.old db late → IsFound (tables_of db) digest name command.now id n → is_reading command.now ≡ true → IfFault (HasCause (state S.Store conn.old) (state S.Store conn.new)) result }
+    ensures stops { (db : Database) (late : List Event) (digest name : Bytes) (n : NetworkValue) → StandsAt S.Store conn.old db late → IsFound (tables_of db) digest name command.now id n → IsMemoryOf memory.old (tables_of db) → IfFault (HasCauseOr (AskStops (tables_of db) digest name now command.now) (state S.Store conn.old) (state S.Store conn.new)) result }
 {
     command.forms_hold();
     let before = memory.outline(id);
@@ -228,6 +249,10 @@ pub(crate) fn ask<S: Alter, R: Render>(
     let Some(tenant) = tenant_of_token(conn, digest)? else {
         return Err(AskFault::UnknownToken);
     };
+    let may = may_ask(conn, digest, command)?;
+    if !may {
+        return Err(AskFault::ReadOnly);
+    }
     let Some(id) = find_id(alloc, conn, tenant, name)? else {
         return Err(AskFault::NoSuchNetwork);
     };

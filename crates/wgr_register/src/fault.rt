@@ -44,6 +44,8 @@ pub enum AskFault {
     Refused(CommandRefusal),
     /// No tenant has the token.
     UnknownToken,
+    /// The token only reads, and the command changes.
+    ReadOnly,
     /// The tenant has no network of the name.
     NoSuchNetwork,
     /// Memory was refused, or the store failed; the rows are as before.

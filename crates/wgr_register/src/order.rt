@@ -23,7 +23,7 @@ use wgr_entries::{
     EndedNetwork, EndedToken, NewNetwork, NewTenant, NewToken, count_tokens, network_id,
     settled_networks, tenant_id, tenant_ids, tenant_of_token, tenants,
 };
-use wgr_model::MAX_ENTRIES;
+use wgr_model::{MAX_ENTRIES, Right};
 use wgr_orders::{NetworkEntry, Order, OrderRefusal, Settings, Tenant, admit_network, unused_id};
 use wgr_tables::{Fault, commit};
 
@@ -46,7 +46,11 @@ pub(crate) fn operate<S: Alter>(
     order.forms_hold();
     match order {
         Order::AddTenant { name } => add_tenant(alloc, conn, name),
-        Order::Grant { tenant, digest } => grant(conn, tenant, digest),
+        Order::Grant {
+            tenant,
+            digest,
+            right,
+        } => grant(conn, tenant, digest, *right),
         Order::EndToken { digest } => end_token(conn, digest),
         Order::AddNetwork {
             tenant,
@@ -99,18 +103,19 @@ fn end_network<S: Alter>(
     Ok(Done)
 }
 
-// Adds a token of this digest for the tenant of this name.
+// Adds a token of this digest for the tenant of this name, with this right.
 fn grant<S: Alter>(
     conn: &mut Connection<S>,
     tenant: &Name,
     digest: &[u8; 32],
+    right: Right,
 ) -> Result<Done, OrderFault>
     requires idle { conn.old.in_transaction ≡ false }
     ensures idle { conn.new.in_transaction ≡ false }
     ensures clean { HasCleanDisk (state S.Store conn.new) → HasCleanDisk (state S.Store conn.old) }
     ensures open { HasCleanDisk (state S.Store conn.new) → UnlessUndone result (IsTrue (state S.Store conn.old).is_open) }
-    ensures ends { (db : Database) (late : List Event) → StandsAt S.Store conn.old db late → IsProper (Grant tenant.now digest.now) → OrderEnds S.Store conn.new db late (Grant tenant.now digest.now) result }
-    ensures stops { (db : Database) (late : List Event) → StandsAt S.Store conn.old db late → IfOrderFault (HasCauseOr (OrderStops (tables_of db) (Grant tenant.now digest.now)) (state S.Store conn.old) (state S.Store conn.new)) result }
+    ensures ends { (db : Database) (late : List Event) → StandsAt S.Store conn.old db late → IsProper (Grant tenant.now digest.now right) → OrderEnds S.Store conn.new db late (Grant tenant.now digest.now right) result }
+    ensures stops { (db : Database) (late : List Event) → StandsAt S.Store conn.old db late → IfOrderFault (HasCauseOr (OrderStops (tables_of db) (Grant tenant.now digest.now right)) (state S.Store conn.old) (state S.Store conn.new)) result }
 {
     let Some(id) = tenant_id(conn, tenant)? else {
         return Err(OrderFault::Refused(OrderRefusal::NoSuchTenant));
@@ -122,7 +127,12 @@ fn grant<S: Alter>(
     if is_full(count) {
         return Err(OrderFault::Refused(OrderRefusal::RegisterFull));
     }
-    commit(conn, &NewToken { digest, tenant: id })?;
+    let token = NewToken {
+        digest,
+        tenant: id,
+        right,
+    };
+    commit(conn, &token)?;
     Ok(Done)
 }
 
@@ -199,7 +209,7 @@ fn admit(
     name: &Name,
     settings: &Settings,
 ) -> Result<u32, OrderFault>
-    ensures { AdmitsNetwork (record { tenants = tenants.now; tokens = []; networks = networks.now }) id name.now settings.now result }
+    ensures { AdmitsNetwork (record { tenants = tenants.now; tokens = []; readers = []; networks = networks.now }) id name.now settings.now result }
 {
     match admit_network(alloc, tenants, networks, id, name, settings) {
         Ok(Ok(new)) => Ok(new),

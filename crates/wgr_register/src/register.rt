@@ -23,7 +23,7 @@ ghost use Rattle.wgr_schema.specs.declared.version.Version.{Version};
 ghost use Rattle.wgr_schema.specs.declared.version.Version.TheVariants.{Three};
 ghost use Rattle.wgr_schema.specs.declared.fault.RegisterFault.TheVariants.{EarlierVersion, NotARegister, NotEmpty, NotGood};
 ghost use Rattle.wgr_columns.specs.Decode.{tables_of};
-ghost use Rattle.wgr_opening.specs.Good.{IsGood, IsReady, IsSound};
+ghost use Rattle.wgr_opening.specs.Good.{IsGood, IsReady, HasSoundRows};
 ghost use Rattle.wgr_opening.specs.Migrated.{IsMigrated, LeavesMigrated, MayMigrate};
 
 use crate::fault::{AskFault, Done, OpenFault, OrderFault};
@@ -144,15 +144,12 @@ impl<S: Alter> Register<S> {
     /// where something has the name of a table that the version lacks; `NotGood` where the rows aren't
     /// those of a consistent register. `Store` only where the disk had a fault, the store was shut before, a limit
     /// on steps was set, or the database refuses a statement. The database is as before.
-    pub fn migrate(
-        alloc: Global,
-        mut conn: Connection<S>,
-    ) -> Result<Register<S>, OpenFault<S>>
+    pub fn migrate(alloc: Global, mut conn: Connection<S>) -> Result<Register<S>, OpenFault<S>>
         requires idle { conn.in_transaction ≡ false }
         ensures done { IfOk result (λ register. HasCleanDisk (state S.Store register) → (db : Database) × IsMigrated (state S.Store conn).now db × StandsAt S.Store register db []) }
         ensures foreign { IfErr result (λ e. HasCleanDisk (state S.Store e.connection) → e.fault ≡ NotARegister → (version : Version) → MayMigrate version (state S.Store conn).now → ⊥) }
         ensures taken { IfErr result (λ e. HasCleanDisk (state S.Store e.connection) → e.fault ≡ NotEmpty → (version : Version) → IsReady version (state S.Store conn).now → ⊥) }
-        ensures bad { IfErr result (λ e. HasCleanDisk (state S.Store e.connection) → e.fault ≡ NotGood → IsSound (state S.Store conn).now → ⊥) }
+        ensures bad { IfErr result (λ e. HasCleanDisk (state S.Store e.connection) → e.fault ≡ NotGood → HasSoundRows (state S.Store conn).now → ⊥) }
         ensures earlier { IfErr result (λ e. e.fault ≡ EarlierVersion → ⊥) }
         ensures clean { IfOk result (λ register. HasCleanDisk (state S.Store register) → HasCleanDisk (state S.Store conn)) }
         ensures unharmed { IfErr result (λ e. HasCleanDisk (state S.Store e.connection) → HasCleanDisk (state S.Store conn)) }

@@ -114,10 +114,13 @@ module _ {D : Type 0} {g : disk.Ghosts D} (version : Version) (old : Database) (
             let same : now ≡ old = one_database now old sound can.sound.register.sound (shown it.0 it.1 ∙ before) in
             (version, subst (CanMigrate version) (sym same) can, λ db made. subst (λ d. IsMigrated d db) same made)
         | inr all ↦
-            let same : now ≡ all.0 = one_database now all.0 sound all.1.good.register.sound (shown it.0 it.1 ∙ all.2) in
-            (Three, subst (CanMigrate Three) (sym same) (good_can all.0 all.1.good), λ db made.
-            let again : IsMigrated all.0 db = subst (λ d. IsMigrated d db) same made in
-            subst (IsMigrated old) (sym (again.same (good_is_third all.0 all.1.good))) all.1)
+            let same : now ≡ all.0 = one_database now all.0 sound all.1.good.register.sound (shown it.0 it.1 ∙ all.2) in (
+              Three,
+              subst (CanMigrate Three) (sym same) (good_can all.0 all.1.good),
+              λ db made.
+                  let again : IsMigrated all.0 db = subst (λ d. IsMigrated d db) same made in
+                  subst (IsMigrated old) (sym (again.same (good_is_third all.0 all.1.good))) all.1,
+            )
       ])
 
   pub stands_migrated : {E : Type 0} (r : Result (Held (FileStore D g)) E) → IfOk r (λ again. HasCleanDisk (file_state again) → HasCleanDisk (file_state conn))

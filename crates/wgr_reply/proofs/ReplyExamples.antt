@@ -9,7 +9,8 @@ use Rattle.wgr_http.specs.declared.message.MessageFault.TheVariants.{LengthRequi
 use Rattle.wgr_core.specs.RefusalNames.{refusal_name}
 use Rattle.wgr_core.specs.Refusals.{of_command, of_line}
 use Rattle.wgr_reply.specs.Refused.{refusal_facts, refusal_status}
-use Rattle.wgr_reply.specs.Response.{fault_shown, problem, shown_bytes}
+use Rattle.wgr_reply.specs.Response.{fault_shown, problem, response_bytes, shown_bytes}
+use Rattle.wgr_reply.specs.declared.response.Response.TheVariants as response
 use Rattle.wgr_request.specs.declared.fault.RequestFault.TheVariants.{Message, WrongMethod, UnknownToken, BadField, BadDump}
 use Rattle.wgr_request.specs.declared.fault.RequestField.TheVariants.{Body}
 use Rattle.wgr_request.specs.declared.paths.Methods.TheVariants.{GetOrPost, Delete}
@@ -28,6 +29,11 @@ unknown_token : shown_bytes (fault_shown UnknownToken)
     ≡ codes "HTTP/1.1 401 Unauthorized\r\nContent-Type: application/json\r\nContent-Length: 25\r\nWWW-Authenticate: Bearer\r\nConnection: close\r\n\r\n{\"error\":\"unknown_token\"}"
 unfolding serde_json_on_literals first_lines last_lines digits
 unknown_token = refl
+
+read_only : response_bytes response.ReadOnly
+    ≡ codes "HTTP/1.1 403 Forbidden\r\nContent-Type: application/json\r\nContent-Length: 21\r\nConnection: close\r\n\r\n{\"error\":\"read_only\"}"
+unfolding serde_json_on_literals first_lines last_lines digits
+read_only = refl
 
 bad_field : shown_bytes (fault_shown (BadField Body))
     ≡ codes "HTTP/1.1 400 Bad Request\r\nContent-Type: application/json\r\nContent-Length: 36\r\nConnection: close\r\n\r\n{\"error\":\"bad_field\",\"field\":\"body\"}"

@@ -21,6 +21,7 @@ unfolding first_lines digits after_line
 of_status status.Done kind allow body = (after_line status.Done kind allow body, refl)
 of_status status.BadRequest kind allow body = (after_line status.BadRequest kind allow body, refl)
 of_status status.Unauthorized kind allow body = (after_line status.Unauthorized kind allow body, refl)
+of_status status.Forbidden kind allow body = (after_line status.Forbidden kind allow body, refl)
 of_status status.NotFound kind allow body = (after_line status.NotFound kind allow body, refl)
 of_status status.MethodNotAllowed kind allow body = (after_line status.MethodNotAllowed kind allow body, refl)
 of_status status.Conflict kind allow body = (after_line status.Conflict kind allow body, refl)
@@ -39,6 +40,7 @@ unfolding digits
 digits_in status.Done rest = refl
 digits_in status.BadRequest rest = refl
 digits_in status.Unauthorized rest = refl
+digits_in status.Forbidden rest = refl
 digits_in status.NotFound rest = refl
 digits_in status.MethodNotAllowed rest = refl
 digits_in status.Conflict rest = refl
@@ -53,6 +55,7 @@ small : (code : StatusCode) → status_number code < 2 ^ 64
 small status.Done = omega arith
 small status.BadRequest = omega arith
 small status.Unauthorized = omega arith
+small status.Forbidden = omega arith
 small status.NotFound = omega arith
 small status.MethodNotAllowed = omega arith
 small status.Conflict = omega arith
@@ -66,6 +69,7 @@ named n =
     if n == 200 then status.Done else
     if n == 400 then status.BadRequest else
     if n == 401 then status.Unauthorized else
+    if n == 403 then status.Forbidden else
     if n == 404 then status.NotFound else
     if n == 405 then status.MethodNotAllowed else
     if n == 409 then status.Conflict else
@@ -78,6 +82,7 @@ unfolding named
 is_named status.Done = refl
 is_named status.BadRequest = refl
 is_named status.Unauthorized = refl
+is_named status.Forbidden = refl
 is_named status.NotFound = refl
 is_named status.MethodNotAllowed = refl
 is_named status.Conflict = refl

@@ -73,6 +73,7 @@ response_shown (response.Adopted added known) = done (json (adopted_data added.n
 response_shown (response.Networks networks) = done (json (networks_data networks.now))
 response_shown (response.File file) = done (text file.now)
 response_shown (response.Refused refused) = problem (refusal_status refused) [] (refusal_name refused.why) (refusal_facts refused)
+response_shown response.ReadOnly = plain status.Forbidden (codes "read_only")
 response_shown response.NoSuchNetwork = plain status.NotFound (codes "no_such_network")
 response_shown (response.Fault why) = fault_shown why
 

@@ -32,6 +32,8 @@ pub enum Response<'a> {
     File(&'a [u8]),
     /// The network refuses the command.
     Refused(CommandRefusal),
+    /// The token only reads, and the command may change the network.
+    ReadOnly,
     /// The tenant has no network of the name.
     NoSuchNetwork,
     /// The request is refused by its bytes, or no tenant has its token.
@@ -61,6 +63,7 @@ pub fn write_response(alloc: Global, response: Response<'_>) -> Result<HttpReply
         Response::Refused(why) => {
             write_problem(alloc, status_of(why), b"", why.name(), fact_of(why))
         }
+        Response::ReadOnly => write_plain(alloc, StatusCode::Forbidden, "read_only"),
         Response::NoSuchNetwork => write_plain(alloc, StatusCode::NotFound, "no_such_network"),
         Response::Fault(fault) => write_fault(alloc, fault),
     }

@@ -287,7 +287,11 @@ fn faults(rt: HostRuntime) {
 
 #[test]
 fn whole_replies(rt: HostRuntime) {
-    let rows: [(Response<'_>, &[u8]); 4] = [
+    let rows: [(Response<'_>, &[u8]); 5] = [
+        (
+            Response::ReadOnly,
+            b"HTTP/1.1 403 Forbidden\r\nContent-Type: application/json\r\nContent-Length: 21\r\nConnection: close\r\n\r\n{\"error\":\"read_only\"}",
+        ),
         (
             Response::NoSuchNetwork,
             b"HTTP/1.1 404 Not Found\r\nContent-Type: application/json\r\nContent-Length: 27\r\nConnection: close\r\n\r\n{\"error\":\"no_such_network\"}",

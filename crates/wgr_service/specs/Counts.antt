@@ -11,6 +11,7 @@ abbrev pub count_of : StatusCode → Replies → ℕ
 count_of status.Done replies = replies.done
 count_of status.BadRequest replies = replies.bad_request
 count_of status.Unauthorized replies = replies.unauthorized
+count_of status.Forbidden replies = replies.forbidden
 count_of status.NotFound replies = replies.not_found
 count_of status.MethodNotAllowed replies = replies.wrong_method
 count_of status.Conflict replies = replies.conflict
@@ -23,6 +24,7 @@ abbrev pub counted : StatusCode → Replies → Replies
 counted status.Done replies = record replies { done = capped (replies.done + 1) }
 counted status.BadRequest replies = record replies { bad_request = capped (replies.bad_request + 1) }
 counted status.Unauthorized replies = record replies { unauthorized = capped (replies.unauthorized + 1) }
+counted status.Forbidden replies = record replies { forbidden = capped (replies.forbidden + 1) }
 counted status.NotFound replies = record replies { not_found = capped (replies.not_found + 1) }
 counted status.MethodNotAllowed replies = record replies { wrong_method = capped (replies.wrong_method + 1) }
 counted status.Conflict replies = record replies { conflict = capped (replies.conflict + 1) }
@@ -36,7 +38,7 @@ counted_if None replies = replies
 counted_if (Some code) replies = counted code replies
 
 abbrev pub no_replies : Replies
-no_replies = record { done = 0; bad_request = 0; unauthorized = 0; not_found = 0; wrong_method = 0; conflict = 0; no_length = 0; too_large = 0; unavailable = 0 }
+no_replies = record { done = 0; bad_request = 0; unauthorized = 0; forbidden = 0; not_found = 0; wrong_method = 0; conflict = 0; no_length = 0; too_large = 0; unavailable = 0 }
 
 -- what a desk has counted so far
 abbrev pub replies_of : {A : Type 0} → Desk A → Replies

@@ -13,6 +13,7 @@ figures_of started tally register loaded cached =
     ∷ (codes "wgr_service_requests_total{status=\"200\"}", tally.replies.done)
     ∷ (codes "wgr_service_requests_total{status=\"400\"}", tally.replies.bad_request)
     ∷ (codes "wgr_service_requests_total{status=\"401\"}", tally.replies.unauthorized)
+    ∷ (codes "wgr_service_requests_total{status=\"403\"}", tally.replies.forbidden)
     ∷ (codes "wgr_service_requests_total{status=\"404\"}", tally.replies.not_found)
     ∷ (codes "wgr_service_requests_total{status=\"405\"}", tally.replies.wrong_method)
     ∷ (codes "wgr_service_requests_total{status=\"409\"}", tally.replies.conflict)

@@ -10,7 +10,7 @@ use std::net::{Net, OpenListener, Shutdown, SocketAddr, TcpListener, TcpStream};
 use std::process::Abort;
 use wgr_io::Device;
 use wgr_office::{Event, Office};
-use wgr_orders::Order;
+use wgr_orders::{Order, Right};
 use wgr_peers::Name;
 use wgr_register::{OpenFault, Register};
 use wgr_request::token_digest;
@@ -61,6 +61,7 @@ fn add_acme(rt: &(impl Abort + AllocGlobal), office: &mut Office<MemStore>) {
         .push(Event::Order(Order::Grant {
             tenant: acme(rt),
             digest,
+            right: Right::Full,
         }))
         .expect(rt, "memory");
     let _answers = office.run(rt.alloc(), &orders).expect(rt, "memory");

@@ -10,9 +10,10 @@ use Rattle.std.proofs.lemmas.Cmp.{on_total, then_total, nat_cmp_total}
 use Rattle.std.proofs.lemmas.List.{get_or-map, length-map}
 use Rattle.std.proofs.lemmas.List.Sorted.{length_permutation, ranks_by}
 use denote.Ref.{Bor}
-use Rattle.wgr_model.specs.Register.{Bytes, Tenant, Token, is_same}
+use Rattle.wgr_model.specs.Register.{Bytes, Tenant, is_same}
 use Rattle.wgr_orders.specs.declared.census.Census.{Census}
 use Rattle.wgr_orders.specs.declared.census.Counted.{Counted}
+use Rattle.wgr_orders.specs.declared.census.Granted.{Granted}
 use Rattle.wgr_show.specs.Entries.{entry_of}
 use Rattle.wgr_show.specs.Owned.{network_cmp, owned_cmp, token_cmp}
 use Rattle.wgr_show.specs.Shown.{IsSortedOf, ShowsEach, asked_tenants, is_asked, is_there}
@@ -52,7 +53,7 @@ module _ {X : Type 0} (owner : X → ℕ) (label : X → List ℕ) (all : List X
     sorted = sorted_from _ _ (rises_owned (λ r. r.now) owner label id refs (rises_from _ (ranks_by (owned_total owner label) (λ r. r.now)) refs up));
   }
 
-module _ (c : Census) (tokens : List (Bor Token)) (networks : List (Bor Counted))
+module _ (c : Census) (tokens : List (Bor Granted)) (networks : List (Bor Counted))
     (same_tokens : IsPermutation c.tokens.items (map (λ r. r.now) tokens)) (token_order : IsSortedByKey (λ r. r.now) token_cmp tokens)
     (same_networks : IsPermutation c.networks.items (map (λ r. r.now) networks)) (network_order : IsSortedByKey (λ r. r.now) network_cmp networks) where
   pub shows_each : (ts : List (Bor Tenant)) → ShowsEach c (map (λ r. r.now) ts) (map (λ t. entry_of tokens networks t.now) ts)
@@ -60,7 +61,7 @@ module _ (c : Census) (tokens : List (Bor Token)) (networks : List (Bor Counted)
   shows_each (t ∷ ts) = (
     record {
       name = refl;
-      tokens = owned_sorted (λ x. x.tenant) (λ x. x.digest) c.tokens.items tokens same_tokens token_order t.now.id;
+      tokens = owned_sorted (λ x. x.token.tenant) (λ x. x.token.digest) c.tokens.items tokens same_tokens token_order t.now.id;
       networks = owned_sorted (λ n. n.network_entry.tenant) (λ n. n.network_entry.name) c.networks.items networks same_networks network_order t.now.id;
     },
     shows_each ts,

@@ -4,9 +4,10 @@ use Rattle.std.specs.List.{filter, list_any}
 use Rattle.std.specs.List.Sorted.{IsPermutation, IsSortedByKey}
 use Rattle.std.specs.Ordering.{nat_cmp}
 use Rattle.std.specs.Cmp.Lexicographic.{slice_cmp}
-use Rattle.wgr_model.specs.Register.{Bytes, Tenant, Token, is_same}
+use Rattle.wgr_model.specs.Register.{Bytes, Tenant, is_same}
 use Rattle.wgr_orders.specs.declared.census.Census.{Census}
 use Rattle.wgr_orders.specs.declared.census.Counted.{Counted}
+use Rattle.wgr_orders.specs.declared.census.Granted.{Granted}
 
 -- whether a tenant is asked for: each is, or those of a name are
 abbrev pub is_asked : Option Bytes → Tenant → Bool
@@ -29,13 +30,13 @@ pub record IsSortedOf {X : Type 0} (key : X → Bytes) (xs ys : List X) : Type 0
 -- what is shown of a tenant
 pub record ShownTenant : Type 0 where
   pub name : Bytes
-  pub tokens : List Token
+  pub tokens : List Granted
   pub networks : List Counted
 
 -- its name, its tokens by digest and its networks by name
 pub record ShowsTenant (c : Census) (t : Tenant) (s : ShownTenant) : Type 0 where
   pub name : s.name ≡ t.name
-  pub tokens : IsSortedOf (λ x. x.digest) (filter (λ x. nat_eq x.tenant t.id) c.tokens.items) s.tokens
+  pub tokens : IsSortedOf (λ x. x.token.digest) (filter (λ x. nat_eq x.token.tenant t.id) c.tokens.items) s.tokens
   pub networks : IsSortedOf (λ n. n.network_entry.name) (filter (λ n. nat_eq n.network_entry.tenant t.id) c.networks.items) s.networks
 
 -- that for each of the tenants

@@ -9,13 +9,13 @@ ghost use Rattle.wgr_show.specs.Shown.{IsSortedOf, asked_tenants, is_asked};
 
 use crate::owned::owned_by;
 use std::alloc::{AllocError, Global};
-use wgr_orders::{Counted, Tenant, Token, is_same};
+use wgr_orders::{Counted, Granted, Tenant, is_same};
 
 /// A tenant, its tokens by digest and its networks by name.
 #[derive(Clone, Copy)]
 pub(crate) struct Entry<'a, 'c> {
     pub tenant: &'c Tenant,
-    pub tokens: &'a [&'c Token],
+    pub tokens: &'a [&'c Granted],
     pub networks: &'a [&'c Counted],
 }
 
@@ -53,7 +53,7 @@ fn is_asked(tenant: &Tenant, name: Option<&str>) -> bool
 pub(crate) fn entries_of<'a, 'c>(
     alloc: Global,
     tenants: &[&'c Tenant],
-    tokens: &'a [&'c Token],
+    tokens: &'a [&'c Granted],
     networks: &'a [&'c Counted],
 ) -> Result<Vec<Entry<'a, 'c>>, AllocError>
     requires tokens { IsSortedByKey (λ r. r.now) token_cmp tokens.now }
@@ -70,7 +70,7 @@ pub(crate) fn entries_of<'a, 'c>(
 // The tenant with what it owns.
 fn entry_of<'a, 'c>(
     tenant: &'c Tenant,
-    tokens: &'a [&'c Token],
+    tokens: &'a [&'c Granted],
     networks: &'a [&'c Counted],
 ) -> Entry<'a, 'c>
     requires tokens { IsSortedByKey (λ r. r.now) token_cmp tokens.now }

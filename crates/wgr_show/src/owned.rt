@@ -7,7 +7,7 @@ ghost use Rattle.wgr_show.specs.Owned.{owned_cmp};
 
 use std::alloc::{AllocError, Global};
 use std::cmp::Ordering;
-use wgr_orders::{Counted, Token};
+use wgr_orders::{Counted, Granted};
 
 /// What a tenant owns.
 pub(crate) trait Owned {
@@ -24,17 +24,17 @@ pub(crate) trait Owned {
         ensures { result.now ≡ label_of self.now };
 }
 
-impl Owned for Token {
-    ghost owner_of = { λ t. t.tenant };
+impl Owned for Granted {
+    ghost owner_of = { λ t. t.token.tenant };
 
-    ghost label_of = { λ t. t.digest };
+    ghost label_of = { λ t. t.token.digest };
 
     fn owner(&self) -> u32 {
-        self.tenant
+        self.token.tenant
     }
 
     fn label(&self) -> &[u8] {
-        &self.digest
+        &self.token.digest
     }
 }
 

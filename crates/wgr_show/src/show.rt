@@ -14,7 +14,7 @@ use crate::shown::Register;
 use crate::table::tables;
 use std::alloc::{AllocError, Global};
 use wgr_json::to_json;
-use wgr_orders::{Census, Counted, Tenant, Token};
+use wgr_orders::{Census, Counted, Granted, Tenant};
 
 /// The tenants by name, each with its networks by name and its tokens by digest: all, or the one of a name.
 /// It is JSON on one line, or a table of networks and one of tokens. `None` where no tenant has the name.
@@ -50,7 +50,7 @@ fn is_missing(name: Option<&str>, found: &[&Tenant]) -> bool
 fn text_of(
     alloc: Global,
     tenants: &[&Tenant],
-    tokens: &[&Token],
+    tokens: &[&Granted],
     networks: &[&Counted],
     is_json: bool,
 ) -> Result<Vec<u8>, AllocError>

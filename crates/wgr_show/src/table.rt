@@ -1,21 +1,23 @@
 //! Tables for a person.
 use crate::columns::aligned;
 use crate::entries::Entry;
+use crate::shown::only_reads;
 use std::alloc::{AllocError, Global};
 use wgr_json::text_of_prefix;
-use wgr_orders::{Counted, Token};
+use wgr_orders::{Counted, Granted, Right};
 
-/// A table of networks, and one of tokens where there is one.
+/// A table of networks, and one of tokens where there is one. Rights are shown where a token only reads.
 pub(crate) fn tables(alloc: Global, entries: &[Entry<'_, '_>]) -> Result<Vec<u8>, AllocError> {
     let mut networks = String::from_str(
         alloc,
         "TENANT\tNETWORK\tPOOL\tENDPOINT\tCAPACITY\tPEERS\tROUTES\n",
     )?;
-    let mut tokens = String::from_str(alloc, "TENANT\tTOKEN\n")?;
+    let shows_rights = have_reader(entries);
+    let mut tokens = String::from_str(alloc, token_columns(shows_rights))?;
     let mut has_token = false;
     for entry in entries {
         write_networks(alloc, entry, &mut networks)?;
-        write_tokens(alloc, entry, &mut tokens)?;
+        write_tokens(alloc, entry, shows_rights, &mut tokens)?;
         has_token = has_token || !entry.tokens.is_empty();
     }
     let mut text = aligned(alloc, &networks)?;
@@ -24,6 +26,34 @@ pub(crate) fn tables(alloc: Global, entries: &[Entry<'_, '_>]) -> Result<Vec<u8>
         text.push_str(&aligned(alloc, &tokens)?)?;
     }
     Ok(text.into_bytes())
+}
+
+// Whether a token of a tenant only reads.
+fn have_reader(entries: &[Entry<'_, '_>]) -> bool {
+    for entry in entries {
+        if has_reader(entry) {
+            return true;
+        }
+    }
+    false
+}
+
+fn has_reader(entry: &Entry<'_, '_>) -> bool {
+    for token in entry.tokens {
+        if only_reads(token.right) {
+            return true;
+        }
+    }
+    false
+}
+
+// The first line of the table of tokens.
+fn token_columns(shows_rights: bool) -> &'static str {
+    if shows_rights {
+        "TENANT\tTOKEN\tRIGHT\n"
+    } else {
+        "TENANT\tTOKEN\n"
+    }
 }
 
 // Appends a tenant's networks. One that has none has a line too.
@@ -64,10 +94,15 @@ fn write_network(
 }
 
 // Appends a line for each token of a tenant.
-fn write_tokens(alloc: Global, entry: &Entry<'_, '_>, out: &mut String) -> Result<(), AllocError> {
+fn write_tokens(
+    alloc: Global,
+    entry: &Entry<'_, '_>,
+    shows_right: bool,
+    out: &mut String,
+) -> Result<(), AllocError> {
     let tenant = entry.tenant;
     for token in entry.tokens {
-        write_token(alloc, tenant.name.as_str(), token, out)?;
+        write_token(alloc, tenant.name.as_str(), token, shows_right, out)?;
     }
     Ok(())
 }
@@ -76,9 +111,17 @@ fn write_tokens(alloc: Global, entry: &Entry<'_, '_>, out: &mut String) -> Resul
 fn write_token(
     alloc: Global,
     tenant: &str,
-    token: &Token,
+    granted: &Granted,
+    shows_right: bool,
     out: &mut String,
 ) -> Result<(), AllocError> {
-    let digest = hex::encode(alloc, &token.digest)?;
-    writeln!(out, "{tenant}\t{digest}")
+    let digest = hex::encode(alloc, &granted.token.digest)?;
+    if !shows_right {
+        return writeln!(out, "{tenant}\t{digest}");
+    }
+    let right = match granted.right {
+        Right::Full => "full",
+        Right::Read => "read",
+    };
+    writeln!(out, "{tenant}\t{digest}\t{right}")
 }

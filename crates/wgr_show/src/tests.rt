@@ -3,7 +3,7 @@ use crate::{Figures, figures_of, metrics_text, show_text};
 use std::alloc::AllocGlobal;
 use std::process::Abort;
 use wgr_core::{Capacity, Host, Name, Network, Pool, Port};
-use wgr_orders::{Census, Counted, NetworkEntry, Tenant, Token};
+use wgr_orders::{Census, Counted, Granted, NetworkEntry, Right, Tenant, Token};
 use wgr_text::{Key, read_loose};
 
 fn name(rt: &(impl Abort + AllocGlobal), text: &str) -> Name {
@@ -55,6 +55,23 @@ fn add_network(
     census.networks.push(counted).expect(rt, "memory");
 }
 
+fn add_token(
+    rt: &(impl Abort + AllocGlobal),
+    census: &mut Census,
+    byte: u8,
+    tenant: u32,
+    right: Right,
+) {
+    let token = Token {
+        digest: [byte; 32],
+        tenant,
+    };
+    census
+        .tokens
+        .push(Granted { token, right })
+        .expect(rt, "memory");
+}
+
 fn empty(rt: &impl AllocGlobal) -> Census {
     Census {
         tenants: Vec::new(rt.alloc()),
@@ -70,11 +87,7 @@ fn census(rt: &(impl Abort + AllocGlobal)) -> Census {
         add_tenant(rt, &mut census, id, text);
     }
     for (byte, tenant) in [(0xff, 3), (0x0a, 2), (0x1b, 3)] {
-        let digest = [byte; 32];
-        census
-            .tokens
-            .push(Token { digest, tenant })
-            .expect(rt, "memory");
+        add_token(rt, &mut census, byte, tenant, Right::Full);
     }
     let office = network(rt, "10.66.0.0/24", "vpn.example.net", 51820);
     let far = network(rt, "10.0.0.0/8", "2001:DB8::1", 1);
@@ -207,6 +220,57 @@ fn json(rt: HostRuntime) {
     let census = census(&rt);
     for (tenant, wanted) in rows {
         check(&rt, &census, tenant, true, wanted);
+    }
+}
+
+/// Rights are shown where a token that is shown only reads, and nowhere else.
+#[test]
+fn rights(rt: HostRuntime) {
+    let mut census = empty(&rt);
+    for (id, text) in [(1, "acme"), (2, "bolt")] {
+        add_tenant(&rt, &mut census, id, text);
+    }
+    add_token(&rt, &mut census, 0xcc, 1, Right::Read);
+    add_token(&rt, &mut census, 0xbb, 1, Right::Full);
+    add_token(&rt, &mut census, 0xaa, 1, Right::Read);
+    add_token(&rt, &mut census, 0xdd, 2, Right::Full);
+    let rows = [
+        (
+            None,
+            "TENANT  NETWORK  POOL  ENDPOINT  CAPACITY  PEERS  ROUTES
+acme    -        -     -         -         -      -
+bolt    -        -     -         -         -      -
+
+TENANT  TOKEN                                                             RIGHT
+acme    aaaaaaaaaaaaaaaaaaaaaaaaaaaaaaaaaaaaaaaaaaaaaaaaaaaaaaaaaaaaaaaa  read
+acme    bbbbbbbbbbbbbbbbbbbbbbbbbbbbbbbbbbbbbbbbbbbbbbbbbbbbbbbbbbbbbbbb  full
+acme    cccccccccccccccccccccccccccccccccccccccccccccccccccccccccccccccc  read
+bolt    dddddddddddddddddddddddddddddddddddddddddddddddddddddddddddddddd  full
+",
+            concat!(
+                r#"{"tenants":[{"name":"acme","tokens":["aaaaaaaaaaaaaaaaaaaaaaaaaaaaaaaaaaaaaaaaaaaaaaaaaaaaaaaaaaaaaaaa","bbbbbbbbbbbbbbbbbbbbbbbbbbbbbbbbbbbbbbbbbbbbbbbbbbbbbbbbbbbbbbbb","cccccccccccccccccccccccccccccccccccccccccccccccccccccccccccccccc"],"#,
+                r#""readers":["aaaaaaaaaaaaaaaaaaaaaaaaaaaaaaaaaaaaaaaaaaaaaaaaaaaaaaaaaaaaaaaa","cccccccccccccccccccccccccccccccccccccccccccccccccccccccccccccccc"],"networks":[]},"#,
+                r#"{"name":"bolt","tokens":["dddddddddddddddddddddddddddddddddddddddddddddddddddddddddddddddd"],"networks":[]}]}"#,
+                "\n"
+            ),
+        ),
+        (
+            Some("bolt"),
+            "TENANT  NETWORK  POOL  ENDPOINT  CAPACITY  PEERS  ROUTES
+bolt    -        -     -         -         -      -
+
+TENANT  TOKEN
+bolt    dddddddddddddddddddddddddddddddddddddddddddddddddddddddddddddddd
+",
+            concat!(
+                r#"{"tenants":[{"name":"bolt","tokens":["dddddddddddddddddddddddddddddddddddddddddddddddddddddddddddddddd"],"networks":[]}]}"#,
+                "\n"
+            ),
+        ),
+    ];
+    for (tenant, table, json) in rows {
+        check(&rt, &census, tenant, false, table);
+        check(&rt, &census, tenant, true, json);
     }
 }
 

@@ -1,6 +1,6 @@
 //! A stop at each call on one of the files in a migration, from each earlier version.
 use crate::disks::{Stored, file_of, found, fused_of, new_register, options};
-use crate::rows::all_rows;
+use crate::rows::first_rows;
 use crate::script::take_from;
 use crate::steps::STEPS;
 use sqlite::Connection;
@@ -11,10 +11,9 @@ use wgr_register::{OpenFault, Register};
 use wgr_reopen::migrate_again;
 
 // What makes a register of an earlier version of one of the third.
-const TO_EARLIER: [&str; 2] = [
-    "DROP TABLE second; DROP TABLE reader; UPDATE meta SET version = 1",
-    "DROP TABLE reader; UPDATE meta SET version = 2",
-];
+const TO_FIRST: &str = "DROP TABLE second; DROP TABLE reader; UPDATE meta SET version = 1";
+
+const TO_SECOND: &str = "DROP TABLE reader; UPDATE meta SET version = 2";
 
 // The files of a register of an earlier version on which each step was done, with its rows there and in
 // the third.
@@ -38,9 +37,9 @@ fn make_earlier(rt: &(impl Abort + AllocGlobal), statements: &str) -> Earlier {
     let mut register = new_register(rt);
     assert_eq!(rt; take_from(rt, &mut register, 0), STEPS.len());
     let mut conn = register.into_connection();
-    let after = all_rows(rt, &mut conn);
+    let after = first_rows(rt, &mut conn);
     conn.execute_batch(statements).expect(rt, "statements");
-    let before = all_rows(rt, &mut conn);
+    let before = first_rows(rt, &mut conn);
     let files = conn.into_store().close();
     Earlier {
         log: bytes_of(rt, &files.log),
@@ -86,7 +85,7 @@ fn rows_left(rt: &(impl Abort + AllocGlobal), files: Files<Fuse<Memory>>) -> Vec
     assert!(rt; files.log.may_be_used());
     assert!(rt; files.db.may_be_used());
     match Connection::open_files(rt.alloc(), files, options()) {
-        Ok(mut conn) => all_rows(rt, &mut conn),
+        Ok(mut conn) => first_rows(rt, &mut conn),
         Err(_) => panic!(rt; "the files can't be opened"),
     }
 }
@@ -98,7 +97,7 @@ fn rows_migrated(rt: &(impl Abort + AllocGlobal), files: Files<Fuse<Memory>>) ->
     match migrate_again(rt.alloc(), files, options()) {
         Ok(again) => {
             let mut conn = found(rt, again).into_connection();
-            all_rows(rt, &mut conn)
+            first_rows(rt, &mut conn)
         }
         Err(_) => panic!(rt; "the files can't be opened"),
     }
@@ -146,7 +145,7 @@ fn is_migrated(
         Ok(done) => {
             let mut conn = done.into_connection();
             assert_eq!(rt;
-                all_rows(rt, &mut conn).as_slice(),
+                first_rows(rt, &mut conn).as_slice(),
                 register.after.as_slice()
             );
             true
@@ -173,11 +172,18 @@ fn stops(rt: &(impl Abort + AllocGlobal), register: &Earlier, is_log: bool) -> u
     panic!(rt; "the migration has more calls than were tried")
 }
 
+fn check_stops(rt: &(impl Abort + AllocGlobal), statements: &str) {
+    let register = make_earlier(rt, statements);
+    assert!(rt; stops(rt, &register, true) > 10, "stops were tried");
+    assert!(rt; stops(rt, &register, false) > 2, "stops were tried");
+}
+
 #[test]
-fn a_stop_at_each_call_of_a_migration(rt: HostRuntime) {
-    for statements in TO_EARLIER {
-        let register = make_earlier(&rt, statements);
-        assert!(rt; stops(&rt, &register, true) > 10, "stops were tried");
-        assert!(rt; stops(&rt, &register, false) > 2, "stops were tried");
-    }
+fn a_stop_at_each_call_from_the_first_version(rt: HostRuntime) {
+    check_stops(&rt, TO_FIRST);
+}
+
+#[test]
+fn a_stop_at_each_call_from_the_second_version(rt: HostRuntime) {
+    check_stops(&rt, TO_SECOND);
 }

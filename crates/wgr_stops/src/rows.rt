@@ -4,6 +4,8 @@ use sqlite::{Alter, Connection, Row};
 use std::alloc::AllocGlobal;
 use std::process::Abort;
 
+const READERS: &str = "SELECT digest FROM reader ORDER BY digest";
+
 const QUERIES: [&str; 6] = [
     "SELECT version FROM meta ORDER BY version",
     "SELECT id, name FROM tenant ORDER BY id",
@@ -39,18 +41,37 @@ fn put_row(rt: &impl Abort, row: &Row, text: &mut Vec<u8>) {
     }
 }
 
-/// All rows of a register's tables.
-pub(crate) fn all_rows<S: Alter>(
+fn put_rows<S: Alter>(
+    rt: &(impl Abort + AllocGlobal),
+    conn: &mut Connection<S>,
+    query: &str,
+    text: &mut Vec<u8>,
+) {
+    put(rt, b"\n", text);
+    let rows = conn.query_all(query, &[]).expect(rt, "a query");
+    for row in &rows {
+        put_row(rt, row, text);
+    }
+}
+
+/// All rows of the tables that each version has.
+pub(crate) fn first_rows<S: Alter>(
     rt: &(impl Abort + AllocGlobal),
     conn: &mut Connection<S>,
 ) -> Vec<u8> {
     let mut text = Vec::new(rt.alloc());
     for query in QUERIES {
-        put(rt, b"\n", &mut text);
-        let rows = conn.query_all(query, &[]).expect(rt, "a query");
-        for row in &rows {
-            put_row(rt, row, &mut text);
-        }
+        put_rows(rt, conn, query, &mut text);
     }
+    text
+}
+
+/// All rows of a register's tables.
+pub(crate) fn all_rows<S: Alter>(
+    rt: &(impl Abort + AllocGlobal),
+    conn: &mut Connection<S>,
+) -> Vec<u8> {
+    let mut text = first_rows(rt, conn);
+    put_rows(rt, conn, READERS, &mut text);
     text
 }

@@ -70,8 +70,12 @@ fn order(rt: &(impl Abort + AllocGlobal), step: &Step) -> Order {
         Step::Tenant(tenant) => Order::AddTenant {
             name: name(rt, tenant),
         },
-        Step::Grant(tenant, token) => Order::Grant {
+        Step::Grant(tenant, token, right) => Order::Grant {
             tenant: name(rt, tenant),
+            digest: [*token; 32],
+            right: *right,
+        },
+        Step::EndToken(token) => Order::EndToken {
             digest: [*token; 32],
         },
         Step::Network(tenant, network, pool) => Order::AddNetwork {

@@ -1,10 +1,12 @@
 //! What the operator orders and the tenants ask, one after the other.
+use wgr_orders::Right;
 
 /// An order, a command to a network, or a list. A token is the byte that its digest repeats.
 #[derive(Clone, Copy)]
 pub(crate) enum Step {
     Tenant(&'static str),
-    Grant(&'static str, u8),
+    Grant(&'static str, u8, Right),
+    EndToken(u8),
     Network(&'static str, &'static str, &'static str),
     End(&'static str, &'static str),
     Ask(u8, &'static str, Asked),
@@ -28,19 +30,21 @@ const DUMP: &str =
 
 /// The steps. The line of the dump that names an address comes first, as the peer 1; a prefix goes from
 /// that peer to the next. The last three show what acme sees, before and after a network of bolt's ends.
-pub(crate) const STEPS: [Step; 15] = [
+pub(crate) const STEPS: [Step; 17] = [
     Step::Tenant("acme"),
-    Step::Grant("acme", 1),
+    Step::Grant("acme", 1, Right::Full),
+    Step::Grant("acme", 3, Right::Read),
     Step::Network("acme", "office", "10.8.0.0/24"),
     Step::Tenant("bolt"),
-    Step::Grant("bolt", 2),
+    Step::Grant("bolt", 2, Right::Full),
     Step::Network("bolt", "lab", "10.9.0.0/24"),
     Step::Ask(1, "office", Asked::Take(DUMP)),
     Step::Ask(2, "lab", Asked::Add(1)),
     Step::Ask(2, "lab", Asked::Route(1, "192.168.4.0/24")),
     Step::Ask(1, "office", Asked::Route(2, "192.168.4.0/24")),
     Step::Ask(1, "office", Asked::Revoke(3)),
-    Step::Ask(1, "office", Asked::File),
+    Step::Ask(3, "office", Asked::File),
+    Step::EndToken(3),
     Step::End("bolt", "lab"),
     Step::Ask(1, "office", Asked::File),
     Step::List(1),

@@ -15,7 +15,7 @@ use Rattle.wgr_sql.specs.declared.fault.Fault.{Fault}
 use Rattle.wgr_sql.specs.declared.fault.Fault.TheVariants.{NoMemory, Store}
 use Rattle.wgr_sql.proofs.CauseLemmas.{commit_cause, hindered_after, hindered_before, mapped_cause}
 use Rattle.wgr_columns.specs.Decode.{IsRegister, tables_of}
-use Rattle.wgr_tables.specs.Standing.{Stands, StepsOn}
+use Rattle.wgr_tables.specs.Standing.{Stands, StepsAs}
 use Rattle.wgr_tables.specs.Stops.{FailsBy}
 use Rattle.wgr_tables.specs.Writes.{Written}
 
@@ -38,10 +38,10 @@ module _ {S : Type 0} (g : Ghosts S) (old mid end : Held S) (db : Database) (pen
           ]
 
   -- the steps were made, and their commit failed
-  pub commit_fails : {X Y : Type 0} (P : Tables → Tables → Type 0) (x : X) → (HasCleanDisk (state g mid) → StepsOn {X = X} {E = Fault} P (state g (record old { in_transaction = true })) (state g mid) (Ok x)) → (Q : Trees → Type 0) → Survives (state g mid) (state g end) Q
+  pub commit_fails : {X Y : Type 0} (tells : Tables → Written → Type 0) (x : X) → (HasCleanDisk (state g mid) → StepsAs {X = X} {E = Fault} tells (state g (record old { in_transaction = true })) (state g mid) (Ok x)) → (Q : Trees → Type 0) → Survives (state g mid) (state g end) Q
       → (r : Result Y Error) (s : Result Y Fault) → MatchResult r (λ y. s ≡ Ok y) (λ e. IsErrAnd s (λ f. (f ≡ NoMemory) ↔ (e ≡ SqliteFailure OutOfMemory))) → (HasCleanDisk (state g end) → IfErr r (FailsToCommit (state g mid) (state g end)))
       → IfErr s (HasCauseOr (stops (tables_of db)) (state g old) (state g end))
-  commit_fails {Y = Y} P x step Q ended r s cases fails = mapped_cause (stops (tables_of db)) (state g old) (state g end) r s cases (each r fails)
+  commit_fails {Y = Y} tells x step Q ended r s cases fails = mapped_cause (stops (tables_of db)) (state g old) (state g end) r s cases (each r fails)
     where
       each : (q : Result Y Error) → (HasCleanDisk (state g end) → IfErr q (FailsToCommit (state g mid) (state g end))) → IfErr q (λ e. HasCleanDisk (state g end) → (e ≡ SqliteFailure OutOfMemory) ⊎ (IsHindered (state g old) (state g end) ⊎ stops (tables_of db)))
       each (Ok y) failed = tt

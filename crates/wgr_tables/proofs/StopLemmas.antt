@@ -15,8 +15,9 @@ use Rattle.wgr_sql.proofs.CauseLemmas.{hindered_after, cause_weaker, handed}
 use Rattle.wgr_sql.proofs.StepLemmas.{from_step}
 use Rattle.wgr_columns.specs.Decode.{IsRegister, tables_of}
 use Rattle.wgr_columns.specs.Layout.{Others, schema_with}
-use Rattle.wgr_tables.specs.Standing.{StepsFrom, StepsOn}
+use Rattle.wgr_tables.specs.Standing.{StepsAs, StepsFrom, StepsOn}
 use Rattle.wgr_tables.specs.Stops.{FailsBy, IsStatementRefused, OneOfEach, OneOfTwo}
+use Rattle.wgr_tables.specs.Writes.{Written}
 use Rattle.wgr_tables.proofs.Made.{Made}
 use Rattle.wgr_tables.proofs.Meanings.{drop_peer_text, drop_allowed_text, drop_address_text, drop_peer_range_text, drop_address_range_text, drop_route_text, insert_peer_text, insert_address_text, insert_route_text, set_next_text}
 
@@ -143,6 +144,6 @@ loop_fails step stops xs at x more a b c r done s t fails =
 
 -- ---- a step that failed, as it is handed on
 
-pub failed_step : {Y : Type 0} (Q P : Tables → Tables → Type 0) (a c : State) (r : Result Y Fault) (why : Fault) → IsErrAnd r (λ e. e ≡ why) → StepsFrom {X = ℕ} {E = Fault} Q a c (Err why) → StepsOn {X = Y} {E = Fault} P a c r
-failed_step Q P a c (Ok y) why is step inside start = absurd is
-failed_step Q P a c (Err e) why is step inside start = ((step inside start).0, tt)
+pub failed_step : {Y : Type 0} (Q : Tables → Tables → Type 0) (writes : Tables → Written → Type 0) (a c : State) (r : Result Y Fault) (why : Fault) → IsErrAnd r (λ e. e ≡ why) → StepsFrom {X = ℕ} {E = Fault} Q a c (Err why) → StepsAs {X = Y} {E = Fault} writes a c r
+failed_step Q writes a c (Ok y) why is step inside start = absurd is
+failed_step Q writes a c (Err e) why is step inside start = ((step inside start).0, tt)

@@ -10,7 +10,7 @@ use Rattle.wgr_sql.specs.Steps as steps
 use Rattle.wgr_sql.specs.Standing as standing
 use Rattle.wgr_sql.specs.declared.fault.Fault.{Fault}
 use Rattle.wgr_columns.specs.Decode.{IsRegister, tables_of}
-use Rattle.wgr_tables.specs.Writes.{Written, Writes}
+use Rattle.wgr_tables.specs.Writes.{Written, Writes, WritesAs}
 
 -- The register is in this database, and no transaction is open. A stop at this moment leaves its rows,
 -- or those after one of the pending writes: the ones that returned a fault since the last
@@ -49,6 +49,10 @@ pub record Commits {S X : Type 0} (g : Ghosts S) (writes : Tables → Written �
 abbrev pub StepsOn : {X E : Type 0} → (Tables → Tables → Type 0) → State → State → Result X E → Type 0
 StepsOn P old new r = steps.StepsOn IsRegister (steps.Makes IsRegister tables_of P) old new r
 
--- so does a chain of steps, which may be empty
+-- a step makes the write that `writes` tells on the rows
+abbrev pub StepsAs : {X E : Type 0} → (Tables → Written → Type 0) → State → State → Result X E → Type 0
+StepsAs writes old new r = steps.StepsOn IsRegister (WritesAs writes) old new r
+
+-- a chain of steps, which may be empty, changes the rows as `P` says
 abbrev pub StepsFrom : {X E : Type 0} → (Tables → Tables → Type 0) → State → State → Result X E → Type 0
 StepsFrom P old new r = steps.StepsFrom IsRegister (steps.Makes IsRegister tables_of P) old new r

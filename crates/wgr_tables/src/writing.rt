@@ -7,8 +7,8 @@ ghost use Rattle.sqlite.specs.Held.{state};
 ghost use Rattle.wgr_model.specs.Rows.{Tables};
 ghost use Rattle.wgr_sql.specs.declared.fault.Fault.TheVariants.{NoMemory};
 ghost use Rattle.wgr_tables.specs.Stops.{FailsBy};
-ghost use Rattle.wgr_tables.specs.Writes.{ChangesAs, Written};
-ghost use Rattle.wgr_tables.specs.Standing.{Commits, MayWrite, StepsOn};
+ghost use Rattle.wgr_tables.specs.Writes.{Written};
+ghost use Rattle.wgr_tables.specs.Standing.{Commits, MayWrite, StepsAs};
 
 use sqlite::{Alter, Connection, Transaction};
 use wgr_sql::{Fault, fault_of};
@@ -24,7 +24,7 @@ pub trait Writing {
     /// Runs its statements.
     fn run<S: Alter>(&self, tx: &mut Transaction<'_, S>) -> Result<usize, Fault>
         ensures same_reference { tx.new.conn.ghost_name ≡ tx.old.conn.ghost_name }
-        ensures step { HasCleanDisk (state S.Store tx.new.conn.now) → StepsOn (ChangesAs (writes self.now)) (state S.Store tx.old.conn.now) (state S.Store tx.new.conn.now) result }
+        ensures step { HasCleanDisk (state S.Store tx.new.conn.now) → StepsAs (writes self.now) (state S.Store tx.old.conn.now) (state S.Store tx.new.conn.now) result }
         ensures survives { Survives (state S.Store tx.old.conn.now) (state S.Store tx.new.conn.now) (λ _. ⊥) }
         ensures cause { FailsBy (stops self.now) (state S.Store tx.old.conn.now) (state S.Store tx.new.conn.now) result };
 }

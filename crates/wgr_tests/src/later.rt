@@ -3,12 +3,12 @@ use crate::disks::in_memory;
 use sqlite::{Connection, MemStore};
 use std::alloc::AllocGlobal;
 use std::process::Abort;
-use wgr_checks::{has_no_readers, has_no_seconds};
+use wgr_checks::{has_no_seconds, readers_are_good};
 use wgr_entries::{drop_reader, insert_reader, is_reader, readers};
 
-// The two tables, with one of somebody's own before them.
+// The two tables, with that of tokens and one of somebody's own before them.
 const TABLES: &str =
-    "CREATE TABLE note (id INTEGER PRIMARY KEY); CREATE TABLE second (network INTEGER PRIMARY KEY, family INTEGER NOT NULL, lo BLOB NOT NULL, length INTEGER NOT NULL) STRICT; CREATE TABLE reader (digest BLOB NOT NULL PRIMARY KEY) STRICT";
+    "CREATE TABLE token (digest BLOB NOT NULL PRIMARY KEY, tenant INTEGER NOT NULL) STRICT; CREATE TABLE note (id INTEGER PRIMARY KEY); CREATE TABLE second (network INTEGER PRIMARY KEY, family INTEGER NOT NULL, lo BLOB NOT NULL, length INTEGER NOT NULL) STRICT; CREATE TABLE reader (digest BLOB NOT NULL PRIMARY KEY) STRICT";
 
 fn database(rt: &(impl Abort + AllocGlobal), statements: &str) -> Connection<MemStore> {
     let mut conn = in_memory(rt);
@@ -20,18 +20,18 @@ fn database(rt: &(impl Abort + AllocGlobal), statements: &str) -> Connection<Mem
 
 #[test]
 fn rows_of_the_later_tables_are_seen(rt: HostRuntime) {
-    for (statements, no_seconds, no_readers) in [
+    for (statements, no_seconds, are_good) in [
         ("", true, true),
         ("INSERT INTO note VALUES (1)", true, true),
         ("INSERT INTO second VALUES (3, 4, x'00', 24)", false, true),
         ("INSERT INTO reader VALUES (x'01')", true, false),
         (
-            "INSERT INTO reader VALUES (x'01'); INSERT INTO second VALUES (3, 4, x'00', 24)",
-            false,
+            "INSERT INTO reader VALUES (x'0707070707070707070707070707070707070707070707070707070707070707')",
+            true,
             false,
         ),
         (
-            "INSERT INTO reader VALUES (x'01'); DELETE FROM reader",
+            "INSERT INTO token VALUES (x'0707070707070707070707070707070707070707070707070707070707070707', 1); INSERT INTO reader VALUES (x'0707070707070707070707070707070707070707070707070707070707070707')",
             true,
             true,
         ),
@@ -39,7 +39,10 @@ fn rows_of_the_later_tables_are_seen(rt: HostRuntime) {
         let mut conn = database(&rt, statements);
         assert!(rt; conn.is_autocommit());
         assert!(rt; has_no_seconds(&mut conn) == Ok(no_seconds), "{statements}");
-        assert!(rt; has_no_readers(&mut conn) == Ok(no_readers), "{statements}");
+        assert!(rt;
+            readers_are_good(rt.alloc(), &mut conn) == Ok(are_good),
+            "{statements}"
+        );
     }
 }
 

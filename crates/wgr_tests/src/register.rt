@@ -1,7 +1,7 @@
 //! The register of many tenants: the results of events, one after the other. Events are lines of words,
 //! so that a test is a table:
 //!
-//! - `tenant NAME`, `grant TENANT TOKEN`, `end-token TOKEN`, `network TENANT NAME POOL HOST PORT
+//! - `tenant NAME`, `grant TENANT TOKEN [RIGHT]`, `end-token TOKEN`, `network TENANT NAME POOL HOST PORT
 //!   CAPACITY`, where the capacity may be left out, and `end-network TENANT NAME`;
 //! - `networks TOKEN`;
 //! - `list TOKEN NETWORK` and each other command as `network.rt` writes it, with `TOKEN NETWORK`
@@ -15,6 +15,7 @@ mod migrated;
 mod opened;
 mod orders;
 mod random;
+mod rights;
 mod stored;
 mod worlds;
 
@@ -25,7 +26,7 @@ use std::alloc::AllocGlobal;
 use std::process::Abort;
 use std::str::Split;
 use wgr_core::{Name, Network};
-use wgr_orders::{Order, OrderRefusal, Settings};
+use wgr_orders::{Order, OrderRefusal, Right, Settings};
 use wgr_plain::{Answer, Event, Register};
 use wgr_text::read_loose;
 
@@ -72,6 +73,15 @@ fn settings(rt: &(impl Abort + AllocGlobal), words: &mut Words<'_>) -> Settings 
     }
 }
 
+// The right that a word names, the full one where there is none.
+fn right(rt: &impl Abort, text: &str) -> Right {
+    match text {
+        "" | "full" => Right::Full,
+        "read" => Right::Read,
+        _ => panic!(rt; "no such right"),
+    }
+}
+
 fn order(rt: &(impl Abort + AllocGlobal), kind: &str, rest: &str) -> Order {
     let mut words = rest.split(' ');
     match kind {
@@ -81,6 +91,7 @@ fn order(rt: &(impl Abort + AllocGlobal), kind: &str, rest: &str) -> Order {
         "grant" => Order::Grant {
             tenant: next_name(rt, &mut words),
             digest: digest(rt, word(&mut words)),
+            right: right(rt, word(&mut words)),
         },
         "end-token" => Order::EndToken {
             digest: digest(rt, word(&mut words)),
@@ -154,6 +165,7 @@ fn put_shown(
         Answer::Declined(why) => text.put_refusal(why),
         Answer::Listed(networks) => put_names(networks.as_slice(), text),
         Answer::UnknownToken => text.put("unknown_token"),
+        Answer::ReadOnly => text.put("read_only"),
         Answer::NoSuchNetwork => text.put("no_such_network"),
         Answer::Done => text.put("done"),
         Answer::Refused(why) => put_refused(rt, why, text),

@@ -1,12 +1,18 @@
 -- What lines of orders and of readings are, by computation.
-use Rattle.std.proofs.Common.{◌≡◌, Bool, List, ℕ, [], ◌∷◌, ◌++◌, Option, Some, None, codes, false, refl, true}
+use Rattle.std.proofs.Common.{◌≡◌, Bool, List, ℕ, [], ◌∷◌, ◌++◌, Option, Some, None, codes, false, inl, inr, refl, true}
 use Rattle.std.specs.Char.{encode_utf8}
 use Rattle.std.specs.List.{repeat}
 use Rattle.std.specs.Str.{chars, is_utf8}
+use Rattle.std.proofs.lemmas.Slice.Eq.{bytes_eq-Decides}
 use Rattle.wgr_words.specs.Asked.{OrderAsked, DigestEnd, NetworkAdd, NetworkEnd, TenantAdd, TokenEnd, TokenGrant}
 use Rattle.wgr_words.specs.Line.{LineAsked, first_line, is_line, line_in, line_text, words_in}
+use Rattle.wgr_model.specs.declared.right.Right.{Right}
+use Rattle.wgr_model.specs.declared.right.Right.TheVariants.{Full, Read}
+use Rattle.wgr_words.specs.Order.{order_fields}
 use Rattle.wgr_words.specs.Reading.{ReadingAsked, Backup, Show, Status, reading_in_line}
 use Rattle.wgr_words.specs.Sent.{may_be_sent, sent_line}
+use Rattle.wgr_words.specs.Words.{SpellsRight}
+use Rattle.wgr_words.specs.declared.field.WordField.TheVariants as of
 
 -- the order of a line, and its token
 abbrev read : List ℕ → Option LineAsked
@@ -18,8 +24,37 @@ is asked token = Some (record { asked = asked; token = token })
 pub tenant_add : read (codes "tenant-add acme") ≡ is (TenantAdd (codes "acme")) []
 tenant_add = refl
 
-pub token_grant : read (codes "token-grant acme abc") ≡ is (TokenGrant (codes "acme")) (codes "abc")
+pub token_grant : read (codes "token-grant acme abc") ≡ is (TokenGrant (codes "acme") None) (codes "abc")
 token_grant = refl
+
+pub token_grant_to_read : read (codes "token-grant acme read abc") ≡ is (TokenGrant (codes "acme") (Some (codes "read"))) (codes "abc")
+token_grant_to_read = refl
+
+-- the token is the last word, so here it is `read`, and its right the full one
+pub token_named_as_a_right : read (codes "token-grant acme read") ≡ is (TokenGrant (codes "acme") None) (codes "read")
+token_named_as_a_right = refl
+
+pub token_grant_with_two_rights : read (codes "token-grant acme read full abc") ≡ None
+token_grant_with_two_rights = refl
+
+-- the fields in the order of their tests
+pub fields_of_a_grant : order_fields (TokenGrant (codes "acme") (Some (codes "Read"))) (codes "x") ≡ (of.Tenant, codes "acme") ∷ (of.Right, codes "Read") ∷ (of.Token, codes "x") ∷ []
+fields_of_a_grant = refl
+
+pub full_is_a_right : SpellsRight (Some (codes "full")) Full
+full_is_a_right = inl (refl, refl)
+
+pub read_is_a_right : SpellsRight (Some (codes "read")) Read
+read_is_a_right = inr (refl, refl)
+
+-- letters have their case, and an empty text is no right
+pub other_case_is_no_right : (right : Right) → ¬ (SpellsRight (Some (codes "Read")) right)
+other_case_is_no_right right (inl (same, is)) = cc ((bytes_eq-Decides (codes "Read") (codes "full")).1 same)
+other_case_is_no_right right (inr (same, is)) = cc ((bytes_eq-Decides (codes "Read") (codes "read")).1 same)
+
+pub no_text_is_no_right : (right : Right) → ¬ (SpellsRight (Some []) right)
+no_text_is_no_right right (inl (same, is)) = cc same
+no_text_is_no_right right (inr (same, is)) = cc same
 
 pub token_end : read (codes "token-end abc") ≡ is TokenEnd (codes "abc")
 token_end = refl
@@ -202,6 +237,12 @@ token_is_apart = refl
 pub token_among_the_words : may_be_sent (codes "token-grant" ∷ codes "acme" ∷ codes "secret" ∷ []) None false ≡ false
 token_among_the_words = refl
 
+pub right_among_the_words : may_be_sent (codes "token-grant" ∷ codes "acme" ∷ codes "read" ∷ []) None false ≡ true
+right_among_the_words = refl
+
+pub token_behind_a_right : may_be_sent (codes "token-grant" ∷ codes "acme" ∷ codes "read" ∷ codes "secret" ∷ []) None false ≡ false
+token_behind_a_right = refl
+
 pub ended_token_among_the_words : may_be_sent (codes "token-end" ∷ codes "secret" ∷ []) None false ≡ false
 ended_token_among_the_words = refl
 
@@ -223,3 +264,7 @@ tenant_as_json = refl
 
 pub token_behind_the_words : sent_line (codes "token-grant" ∷ codes "acme" ∷ []) None false (codes "secret") ≡ codes "token-grant" ∷ codes "acme" ∷ codes "secret" ∷ []
 token_behind_the_words = refl
+
+pub token_behind_the_right : sent_line (codes "token-grant" ∷ codes "acme" ∷ codes "read" ∷ []) None false (codes "secret")
+    ≡ codes "token-grant" ∷ codes "acme" ∷ codes "read" ∷ codes "secret" ∷ []
+token_behind_the_right = refl

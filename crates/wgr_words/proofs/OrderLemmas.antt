@@ -1,14 +1,16 @@
 -- Which fault is told of the fields of an order.
-use Rattle.std.proofs.Common.{◌≡◌, ℕ, List, [], ◌∷◌, Result, Ok, Err, IfErr, inl, inr, subst, sym}
+use Rattle.std.proofs.Common.{◌≡◌, ℕ, List, [], ◌∷◌, Option, Some, None, Result, Ok, Err, IfErr, inl, inr, refl, subst, sym}
 use Rattle.std.specs.Prelude.{IsErrAnd}
 use Rattle.wgr_words.specs.Asked.{NetworkAsked, OrderAsked, DigestEnd, NetworkAdd, NetworkEnd, TenantAdd, TokenEnd, TokenGrant}
+use Rattle.wgr_model.specs.declared.right.Right.{Right}
+use Rattle.wgr_model.specs.declared.right.Right.TheVariants.{Full}
 use Rattle.wgr_orders.specs.declared.order.Order.{Order}
 use Rattle.wgr_words.specs.declared.field.WordField.{WordField}
 use Rattle.wgr_words.specs.declared.field.WordField.TheVariants as of
 use Rattle.wgr_words.specs.declared.field.WordFault.{WordFault}
 use Rattle.wgr_words.specs.declared.field.WordFault.TheVariants as fault
 use Rattle.wgr_words.specs.declared.order.OrderDraft.TheVariants as draft
-use Rattle.wgr_words.specs.Words.{HasFieldForm, IsRead}
+use Rattle.wgr_words.specs.Words.{HasFieldForm, IsRead, SpellsName, SpellsRight}
 use Rattle.wgr_words.specs.Order.{Input, IsDraftFault, IsDraftOf, IsFaultIn, OrdersBy, TakesDigest, order_fields}
 
 -- what `?` hands on is what it was given
@@ -54,17 +56,26 @@ draft_fault asked (fault.Field f) told = told
 draft_fault asked fault.NoMemory told = tt
 draft_fault asked fault.Device told = told []
 
+-- the right is not of its form
+pub right_fault : (text tenant : List ℕ) (word : Option (List ℕ)) (why : WordFault) → SpellsName text tenant → IsRead (SpellsRight word) of.Right (Err why)
+    → IsDraftFault (TokenGrant text word) why
+right_fault text tenant None (fault.Field f) is told = absurd (told.1 Full refl)
+right_fault text tenant (Some given) (fault.Field f) is told = λ token. inr ((tenant, is), inl (told.0, λ of. told.1 of.0 of.1))
+right_fault text tenant word fault.NoMemory is told = tt
+right_fault text tenant word fault.Device is told = told
+
 -- the token alone is not of its form
-pub grant_fault : (asked : OrderAsked) (tenant : List ℕ) (old new : Input) (why : WordFault) (r : Result Order WordFault)
-    → IsErrAnd r (λ (e : WordFault). e ≡ why) → IsDraftOf asked (draft.Grant tenant) → TakesDigest old new (Err why) → OrdersBy asked old new r
-grant_fault asked tenant old new why (Ok order) is drafted took = absurd is
-grant_fault asked tenant old new why (Err e) is drafted took =
+pub grant_fault : (asked : OrderAsked) (tenant : List ℕ) (right : Right) (old new : Input) (why : WordFault) (r : Result Order WordFault)
+    → IsErrAnd r (λ (e : WordFault). e ≡ why) → IsDraftOf asked (draft.Grant tenant right) → TakesDigest old new (Err why) → OrdersBy asked old new r
+grant_fault asked tenant right old new why (Ok order) is drafted took = absurd is
+grant_fault asked tenant right old new why (Err e) is drafted took =
     subst (λ (w : WordFault). OrdersBy asked old new (Err w)) (sym is) (by_fault asked why drafted took)
   where
-    by_fault : (asked : OrderAsked) (why : WordFault) → IsDraftOf asked (draft.Grant tenant) → TakesDigest old new (Err why) → OrdersBy asked old new (Err why)
-    by_fault (TokenGrant text) (fault.Field f) drafted took = inr (took.0, took.1, inr ((tenant, drafted), inl (took.2, took.3)))
-    by_fault (TokenGrant text) fault.NoMemory drafted took = took
-    by_fault (TokenGrant text) fault.Device drafted took = took
+    by_fault : (asked : OrderAsked) (why : WordFault) → IsDraftOf asked (draft.Grant tenant right) → TakesDigest old new (Err why) → OrdersBy asked old new (Err why)
+    by_fault (TokenGrant text None) (fault.Field f) drafted took = inr (took.0, took.1, inr ((tenant, drafted.0), inl (took.2, took.3)))
+    by_fault (TokenGrant text (Some word)) (fault.Field f) drafted took = inr (took.0, took.1, inr ((tenant, drafted.0), inr ((right, drafted.1), inl (took.2, took.3))))
+    by_fault (TokenGrant text word) fault.NoMemory drafted took = took
+    by_fault (TokenGrant text word) fault.Device drafted took = took
     by_fault (TenantAdd name) why drafted took = absurd drafted
     by_fault TokenEnd why drafted took = absurd drafted
     by_fault (DigestEnd text) why drafted took = absurd drafted

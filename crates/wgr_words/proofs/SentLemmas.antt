@@ -3,7 +3,7 @@ use Rattle.std.proofs.Common.{◌≡◌, ℕ, Bool, true, false, List, [], ◌�
 use Rattle.std.specs.Str.{bytes_eq}
 use Rattle.std.proofs.lemmas.Slice.Eq.{bytes_eq-Decides}
 use Rattle.wgr_words.specs.Reading.{Show}
-use Rattle.wgr_words.specs.Sent.{IsLineReadAs, SentAsAsked, sent_asked, sent_line}
+use Rattle.wgr_words.specs.Sent.{IsLineReadAs, SentAsAsked, is_right, sent_asked, sent_line}
 
 -- that of these words and options, and this token
 abbrev ReadAsAsked : List (List ℕ) → Option (List ℕ) → Bool → List ℕ → Type 0
@@ -56,9 +56,17 @@ of_one word a token = by_add (bytes_eq word (codes "tenant-add")) refl
 of_two : (word a b token : List ℕ) → ReadAsAsked (word ∷ a ∷ b ∷ []) None false token
 of_two word a b token = by_end (bytes_eq word (codes "network-end")) refl
   where
+    by_right : (is_it : Bool) → is_it ≡ is_right b → ReadAsAsked (codes "token-grant" ∷ a ∷ b ∷ []) None false token
+    by_right true same = rw (← same) refl
+    by_right false same = rw (← same) tt
+
+    by_grant : (is_it : Bool) → is_it ≡ bytes_eq word (codes "token-grant") → false ≡ bytes_eq word (codes "network-end") → ReadAsAsked (word ∷ a ∷ b ∷ []) None false token
+    by_grant true same other_end = rw (is_named word (codes "token-grant") same) (by_right (is_right b) refl)
+    by_grant false same other_end = rw (← other_end, ← same) tt
+
     by_end : (is_it : Bool) → is_it ≡ bytes_eq word (codes "network-end") → ReadAsAsked (word ∷ a ∷ b ∷ []) None false token
     by_end true same = rw (is_named word (codes "network-end") same) refl
-    by_end false same = rw (← same) tt
+    by_end false same = by_grant (bytes_eq word (codes "token-grant")) refl same
 
 of_seven : (word a b c d e f g token : List ℕ) → ReadAsAsked (word ∷ a ∷ b ∷ c ∷ d ∷ e ∷ f ∷ g ∷ []) None false token
 of_seven word a b c d e f g token = by_add (bytes_eq word (codes "network-add")) refl

@@ -1,5 +1,5 @@
 -- The words of an operator's order.
-use Rattle.std.specs.Prelude.{List, ℕ}
+use Rattle.std.specs.Prelude.{List, ℕ, Option, option_map}
 use Rattle.wgr_words.specs.declared.words.NetworkWords.{NetworkWords}
 use Rattle.wgr_words.specs.declared.words.OrderWords.{OrderWords}
 use Rattle.wgr_words.specs.declared.words.OrderWords.TheVariants as order
@@ -17,7 +17,7 @@ pub record NetworkAsked : Type 0 where
 -- an order on a register
 pub data OrderAsked : Type 0 where
   TenantAdd : (name : List ℕ) → OrderAsked
-  TokenGrant : (tenant : List ℕ) → OrderAsked
+  TokenGrant : (tenant : List ℕ) (right : Option (List ℕ)) → OrderAsked
   TokenEnd : OrderAsked
   DigestEnd : (digest : List ℕ) → OrderAsked
   NetworkAdd : (network : NetworkAsked) → OrderAsked
@@ -30,7 +30,7 @@ network_asked w = record { tenant = w.tenant.now; name = w.name.now; pool = w.po
 
 abbrev pub order_asked : OrderWords → OrderAsked
 order_asked (order.TenantAdd name) = TenantAdd name.now
-order_asked (order.TokenGrant tenant) = TokenGrant tenant.now
+order_asked (order.TokenGrant tenant right) = TokenGrant tenant.now (option_map (λ word. word.now) right)
 order_asked order.TokenEnd = TokenEnd
 order_asked (order.DigestEnd digest) = DigestEnd digest.now
 order_asked (order.NetworkAdd network) = NetworkAdd (network_asked network)

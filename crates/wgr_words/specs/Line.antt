@@ -36,10 +36,13 @@ one_field word a =
 
 abbrev pub two_fields : List ℕ → List ℕ → List ℕ → Option LineAsked
 two_fields word a b =
-    if bytes_eq word (codes "token-grant") then Some (record { asked = TokenGrant a; token = b })
+    if bytes_eq word (codes "token-grant") then Some (record { asked = TokenGrant a None; token = b })
     else (if bytes_eq word (codes "network-end") then no_token (NetworkEnd a b)
     else (if bytes_eq word (codes "token-end") && bytes_eq a (codes "--digest") then no_token (DigestEnd b)
     else None))
+
+abbrev pub three_fields : List ℕ → List ℕ → List ℕ → List ℕ → Option LineAsked
+three_fields word a b c = if bytes_eq word (codes "token-grant") then Some (record { asked = TokenGrant a (Some b); token = c }) else None
 
 abbrev pub seven_fields : List ℕ → NetworkAsked → Option LineAsked
 seven_fields word w = if bytes_eq word (codes "network-add") then no_token (NetworkAdd w) else None
@@ -48,6 +51,7 @@ seven_fields word w = if bytes_eq word (codes "network-add") then no_token (Netw
 abbrev pub line_in : List (List ℕ) → Option LineAsked
 line_in (word ∷ a ∷ []) = one_field word a
 line_in (word ∷ a ∷ b ∷ []) = two_fields word a b
+line_in (word ∷ a ∷ b ∷ c ∷ []) = three_fields word a b c
 line_in (word ∷ tenant ∷ name ∷ pool ∷ host ∷ port ∷ key ∷ capacity ∷ []) =
     seven_fields word (record { tenant = tenant; name = name; pool = pool; host = host; port = port; key = key; capacity = capacity })
 line_in others = None

@@ -1,5 +1,5 @@
 -- The order that a command's words and a token spell, and why they spell none.
-use Rattle.std.specs.Prelude.{ℕ, ◌≡◌, ◌⊎◌, Bool, true, false, List, [], ◌∷◌, Option, MatchBool, Result, Ok, Err}
+use Rattle.std.specs.Prelude.{ℕ, ◌≡◌, ◌⊎◌, Bool, true, false, List, [], ◌∷◌, ◌++◌, Option, Some, None, MatchBool, Result, Ok, Err}
 use Rattle.std.specs.Io.KnownBytes.{Consumes, IsAtEnd}
 use Rattle.wgr_text.specs.PrefixText.{Spells}
 use Rattle.wgr_peers.specs.Host.{IsHostText}
@@ -14,7 +14,7 @@ use Rattle.wgr_words.specs.declared.field.WordFault.{WordFault}
 use Rattle.wgr_words.specs.declared.field.WordFault.TheVariants as fault
 use Rattle.wgr_words.specs.declared.order.OrderDraft.{OrderDraft}
 use Rattle.wgr_words.specs.declared.order.OrderDraft.TheVariants as draft
-use Rattle.wgr_words.specs.Words.{HasFieldForm, SpellsCapacity, SpellsDigest, SpellsName, SpellsPortNumber, SpellsToken}
+use Rattle.wgr_words.specs.Words.{HasFieldForm, SpellsCapacity, SpellsDigest, SpellsName, SpellsPortNumber, SpellsRight, SpellsToken}
 
 -- ---- the order
 
@@ -31,7 +31,7 @@ pub record SpellsNetwork (w : NetworkAsked) (tenant name : List ℕ) (settings :
 -- the words, and the text of the token, spell the order
 abbrev pub MakesOrder : OrderAsked → List ℕ → Order → Type 0
 MakesOrder (TenantAdd text) token (order.AddTenant name) = SpellsName text name
-MakesOrder (TokenGrant text) token (order.Grant tenant digest) = SpellsName text tenant × SpellsToken token digest
+MakesOrder (TokenGrant text word) token (order.Grant tenant digest right) = SpellsName text tenant × SpellsRight word right × SpellsToken token digest
 MakesOrder TokenEnd token (order.EndToken digest) = SpellsToken token digest
 MakesOrder (DigestEnd text) token (order.EndToken digest) = SpellsDigest text digest
 MakesOrder (NetworkAdd w) token (order.AddNetwork tenant name settings) = SpellsNetwork w tenant name settings
@@ -40,10 +40,15 @@ MakesOrder asked token other = ⊥
 
 -- ---- the first malformed field
 
+-- the field of a right, where one is given
+abbrev pub right_field : Option (List ℕ) → List (WordField × List ℕ)
+right_field None = []
+right_field (Some text) = (of.Right, text) ∷ []
+
 -- the fields and their texts, in the order of the words, and the token after them
 abbrev pub order_fields : OrderAsked → List ℕ → List (WordField × List ℕ)
 order_fields (TenantAdd name) token = (of.Name, name) ∷ []
-order_fields (TokenGrant tenant) token = (of.Tenant, tenant) ∷ (of.Token, token) ∷ []
+order_fields (TokenGrant tenant right) token = (of.Tenant, tenant) ∷ right_field right ++ (of.Token, token) ∷ []
 order_fields TokenEnd token = (of.Token, token) ∷ []
 order_fields (DigestEnd digest) token = (of.Digest, digest) ∷ []
 order_fields (NetworkAdd w) token =
@@ -64,14 +69,14 @@ IsFaultIn fields fault.Device = ⊥
 -- ---- before the token is read
 
 abbrev pub wants_token : OrderAsked → Bool
-wants_token (TokenGrant tenant) = true
+wants_token (TokenGrant tenant right) = true
 wants_token TokenEnd = true
 wants_token other = false
 
 -- what the words spell without the token
 abbrev pub IsDraftOf : OrderAsked → OrderDraft → Type 0
 IsDraftOf asked (draft.Whole order) = (wants_token asked ≡ false) × ((token : List ℕ) → MakesOrder asked token order)
-IsDraftOf (TokenGrant text) (draft.Grant tenant) = SpellsName text tenant
+IsDraftOf (TokenGrant text word) (draft.Grant tenant right) = SpellsName text tenant × SpellsRight word right
 IsDraftOf TokenEnd draft.EndToken = Unit {0}
 IsDraftOf asked other = ⊥
 

@@ -1,6 +1,6 @@
 -- An order or a reading that is sent to a service, by its words and options, as the command on a file takes them: the
 -- token is given apart, and an option stands only at its own word.
-use Rattle.std.specs.Prelude.{ℕ, ◌≡◌, List, [], ◌∷◌, ◌++◌, Bool, true, false, Option, Some, None, codes, if◌then◌else◌, is_some, option_map, IfSome}
+use Rattle.std.specs.Prelude.{ℕ, ◌≡◌, List, [], ◌∷◌, ◌++◌, ◌||◌, Bool, true, false, Option, Some, None, codes, if◌then◌else◌, is_some, option_map, IfSome}
 use Rattle.std.specs.Str.{bytes_eq}
 use Rattle.wgr_words.specs.Asked.{NetworkAsked, OrderAsked, DigestEnd, NetworkAdd, NetworkEnd, TenantAdd, TokenEnd, TokenGrant}
 use Rattle.wgr_words.specs.Line.{line_in}
@@ -22,14 +22,21 @@ sent_alone word = if bytes_eq word (codes "token-end") then Some (SentOrder Toke
 abbrev pub sent_of_one : List ℕ → List ℕ → Option SentAsked
 sent_of_one word a =
     if bytes_eq word (codes "tenant-add") then Some (SentOrder (TenantAdd a))
-    else (if bytes_eq word (codes "token-grant") then Some (SentOrder (TokenGrant a))
+    else (if bytes_eq word (codes "token-grant") then Some (SentOrder (TokenGrant a None))
     else (if bytes_eq word (codes "backup") then Some (SentReading (Backup a))
     else (if bytes_eq word (codes "show") then (if bytes_eq a (codes "--json") then None else Some (SentReading (Show (Some a) false)))
     else None)))
 
--- `network-end TENANT NAME`
+-- whether the text is a right's; any other may be a token, and is never sent as a word
+abbrev pub is_right : List ℕ → Bool
+is_right text = bytes_eq text (codes "full") || bytes_eq text (codes "read")
+
+-- `network-end TENANT NAME`; `token-grant TENANT RIGHT`, whose token is given apart
 abbrev pub sent_of_two : List ℕ → List ℕ → List ℕ → Option SentAsked
-sent_of_two word a b = if bytes_eq word (codes "network-end") then Some (SentOrder (NetworkEnd a b)) else None
+sent_of_two word a b =
+    if bytes_eq word (codes "network-end") then Some (SentOrder (NetworkEnd a b))
+    else (if bytes_eq word (codes "token-grant") then (if is_right b then Some (SentOrder (TokenGrant a (Some b))) else None)
+    else None)
 
 -- `network-add` with its seven fields
 abbrev pub sent_of_seven : List ℕ → NetworkAsked → Option SentAsked
@@ -71,6 +78,7 @@ abbrev pub asks_token : List (List ℕ) → Option (List ℕ) → Bool
 asks_token words (Some digest) = false
 asks_token (word ∷ []) None = bytes_eq word (codes "token-end")
 asks_token (word ∷ field ∷ []) None = bytes_eq word (codes "token-grant")
+asks_token (word ∷ field ∷ right ∷ []) None = bytes_eq word (codes "token-grant")
 asks_token words None = false
 
 -- the option that is a line's last word, if it is given

@@ -1,5 +1,5 @@
 -- The fields of the words: what their texts spell.
-use Rattle.std.specs.Prelude.{ℕ, ◌≡◌, ◌-◌, true, List, cond, nat_eq, length, drop, take, ◌++◌, codes, Some, Result, Ok, Err}
+use Rattle.std.specs.Prelude.{ℕ, ◌≡◌, ◌⊎◌, ◌-◌, true, List, cond, nat_eq, length, drop, take, ◌++◌, codes, Option, Some, None, Result, Ok, Err}
 use Rattle.hex.specs.Hex.{decode_sized}
 use Rattle.std.specs.Cmp.Lexicographic.{pointwise}
 use Rattle.std.specs.Net.Grammar.{IsIpv4Text, IsIpv6Text}
@@ -12,6 +12,8 @@ use Rattle.wgr_peers.specs.Limits.{IsCapacity, IsCount, IsPort}
 use Rattle.wgr_peers.specs.Name.{is_name}
 use Rattle.wgr_dump.specs.Fields.{SpellsDecimal}
 use Rattle.wgr_text.specs.KeyText.{SpellsKey}
+use Rattle.wgr_model.specs.declared.right.Right.{Right}
+use Rattle.wgr_model.specs.declared.right.Right.TheVariants.{Full, Read}
 use Rattle.wgr_request.specs.Digest.{digest_of}
 use Rattle.wgr_text.specs.declared.key.Key.{Key}
 use Rattle.wgr_words.specs.declared.field.WordField.{WordField}
@@ -62,6 +64,11 @@ SpellsToken text digest = digest_of (without_newline text) ≡ Some digest
 abbrev pub SpellsDigest : List ℕ → List ℕ → Type 0
 SpellsDigest text digest = decode_sized text 32 ≡ Ok digest
 
+-- what a token allows: `full`, or `read` for a token that only reads; where it is left out, it is full
+abbrev pub SpellsRight : Option (List ℕ) → Right → Type 0
+SpellsRight None right = right ≡ Full
+SpellsRight (Some text) right = ((text ≡ codes "full") × (right ≡ Full)) ⊎ ((text ≡ codes "read") × (right ≡ Read))
+
 -- the field's name, as messages have it
 abbrev pub word_field_name : WordField → List ℕ
 word_field_name of.Tenant = codes "tenant"
@@ -75,6 +82,7 @@ word_field_name of.HostPort = codes "host:port"
 word_field_name of.Count = codes "count"
 word_field_name of.Now = codes "now"
 word_field_name of.Digest = codes "digest"
+word_field_name of.Right = codes "right"
 word_field_name of.Token = codes "token"
 
 -- the text has the field's form
@@ -90,6 +98,7 @@ HasFieldForm of.HostPort text = (endpoint : IpAddr × ℕ) × SpellsEndpoint tex
 HasFieldForm of.Count text = (n : ℕ) × SpellsWhole text n
 HasFieldForm of.Now text = (n : ℕ) × SpellsWhole text n
 HasFieldForm of.Digest text = (digest : List ℕ) × SpellsDigest text digest
+HasFieldForm of.Right text = (right : Right) × SpellsRight (Some text) right
 HasFieldForm of.Token text = (digest : List ℕ) × SpellsToken text digest
 
 -- the value that a field's text spells, or the field if it spells none; on lack of memory nothing is known

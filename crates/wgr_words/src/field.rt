@@ -1,8 +1,8 @@
 //! The fields of the words, each parsed by its form.
-ghost use Rattle.std.specs.Prelude.{◌≡◌};
+ghost use Rattle.std.specs.Prelude.{◌≡◌, option_map};
 ghost use Rattle.wgr_text.specs.KeyText.{SpellsKey};
 ghost use Rattle.wgr_peers.specs.Host.{IsHostText};
-ghost use Rattle.wgr_words.specs.Words.{IsRead, SpellsCapacity, SpellsDigest, SpellsEndpoint, SpellsName, SpellsPlace, SpellsPortNumber, SpellsToken, SpellsWhole, word_field_name};
+ghost use Rattle.wgr_words.specs.Words.{IsRead, SpellsCapacity, SpellsDigest, SpellsEndpoint, SpellsName, SpellsPlace, SpellsPortNumber, SpellsRight, SpellsToken, SpellsWhole, word_field_name};
 ghost use Rattle.wgr_words.specs.declared.field.WordField.TheVariants as of;
 
 use crate::endpoint::read_endpoint;
@@ -12,6 +12,7 @@ use std::alloc::{AllocError, Global};
 use std::fmt;
 use std::net::IpAddr;
 use wgr_core::{Capacity, Host, Name, Port};
+use wgr_orders::Right;
 use wgr_request::token_digest;
 use wgr_text::{Addr, Key, read_loose};
 
@@ -29,6 +30,7 @@ pub enum WordField {
     Count,
     Now,
     Digest,
+    Right,
     Token,
 }
 
@@ -49,6 +51,7 @@ impl WordField {
             WordField::Count => "count",
             WordField::Now => "now",
             WordField::Digest => "digest",
+            WordField::Right => "right",
             WordField::Token => "token",
         }
     }
@@ -167,6 +170,17 @@ pub(crate) fn read_digest(text: &str) -> Result<[u8; 32], WordFault>
     match <[u8; 32] as FromHex>::from_hex(text) {
         Ok(digest) => Ok(digest),
         Err(_) => Err(WordFault::Field(WordField::Digest)),
+    }
+}
+
+/// What a token allows; without a text, every command.
+pub(crate) fn read_right(text: Option<&str>) -> Result<Right, WordFault>
+    ensures { IsRead (SpellsRight (option_map (λ word. word.now) text.entry)) of.Right result }
+{
+    match text {
+        None | Some("full") => Ok(Right::Full),
+        Some("read") => Ok(Right::Read),
+        Some(_) => Err(WordFault::Field(WordField::Right)),
     }
 }
 

@@ -2,7 +2,7 @@
 //! token last.
 ghost use Rattle.std.specs.Prelude.{◌≡◌, IfErr, IfOk, map, option_map};
 ghost use Rattle.wgr_words.specs.Asked.{network_asked};
-ghost use Rattle.wgr_words.specs.Line.{IsUnspelled, SpellsOrder, line_asked, line_in, one_field, seven_fields, two_fields, words_in};
+ghost use Rattle.wgr_words.specs.Line.{IsUnspelled, SpellsOrder, line_asked, line_in, one_field, seven_fields, three_fields, two_fields, words_in};
 
 use crate::field::{WordFault, WordField};
 use crate::order::order_of_line;
@@ -76,6 +76,7 @@ fn line_of<'a>(words: &[&'a str]) -> Option<OrderLine<'a>>
     match words {
         [word, field] => one_field(word, field),
         [word, first, second] => two_fields(word, first, second),
+        [word, first, second, third] => three_fields(word, first, second, third),
         [word, tenant, name, pool, host, port, key, capacity] => {
             let words = NetworkWords {
                 tenant,
@@ -113,7 +114,10 @@ fn two_fields<'a>(word: &str, first: &'a str, second: &'a str) -> Option<OrderLi
 {
     match word {
         "token-grant" => Some(OrderLine {
-            words: OrderWords::TokenGrant { tenant: first },
+            words: OrderWords::TokenGrant {
+                tenant: first,
+                right: None,
+            },
             token: second,
         }),
         "network-end" => Some(OrderLine {
@@ -126,6 +130,26 @@ fn two_fields<'a>(word: &str, first: &'a str, second: &'a str) -> Option<OrderLi
         "token-end" if first == "--digest" => Some(OrderLine {
             words: OrderWords::DigestEnd { digest: second },
             token: "",
+        }),
+        _ => None,
+    }
+}
+
+fn three_fields<'a>(
+    word: &str,
+    first: &'a str,
+    second: &'a str,
+    third: &'a str,
+) -> Option<OrderLine<'a>>
+    ensures { option_map line_asked result ≡ three_fields word.now first.now second.now third.now }
+{
+    match word {
+        "token-grant" => Some(OrderLine {
+            words: OrderWords::TokenGrant {
+                tenant: first,
+                right: Some(second),
+            },
+            token: third,
         }),
         _ => None,
     }

@@ -6,20 +6,20 @@ ghost use Rattle.wgr_words.specs.Order.{IsDraftFault, IsDraftOf, IsFaultIn, Make
 
 use crate::field::{
     WordFault, WordField, read_capacity_field, read_digest, read_host, read_key, read_name,
-    read_pool, read_port_field, read_token,
+    read_pool, read_port_field, read_right, read_token,
 };
 use crate::line::OrderLine;
 use crate::words::{NetworkWords, OrderWords};
 use std::alloc::Global;
 use wgr_core::Name;
 use wgr_io::{Read, ReadFault, read_to_end};
-use wgr_orders::{Order, Settings};
+use wgr_orders::{Order, Right, Settings};
 
 /// An order whose token, if it has one, is not read yet.
 #[derive(Drop)]
 pub(crate) enum OrderDraft {
     Whole(Order),
-    Grant { tenant: Name },
+    Grant { tenant: Name, right: Right },
     EndToken,
 }
 
@@ -37,9 +37,13 @@ pub fn order_of<R: Read>(
 {
     match draft_of(alloc, words)? {
         OrderDraft::Whole(order) => Ok(order),
-        OrderDraft::Grant { tenant } => {
+        OrderDraft::Grant { tenant, right } => {
             let digest = take_token(alloc, input)?;
-            Ok(Order::Grant { tenant, digest })
+            Ok(Order::Grant {
+                tenant,
+                digest,
+                right,
+            })
         }
         OrderDraft::EndToken => {
             let digest = take_token(alloc, input)?;
@@ -55,9 +59,13 @@ pub(crate) fn order_of_line(alloc: Global, line: &OrderLine<'_>) -> Result<Order
 {
     match draft_of(alloc, &line.words)? {
         OrderDraft::Whole(order) => Ok(order),
-        OrderDraft::Grant { tenant } => {
+        OrderDraft::Grant { tenant, right } => {
             let digest = read_token(line.token.as_bytes())?;
-            Ok(Order::Grant { tenant, digest })
+            Ok(Order::Grant {
+                tenant,
+                digest,
+                right,
+            })
         }
         OrderDraft::EndToken => {
             let digest = read_token(line.token.as_bytes())?;
@@ -87,9 +95,10 @@ fn draft_of(alloc: Global, words: &OrderWords<'_>) -> Result<OrderDraft, WordFau
             let name = read_name(alloc, WordField::Name, name)?;
             Ok(OrderDraft::Whole(Order::AddTenant { name }))
         }
-        OrderWords::TokenGrant { tenant } => {
+        OrderWords::TokenGrant { tenant, right } => {
             let tenant = read_name(alloc, WordField::Tenant, tenant)?;
-            Ok(OrderDraft::Grant { tenant })
+            let right = read_right(*right)?;
+            Ok(OrderDraft::Grant { tenant, right })
         }
         OrderWords::TokenEnd => Ok(OrderDraft::EndToken),
         OrderWords::DigestEnd { digest } => {

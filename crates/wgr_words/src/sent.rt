@@ -1,6 +1,6 @@
 //! Which words a client may send to a service: those of an order or of a reading, as the command on a file takes them.
 ghost use Rattle.std.specs.Prelude.{◌≡◌, ℕ, List, is_some, map, option_map};
-ghost use Rattle.wgr_words.specs.Sent.{may_be_sent, sent_alone, sent_as_json, sent_by_digest, sent_of_one, sent_without_option};
+ghost use Rattle.wgr_words.specs.Sent.{may_be_sent, sent_alone, sent_as_json, sent_by_digest, sent_of_one, sent_of_two, sent_without_option};
 
 /// Whether the words are those of an order or of a reading, with the options that belong to it: `--digest` to
 /// `token-end` alone, `--json` to `show`.
@@ -23,7 +23,7 @@ fn stand_without_option(words: &[&str]) -> bool
     match words {
         [word] => stands_alone(word),
         [word, field] => may_have_field(word, field),
-        [word, _, _] => *word == "network-end",
+        [word, first, second] => may_have_fields(word, first, second),
         [word, _, _, _, _, _, _, _] => *word == "network-add",
         _ => false,
     }
@@ -42,6 +42,17 @@ fn may_have_field(word: &str, field: &str) -> bool
     match word {
         "tenant-add" | "token-grant" | "backup" => true,
         "show" => field != "--json",
+        _ => false,
+    }
+}
+
+// A word behind the tenant of a token that is no right may be the token.
+fn may_have_fields(word: &str, first: &str, second: &str) -> bool
+    ensures { result ≡ is_some (sent_of_two word.now first.now second.now) }
+{
+    match word {
+        "network-end" => true,
+        "token-grant" => matches!(second, "full" | "read"),
         _ => false,
     }
 }

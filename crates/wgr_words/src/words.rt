@@ -3,13 +3,24 @@
 /// An order on a register. Its token is never among these words.
 #[derive(Clone, Copy)]
 pub enum OrderWords<'a> {
-    TenantAdd { name: &'a str },
-    TokenGrant { tenant: &'a str },
+    TenantAdd {
+        name: &'a str,
+    },
+    /// Without a right the token has the full one.
+    TokenGrant {
+        tenant: &'a str,
+        right: Option<&'a str>,
+    },
     TokenEnd,
     /// The end of a token by its SHA-256, as 64 hexadecimal digits.
-    DigestEnd { digest: &'a str },
+    DigestEnd {
+        digest: &'a str,
+    },
     NetworkAdd(NetworkWords<'a>),
-    NetworkEnd { tenant: &'a str, name: &'a str },
+    NetworkEnd {
+        tenant: &'a str,
+        name: &'a str,
+    },
 }
 
 /// The settings of a new network.

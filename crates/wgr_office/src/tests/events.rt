@@ -1,10 +1,12 @@
 //! Lists of orders and requests, run in turn over a register in memory.
 use super::lines::{Row, check, empty, end, office};
-use super::{BAD, CONFLICT, FOUND, NOBODY, NOT_FOUND};
+use super::{BAD, CONFLICT, FORBIDDEN, FOUND, NOBODY, NOT_FOUND};
 
 const UNKNOWN: &str = r#"{"error":"unknown_token"}"#;
 
 const NOWHERE: &str = r#"{"error":"no_such_network"}"#;
+
+const READ_ONLY: &str = r#"{"error":"read_only"}"#;
 
 const PEER: &str =
     r#"{"address":"10.8.0.2/32","end":0,"keepalive":0,"key":"@","label":"","number":1,"routes":[],"status":null}"#;
@@ -62,6 +64,48 @@ const ENDED_TOKEN: &[Row<'static>] = &[
     ("7 GET abc /networks/office/peers", NOBODY, UNKNOWN),
     ("7 GET def /networks", FOUND, r#"{"networks":[]}"#),
     ("end-token abc", "", "no_such_token"),
+];
+
+/// A token that only reads: its right is asked after the bytes and the token, and before the network.
+const READER: &[Row<'static>] = &[
+    ("grant-read acme ghi", "", "done"),
+    (
+        "7 POST ghi /networks/office/peers {\"key\":\"@\"}",
+        FORBIDDEN,
+        READ_ONLY,
+    ),
+    ("7 GET ghi /networks/office/peers", FOUND, r#"{"peers":[]}"#),
+    (
+        "7 POST abc /networks/office/peers {\"key\":\"@\"}",
+        FOUND,
+        PEER,
+    ),
+    ("7 GET ghi /networks/office/peers", FOUND, PEERS),
+    (
+        "7 DELETE ghi /networks/office/peers/9",
+        FORBIDDEN,
+        READ_ONLY,
+    ),
+    ("7 DELETE ghi /networks/lab/peers/9", FORBIDDEN, READ_ONLY),
+    ("7 GET ghi /networks/lab/peers", NOT_FOUND, NOWHERE),
+    (
+        "7 POST zzz /networks/office/peers {\"key\":\"&\"}",
+        NOBODY,
+        UNKNOWN,
+    ),
+    (
+        "7 POST ghi /networks/office/peers {\"key\":\"&\",\"extra\":0}",
+        BAD,
+        r#"{"error":"bad_field","field":"body"}"#,
+    ),
+    ("grant acme ghi", "", "digest_held"),
+    ("end-token ghi", "", "done"),
+    ("grant acme ghi", "", "done"),
+    (
+        "7 POST ghi /networks/office/peers {\"key\":\"@\"}",
+        CONFLICT,
+        r#"{"error":"key_held","number":1}"#,
+    ),
 ];
 
 /// An unknown name, and one that another tenant has.
@@ -208,7 +252,7 @@ const DUMPS: &[Row<'static>] = &[
 ];
 
 /// Each is run where the tenant `acme` has the network `office`.
-const LISTS: &[&[Row<'static>]] = &[ENDED_TOKEN, NAMES, REFUSED, LEASE, DUMPS];
+const LISTS: &[&[Row<'static>]] = &[ENDED_TOKEN, READER, NAMES, REFUSED, LEASE, DUMPS];
 
 #[test]
 fn lists_of_events(rt: HostRuntime) {

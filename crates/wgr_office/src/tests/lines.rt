@@ -1,5 +1,5 @@
-//! Orders and requests as lines of words. An order is `tenant NAME`, `grant TENANT TOKEN`, `end-token TOKEN`,
-//! `network TENANT NAME POOL HOST` or `end-network TENANT NAME`; a request is `MOMENT METHOD TOKEN TARGET BODY`.
+//! Orders and requests as lines of words. An order is `tenant NAME`, `grant TENANT TOKEN`, `grant-read TENANT TOKEN`,
+//! `end-token TOKEN`, `network TENANT NAME POOL HOST` or `end-network TENANT NAME`; a request is `MOMENT METHOD TOKEN TARGET BODY`.
 use super::{NOBODY, joined, reply, text_of};
 use crate::{Answer, Event, Office};
 use sqlite::{Connection, MemStore};
@@ -7,7 +7,7 @@ use std::alloc::AllocGlobal;
 use std::process::Abort;
 use std::str::Split;
 use wgr_core::{Capacity, Host, Name, Port};
-use wgr_orders::{Order, Settings};
+use wgr_orders::{Order, Right, Settings};
 use wgr_register::{OpenFault, Register};
 use wgr_request::token_digest;
 use wgr_text::{Key, read_loose};
@@ -55,6 +55,12 @@ fn order(
         "grant" => Order::Grant {
             tenant: name(rt, first),
             digest: digest(rt, word(words)),
+            right: Right::Full,
+        },
+        "grant-read" => Order::Grant {
+            tenant: name(rt, first),
+            digest: digest(rt, word(words)),
+            right: Right::Read,
         },
         "end-token" => Order::EndToken {
             digest: digest(rt, first),

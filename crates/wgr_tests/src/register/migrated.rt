@@ -94,7 +94,10 @@ fn only_a_good_register_is_migrated(rt: HostRuntime) {
             Some(RegisterFault::NotARegister),
         ),
         (
-            [TO_FIRST, "CREATE TABLE bill (id INTEGER REFERENCES reader)"],
+            [
+                TO_FIRST,
+                "CREATE TABLE bill (digest BLOB REFERENCES reader (digest))",
+            ],
             Some(RegisterFault::NotARegister),
         ),
         (
@@ -114,7 +117,7 @@ fn only_a_good_register_is_migrated(rt: HostRuntime) {
         (
             [
                 TO_SECOND,
-                "INSERT INTO second VALUES (1, 6, zeroblob(16), 64)",
+                "INSERT INTO second VALUES (1, 6, x'00000000000000000000000000000000', 64)",
             ],
             Some(RegisterFault::NotGood),
         ),

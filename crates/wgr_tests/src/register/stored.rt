@@ -164,6 +164,7 @@ fn put_asked(
         Ok(given) => text.put_bytes(given.as_slice()),
         Err(AskFault::Refused(why)) => text.put_refusal(why),
         Err(AskFault::UnknownToken) => text.put("unknown_token"),
+        Err(AskFault::ReadOnly) => text.put("read_only"),
         Err(AskFault::NoSuchNetwork) => text.put("no_such_network"),
         Err(AskFault::Fault(_)) => text.put("fault"),
     }

@@ -13,6 +13,9 @@ returns-clause-step g c clean inside start =
     let new = state g.S.Store c.execute.new.tx.conn.now in
     (c.execute.ensures.kept clean inside, if_ok c.execute.result _ _ (λ count h. (reader_came old new (start h.1.was_open) c.args.digest.now count h.0, h.1)) (c.execute.ensures.ran clean inside))
 
+pub returns-clause-keeps : goal.returns-clause-keeps
+returns-clause-keeps g c clean inside _ = (c.execute.ensures.kept clean inside, if_ok c.execute.result _ _ (λ count h. (tt, h.1)) (c.execute.ensures.ran clean inside))
+
 pub returns-clause-cause : goal.returns-clause-cause
 returns-clause-cause g c =
     third_fails (state g.S.Store c.args.tx.now.conn.now) (state g.S.Store c.execute.new.tx.conn.now) insert_reader_text (Blob c.args.digest.now ∷ []) c.execute.result (λ schema h. insert_reader_writes schema h c.args.digest.now) c.execute.ensures.cause

@@ -1,7 +1,7 @@
 use Rattle.std.proofs.Common.{◌≡◌}
 use Rattle.sqlite.specs.WalFiles.{image_at}
 use Rattle.wgr_file.proofs.FileLemmas.{found_as, migrated, stays}
-use Rattle.wgr_opening.specs.Good.{IsReady, IsSound}
+use Rattle.wgr_opening.specs.Good.{IsReady, HasSoundRows}
 use Rattle.wgr_opening.specs.Migrated.{MayMigrate}
 use Rattle.wgr_schema.specs.declared.version.Version.{Version}
 use Rattle.wgr_file.proofs.opening.migrate_register.Goals as goal
@@ -27,5 +27,5 @@ returns-in-Err-migrate-clause-taken g c told =
 
 pub returns-in-Err-migrate-clause-bad : goal.returns-in-Err-migrate-clause-bad
 returns-in-Err-migrate-clause-bad g c told =
-    found_as c.in-Ok-Some.conn c.in-Err-migrate.field-0.connection (image_at g.S.Start) c.close-in-Err-migrate.result (λ db. IsSound db → ⊥) (rw c.in-Ok-Some.field-0-is at c.in-Ok-Some.ensures.found) c.in-Err-migrate.ensures.unharmed
+    found_as c.in-Ok-Some.conn c.in-Err-migrate.field-0.connection (image_at g.S.Start) c.close-in-Err-migrate.result (λ db. HasSoundRows db → ⊥) (rw c.in-Ok-Some.field-0-is at c.in-Ok-Some.ensures.found) c.in-Err-migrate.ensures.unharmed
     (λ now. c.in-Err-migrate.ensures.bad now told) c.close-in-Err-migrate.ensures

@@ -3,7 +3,7 @@ use Rattle.std.specs.List.{AllByRecursion}
 use Rattle.sqlite.specs.Held.{state}
 use Rattle.wgr_sql.proofs.ResultLemmas.{if_ok}
 use Rattle.wgr_columns.specs.Decode.{tables_of}
-use Rattle.wgr_opening.specs.Good.{HasAll, IsSound, StoresNetwork, as_third}
+use Rattle.wgr_opening.specs.Good.{HasAll, HasSoundRows, StoresNetwork, as_third}
 use Rattle.wgr_opening.specs.Outlines.{outline_in}
 use Rattle.wgr_opening.proofs.OutlineLemmas.{both_told, outlines_formed}
 use Rattle.wgr_opening.proofs.GoodLemmas.{all_told, stored_third}
@@ -48,7 +48,7 @@ pub returns-in_default-clause-only : goal.returns-in_default-clause-only
 returns-in_default-clause-only g c clean first =
     let old = state g.S.Store c.args.conn.now in
     let laid = first in
-    let none = subst (λ o. IfNone o (IsTrue old.is_open × (IsSound old.now → ⊥))) c.in_default.is (c.in_ok-networks.ensures.none clean laid) in
+    let none = subst (λ o. IfNone o (IsTrue old.is_open × (HasSoundRows old.now → ⊥))) c.in_default.is (c.in_ok-networks.ensures.none clean laid) in
     (none.0, λ good. absurd (none.1 good))
 
 pub returns-clause-only : goal.returns-clause-only

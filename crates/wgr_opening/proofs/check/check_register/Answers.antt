@@ -10,7 +10,7 @@ use Rattle.wgr_schema.specs.declared.version.Version.TheVariants.{Three}
 use Rattle.wgr_schema.proofs.CauseLemmas.{told_as}
 use Rattle.wgr_columns.specs.Decode.{tables_of}
 use Rattle.wgr_tables.specs.Standing.{Stands}
-use Rattle.wgr_opening.specs.Good.{IsReadyIn, IsSound}
+use Rattle.wgr_opening.specs.Good.{IsReadyIn, HasSoundRows}
 use Rattle.wgr_opening.specs.Outlines.{AreOutlines, outline_in}
 use Rattle.wgr_opening.specs.declared.outlines.Outlines.{Outlines}
 use Rattle.wgr_opening.proofs.JoinLemmas.{good_of}
@@ -36,17 +36,17 @@ returns-in-Some-clause-right g c clean =
     let old = state g.S.Store c.args.conn.now in
     let mid = state g.S.Store c.check_layout.new.conn in
     let third = c.in_ok-check_layout.ensures.right before in
-    let told = subst (λ (o : Option Outlines). IfSome o (λ outlines. IsTrue mid.is_open × IsSound mid.now × Stands g.S.Store c.audit.new.conn mid.now [] × AreOutlines (outline_in outlines) (tables_of mid.now)))
+    let told = subst (λ (o : Option Outlines). IfSome o (λ outlines. IsTrue mid.is_open × HasSoundRows mid.now × Stands g.S.Store c.audit.new.conn mid.now [] × AreOutlines (outline_in outlines) (tables_of mid.now)))
     c.in-Some.is (c.in-Ok.ensures.good clean (ready old mid before c.check_layout.ensures.kept third)) in
     let same = (c.check_layout.ensures.kept before told.0).1 in
-    (good_of old.now third (subst IsSound same told.1), subst (λ (d : Database). Stands g.S.Store c.audit.new.conn d []) same told.2)
+    (good_of old.now third (subst HasSoundRows same told.1), subst (λ (d : Database). Stands g.S.Store c.audit.new.conn d []) same told.2)
 
 pub returns-in-Some-clause-outlines : goal.returns-in-Some-clause-outlines
 returns-in-Some-clause-outlines g c clean =
     let before = c.audit.ensures.clean clean in
     let old = state g.S.Store c.args.conn.now in
     let mid = state g.S.Store c.check_layout.new.conn in
-    let told = subst (λ (o : Option Outlines). IfSome o (λ outlines. IsTrue mid.is_open × IsSound mid.now × Stands g.S.Store c.audit.new.conn mid.now [] × AreOutlines (outline_in outlines) (tables_of mid.now)))
+    let told = subst (λ (o : Option Outlines). IfSome o (λ outlines. IsTrue mid.is_open × HasSoundRows mid.now × Stands g.S.Store c.audit.new.conn mid.now [] × AreOutlines (outline_in outlines) (tables_of mid.now)))
     c.in-Some.is (c.in-Ok.ensures.good clean (ready old mid before c.check_layout.ensures.kept (c.in_ok-check_layout.ensures.right before))) in
     subst (λ (d : Database). AreOutlines (outline_in c.in-Some.outlines) (tables_of d)) (c.check_layout.ensures.kept before told.0).1 told.3
 

@@ -6,7 +6,7 @@ use Rattle.sqlite.specs.State.{HasCleanDisk}
 use Rattle.sqlite.specs.Held.{state}
 use Rattle.wgr_sql.proofs.ResultLemmas.{if_ok, if_none}
 use Rattle.wgr_checks.specs.NetworkRows.{AreGoodNetworks}
-use Rattle.wgr_opening.specs.Good.{HasEntries, IsSound}
+use Rattle.wgr_opening.specs.Good.{HasEntries, HasSoundRows}
 use Rattle.wgr_opening.proofs.GoodLemmas.{good_networks}
 use Rattle.wgr_opening.proofs.JoinLemmas.{laid_still}
 use Rattle.wgr_sql.specs.Causes.{HasCause}
@@ -17,7 +17,7 @@ use Rattle.wgr_opening.proofs.read.read_network_entries.Goals as goal
 pub returns-in_default-clause-none : goal.returns-in_default-clause-none
 returns-in_default-clause-none g c clean laid =
     let old = state g.S.Store c.args.conn.now in
-    subst (λ o. IfNone o (IsTrue old.is_open × (IsSound old.now → ⊥))) c.in_default.is (c.in_ok-tenants.ensures.none clean laid)
+    subst (λ o. IfNone o (IsTrue old.is_open × (HasSoundRows old.now → ⊥))) c.in_default.is (c.in_ok-tenants.ensures.none clean laid)
 
 pub returns-clause-none : goal.returns-clause-none
 returns-clause-none g c clean laid =

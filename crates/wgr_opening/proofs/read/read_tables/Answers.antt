@@ -6,7 +6,7 @@ use Rattle.sqlite.specs.State.{HasCleanDisk}
 use Rattle.sqlite.specs.Held.{state}
 use Rattle.wgr_checks.specs.AllowedRows.{AreWrittenAllowed}
 use Rattle.wgr_checks.specs.PeerRows.{AreWrittenPeers}
-use Rattle.wgr_opening.specs.Good.{HasNetworks, IsSound}
+use Rattle.wgr_opening.specs.Good.{HasNetworks, HasSoundRows}
 use Rattle.wgr_opening.proofs.GoodLemmas.{written_allowed, written_peers}
 use Rattle.wgr_opening.proofs.JoinLemmas.{laid_still}
 use Rattle.wgr_sql.specs.Causes.{HasCause}
@@ -17,7 +17,7 @@ use Rattle.wgr_opening.proofs.read.read_tables.Goals as goal
 pub returns-in_default-clause-none : goal.returns-in_default-clause-none
 returns-in_default-clause-none g c clean laid =
     let old = state g.S.Store c.args.conn.now in
-    subst (λ o. IfNone o (IsTrue old.is_open × (IsSound old.now → ⊥))) c.in_default.is (c.in_ok-networks.ensures.none clean laid)
+    subst (λ o. IfNone o (IsTrue old.is_open × (HasSoundRows old.now → ⊥))) c.in_default.is (c.in_ok-networks.ensures.none clean laid)
 
 pub returns-then-not-branch-clause-none : goal.returns-then-not-branch-clause-none
 returns-then-not-branch-clause-none g c clean laid =

@@ -10,19 +10,19 @@ use Rattle.wgr_orders.proofs.admit.checked_pool.Goals as goal
 
 pub returns-then-is_some : goal.returns-then-is_some
 returns-then-is_some c =
-    let r : Register = record { tenants = c.args.tenants.now; tokens = []; networks = c.args.networks.now } in
+    let r : Register = record { tenants = c.args.tenants.now; tokens = []; readers = []; networks = c.args.networks.now } in
     let told = sym (place_tells r.networks c.args.id c.args.name.now c.place_of.result (rw (← c.as_bytes.ensures) c.place_of.ensures)) ∙ sym c.is_some.ensures ∙ c.if-is_some.true in
     (name_refusal r c.args.id c.args.name.now c.args.settings.now told)
 
 pub returns-in_default : goal.returns-in_default
 returns-in_default c =
-    let r : Register = record { tenants = c.args.tenants.now; tokens = []; networks = c.args.networks.now } in
+    let r : Register = record { tenants = c.args.tenants.now; tokens = []; readers = []; networks = c.args.networks.now } in
     let told = sym (place_tells r.networks c.args.id c.args.name.now c.place_of.result (rw (← c.as_bytes.ensures) c.place_of.ensures)) ∙ sym c.is_some.ensures ∙ c.if-is_some.false in
     (pool_is_bad r c.args.id c.args.name.now c.args.settings.now told c.in_default.ensures.none)
 
 pub returns-in-Some-2 : goal.returns-in-Some-2
 returns-in-Some-2 c =
-    let r : Register = record { tenants = c.args.tenants.now; tokens = []; networks = c.args.networks.now } in
+    let r : Register = record { tenants = c.args.tenants.now; tokens = []; readers = []; networks = c.args.networks.now } in
     let told = sym (place_tells r.networks c.args.id c.args.name.now c.place_of.result (rw (← c.as_bytes.ensures) c.place_of.ensures)) ∙ sym c.is_some.ensures ∙ c.if-is_some.false in
     let pool = c.in-Some.ensures.some in
     let overlap : option_map refusal_of c.in_ok-why.field-0 ≡ pool_refusal (overlapping r.tenants r.networks c.args.settings.now.pool) =
@@ -31,7 +31,7 @@ returns-in-Some-2 c =
 
 pub returns-then-has_endpoint : goal.returns-then-has_endpoint
 returns-then-has_endpoint c =
-    let r : Register = record { tenants = c.args.tenants.now; tokens = []; networks = c.args.networks.now } in
+    let r : Register = record { tenants = c.args.tenants.now; tokens = []; readers = []; networks = c.args.networks.now } in
     let told = sym (place_tells r.networks c.args.id c.args.name.now c.place_of.result (rw (← c.as_bytes.ensures) c.place_of.ensures)) ∙ sym c.is_some.ensures ∙ c.if-is_some.false in
     let pool = c.in-Some.ensures.some in
     let overlap : option_map refusal_of c.in_ok-why.field-0 ≡ pool_refusal (overlapping r.tenants r.networks c.args.settings.now.pool) =
@@ -42,7 +42,7 @@ returns-then-has_endpoint c =
 
 pub returns-then-is_full : goal.returns-then-is_full
 returns-then-is_full c =
-    let r : Register = record { tenants = c.args.tenants.now; tokens = []; networks = c.args.networks.now } in
+    let r : Register = record { tenants = c.args.tenants.now; tokens = []; readers = []; networks = c.args.networks.now } in
     let told = sym (place_tells r.networks c.args.id c.args.name.now c.place_of.result (rw (← c.as_bytes.ensures) c.place_of.ensures)) ∙ sym c.is_some.ensures ∙ c.if-is_some.false in
     let pool = c.in-Some.ensures.some in
     let overlap : option_map refusal_of c.in_ok-why.field-0 ≡ pool_refusal (overlapping r.tenants r.networks c.args.settings.now.pool) =
@@ -54,7 +54,7 @@ returns-then-is_full c =
 
 pub returns : goal.returns
 returns c =
-    let r : Register = record { tenants = c.args.tenants.now; tokens = []; networks = c.args.networks.now } in
+    let r : Register = record { tenants = c.args.tenants.now; tokens = []; readers = []; networks = c.args.networks.now } in
     let told = sym (place_tells r.networks c.args.id c.args.name.now c.place_of.result (rw (← c.as_bytes.ensures) c.place_of.ensures)) ∙ sym c.is_some.ensures ∙ c.if-is_some.false in
     let pool = c.in-Some.ensures.some in
     let overlap : option_map refusal_of c.in_ok-why.field-0 ≡ pool_refusal (overlapping r.tenants r.networks c.args.settings.now.pool) =

@@ -30,11 +30,11 @@ use Rattle.wgr_register.proofs.ask.act_on_rows.Goals.{In_ok-reply}
 use Rattle.wgr_register.proofs.ask.act_on_rows.Goals as goal
 
 -- the change that is to be committed is the command's
-met_by : (g : Over) (c : In_ok-reply g) (db : Database) (late : List Event) (digest name : Bytes) (n : NetworkValue) (at : StandsAt g.S.Store c.args.conn.now db late) (found : IsFound (tables_of db) digest name c.args.id n)
+met_by : (g : Over) (c : In_ok-reply g) (db : Database) (late : List Event) (digest name : Bytes) (n : NetworkValue) (at : StandsAt g.S.Store c.args.conn.now db late) (found : IsFound (tables_of db) digest name c.args.command.now c.args.id n)
     → IsMemoryOf c.args.memory.now (tables_of db) → HasCleanDisk (state g.S.Store c.row_act.new.conn) → Meets n (Ok (c.in_ok-reply.reply, c.in_ok-reply.changes)) (outcome_of n c.args.now c.args.command.now)
 met_by g c db late digest name n at found are clean =
     let outlined = c.outline-before.ensures (tables_of db) (network_entry_of (tables_of db) found.row).network at.consistent are (found.row, found.there, found.at, refl) in
-    at_found (tables_of db) digest name c.args.id n found c.args.now c.args.command.now (Ok (c.in_ok-reply.reply, c.in_ok-reply.changes)) (c.in_ok-reply.ensures.outcome db at.pending found.row at.stands at.consistent found.there found.at clean outlined)
+    at_found (tables_of db) digest name c.args.id n found c.args.now (Ok (c.in_ok-reply.reply, c.in_ok-reply.changes)) (c.in_ok-reply.ensures.outcome db at.pending found.row at.stands at.consistent found.there found.at clean outlined)
 
 -- ---- the command isn't done
 
@@ -46,7 +46,7 @@ returns-in_err-reply-clause-ends g c db late digest name n at found are =
     (λ refusal is. refused_rows (tables_of db) at.consistent digest name c.args.now c.args.command.now c.args.id n found (of_command refusal)
     (subst (λ (w : RowFault). Meets n (as_acted (Err w)) (outcome_of n c.args.now c.args.command.now)) is
     (let outlined = c.outline-before.ensures (tables_of db) (network_entry_of (tables_of db) found.row).network at.consistent are (found.row, found.there, found.at, refl) in
-    at_found (tables_of db) digest name c.args.id n found c.args.now c.args.command.now (as_acted (Err c.in_err-reply.field-0.0)) (c.in_err-reply.ensures.outcome db at.pending found.row at.stands at.consistent found.there found.at clean outlined)))))
+    at_found (tables_of db) digest name c.args.id n found c.args.now (as_acted (Err c.in_err-reply.field-0.0)) (c.in_err-reply.ensures.outcome db at.pending found.row at.stands at.consistent found.there found.at clean outlined)))))
 
 pub returns-in_err-reply-clause-cause : goal.returns-in_err-reply-clause-cause
 returns-in_err-reply-clause-cause g c db late digest name n at found reads =

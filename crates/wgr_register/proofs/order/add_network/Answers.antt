@@ -37,14 +37,14 @@ module _ (g : Over) (c : After-admit g) (db : Database) (late : List Event) (at 
   networks_read : (ws : List NetworkRow) × IsPermutation t.networks ws × (c.in_ok-networks.networks.items ≡ map settled ws)
   networks_read = c.in_ok-networks.ensures.listed db at.pending (c.tenants.ensures.reads.stands db at.pending (c.tenant_id.ensures.reads.stands db at.pending at.stands)) clean
 
-  admits_read : (r : Result ℕ OrderFault) → AdmitsNetwork (record { tenants = c.as_slice.result.now; tokens = []; networks = c.as_slice-2.result.now }) c.in-Some.id c.args.name.now c.args.settings.now r
-      → AdmitsNetwork (record { tenants = c.in_ok-tenants.tenants.items; tokens = []; networks = map settled networks_read.0 }) c.in-Some.id c.args.name.now c.args.settings.now r
+  admits_read : (r : Result ℕ OrderFault) → AdmitsNetwork (record { tenants = c.as_slice.result.now; tokens = []; readers = []; networks = c.as_slice-2.result.now }) c.in-Some.id c.args.name.now c.args.settings.now r
+      → AdmitsNetwork (record { tenants = c.in_ok-tenants.tenants.items; tokens = []; readers = []; networks = map settled networks_read.0 }) c.in-Some.id c.args.name.now c.args.settings.now r
   admits_read r is =
       admits_by c.as_slice.result.now c.in_ok-tenants.tenants.items c.as_slice-2.result.now (map settled networks_read.0) c.in-Some.id c.args.name.now c.args.settings.now r c.as_slice.ensures.value
       (c.as_slice-2.ensures.value ∙ networks_read.2) is
 
   -- what the write does, if it is made
-  network_joins : (new : ℕ) → AdmitsNetwork (record { tenants = c.as_slice.result.now; tokens = []; networks = c.as_slice-2.result.now }) c.in-Some.id c.args.name.now c.args.settings.now (Ok new) → (u : Tables)
+  network_joins : (new : ℕ) → AdmitsNetwork (record { tenants = c.as_slice.result.now; tokens = []; readers = []; networks = c.as_slice-2.result.now }) c.in-Some.id c.args.name.now c.args.settings.now (Ok new) → (u : Tables)
       → Changes (NetworkGained (new_row new c.in-Some.id c.args.name.now c.args.settings.now)) t u → IsRowStep t (AddNetwork c.args.tenant.now c.args.name.now c.args.settings.now) Done u
   network_joins new is =
       network_comes t at.consistent c.args.tenant.now c.args.name.now c.args.settings.now c.in_ok-tenants.tenants.items networks_read.0 tenants_read networks_read.1 c.in-Some.id known new (admits_read (Ok new) is)
@@ -116,7 +116,7 @@ returns-in_err-networks-clause-stops g c db late at =
 pub returns-in_err-new-clause-stops : goal.returns-in_err-new-clause-stops
 returns-in_err-new-clause-stops g c db late at =
     admitted_stops _ (state g.S.Store c.args.conn.now) (state g.S.Store c.settled_networks.new.conn) _ _ c.from_residual-in_err-new.ensures.1
-    (record { tenants = c.as_slice.result.now; tokens = []; networks = c.as_slice-2.result.now }) c.in-Some.id c.args.name.now c.args.settings.now c.in_err-new.ensures
+    (record { tenants = c.as_slice.result.now; tokens = []; readers = []; networks = c.as_slice-2.result.now }) c.in-Some.id c.args.name.now c.args.settings.now c.in_err-new.ensures
 
 pub returns-in_err-commit-clause-stops : goal.returns-in_err-commit-clause-stops
 returns-in_err-commit-clause-stops g c db late at =

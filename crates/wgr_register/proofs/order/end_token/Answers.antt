@@ -41,14 +41,14 @@ returns-in_err-commit-clause-ends g c db late at =
     let one : Written = TokenLost c.args.digest.now in
     let ends = token_goes g (goal.at.returns-in_err-commit-clause-ends g c).After-commit db late at in
     let there = c.tenant_of_token.ensures.reads.stands db at.pending at.stands in
-    order_unwritten g.S.Store _ _ db late _ tt _ _ one c.from_residual-in_err-commit.ensures.1 c.commit.ensures.keeps.idle ends at (c.in_err-commit.ensures.commits.fault db at.pending one there refl)
+    order_unwritten g.S.Store _ _ db late _ tt _ _ one c.from_residual-in_err-commit.ensures.1 c.commit.ensures.keeps.idle ends at (c.in_err-commit.ensures.commits.fault db at.pending one there (at.consistent.rows.meta, refl))
 
 pub returns-clause-ends : goal.returns-clause-ends
 returns-clause-ends g c db late at clean =
     let one : Written = TokenLost c.args.digest.now in
     let ends = token_goes g (goal.at.returns-clause-ends g c).After-commit db late at clean in
     let there = c.tenant_of_token.ensures.reads.stands db at.pending at.stands in
-    order_done g.S.Store _ db late _ one tt at.consistent ends (c.in_ok-commit.ensures.commits.done db at.pending one there refl clean) clean
+    order_done g.S.Store _ db late _ one tt at.consistent ends (c.in_ok-commit.ensures.commits.done db at.pending one there (at.consistent.rows.meta, refl) clean) clean
 
 -- ---- why it ends by a fault
 
@@ -61,7 +61,7 @@ returns-in_err-commit-clause-stops g c db late at =
     let ends = token_goes g (goal.at.returns-in_err-commit-clause-stops g c).After-commit db late at in
     let there = c.tenant_of_token.ensures.reads.stands db at.pending at.stands in
     unwritten_stops _ _ _ _ _ _ c.from_residual-in_err-commit.ensures.1 c.tenant_of_token.ensures.reads.survives _ c.commit.ensures.keeps.survives
-    (λ clean refused. record { write = TokenLost c.args.digest.now; does = ends clean; stops = refused }) (c.in_err-commit.ensures.commits.cause db at.pending there)
+    (λ clean refused. record { write = TokenLost c.args.digest.now; does = ends clean; stops = refused at.consistent.rows.meta }) (c.in_err-commit.ensures.commits.cause db at.pending there)
 
 -- ---- where it isn't undone, the store was open
 

@@ -20,7 +20,7 @@ use Rattle.wgr_register.proofs.order.grant.Goals as goal
 
 -- what the write does, if it is made
 token_joins : (g : Over) (c : After-commit g) (db : Database) (late : List Event) (at : StandsAt g.S.Store c.args.conn.now db late) → HasCleanDisk (state g.S.Store c.commit.new.conn) → (u : Tables)
-    → Changes (TokenGained (record { digest = c.args.digest.now; tenant = c.in-Some.id })) (tables_of db) u → IsRowStep (tables_of db) (Grant c.args.tenant.now c.args.digest.now) Done u
+    → Changes (TokenGained (record { digest = c.args.digest.now; tenant = c.in-Some.id }) c.args.right) (tables_of db) u → IsRowStep (tables_of db) (Grant c.args.tenant.now c.args.digest.now c.args.right) Done u
 token_joins g c db late at clean =
     let t = tables_of db in
     let mid = c.tenant_id.ensures.reads.stands db at.pending at.stands in
@@ -30,7 +30,7 @@ token_joins g c db late at clean =
     let free : tenant_of_token t.tokens c.args.digest.now ≡ None = sym (c.in_ok-tenant_of_token.ensures.found db at.pending mid looking) ∙ c.in-None.is in
     let counted = c.in_ok-count.ensures.counted db at.pending (c.tenant_of_token.ensures.reads.stands db at.pending mid) counting in
     let room = tokens_by t c.in_ok-count.count counted false (sym c.is_full.ensures ∙ c.if-is_full.false) in
-    token_comes t at.consistent c.args.tenant.now c.args.digest.now c.in-Some.id known free room
+    token_comes t at.consistent c.args.tenant.now c.args.digest.now c.args.right c.in-Some.id known free room
 
 pub returns-in_err-id-clause-ends : goal.returns-in_err-id-clause-ends
 returns-in_err-id-clause-ends g c db late at proper =
@@ -41,7 +41,7 @@ returns-in_default-clause-ends g c db late at proper = (
   at_read g.S.Store _ _ db late (c.tenant_id.ensures.reads.stands db) at,
   λ clean.
       let none : id_of (tables_of db).tenants c.args.tenant.now ≡ None = sym (c.in_ok-id.ensures.found db at.pending at.stands clean) ∙ c.in_default.is in
-      nobody_gets (tables_of db) at.consistent c.args.tenant.now c.args.digest.now none,
+      nobody_gets (tables_of db) at.consistent c.args.tenant.now c.args.digest.now c.args.right none,
 )
 
 pub returns-in_err-tenant_of_token-clause-ends : goal.returns-in_err-tenant_of_token-clause-ends
@@ -56,7 +56,7 @@ returns-in_default-2-clause-ends g c db late at proper = (
       let mid = c.tenant_id.ensures.reads.stands db at.pending at.stands in
       let known : id_of (tables_of db).tenants c.args.tenant.now ≡ Some c.in-Some.id = sym (c.in_ok-id.ensures.found db at.pending at.stands (c.tenant_of_token.ensures.reads.clean clean)) ∙ c.in-Some.is in
       let held : tenant_of_token (tables_of db).tokens c.args.digest.now ≡ Some c.in_default-2.field-0 = sym (c.in_ok-tenant_of_token.ensures.found db at.pending mid clean) ∙ c.in_default-2.is in
-      held_already (tables_of db) at.consistent c.args.tenant.now c.args.digest.now c.in-Some.id known c.in_default-2.field-0 held,
+      held_already (tables_of db) at.consistent c.args.tenant.now c.args.digest.now c.args.right c.in-Some.id known c.in_default-2.field-0 held,
 )
 
 pub returns-in_err-count-clause-ends : goal.returns-in_err-count-clause-ends
@@ -74,23 +74,23 @@ returns-then-is_full-clause-ends g c db late at proper = (
       let known : id_of (tables_of db).tenants c.args.tenant.now ≡ Some c.in-Some.id = sym (c.in_ok-id.ensures.found db at.pending at.stands (c.tenant_of_token.ensures.reads.clean clean2)) ∙ c.in-Some.is in
       let free : tenant_of_token (tables_of db).tokens c.args.digest.now ≡ None = sym (c.in_ok-tenant_of_token.ensures.found db at.pending mid clean2) ∙ c.in-None.is in
       let full = tokens_by (tables_of db) c.in_ok-count.count (c.in_ok-count.ensures.counted db at.pending near clean) true (sym c.is_full.ensures ∙ c.if-is_full.true) in
-      tokens_full (tables_of db) at.consistent c.args.tenant.now c.args.digest.now c.in-Some.id known free full,
+      tokens_full (tables_of db) at.consistent c.args.tenant.now c.args.digest.now c.args.right c.in-Some.id known free full,
 )
 
 pub returns-in_err-commit-clause-ends : goal.returns-in_err-commit-clause-ends
 returns-in_err-commit-clause-ends g c db late at proper =
-    let one : Written = TokenGained (record { digest = c.args.digest.now; tenant = c.in-Some.id }) in
+    let one : Written = TokenGained (record { digest = c.args.digest.now; tenant = c.in-Some.id }) c.args.right in
     let ends = token_joins g (goal.at.returns-in_err-commit-clause-ends g c).After-commit db late at in
     let last = c.count_tokens.ensures.reads.stands db at.pending (c.tenant_of_token.ensures.reads.stands db at.pending (c.tenant_id.ensures.reads.stands db at.pending at.stands)) in
     order_unwritten g.S.Store _ _ db late _ proper _ _ one c.from_residual-in_err-commit.ensures.1 c.commit.ensures.keeps.idle
-    ends at (c.in_err-commit.ensures.commits.fault db at.pending one last refl)
+    ends at (c.in_err-commit.ensures.commits.fault db at.pending one last (at.consistent.rows.meta, refl))
 
 pub returns-clause-ends : goal.returns-clause-ends
 returns-clause-ends g c db late at proper clean =
-    let one : Written = TokenGained (record { digest = c.args.digest.now; tenant = c.in-Some.id }) in
+    let one : Written = TokenGained (record { digest = c.args.digest.now; tenant = c.in-Some.id }) c.args.right in
     let ends = token_joins g (goal.at.returns-clause-ends g c).After-commit db late at clean in
     let last = c.count_tokens.ensures.reads.stands db at.pending (c.tenant_of_token.ensures.reads.stands db at.pending (c.tenant_id.ensures.reads.stands db at.pending at.stands)) in
-    order_done g.S.Store _ db late _ one proper at.consistent ends (c.in_ok-commit.ensures.commits.done db at.pending one last refl clean) clean
+    order_done g.S.Store _ db late _ one proper at.consistent ends (c.in_ok-commit.ensures.commits.done db at.pending one last (at.consistent.rows.meta, refl) clean) clean
 
 -- ---- why it ends by a fault
 
@@ -113,7 +113,7 @@ returns-in_err-commit-clause-stops g c db late at =
     let last = c.count_tokens.ensures.reads.stands db at.pending (c.tenant_of_token.ensures.reads.stands db at.pending (c.tenant_id.ensures.reads.stands db at.pending at.stands)) in
     let survived = survives_next _ _ _ (survives_next _ _ _ c.tenant_id.ensures.reads.survives c.tenant_of_token.ensures.reads.survives) c.count_tokens.ensures.reads.survives in
     unwritten_stops _ _ _ _ _ _ c.from_residual-in_err-commit.ensures.1 survived _ c.commit.ensures.keeps.survives
-    (λ clean refused. record { write = TokenGained (record { digest = c.args.digest.now; tenant = c.in-Some.id }); does = ends clean; stops = refused }) (c.in_err-commit.ensures.commits.cause db at.pending last)
+    (λ clean refused. record { write = TokenGained (record { digest = c.args.digest.now; tenant = c.in-Some.id }) c.args.right; does = ends clean; stops = refused at.consistent.rows.meta }) (c.in_err-commit.ensures.commits.cause db at.pending last)
 
 -- ---- where it isn't undone, the store was open
 

@@ -42,7 +42,7 @@ returns-in-AddTenant-clause-memory g c db late at =
 pub returns-in-Grant-clause-memory : goal.returns-in-Grant-clause-memory
 returns-in-Grant-clause-memory g c db late at =
     let proper = rw c.in-Grant.is at c.forms_hold.ensures in
-    memory_shown g.S.Store _ db late at.consistent (Grant c.in-Grant.tenant c.in-Grant.digest) proper tt _ (c.grant.ensures.ends db late at proper) c.args.memory.now
+    memory_shown g.S.Store _ db late at.consistent (Grant c.in-Grant.tenant c.in-Grant.digest c.in-Grant.right) proper tt _ (c.grant.ensures.ends db late at proper) c.args.memory.now
 
 pub returns-in-EndToken-clause-memory : goal.returns-in-EndToken-clause-memory
 returns-in-EndToken-clause-memory g c db late at =

@@ -7,8 +7,8 @@ use Rattle.wgr_plain.proofs.register.Register.add_network.Goals as goal
 
 pub invariant_of-self-2 : goal.invariant_of-self-2
 invariant_of-self-2 c =
-    let r : Register = record { tenants = c.self.inside.tenants.items; tokens = c.self.inside.tokens.items; networks = c.self.inside.networks.items } in
-    let s : Register = record { tenants = c.self.inside.tenants.items; tokens = c.self.inside.tokens.items; networks = c.push.new.entries.items } in
+    let r : Register = record { tenants = c.self.inside.tenants.items; tokens = c.self.inside.tokens.items; readers = c.self.inside.readers.items; networks = c.self.inside.networks.items } in
+    let s : Register = record { tenants = c.self.inside.tenants.items; tokens = c.self.inside.tokens.items; readers = c.self.inside.readers.items; networks = c.push.new.entries.items } in
     let looked = c.id_of.ensures ∙ ap₂ id_of c.deref.ensures.value c.as_bytes.ensures in
     let id = c.in-Some.id in
     let network_entry = c.in_ok-network_entry.network_entry in
@@ -21,12 +21,13 @@ invariant_of-self-2 c =
     (ap (λ hs. has_network hs network_entry.id) (sym c.deref-4.ensures.value) ∙ c.in_ok-network_entry.ensures.1)
     (c.in_ok-push.ensures.ok ∙ ap {A = NetworkEntry} (λ h. r.networks ++ h ∷ []) c.in_ok-network_entry.ensures.2)
     refl
+    refl
     refl)).consistent
 
 pub returns : goal.returns
 returns c =
-    let r : Register = record { tenants = c.self.inside.tenants.items; tokens = c.self.inside.tokens.items; networks = c.self.inside.networks.items } in
-    let s : Register = record { tenants = c.self.inside.tenants.items; tokens = c.self.inside.tokens.items; networks = c.push.new.entries.items } in
+    let r : Register = record { tenants = c.self.inside.tenants.items; tokens = c.self.inside.tokens.items; readers = c.self.inside.readers.items; networks = c.self.inside.networks.items } in
+    let s : Register = record { tenants = c.self.inside.tenants.items; tokens = c.self.inside.tokens.items; readers = c.self.inside.readers.items; networks = c.push.new.entries.items } in
     let looked = c.id_of.ensures ∙ ap₂ id_of c.deref.ensures.value c.as_bytes.ensures in
     let id = c.in-Some.id in
     let network_entry = c.in_ok-network_entry.network_entry in
@@ -38,5 +39,6 @@ returns c =
     c.in_ok-network_entry.ensures.0
     (ap (λ hs. has_network hs network_entry.id) (sym c.deref-4.ensures.value) ∙ c.in_ok-network_entry.ensures.1)
     (c.in_ok-push.ensures.ok ∙ ap {A = NetworkEntry} (λ h. r.networks ++ h ∷ []) c.in_ok-network_entry.ensures.2)
+    refl
     refl
     refl)

@@ -23,7 +23,7 @@ module _ (g : Over) (c : After-census-read g) (P : Tables → Type 0) (shows : S
   kept =
       let before = c.census-read.ensures.reads.clean clean in
       let held = c.self.invariant.0.somewhere before in
-      let stands = c.census-read.ensures.reads.stands held.0 held.2.pending held.2.stands in
+      let stands = c.census-read.ensures.reads.stands held.0 held.2.pending held.2.stands held.2.consistent.rows.meta in
       on_ok c.census-read.result c.census-read.result (IsTrue (state g.S.Store c.self.inside.conn).is_open) (P (tables_of (state g.S.Store c.census-read.new.conn).now))
       (λ was_live. shown_read g.S.Store c.self.inside.conn c.census-read.new.conn held.0 held.2.pending P held.2.stands stands shows before was_live clean live) (c.census-read.ensures.open clean) refl
 
@@ -35,19 +35,19 @@ invariant_of-self g c =
         idle = c.census-read.ensures.reads.idle;
         somewhere = λ clean.
             let held = c.self.invariant.0.somewhere (c.census-read.ensures.reads.clean clean) in
-            (held.0, held.1, at_read g.S.Store c.self.inside.conn c.census-read.new.conn held.0 held.1 (c.census-read.ensures.reads.stands held.0) held.2);
+            (held.0, held.1, at_read g.S.Store c.self.inside.conn c.census-read.new.conn held.0 held.1 (λ pending stood. c.census-read.ensures.reads.stands held.0 pending stood held.2.consistent.rows.meta) held.2);
       },
       λ clean live. c.after_census.ensures.is_of shown (kept g a (IsMemoryOf c.self.inside.memory) c.self.invariant.1 clean live),
     )
 
 pub returns-clause-stands : goal.returns-clause-stands
 returns-clause-stands g c db late at =
-    at_read g.S.Store c.self.inside.conn c.census-read.new.conn db late (c.census-read.ensures.reads.stands db) (subst (λ h. StandsAt g.S.Store h db late) (sym c.self.view_is) at)
+    at_read g.S.Store c.self.inside.conn c.census-read.new.conn db late (λ pending stood. c.census-read.ensures.reads.stands db pending stood at.consistent.rows.meta) (subst (λ h. StandsAt g.S.Store h db late) (sym c.self.view_is) at)
 
 pub returns-clause-listed : goal.returns-clause-listed
 returns-clause-listed g c db late at clean =
     let here = subst (λ h. StandsAt g.S.Store h db late) (sym c.self.view_is) at in
-    c.census-read.ensures.listed db here.pending here.stands clean
+    c.census-read.ensures.listed db here.pending here.stands here.consistent.rows.meta clean
 
 pub returns-clause-cause : goal.returns-clause-cause
 returns-clause-cause g c =

@@ -1,43 +1,14 @@
-use Rattle.std.proofs.Common.{◌∙◌, ap, sym, subst, Bor}
-use Rattle.std.proofs.lemmas.Result.{on_ok_weaker}
-use Rattle.serde_json.specs.Data.{string}
+use Rattle.std.proofs.Common.{◌∙◌, List, OnOk, ap, map, subst, sym, Bor}
 use Rattle.serde_json.specs.Events.{SendsValue}
-use Rattle.wgr_model.specs.Register.{Token}
-use Rattle.wgr_orders.specs.declared.census.Counted.{Counted}
-use Rattle.wgr_json.specs.Values.{array_of}
-use Rattle.wgr_show.specs.Json.{counted_data, token_data}
-use Rattle.wgr_show.proofs.Listing.{map_of_map}
+use Rattle.wgr_orders.specs.declared.census.Granted.{Granted}
+use Rattle.wgr_show.specs.Entries.{shown_of}
+use Rattle.wgr_show.specs.Json.{only_reads, tenant_with}
+use Rattle.wgr_show.proofs.Listing.{filter_of_map}
 use Rattle.wgr_show.proofs.shown.EntryToJsonInListing.send.Goals as goal
 
--- one member after the other
-pub returns : goal.returns
-returns g c =
+pub returns-in-Ok : goal.returns-in-Ok
+returns-in-Ok g c =
     let w = g.S.Serializer.written in
-    let name = c.in_ok-send_text.ensures in
-    let tokens = c.in_ok-send_member.ensures in
-    let networks = c.in_ok-send_member-2.ensures in
-    let shown_tokens = map_of_map (λ (t : Bor Token). t.now) token_data c.args.self.now.tokens.now in
-    let shown_networks = map_of_map (λ (n : Bor Counted). n.now) counted_data c.args.self.now.networks.now in
-    on_ok_weaker c.end_map.result (λ e. (
-      w c.begin_map.new.self,
-      c.in_ok-begin_map.ensures,
-      (
-        name.0,
-        w c.send_text.new.out,
-        name.1,
-        subst (λ s. SendsValue (string s) name.0 (w c.send_text.new.out)) (c.as_str.ensures.value ∙ ap (λ t. t.name) c.tenant.view_is) name.2,
-        (
-          tokens.0,
-          w c.send_member.new.out,
-          tokens.1,
-          subst (λ ds. SendsValue (array_of ds) tokens.0 (w c.send_member.new.out)) (sym shown_tokens) tokens.2,
-          (
-            networks.0,
-            w c.send_member-2.new.out,
-            networks.1,
-            subst (λ ds. SendsValue (array_of ds) networks.0 (w c.send_member-2.new.out)) (sym shown_networks) networks.2,
-            e,
-          ),
-        ),
-      ),
-    )) c.end_map.ensures
+    let now = λ (t : Bor Granted). t.now in
+    let readers = ap (map now) (c.deref.ensures.value ∙ c.in-Ok.ensures) ∙ sym (filter_of_map now (λ t. only_reads t.right) c.args.self.now.tokens.now) in
+    subst (λ (rs : List Granted). OnOk c.send_tenant.result (SendsValue (tenant_with (shown_of c.args.self.now) rs) (w c.args.out.now) (w c.send_tenant.new.out))) readers c.send_tenant.ensures

@@ -11,7 +11,7 @@ use Rattle.wgr_sql.proofs.SurvivesLemmas.{survives_next}
 use Rattle.wgr_columns.specs.Decode.{IsRegister, tables_of}
 use Rattle.wgr_tables.specs.TableSteps.{ChangeMakes, PeerLeaves, RouteGoes, PeersPut, RoutePuts, NextSets}
 use Rattle.wgr_tables.specs.Stops.{ChangeStops, NextStays, OneOfEach, PeerStays, PeersStayOut, RouteStays, RoutesAreNotPut}
-use Rattle.wgr_tables.specs.Writes.{Changes, ChangesAs, IsReplacement, Written}
+use Rattle.wgr_tables.specs.Writes.{Changes, IsReplacement, Written}
 use Rattle.wgr_tables.proofs.CommitRows.{change_replaces}
 use Rattle.wgr_tables.proofs.Commits.{steps_as}
 use Rattle.wgr_tables.proofs.StopLemmas.{failed_step, first_hands_on, first_fails, hands_on}
@@ -144,4 +144,4 @@ returns-in_err-put_routes-clause-step g c clean =
     let three = chain_then_chain IsRegister tables_of {Y = ℕ} Fault C D gone put led c.in_ok-put_peers.field-0 (Err why) (rw c.as_slice-3.ensures at (c.in_ok-put_peers.ensures.step third)) (c.in_err-put_routes.ensures.step clean) in
     let two = chain_then_chain IsRegister tables_of {Y = ℕ} Fault B (Then C D) removed gone led c.in_ok-drop_routes.field-0 (Err why) (rw c.as_slice-2.ensures at (c.in_ok-drop_routes.ensures.step second)) three in
     let one = chain_then_chain IsRegister tables_of {Y = ℕ} Fault A (Then B (Then C D)) start removed led c.in_ok-remove_peers.field-0 (Err why) (rw c.as_slice.ensures at (c.in_ok-remove_peers.ensures.step first)) two in
-    failed_step (Then A (Then B (Then C D))) (ChangesAs (IsReplacement c.args.self.now.network change)) start led c.from_residual-in_err-put_routes.result why c.from_residual-in_err-put_routes.ensures.1 one
+    failed_step (Then A (Then B (Then C D))) (IsReplacement c.args.self.now.network change) start led c.from_residual-in_err-put_routes.result why c.from_residual-in_err-put_routes.ensures.1 one
