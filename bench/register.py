@@ -13,6 +13,9 @@ ROUTES = int(ip_address("10.16.0.0"))
 ROUTE_LENGTH = 24
 MAKING = Path(__file__).resolve().parent.parent / "crates/wgr_schema/src/making.rt"
 
+# How the tables begin that the first version hasn't got.
+LATER_TABLES = ("CREATE TABLE second ", "CREATE TABLE reader ")
+
 CAPACITY = 4096
 PORT = 51820
 
@@ -151,21 +154,27 @@ def insert(database, table, rows):
     database.executemany(statement, rows)
 
 
-def make_tables(path):
-    """A register without entries, whose tables are made by the texts with which `wgr` makes them."""
+def make_tables(path, is_earlier=False):
+    """A register without entries, whose tables are made by the texts with which `wgr` makes them.
+
+    Of the first version, the last two tables are left out.
+    """
     database = sqlite3.connect(path)
     database.execute("PRAGMA journal_mode = WAL")
     for text in re.findall(r'"((?:CREATE|INSERT) [^"]*)"', MAKING.read_text(encoding="utf-8")):
-        database.execute(text)
+        if not (is_earlier and text.startswith(LATER_TABLES)):
+            database.execute(text)
+    if is_earlier:
+        database.execute("UPDATE meta SET version = 1")
     return database
 
 
-def make(path, networks, peers, every=1):
+def make(path, networks, peers, every=1, is_earlier=False):
     """Makes a register of so many networks, each of a tenant of its own and with so many peers.
 
     Each peer has a route.
     """
-    database = make_tables(path)
+    database = make_tables(path, is_earlier)
     all_networks = [Network(number, networks, every) for number in range(1, networks + 1)]
     numbers = range(1, peers + 1)
     insert(database, "tenant", ([it.number, it.tenant] for it in all_networks))
@@ -178,9 +187,11 @@ def make(path, networks, peers, every=1):
 
 
 def rows(path):
-    """All rows of the register but the index's."""
+    """All rows of the register but its version and the index's. Of the first version, the last two tables have none."""
     database = sqlite3.connect(path)
-    tables = ("meta", "tenant", "token", "network", "peer", "allowed", "second", "reader")
-    found = [sorted(database.execute(f"SELECT * FROM {table}"), key=repr) for table in tables]
+    there = {name for name, in database.execute("SELECT name FROM sqlite_schema WHERE type = 'table'")}
+    tables = ("tenant", "token", "network", "peer", "allowed", "second", "reader")
+    ask = {table: f"SELECT * FROM {table}" for table in tables if table in there}
+    found = [sorted(database.execute(ask[table]), key=repr) if table in ask else [] for table in tables]
     database.close()
     return found

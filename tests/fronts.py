@@ -2,17 +2,25 @@
 
 import http.client
 import os
+import shutil
 import socket
 import ssl
 import subprocess
 import tempfile
+import threading
+import time
 import unittest
+from contextlib import suppress
 from pathlib import Path
 
 import program
-from serving import TOKEN, Server, free_port, make_register
+from serving import TOKEN, Server, done, free_port, make_register
 
 DIST = Path(__file__).resolve().parent.parent / "dist"
+# Seconds in which a whole request is answered, however busy the machine; what is unfinished takes ten, or twenty.
+SOON = 9
+# Where Debian keeps what the page needs of others.
+QRCODE = Path("/usr/share/javascript/qrcode-generator/qrcode.js")
 
 
 def make_certificate(folder):
@@ -32,6 +40,7 @@ class Front(unittest.TestCase):
         self.folder.chmod(0o711)
         self.serving = self.enterContext(Server(self.make_register(self.folder)))
         make_certificate(self.folder)
+        shutil.copytree(DIST / "page", self.folder / "page")
         self.port = free_port()
         self.start(self.serving.port)
         self.assertTrue(program.in_time(self.is_up), self.log())
@@ -66,13 +75,42 @@ class Front(unittest.TestCase):
             own.close()
         return given
 
+    def answer_to(self, message):
+        """What is answered until the connection is closed, or the whole head is there, and the time that this takes."""
+        reply = b""
+        with self.link().sock as link, suppress(ConnectionError):
+            began = time.monotonic()
+            link.settimeout(SOON)
+            link.sendall(message)
+            while b"\r\n\r\n" not in reply and (part := link.recv(65_536)):
+                reply += part
+        return reply, time.monotonic() - began
+
+    def passed(self, message):
+        """The head that a service in place of the real one gets, and what the client is answered. Without the first, the proxy answers."""
+        heads = []
+
+        def serve():
+            with suppress(OSError), service.accept()[0] as link:
+                heads.append(link.recv(65_536).decode("latin-1"))
+                link.sendall(done({}))
+
+        with socket.create_server(("127.0.0.1", self.serving.port)) as service:
+            serving = threading.Thread(target=serve, daemon=True)
+            serving.start()
+            reply, _ = self.answer_to(message)
+            service.shutdown(socket.SHUT_RDWR)
+            serving.join()
+        return "".join(heads), reply
+
 
 class Nginx(Front):
     def start(self, behind):
         site = (DIST / "nginx.conf").read_text()
         site = site.replace("listen 443", f"listen 127.0.0.1:{self.port}").replace("listen [::]:443", f"listen [::1]:{self.port}")
         site = site.replace("unix:/run/wgr-http.sock", f"127.0.0.1:{behind}")
-        site = site.replace("/etc/nginx/", f"{self.folder}/").replace("/var/log/nginx/", f"{self.folder}/")
+        for place in ["/etc/nginx/", "/var/log/nginx/", "/usr/share/wgr/"]:
+            site = site.replace(place, f"{self.folder}/")
         (self.folder / "site").write_text(site)
         paths = "".join(f"{name}_temp_path {self.folder}/{name};" for name in ["client_body", "proxy", "fastcgi", "uwsgi", "scgi"])
         (self.folder / "nginx.conf").write_text(
@@ -86,6 +124,9 @@ class Nginx(Front):
 
 
 class HAProxy(Front):
+    # What the unit may say of the page.
+    page = {}
+
     def start(self, behind):
         # Where there is no service it gives up after two seconds, and not after two minutes.
         text = (DIST / "haproxy.cfg").read_text().replace("127.0.0.1:8080", f"127.0.0.1:{behind}").replace("retries 240", "retries 2")
@@ -95,7 +136,7 @@ class HAProxy(Front):
         with listener, (self.folder / "log").open("w") as log:
             # HAProxy is given the socket as systemd gives it.
             words = ["bash", "-c", 'exec 3<&"$0"; exec haproxy -W -f "$1"', str(listener.fileno()), str(self.folder / "haproxy.cfg")]
-            known = {**os.environ, "CREDENTIALS_DIRECTORY": str(self.folder)}
+            known = {**os.environ, "CREDENTIALS_DIRECTORY": str(self.folder), **self.page}
             self.run_on(words, stdout=log, env=known, pass_fds=[listener.fileno()])
 
     def log(self):

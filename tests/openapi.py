@@ -18,10 +18,24 @@ GENERAL = {
     "400": "BadMessage",
     "404": "NoSuchPath",
     "405": "WrongMethod",
+    "408": "TooSlow",
     "411": "LengthRequired",
     "413": "TooLarge",
     "503": "Unavailable",
 }
+
+
+def closed(value):
+    """The page as it would be if no object could have other members than those it names; in replies it may have more."""
+    if isinstance(value, list):
+        return [closed(inner) for inner in value]
+    if not isinstance(value, dict):
+        return value
+    own = {"additionalProperties": False} if value.get("type") == "object" and "properties" in value else {}
+    return {name: closed(inner) for name, inner in value.items()} | own
+
+
+CLOSED = closed(PAGE)
 
 
 def follow(value):
@@ -37,12 +51,17 @@ def follow(value):
 @functools.cache
 def validator(schema):
     # With the page's components in it, references lead to them.
-    return Draft202012Validator({**json.loads(schema), "components": PAGE["components"]})
+    return Draft202012Validator({**json.loads(schema), "components": CLOSED["components"]})
 
 
 def fits(schema, value):
-    """Whether a value is of the schema; without jsonschema, each is."""
-    return Draft202012Validator is None or validator(json.dumps(schema)).is_valid(value)
+    """Whether a value is of the schema, with no member that it doesn't name; without jsonschema, each is."""
+    return Draft202012Validator is None or validator(json.dumps(closed(schema))).is_valid(value)
+
+
+def examples(content):
+    """The values of the examples of a reply or a body."""
+    return [content["example"]] if "example" in content else [follow(example)["value"] for example in content["examples"].values()]
 
 
 def operation(method, path):
@@ -86,9 +105,12 @@ def check(method, path, body, reply):
     status = first.split(" ")[1]
     fields = dict(line.split(": ", 1) for line in lines)
     form = described(method, path, status)
-    schema = form["content"][fields["Content-Type"]]["schema"]
+    content = form["content"][fields["Content-Type"]]
     value = json.loads(text) if fields["Content-Type"] == "application/json" else text.decode()
-    assert fits(schema, value), (method, path, reply)
+    assert fits(content["schema"], value), (method, path, reply)
+    if status != "200":
+        # A refusal has the members of its example.
+        assert any(value["error"] == other["error"] and value.keys() == other.keys() for other in examples(content)), (method, path, reply)
     for name, header in form.get("headers", {}).items():
         assert name in fields or not header.get("required"), (method, path, reply)
         assert name not in fields or fits(header["schema"], fields[name]), (method, path, reply)

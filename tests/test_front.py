@@ -46,7 +46,7 @@ class AnyFront:
         with self.subTest("a path below /v1"):
             self.assertEqual(self.ask("GET", f"/v1{PEERS}")[:2], (200, b'{"peers":[' + wanted + b"]}"))
         with self.subTest("the path as it came"):
-            for target in ["/networks?x=1", "/%6eetworks", "/v1", "/v1/networks%2f", "/networks/office/owner/10.8.0.2%2f32"]:
+            for target in ["/networks?x=1", "/v1", "/v1/networks%2f", "/networks/office/owner/10.8.0.2%2f32"]:
                 self.assertEqual(self.ask("GET", target)[0] // 100, 4, target)
         with self.subTest("many at once"), ThreadPoolExecutor(32) as pool:
             asked = [pool.submit(self.ask, "GET", OWNER) for _ in range(100)]
@@ -65,6 +65,13 @@ class AnyFront:
                 self.assertEqual((status, body, fields["Content-Type"]), (*wanted, "application/json"))
         with self.subTest("a head that is too long"):
             self.assertEqual(self.ask("GET", f"/networks/{9_000 * 'a'}")[:2], (413, b'{"error":"too_large"}'))
+
+    def test_what_is_no_request(self):
+        """Some of what a proxy's own parser refuses has a body in HTML."""
+        for name, message, status, kind in self.unread:
+            with self.subTest(name):
+                reply, _ = self.answer_to(message)
+                self.assertRegex(reply, rb"(?is)\AHTTP/1\.1 %d .*\r\nContent-Type: %s\r\n" % (status, kind))
 
     def test_a_slow_client_holds_nobody(self):
         link = self.link()
@@ -152,6 +159,11 @@ class AnyFront:
 @needs("nginx", "openssl")
 class ByNginx(AnyFront, Nginx):
     too_many = 1_000
+    unread = [
+        ("nonsense", b"nonsense\r\n\r\n", 400, b"application/json"),
+        ("another version", b"GET / HTTP/9.1\r\n\r\n", 505, b"text/html"),
+        ("a coding of the body", b"POST / HTTP/1.1\r\nHost: x\r\nTransfer-Encoding: x\r\n\r\n", 501, b"text/html"),
+    ]
 
     def test_the_log(self):
         lines = super().test_the_log()
@@ -177,15 +189,15 @@ class ByNginx(AnyFront, Nginx):
                 self.assertEqual((reply.status, json.loads(reply.read())["error"]), (400, "bad_dump"))
                 self.assertNotIn("temporary file", self.log())
 
-    def test_what_is_no_request(self):
-        with self.link().sock as link:
-            link.sendall(b"nonsense\r\n\r\n")
-            self.assertTrue(link.recv(65_536).endswith(b'\r\n\r\n{"error":"bad_head"}'))
-
 
 @needs("haproxy", "openssl", "bash")
 class ByHAProxy(AnyFront, HAProxy):
     too_many = 300
+    unread = [
+        ("nonsense", b"nonsense\r\n\r\n", 400, b"text/html"),
+        ("two lengths", b"POST / HTTP/1.1\r\nHost: x\r\nContent-Length: 1\r\nContent-Length: 2\r\n\r\n", 400, b"text/html"),
+        ("two tokens", b"GET / HTTP/1.1\r\nHost: x\r\nAuthorization: x\r\nAuthorization: x\r\n\r\n", 400, b"application/json"),
+    ]
 
     def test_the_log(self):
         lines = super().test_the_log()

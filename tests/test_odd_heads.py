@@ -1,17 +1,10 @@
 """Odd requests through nginx and HAProxy, by the files of dist/. Each is answered at once, or its connection closed, though the
 client keeps its side open; and the register is passed nothing but what it reads."""
 
-import socket
-import threading
-import time
-from contextlib import suppress
-
-from fronts import HAProxy, Nginx
-from serving import NOBODY, PEERS, done
+from fronts import SOON, HAProxy, Nginx
+from serving import NOBODY, PEERS
 from tools import needs
 
-# Seconds in which each is answered, however busy the machine; what is unfinished takes ten, or twenty.
-SOON = 9
 TWO = b"POST /networks HTTP/1.1\r\nHost: x\r\n"
 
 
@@ -112,6 +105,7 @@ PASSED = [
     ("another scheme", [b"Authorization: Basic YTpi"], None),
     ("two words", [b"Authorization: Bearer a b"], None),
     ("other fields", [b"Authorization: Bearer a,b", b"X: \x80\xff", b"Cookie: a", b"Forwarded: for=b", b"Accept: */*"], "a,b"),
+    ("codings", [b"Authorization: Bearer a", b"Accept-Encoding: gzip, br", b"Accept-Encoding: \x80, gzip;q=0.5"], "a"),
 ]
 # The fields that the register, or a proxy on the way to it, may have to read.
 READ = {"host", "content-length", "authorization", "connection"}
@@ -119,17 +113,6 @@ READ = {"host", "content-length", "authorization", "connection"}
 
 class AnyFront:
     """Tests of either proxy."""
-
-    def answer_to(self, message):
-        """What is answered until the connection is closed, or the whole reply is there, and the time that this takes."""
-        reply = b""
-        with self.link().sock as link, suppress(ConnectionError):
-            began = time.monotonic()
-            link.settimeout(SOON)
-            link.sendall(message)
-            while b"\r\n\r\n" not in reply and (part := link.recv(65_536)):
-                reply += part
-        return reply, time.monotonic() - began
 
     def test_odd_requests(self):
         for name, message in ODD.items():
@@ -140,23 +123,11 @@ class AnyFront:
                 self.assertRegex(reply, rb"""(?s)\A(HTTP/1\.[01] (4\d\d|100|501|505) .*|{"error":"\w+"})?\Z""")
                 self.assertEqual(self.ask("GET", PEERS)[:2], (200, NOBODY.partition(b"\r\n\r\n")[2]))
 
-    def passed(self, message):
-        """The head that a service would get, and that the proxy answers."""
-        with socket.create_server(("127.0.0.1", self.serving.port)) as service:
-            asked = threading.Thread(target=self.answer_to, args=(message,), daemon=True)
-            asked.start()
-            link, _ = service.accept()
-            with link:
-                got = link.recv(65_536)
-                link.sendall(done({}))
-            asked.join()
-        return got.decode("latin-1")
-
     def test_what_is_passed_on(self):
         self.serving.__exit__()
         for name, sent, wanted in PASSED:
             with self.subTest(name):
-                lines = self.passed(head(*sent)).partition("\r\n\r\n")[0].split("\r\n")[1:]
+                lines = self.passed(head(*sent))[0].partition("\r\n\r\n")[0].split("\r\n")[1:]
                 found = {name.lower(): value for name, value in (line.split(": ", 1) for line in lines)}
                 self.assertEqual(found.keys() - READ, set())
                 self.assertEqual(found.get("authorization", "").split(" ")[-1] or None, wanted and wanted.split(" ")[-1])

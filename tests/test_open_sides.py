@@ -29,6 +29,8 @@ GOOD = {
     "a target beyond ASCII": (LIST.replace(b"/peers", "/pé€𝄞rs".encode()), refused(404, "no_such_path")),
     "empty lines first": (b"\r\n\n\r\n" + LIST, NOBODY),
 }
+# A message that lacks its last byte.
+SHORT = GOOD["a POST"][0][:-1]
 # How many services take the messages of a table side by side.
 SERVICES = 8
 
@@ -170,13 +172,18 @@ class AnyFront:
                     # A proxy may pass on less than was sent, which then is no longer malformed.
                     self.assertRegex(reply, rb"""(?s)\A(HTTP/1\.[01] (200|4\d\d|501|505) .*|{"error":"\w+"})?\Z""")
                     self.assertLess(spent, SOON if message in soon else self.limit + MORE)
+                    if message == SHORT:
+                        self.assertRegex(reply, self.told)
 
 
 @needs("nginx", "openssl")
 class ByNginx(AnyFront, Nginx):
     limit = 10
+    # The connection is closed without a reply.
+    told = rb"\A\Z"
 
 
 @needs("haproxy", "openssl", "bash")
 class ByHAProxy(AnyFront, HAProxy):
     limit = 20
+    told = rb"\AHTTP/1\.1 408 "

@@ -1,4 +1,5 @@
-"""docs/openapi.yaml: it is well-formed, its numbers are wide enough, and its refusals are those of the specification.
+"""docs/openapi.yaml: it is well-formed, its numbers are wide enough, its refusals are those of the specification, and its examples
+are what a service answers.
 
 That each request and reply of the other tests is one that it describes is checked by `Server.ask`.
 """
@@ -118,7 +119,7 @@ class Page(unittest.TestCase):
 
     def test_numbers_have_the_bits_that_they_need(self):
         found = list(schemas(openapi.PAGE))
-        self.assertEqual({name for name, schema in found if "format" in schema}, {"end", "handshake", "received", "sent"})
+        self.assertEqual({name for name, schema in found if "format" in schema}, {"End", "handshake", "received", "sent"})
         for name, schema in found:
             with self.subTest(name):
                 self.assertEqual(schema.get("format"), "int64" if schema.get("maximum", 0) >= 2**31 else None)
@@ -147,6 +148,48 @@ class Page(unittest.TestCase):
         for name, text, due in REPLIES:
             with self.subTest(name):
                 self.assertEqual(is_told(text), due)
+
+
+    @needs_module("jsonschema")
+    def test_examples(self):
+        """There is one of each body, reply, refusal and parameter, and they are of the page."""
+        for _, _, found in operations():
+            contents = {("200", kind): content for kind, content in found["responses"]["200"]["content"].items()}
+            contents |= {("body", kind): content for kind, content in found.get("requestBody", {"content": {}})["content"].items()}
+            for status in found["responses"].keys() - {"200"}:
+                contents[status, "application/json"] = openapi.follow(found["responses"][status])["content"]["application/json"]
+            for (status, kind), content in contents.items():
+                with self.subTest(found["operationId"], status=status):
+                    given = openapi.examples(content)
+                    self.assertTrue(all(openapi.fits(content["schema"], value) for value in given))
+                    if status not in ["200", "body", "502", "504"]:
+                        self.assertEqual(sorted(value["error"] for value in given), sorted(errors(found, status)))
+        for name, form in openapi.PAGE["components"]["parameters"].items():
+            with self.subTest(name):
+                self.assertTrue(openapi.fits(form["schema"], form["example"]))
+
+
+# The operations in an order in which each example is what a service answers, of which the first has made the peer.
+SESSION = [
+    *["listNetworks", "addPeer", "movePeer", "renewLease", "routePrefix", "ownerOf", "listPeers", "serverFile"],
+    *["unroutePrefix", "peerFile", "adoptDump", "revokePeer"],
+]
+
+
+class Examples(Serving):
+    def test_a_session(self):
+        self.assertEqual(set(SESSION), set(REFUSALS))
+        by_name = {found["operationId"]: (path, method, found) for path, method, found in operations()}
+        parameters = {name: str(form["example"]) for name, form in openapi.PAGE["components"]["parameters"].items()}
+        server = self.serve(now=1)
+        for name in SESSION:
+            with self.subTest(name):
+                path, method, found = by_name[name]
+                bodies = [content["example"] for content in found.get("requestBody", {"content": {}})["content"].values()]
+                body = bodies[0].encode() if bodies and isinstance(bodies[0], str) else next(iter(bodies), None)
+                ((kind, content),) = found["responses"]["200"]["content"].items()
+                due = content["example"].encode() if kind == "text/plain" else content["example"]
+                self.assertEqual(server.ask(method.upper(), path.format(**parameters), body), reply(200, due, kind))
 
 
 class Bodies(Serving):

@@ -2,11 +2,13 @@
 
 import hashlib
 import json
+import re
 import shutil
 import time
 import unittest
 
 from commands import TOP
+from fronts import QRCODE
 from hosts import needs_host
 from serving import key, request
 from stories import PAGE, URL, Story
@@ -18,7 +20,7 @@ FOLLOWED = {
     ("Installing", 1): "by hand",
     ("Upgrading", 0): "package",
     ("Upgrading", 1): "by hand",
-    ("Upgrading", 2): "by hand",
+    ("From an installation by hand to the package", 0): "by hand",
     ("Migrating a register", 0): "package",
     ("TLS and slow clients", 0): "package",
     ("TLS and slow clients", 1): "by hand",
@@ -27,28 +29,32 @@ FOLLOWED = {
     ("Orders", 0): "package",
     ("A customer gets a token", 0): "package",
     ("A server's token", 0): "by hand",
-    ("A customer gets a network", 0): "package",
-    ("Another token without a gap", 0): "package",
+    ("A tenant gets a network", 0): "package",
+    ("Rotating a token", 0): "package",
     ("A lost or leaked token", 0): "package",
-    ("Keeping tokens out of process lists", 0): "package",
-    ("Backup, restore, another machine", 0): "package",
+    ("A token for curl", 0): "package",
+    ("Backup and restore", 0): "package",
     ("To restore", 0): "package",
     ("To restore", 1): "package",
-    ("Who had which address when", 0): "package",
-    ("Who had which address when", 1): "package",
-    ("Figures, and a probe", 0): "package",
-    ("Figures, and a probe", 1): "package",
+    ("Audit: who had which address when", 0): "package",
+    ("Audit: who had which address when", 1): "package",
+    ("Monitoring: health, figures and alerts", 0): "package",
+    ("Monitoring: health, figures and alerts", 1): "package",
     ("The clock", 0): "package",
     ("The clock", 1): "package",
     ("Changing a network", 0): "package",
     ("Changing a network", 1): "package",
-    ("A second host that takes over", 0): "package",
-    ("A second host that takes over", 1): "package",
+    ("Failover to a second host", 0): "package",
+    ("Failover to a second host", 1): "package",
     ("Reading the file", 0): "by hand",
     ("A server that follows its network", 0): "by hand",
-    ("More files of a network", 0): "package",
+    ("The Internet behind a network", 0): "by hand",
+    ("Preshared keys, certificates and settings", 0): "package",
+    ("An ordinary interface by hand", 0): "package",
     ("Taking over an existing WireGuard server", 0): "package",
     ("Taking over an existing WireGuard server", 1): "package",
+    ("A page for tenants", 0): "by hand",
+    ("A page for tenants", 1): "by hand",
 }
 # What a reader who is new to the program looks for first, and where on the page, or from it, that is.
 QUESTIONS = [
@@ -60,10 +66,14 @@ QUESTIONS = [
     ("what status 2 means", "#statuses-and-what-to-do"),
     ("which addresses a /29 gives", "#what-a-29-gives"),
     ("how TLS is put before the service", "#tls-and-slow-clients"),
+    ("who is the operator", "#orders"),
+    ("power loss, a full disk", "#one-program-one-file"),
     ("what is proved", "../README.md#what-is-proved"),
     ("what is only tested", "../README.md#what-is-only-tested"),
     ("what is neither", "../README.md#what-is-neither"),
 ]
+# The unit that leads from a network's namespace to the Internet.
+OUT = "/etc/systemd/system/acme-office-out.service"
 # In place of the SSH to the second host: its folder of copies is that of the first one here.
 SSH = """#!/bin/bash
 [[ $1 == standby ]] || exit 255
@@ -73,12 +83,11 @@ exec unshare -m bash -c 'mount --bind /run/hosts/standby/backups /var/backups &&
 
 class Page(unittest.TestCase):
     def test_questions(self):
-        """The head of the page leads to each answer in one step, and so does README.md, which has some of its own."""
-        head, readme = (TOP / "docs/OPERATIONS.md").read_text().partition("\n## ")[0], (TOP / "README.md").read_text()
+        """The head of the page leads to each answer in one step. README.md leads to that head."""
+        head = (TOP / "docs/OPERATIONS.md").read_text().partition("\n## ")[0]
         for question, link in QUESTIONS:
             with self.subTest(question):
                 self.assertIn(f"[{question}]({link})", head)
-                self.assertTrue(link.startswith("../README.md#") or f"](docs/OPERATIONS.md{link})" in readme)
 
     def test_each_block_is_followed(self):
         self.assertEqual({(heading, place) for heading, blocks in PAGE.items() for place in range(len(blocks))}, FOLLOWED.keys())
@@ -96,12 +105,14 @@ class ByPackage(Story):
         self.put_nginx_before_it()
         self.give_a_token()
         self.take_over_a_server()
+        self.load_the_file()
         self.let_it_follow()
         self.probe()
         self.keep_a_history()
         self.restore()
         self.set_the_clock()
         self.change_a_network()
+        self.rotate_the_key()
         self.end_tokens()
         self.lose_the_host()
         self.upgrade()
@@ -119,6 +130,7 @@ class ByPackage(Story):
             shutil.copy(self.folder / name, self.host.inside("/etc/nginx"))
         self.do("systemctl start nginx")
         self.follow("TLS and slow clients", 0, "/root/wgr")
+        self.assertIn("<title>WireGuard networks</title>", self.do(f"curl -s {URL}/page/"))
 
     def give_a_token(self):
         """The service runs on."""
@@ -126,7 +138,7 @@ class ByPackage(Story):
         self.follow("Orders")
         self.follow("A customer gets a token")
         self.assertEqual(self.main_process(), before)
-        self.follow("Keeping tokens out of process lists")
+        self.follow("A token for curl")
 
     def take_over_a_server(self):
         """The dump of a running interface with three peers."""
@@ -137,17 +149,26 @@ class ByPackage(Story):
         self.host.inside("/etc/wireguard/wg0.conf").write_text("\n".join(parts))
         self.do("systemctl enable --now wg-quick@wg0")
         self.do("wg show wg0 public-key > office.public")
-        self.follow("A customer gets a network")
+        self.follow("A tenant gets a network")
         self.follow("Taking over an existing WireGuard server")
         # The dump has the peers in no order.
         self.assertEqual({peer["address"]: peer["key"] for peer in self.peers()}, {f"10.8.0.{number + 1}/32": key(number) for number in [1, 2, 3]})
+
+    def load_the_file(self):
+        """Of the server, by hand: the interface keeps its key and a preshared one, and loses a peer that the register doesn't have."""
+        key_of = "wg show wg0 private-key"
+        before = self.do("wg genpsk > preshared", f"wg set wg0 peer {key(1)} preshared-key preshared", f"wg set wg0 peer {key(8)}", key_of)
+        self.follow("An ordinary interface by hand")
+        self.assertEqual(self.do(key_of), before)
+        self.assertEqual(set(self.do("wg show wg0 peers").split()), {key(1), key(2), key(3)})
+        self.assertIn(f"{key(1)}\t{self.do('cat preshared')}", self.do("wg show wg0 preshared-keys"))
 
     def let_it_follow(self):
         """The interface of the server is another now, with the same key and peers; rounds keep a preshared key."""
         self.do("install -d -m 700 /etc/wgr/acme-office", "cd /etc/wgr/acme-office", "umask 077", "cp /root/wg0.key key", "cp /root/acme.token token", f"echo {URL}/networks/office > url")
         self.do(f"wg set wg0 peer {key(1)} endpoint 192.0.2.1:4711")
-        self.host.inside("/etc/wgr/acme-office/settings").write_text(PAGE["More files of a network"][0])
-        self.followed.add(("More files of a network", 0))
+        self.host.inside("/etc/wgr/acme-office/settings").write_text(PAGE["Preshared keys, certificates and settings"][0])
+        self.followed.add(("Preshared keys, certificates and settings", 0))
         self.follow("Taking over an existing WireGuard server", 1)
         self.do("systemctl start wgr-sync@acme-office")
         show = "ip netns exec acme-office wg show acme-office"
@@ -167,23 +188,23 @@ class ByPackage(Story):
         self.assertEqual((status, told["number"]), (200, number))
 
     def probe(self):
-        self.follow("Figures, and a probe", 0)
+        self.follow("Monitoring: health, figures and alerts", 0)
         # `systemctl edit` puts what is written in its editor there.
         self.do("mkdir -p /etc/systemd/system/wgr-probe.service.d /var/lib/prometheus/node-exporter")
-        self.host.inside("/etc/systemd/system/wgr-probe.service.d/override.conf").write_text(PAGE["Figures, and a probe"][1])
-        self.followed.add(("Figures, and a probe", 1))
+        self.host.inside("/etc/systemd/system/wgr-probe.service.d/override.conf").write_text(PAGE["Monitoring: health, figures and alerts"][1])
+        self.followed.add(("Monitoring: health, figures and alerts", 1))
         figures = self.do("systemctl daemon-reload", "systemctl start wgr-probe", "cat /var/lib/prometheus/node-exporter/wgr-probe.prom")
         self.assertIn("\nwgr_probe_success 1\n", figures)
 
     def keep_a_history(self):
         for number in [4, 5, 6]:
             self.add(number)
-        self.follow("Backup, restore, another machine")
+        self.follow("Backup and restore")
         self.add(7, label="laptop", keepalive=25)
         self.assertEqual(self.ask("/networks/office/peers/7/routes", {"prefix": "192.168.4.0/24"})[0], 200)
-        self.follow("Backup, restore, another machine")
-        self.follow("Who had which address when", 0)
-        self.follow("Who had which address when", 1)
+        self.follow("Backup and restore")
+        self.follow("Audit: who had which address when", 0)
+        self.follow("Audit: who had which address when", 1)
 
     def restore(self):
         for number in [1, 2]:
@@ -217,12 +238,23 @@ class ByPackage(Story):
         self.assertEqual((network["endpoint"], network["capacity"]), ("vpn2.example.net:51820", 500))
         self.follow("Changing a network", 1)
 
+    def rotate_the_key(self):
+        """Of a server, by the words of the page: the interface follows with the new one."""
+        make = "umask 077; wg genkey > key.new; wg pubkey < key.new"
+        self.assertIn(f"`{make}`", (TOP / "docs/OPERATIONS.md").read_text())
+        self.do("systemctl start wgr-sync@acme-office.timer")
+        public = self.do("cd /etc/wgr/acme-office", make).strip()
+        self.do("systemctl stop wgr", f"sudo -u wgr wgr-change-network /var/lib/wgr/register.db acme office --key {public}", "systemctl start wgr")
+        self.do("cd /etc/wgr/acme-office", "mv key.new key", "systemctl start wgr-sync@acme-office")
+        self.assertEqual(self.do("ip netns exec acme-office wg show acme-office public-key").strip(), public)
+        self.do("systemctl stop wgr-net@acme-office")
+
     def end_tokens(self):
         """The second token is the one whose SHA-256 the page has."""
         self.do("mv acme.token acme.token.old", "mv acme.header old.header")
         self.do("printf abc > acme.token", "printf 'Authorization: Bearer abc\\n' > acme.header")
         self.order("token-grant acme < acme.token")
-        self.follow("Another token without a gap")
+        self.follow("Rotating a token")
         self.assertEqual([self.ask("/networks", header=header)[0] for header in ["old.header", "acme.header"]], [401, 200])
         self.assertEqual(self.do("tr -d '\\n' < acme.token | sha256sum").split()[0], hashlib.sha256(b"abc").hexdigest())
         self.follow("A lost or leaked token")
@@ -241,10 +273,10 @@ class ByPackage(Story):
         self.use_program("/usr/bin/wgr", host=standby)
         self.host.inside("/usr/local/bin/ssh").write_text(SSH)
         self.do("chmod 755 /usr/local/bin/ssh")
-        self.follow("A second host that takes over", 0)
+        self.follow("Failover to a second host", 0)
         before = self.peers()
         self.do("systemctl disable --now wgr")
-        self.follow("A second host that takes over", 1, host=standby)
+        self.follow("Failover to a second host", 1, host=standby)
         token = f"Authorization: Bearer {self.do('cat acme.token.old').strip()}"
         told = self.do(f"curl -s --unix-socket /run/wgr-http.sock -H '{token}' http://wgr/networks/office/peers", host=standby)
         self.assertEqual(json.loads(told)["peers"], before)
@@ -289,12 +321,13 @@ class ByPackage(Story):
 
 
 @unittest.skipUnless(RELEASE.is_file(), "there is no release")
-@needs_host("apt", "curl", "dpkg-deb", "haproxy", "jq", "openssl", "sqlite3", "sudo", "wg", "wireguard-go", "xz")
+@needs_host("apt", "curl", "dpkg-deb", "haproxy", "iptables", "jq", "openssl", "ping", "sqlite3", "sudo", "wg", "wireguard-go", "xz")
 class ByHand(Story):
     def test_the_story(self):
         self.install()
         self.put_haproxy_before_it()
         self.give_a_token()
+        self.serve_the_page()
         self.follow_a_network()
         self.serve_another_register()
         self.upgrade()
@@ -321,6 +354,19 @@ class ByHand(Story):
         self.do("wgr-backup copies", "cp copies/*.db copy.db")
         self.follow("TLS and slow clients", 2)
 
+    def serve_the_page(self):
+        self.assertEqual(self.ask("/page/")[0], 404)
+        self.follow("A page for tenants", 0, "/root/wgr")
+        self.do("mkdir /etc/systemd/system/wgr-haproxy.service.d")
+        text = PAGE["A page for tenants"][1]
+        # Without the library HAProxy wouldn't start, as the page says.
+        self.host.inside("/etc/systemd/system/wgr-haproxy.service.d/override.conf").write_text(text if QRCODE.exists() else re.sub(".*WGR_QRCODE.*", "", text))
+        self.followed.add(("A page for tenants", 1))
+        told = self.do("systemctl daemon-reload", "systemctl restart wgr-haproxy", f"curl -s {URL}/page/ {URL}/page/page.js {URL}/page/qrcode.js")
+        self.assertIn("<title>WireGuard networks</title>", told)
+        self.assertEqual("QR Code Generator for JavaScript" in told, QRCODE.exists())
+        self.do("rm -r /etc/systemd/system/wgr-haproxy.service.d", "systemctl daemon-reload", "systemctl restart wgr-haproxy")
+
     def follow_a_network(self):
         self.follow("A server that follows its network")
         public = self.do("wg pubkey < /etc/wgr/acme-office/key").strip()
@@ -330,10 +376,23 @@ class ByHand(Story):
         self.assertEqual(self.do("ip netns exec acme-office wg show acme-office peers").split(), [key(1)])
         # Its token only reads.
         self.assertTrue((self.host.inside("/var/lib/wgr-sync/acme-office/reads-only")).exists())
+        self.give_it_a_way_out()
         self.do("systemctl stop wgr-net@acme-office")
+        self.assertNotIn("acme-office-out", self.do("ip link"))
+        self.do("systemctl disable acme-office-out", f"rm {OUT}")
         self.assertEqual(self.host.show("wgr-sync@acme-office.timer", "ActiveState", "UnitFileState"), ("inactive", "enabled"))
         self.do("wgr-backup copies", 'cp "$(ls copies/*.db | tail -n 1)" register.db')
         self.follow("Reading the file")
+
+    def give_it_a_way_out(self):
+        """The host has no route to the network's addresses, so what comes back has been masqueraded."""
+        self.host.inside(OUT).write_text(PAGE["The Internet behind a network"][0])
+        self.followed.add(("The Internet behind a network", 0))
+        self.do("systemctl daemon-reload", "systemctl enable --now acme-office-out")
+        ping = "ip netns exec acme-office ping -c 1 -W 5 -I 10.8.0.1 172.31.255.1"
+        self.assertIn(" 1 received", self.do(ping))
+        with self.host.shell() as shell:
+            self.assertEqual(shell.run(f"ip netns exec acme-office iptables -t nat -F && {ping.replace('-W 5', '-W 1')}").status, 1)
 
     def serve_another_register(self):
         self.follow("Several registers on one host")
@@ -352,7 +411,7 @@ class ByHand(Story):
 
     def change_to_the_package(self):
         self.do("tools/package /tmp", folder="/root/wgr")
-        self.follow("Upgrading", 2)
+        self.follow("From an installation by hand to the package")
         self.assertEqual(self.host.show("wgr.service", "ActiveState", "FragmentPath"), ("active", "/lib/systemd/system/wgr.service"))
         self.assertEqual(self.do("readlink /proc/$(systemctl show -P MainPID wgr)/exe"), "/usr/bin/wgr\n")
         self.assertEqual(self.ask("/networks/office/peers")[0], 200)

@@ -16,6 +16,7 @@ from program import Left, run
 from register_file import DIGEST, DONE, OFFICE, failed
 from sending import Sending, command, connect, line, send, tell
 from serving import PEERS, Server, done, free_port, key, peer, read_all, request
+from serving import refused as refused_request
 
 BOLT = ("tenant-add", "bolt")
 LISTED, NOTHING = request("GET", "/networks"), done({"networks": []})
@@ -64,6 +65,25 @@ class At(Sending):
         left = run(["send", self.socket, *BOLT], prepare=become_nobody)
         self.assertEqual(left, failed("device"))
         self.assertEqual(send(self.socket, BOLT), DONE)
+
+    def test_no_port_makes_a_client_the_operator(self):
+        """An order's line that comes to the address is a malformed request, from a port of each range and from known ones."""
+        ports = [*range(1_000, 65_536, 257), 22, 53, 80, 443, 8080, 31_337, 51_820]
+        server, asked = self.serve(), 0
+        for port in ports:
+            with socket.socket() as link, suppress(OSError):
+                link.setsockopt(socket.SOL_SOCKET, socket.SO_REUSEADDR, 1)
+                # It may be held, or be for root alone.
+                link.bind((server.host, port))
+                link.settimeout(program.LIMIT)
+                link.connect((server.host, server.port))
+                link.sendall(line(BOLT))
+                with self.subTest(port=port):
+                    self.assertEqual(read_all(link), refused_request(400, "bad_head"))
+                    asked += 1
+        self.assertGreater(asked, len(ports) * 3 // 4)
+        server.__exit__()
+        self.assertEqual(self.query("SELECT name FROM tenant"), [("acme",)])
 
     def test_what_is_no_socket_is_kept(self):
         file, folder = Path(self.path("file")), Path(self.path("folder"))

@@ -1,15 +1,14 @@
-"""Orders on a running service by `wgr send`: what they leave, what they refuse, and what the next request finds."""
+"""Orders on a running service by `wgr send`: what they leave, and what they refuse."""
 
 import hashlib
 import os
 import shutil
-import signal
 
 from keys import K0
 from program import Left, run
 from register_file import DIGEST, DONE, OFFICE, S, address_bytes, failed, options, refused
-from sending import Sending, command, connect, line, send, tell_line
-from serving import LIST, NOBODY, PEERS, Server, done, key, peer, read_all, request
+from sending import Sending, command, send, tell_line
+from serving import LIST, PEERS, Server, key, request
 from serving import refused as refused_request
 from test_batch import batch
 from test_register import ILL_FORMED, NOT_NAMES, NOT_TOKENS, REFUSALS
@@ -17,7 +16,6 @@ from test_register import ILL_FORMED, NOT_NAMES, NOT_TOKENS, REFUSALS
 ACME, GRANT = ("tenant-add", "acme"), ("token-grant", "acme", "abc")
 NETWORK = ("network-add", "acme", "office", *OFFICE.values())
 SECOND = hashlib.sha256(b"second").hexdigest()
-LISTED = request("GET", "/networks")
 
 # Each is done on what those before it leave.
 IN_TURN = [
@@ -82,6 +80,21 @@ class Done(Sending):
         columns = "name, family, lo, length, host, port, server, capacity, next"
         due = ("office", 4, address_bytes("10.8.0.0"), 24, "vpn.example.net", 51820, bytes([200]) * 32, 4096, 1)
         self.assertEqual(self.query(f"SELECT {columns} FROM network"), [due])
+
+    def test_fields_as_options(self):
+        """As on the command line for a file, wherever the options are among the words."""
+        self.init(ACME)
+        sent = self.path("sent.db")
+        shutil.copy(self.db, sent)
+        self.do(("token-grant", "acme", "first"), ("token-grant", "acme", "read", "reader"), NETWORK)
+        server = self.serve(sent, count=1)
+        network, words = ["acme", "office"], ["send", self.socket]
+        self.assertEqual(run([*words, "token-grant", "acme", "--right", "full"], b"first\n"), DONE)
+        self.assertEqual(run([*words, "--right=read", "token-grant", "acme"], b"reader\n"), DONE)
+        self.assertEqual(run([*words, *options()[4:], "network-add", *network, *options()[:4]]), DONE)
+        server.send(LIST)
+        self.assertEqual(server.ended(), Left(0))
+        self.assertEqual(self.rows(sent), self.rows())
 
     def test_the_end_of_a_network_with_peers(self):
         self.init(ACME)
@@ -247,6 +260,10 @@ class Refused(Sending):
         rows = [["tenant-add", "--json"], ["--json", "tenant-add"], ["tenant-add", "bolt", "--json"], ["token-grant", "--json"], ["token-grant", "acme", "--json"]]
         rows += [["token-end", "--json"], ["token-end", "--json", *hexes], ["network-end", "acme", "--json"], ["network-end", "acme", "office", "--json"]]
         rows += [["token-grant", "acme", "read", "--json"], ["backup", "--json"], ["backup", self.path("copy.db"), "--json"], ["status", "--json"]]
+        network, right = ["network-add", "acme", "lab"], ["--right", "read"]
+        rows += [["tenant-add", *right], ["network-end", "acme", *right], ["token-grant", "acme", "full", *right], ["token-end", *right], [*network, *right]]
+        rows += [[*network, *options(), *right], ["network-end", "acme", "office", *options()], [*network, *OFFICE.values(), *options()], [*network[:2], *options()]]
+        rows += [[*network, *options()[:at], *options()[at + 2:]] for at in range(0, 10, 2)]
         rows += [[*words, *hexes] for words in [["tenant-add"], ["tenant-add", "bolt"], ["network-end", "acme", "office"], ["status"], ["show"], ["show", "acme"], ["show", "--json"]]]
         for words in rows:
             with self.subTest(words=words):
@@ -287,103 +304,6 @@ class Refused(Sending):
             self.assertEqual(send(self.socket, ("token-end", "--digest", SECOND), stdin=folder), refused("no_such_token"))
         finally:
             os.close(folder)
-
-
-class Between(Sending):
-    """Orders and requests of one service."""
-
-    def setUp(self):
-        super().setUp()
-        self.init(ACME)
-
-    def asks(self, server, token):
-        """Whether the token opens the service."""
-        reply = server.send(request("GET", "/networks", token=token))
-        self.assertIn(reply, [done({"networks": []}), refused_request(401, "unknown_token")])
-        return reply == done({"networks": []})
-
-    def test_a_token_opens_and_closes_at_once(self):
-        self.do(("token-grant", "acme", "own"))
-        server = self.serve()
-        for name, end in [("its text", ("token-end", "second")), ("its digest", ("token-end", "--digest", SECOND)), ("in capitals", ("token-end", "--digest", SECOND.upper()))]:
-            with self.subTest(name):
-                self.assertFalse(self.asks(server, "second"))
-                self.assertEqual(send(self.socket, ("token-grant", "acme", "second")), DONE)
-                self.assertTrue(self.asks(server, "second"))
-                self.assertEqual(send(self.socket, end), DONE)
-                self.assertFalse(self.asks(server, "second"))
-                self.assertTrue(self.asks(server, "own"))
-
-    def test_a_token_gets_another_right(self):
-        """It ends, and is granted anew; the next request has the new right."""
-        self.do(NETWORK)
-        server = self.serve()
-        add = request("POST", PEERS, {"key": key(1)}, "second")
-        for right, due in [("read", refused_request(403, "read_only")), ("full", done(peer(1, 1, "10.8.0.2/32"))), ("read", refused_request(403, "read_only"))]:
-            with self.subTest(right):
-                self.assertEqual(send(self.socket, ("token-grant", "acme", right, "second")), DONE)
-                self.assertEqual(server.send(add), due)
-                self.assertEqual(send(self.socket, ("token-end", "second")), DONE)
-                self.assertEqual(server.send(add), refused_request(401, "unknown_token"))
-
-    def test_an_order_between_two_requests(self):
-        self.do(GRANT)
-        server = self.serve()
-        for _ in range(2):
-            self.assertEqual(server.send(LIST), refused_request(404, "no_such_network"))
-            self.assertEqual(send(self.socket, NETWORK), DONE)
-            self.assertEqual(server.send(LIST), NOBODY)
-            self.assertEqual(server.send(request("POST", PEERS, {"key": key(1)})), done(peer(1, 1, "10.8.0.2/32")))
-            self.assertEqual(send(self.socket, ("tenant-add", "acme")), refused("name_held"))
-            self.assertEqual(server.send(LIST), done({"peers": [peer(1, 1, "10.8.0.2/32")]}))
-            self.assertEqual(send(self.socket, ("network-end", "acme", "office")), DONE)
-
-    def test_orders_are_not_counted(self):
-        self.do(GRANT)
-        server = self.serve(count=2)
-        for place in range(3):
-            self.assertEqual(send(self.socket, ("tenant-add", f"a{place}")), DONE)
-        self.assertEqual(server.send(LISTED), done({"networks": []}))
-        for place in range(3):
-            self.assertEqual(send(self.socket, ("tenant-add", f"b{place}")), DONE)
-        self.assertEqual(server.send(LISTED), done({"networks": []}))
-        self.assertEqual(server.ended(), Left(0))
-        with self.subTest("none"):
-            self.assertEqual(self.serve(count=0, orders=self.path("none")).ended(), Left(0))
-
-    def test_orders_that_wait_are_served_first(self):
-        self.do(GRANT, NETWORK)
-        server = self.serve(count=2)
-        server.stop()
-        links, orders = [], [("tenant-add", "bolt"), ("token-end", "abc"), ("tenant-add", "bolt")]
-        for _ in range(2):
-            links.append(server.connect())
-            links[-1].sendall(LIST)
-        waiting = [connect(self.socket) for _ in orders]
-        for link, order in zip(waiting, orders):
-            link.sendall(line(order))
-        server.process.send_signal(signal.SIGCONT)
-        self.assertEqual([read_all(link) for link in waiting], [b"0 done\n", b"0 done\n", b"2 name_held\n"])
-        self.assertEqual([read_all(link) for link in links], 2 * [refused_request(401, "unknown_token")])
-        for link in links + waiting:
-            link.close()
-        self.assertEqual(server.ended(), Left(0))
-
-    def test_the_answer_is_that_of_the_command(self):
-        """Raw, the status and the text that the same command prints."""
-        self.serve(count=1, orders=self.socket)
-        rows = [
-            (GRANT, (0, "done")),
-            (NETWORK, (0, "done")),
-            (ACME, (2, "name_held")),
-            (("network-add", "acme", "lab", *OFFICE.values()), (2, "pool_overlaps acme office")),
-            (("tenant-add", "Acme"), (2, "bad_field name")),
-            (("token-end", "--digest", "ab"), (2, "bad_field digest")),
-            (("tenant-add",), (2, "bad_order")),
-        ]
-        for order, due in rows:
-            with self.subTest(order=order):
-                self.assertEqual(tell_line(self.socket, order), due)
 
 
 class ByDigest(Sending):

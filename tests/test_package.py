@@ -11,12 +11,15 @@ import tempfile
 import unittest
 from pathlib import Path
 
+from test_pages import anchors
 from tools import needs
 
 TOP = Path(__file__).resolve().parent.parent
 DIST = TOP / "dist"
 RELEASE = DIST / "release/RELEASE"
 DOCUMENTS = "usr/share/doc/wgr"
+# A link of a page, outside of which an installed page is as it is here.
+LINK = re.compile(rb"\[([^\]]*)\]\((?!\w+:|#)[^)\s]+\)")
 ARCHITECTURES = {"wgr": "amd64", "wgr-server": "all"}
 
 TOOLS = [f"wgr-{name}" for name in ["backup", "change-network", "client", "clock", "end-token", "figures", "free-pool", "history", "probe"]]
@@ -37,6 +40,7 @@ COPIED = {
     **{f"{DOCUMENTS}/docs/{page.name}": page for page in (TOP / "docs").iterdir()},
     f"{DOCUMENTS}/examples/prometheus-alerts.yml": DIST / "prometheus-alerts.yml",
     **{f"usr/share/wgr/{module.name}": module for module in DIST.glob("wgr_*.py")},
+    **{f"usr/share/wgr/page/{file.name}": file for file in (DIST / "page").iterdir()},
     **{f"usr/share/man/man8/{name}.gz": DIST / name for name in ["wgr.8", "wgr-net.8", "wgr-sync.8", "wgr-tools.8"]},
     # The scripts, and their man page under the name of each.
     **{f"usr/bin/{name}": DIST / name for name in TOOLS},
@@ -218,9 +222,28 @@ class Package(Common, Made):
         self.assertEqual(there, MADE | COPIED.keys())
         for path, source in COPIED.items():
             with self.subTest(path):
-                self.assertEqual(self.read(path), source.read_bytes())
+                # But for where links lead.
+                self.assertEqual(LINK.sub(rb"\1", self.read(path)), LINK.sub(rb"\1", source.read_bytes()))
         with self.subTest("the program"):
             self.assertEqual(hashlib.sha256(self.read("usr/bin/wgr")).hexdigest(), release()["program"])
+
+    def test_links(self):
+        """Each link of an installed page leads to a file of the package, and to a heading if it names one."""
+        pages = sorted((self.files / DOCUMENTS).rglob("*.md"))
+        links = [(page, link.decode()) for page in pages for link in re.findall(rb"\]\((?!\w+:)([^)\s]+)\)", page.read_bytes())]
+        self.assertGreater(len(links), 100)
+        lost = []
+        for page, link in links:
+            path, _, anchor = link.partition("#")
+            target = page.parent / path if path else page
+            if not target.is_file() or anchor and anchor not in anchors(target):
+                lost.append((page.name, link))
+        self.assertEqual(lost, [])
+        with self.subTest("a page that the package doesn't have"):
+            self.assertIn(" dist/README.md,", self.read(f"{DOCUMENTS}/docs/DECISIONS.md").decode())
+        for name, link in [("the proxy", "](examples/nginx.conf)"), ("a man page", "](../../man/man8/wgr.8.gz)"), ("the changelog", "](changelog.gz)"), ("the licences", "](copyright)"), ("a tool", "](../../../bin/wgr-client)")]:
+            with self.subTest(name):
+                self.assertIn(link, self.read(f"{DOCUMENTS}/README.md").decode() + self.read(f"{DOCUMENTS}/SECURITY.md").decode())
 
     def test_fields(self):
         needed = max(tuple(map(int, found.split(b"."))) for found in re.findall(rb"GLIBC_([0-9]+(?:\.[0-9]+)+)", self.read("usr/bin/wgr")))

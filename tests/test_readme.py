@@ -1,4 +1,4 @@
-"""The session of README.md and the whole of docs/TUTORIAL.md, word for word: each machine is a network namespace with a shell in it."""
+"""The commands of README.md and the whole of docs/TUTORIAL.md, word for word: each machine is a network namespace with a shell in it."""
 
 import os
 import queue
@@ -12,7 +12,7 @@ import unittest
 from pathlib import Path
 
 import program
-from commands import TOP, commands_of, is_printed
+from commands import TOP, blocks_of, commands_of, is_printed
 from tools import needs
 
 END = "-- end of a command --"
@@ -106,11 +106,12 @@ class Page(unittest.TestCase):
         return folder
 
     def no_secret_was_a_word(self, secrets):
+        """Of the files with these names, which the page's commands have left in this folder."""
         words = (self.folder / "words").read_text()
         self.assertIn("/peers/1/file/quick", words)
-        for name in secrets:
-            with self.subTest(name):
-                self.assertNotIn((self.folder / name).read_text().strip(), words)
+        for path in secrets:
+            with self.subTest(path):
+                self.assertNotIn((self.folder / path).read_text().strip(), words)
 
     def follow(self, machine, commands):
         for command, printed in commands:
@@ -125,10 +126,16 @@ class Page(unittest.TestCase):
 @needs("ip", "wg", "curl", root=True)
 class Readme(Page):
     def test_the_session(self):
+        """In a home of its own: no secret is left where the clone would be."""
+        home = self.folder / "home"
+        home.mkdir()
+        self.server.run(f"HOME={home}")
+        before = {*self.folder.iterdir(), self.folder / "words"}
         (session,) = blocks(section("README.md", "A first session"))
         self.follow(self.server, session)
         self.server.run("kill %1; wait")
-        self.no_secret_was_a_word(["acme.token", "server.private", "laptop.private"])
+        self.assertEqual({*self.folder.iterdir()}, before)
+        self.no_secret_was_a_word([f"home/wgr-session/{name}" for name in ["acme.token", "server.private", "laptop.private"]])
 
 
 @needs("ip", "wg", "wg-quick", "wireguard-go", "ping", "curl", "jq", "nsenter", root=True)
@@ -161,3 +168,19 @@ class Tutorial(Page):
         self.follow(self.clients["laptop"], of_laptop)
         self.server.run("kill %1; wait; dist/wgr-net down office")
         self.no_secret_was_a_word(["acme.token", "server.private", "laptop.private", "desk.private"])
+
+
+class Install(unittest.TestCase):
+    def test_the_commands(self):
+        """They are the first of docs/OPERATIONS.md, which test_operations.py runs."""
+        (commands,) = blocks(section("README.md", "Install"))
+        (followed, *_) = blocks_of("docs/OPERATIONS.md")["Installing"]
+        self.assertEqual(commands, [*commands_of(followed)][: len(commands)])
+
+
+class Left(unittest.TestCase):
+    def test_keys_are_ignored(self):
+        """What the sessions leave, where they are tried at the top of the clone, isn't committed by `git add -A`."""
+        left = ["acme.token", "acme.header", "register.db", "register.db-wal", "server.private", "laptop.conf", "office/key", "office/token"]
+        asked = subprocess.run(["git", "check-ignore", "--no-index", *left], cwd=TOP, capture_output=True, text=True)
+        self.assertEqual(asked.stdout.split(), left, asked.stderr)

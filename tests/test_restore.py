@@ -97,7 +97,7 @@ class Page(Shipped):
         self.follow(start)
         first, second = peer(1, 1, "10.8.0.2/32"), peer(2, 2, "10.8.0.3/32")
         self.assertEqual(self.ask("POST", PEERS, {"key": key(1)}), done(first))
-        self.follow(commands("Backup, restore, another machine"))
+        self.follow(commands("Backup and restore"))
         self.assertEqual(self.ask("POST", PEERS, {"key": key(2)}), done(second))
         self.follow(commands("To restore"))
         self.assertEqual(self.ask("GET", PEERS), done({"peers": [first]}))
@@ -109,7 +109,7 @@ class Page(Shipped):
 
     @needs("rsync")
     def test_a_second_host(self):
-        copy, *take_over = commands("A second host that takes over")
+        copy, *take_over = commands("Failover to a second host")
         self.follow([("systemctl start wgr", "")])
         peers = []
         for number in [1, 2, 3]:
@@ -128,19 +128,19 @@ class Page(Shipped):
     @needs("jq")
     def test_a_history(self):
         self.follow([("systemctl start wgr", "")])
-        backup = [*commands("Backup, restore, another machine")]
+        backup = [*commands("Backup and restore")]
         for number in range(1, 8):
             if number == 7:
                 self.follow(backup)
             self.ask("POST", PEERS, {"key": key(number), **({"label": "laptop", "keepalive": 25} if number == 7 else {})})
         self.ask("POST", f"{PEERS}/7/routes", {"prefix": "192.168.4.0/24"})
-        self.follow([*backup, *commands("Who had which address when")])
+        self.follow([*backup, *commands("Audit: who had which address when")])
         line = json.loads((self.folder / "first/wgr-history.jsonl").read_text())
         self.assertEqual((line["number"], line["key"], line["routes"]), (7, key(7), ["192.168.4.0/24"]))
 
     @needs("sqlite3")
     def test_a_network_that_is_changed(self):
-        self.follow([("systemctl start wgr", ""), *commands("Figures, and a probe"), *commands("Backup, restore, another machine")])
+        self.follow([("systemctl start wgr", ""), *commands("Monitoring: health, figures and alerts"), *commands("Backup and restore")])
         self.follow(commands("Changing a network"))
         (network,) = json.loads(self.ask("GET", "/networks").partition(b"\r\n\r\n")[2])["networks"]
         self.assertEqual((network["endpoint"], network["capacity"]), ("vpn2.example.net:51820", 500))

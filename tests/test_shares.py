@@ -30,6 +30,7 @@ SHARES = [
     ("files of the server", 5, [("GET", SERVER_FILE, "")], OWN, 2),
     ("dumps", 5, [("POST", DUMP, "")], OWN, 2),
     ("all of these, with and without /v1", 6, [("GET", PEERS, ""), ("GET", f"/v1{FILE}", ""), ("POST", f"/v1{DUMP}", "")], OWN, 2),
+    ("lists and dumps at encoded paths", 6, [("GET", "/networks/office/%70eers", ""), ("POST", "/%761/networks/office/d%75mp", "")], OWN, 2),
     ("a token behind more blanks", 6, [("GET", PEERS, "")], ["own", "  own"], 2),
     ("large bodies", 4, [("POST", PEERS, LARGE_BODY)], OWN, 1),
     ("other requests", 72, [("GET", "/networks", ""), ("POST", PEERS, "{}"), ("GET", "/networks/office/owner/10.8.0.2", "")], OWN, 64),

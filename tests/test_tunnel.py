@@ -12,8 +12,6 @@ from serving import TOKEN, Server, order
 from tools import needs
 
 PAGE = Path(__file__).resolve().parent.parent / "docs/OPERATIONS.md"
-# The names of namespaces and interfaces have the number of this process, so that no other is touched.
-MARK = f"{os.getpid() % 10_000:04}"
 
 
 def shell(command, text=None, allowed=(0,)):
@@ -28,7 +26,9 @@ class Host:
     """A network namespace with one end of a cable."""
 
     def __init__(self, name):
-        self.space, self.tunnel = f"wgr-{name}{MARK}", f"wgr{name}{MARK}"
+        # The names have the number of this process, so that no other's are touched.
+        mark = f"{os.getpid() % 10_000:04}"
+        self.space, self.tunnel = f"wgr-{name}{mark}", f"wgr{name}{mark}"
         self.private = shell("wg genkey").strip()
         self.public = shell("wg pubkey", self.private).strip()
 
@@ -48,10 +48,13 @@ class Host:
         return file.replace("[Interface]\n", f"[Interface]\nPrivateKey = {self.private}\n", 1)
 
 
-@needs("ip", "wg", "wg-quick", "wireguard-go", "ping", "curl", root=True)
-class Tunnel(unittest.TestCase):
-    def setUp(self):
-        self.folder = Path(self.enterContext(tempfile.TemporaryDirectory()))
+needs_tunnels = needs("ip", "wg", "wg-quick", "wireguard-go", "ping", root=True)
+
+
+class Hosts:
+    """Two hosts with a cable between them, for a class of tests that has a folder."""
+
+    def make_hosts(self):
         self.server, self.client = Host("a"), Host("b")
         for host in [self.server, self.client]:
             shell(f"ip netns add {host.space}")
@@ -75,6 +78,14 @@ class Tunnel(unittest.TestCase):
         file.write_text(text)
         file.chmod(0o600)
         return file
+
+
+@needs_tunnels
+@needs("curl")
+class Tunnel(Hosts, unittest.TestCase):
+    def setUp(self):
+        self.folder = Path(self.enterContext(tempfile.TemporaryDirectory()))
+        self.make_hosts()
 
     def register(self, name, pool, host):
         database = str(self.folder / name)

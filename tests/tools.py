@@ -15,6 +15,7 @@ PACKAGES = {
     "wireguard-go": "wireguard-go",
     "ip": "iproute2",
     "ping": "iputils-ping",
+    "iptables": "iptables",
     "sqlite3": "sqlite3",
     "systemd-analyze": "systemd",
     "systemd-sysusers": "systemd",
@@ -40,6 +41,9 @@ PACKAGES = {
     "apt": "apt",
     "unshare": "util-linux",
     "mount": "mount",
+    "chromium": "chromium",
+    "chromedriver": "chromium-driver",
+    "zbarimg": "zbar-tools",
 }
 
 

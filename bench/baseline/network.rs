@@ -208,6 +208,12 @@ pub fn tenant_of_token(db: &mut Connection, digest: &[u8; 32]) -> Option<u32> {
     db.rows(sql, &[Value::Blob(digest)], |row| row.int(1) as u32).pop()
 }
 
+/// Whether the token of this digest only reads.
+pub fn is_reader(db: &mut Connection, digest: &[u8; 32]) -> bool {
+    let sql = "SELECT digest FROM reader WHERE digest = ?1";
+    !db.rows(sql, &[Value::Blob(digest)], |_| ()).is_empty()
+}
+
 /// The id of the tenant's network of this name.
 pub fn network_id(db: &mut Connection, tenant: u32, name: &str) -> Option<u32> {
     let values = [Value::Int(i64::from(tenant)), Value::Text(name)];

@@ -3,7 +3,7 @@
 //! It answers what the benchmarks ask, and ends the program at all else.
 
 use crate::key::key_of;
-use crate::network::{network_id, networks_of, tenant_of_token, Change, Network, Refusal, Seen, Status, Wanted};
+use crate::network::{is_reader, network_id, networks_of, tenant_of_token, Change, Network, Refusal, Seen, Status, Wanted};
 use crate::pages;
 use crate::prefix::Prefix;
 use crate::rows::{self, Outline};
@@ -64,6 +64,10 @@ fn unknown_token() -> Reply {
         extra: "WWW-Authenticate: Bearer\r\n",
         ..json(pages::error("unknown_token", None))
     }
+}
+
+fn read_only() -> Reply {
+    Reply { status: "403 Forbidden", ..json(pages::error("read_only", None)) }
 }
 
 fn not_found(name: &str) -> Reply {
@@ -385,9 +389,13 @@ impl Office {
     }
 
     fn respond(&mut self, now: i64, request: &Request) -> Reply {
-        let Some(tenant) = tenant_of_token(&mut self.db, &sha256::digest_of(request.token.as_bytes())) else {
+        let digest = sha256::digest_of(request.token.as_bytes());
+        let Some(tenant) = tenant_of_token(&mut self.db, &digest) else {
             return unknown_token();
         };
+        if request.method != "GET" && is_reader(&mut self.db, &digest) {
+            return read_only();
+        }
         let parts: Vec<&str> = request.path.split('/').skip(1).collect();
         match &parts[..] {
             ["networks"] => json(pages::networks(&networks_of(&mut self.db, tenant))),

@@ -65,7 +65,10 @@ fn grant(db: &mut Connection, tenant: &str, digest: &[u8; 32]) {
 fn end_token(db: &mut Connection, digest: &[u8; 32]) -> bool {
     let is_held = tenant_of_token(db, digest).is_some();
     if is_held {
-        db.commit(|db| db.run("DELETE FROM token WHERE digest = ?1", &[Value::Blob(digest)]));
+        db.commit(|db| {
+            db.run("DELETE FROM reader WHERE digest = ?1", &[Value::Blob(digest)]);
+            db.run("DELETE FROM token WHERE digest = ?1", &[Value::Blob(digest)]);
+        });
     }
     is_held
 }

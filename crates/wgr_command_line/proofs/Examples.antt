@@ -176,6 +176,38 @@ send_of_a_reading_behind_dashes : asked_by (codes "send" ∷ codes "s" ∷ codes
 unfolding clap_on_literals
 send_of_a_reading_behind_dashes = refl
 
+send_of_a_right : asked_by (codes "send" ∷ codes "s" ∷ codes "token-grant" ∷ codes "acme" ∷ codes "--right" ∷ codes "read" ∷ []) ≡ Some (Send (codes "s") (codes "token-grant" ∷ codes "acme" ∷ codes "read" ∷ []) None false)
+unfolding clap_on_literals
+send_of_a_right = refl
+
+send_of_another_words_right : asked_by (codes "send" ∷ codes "s" ∷ codes "network-end" ∷ codes "acme" ∷ codes "--right" ∷ codes "lab" ∷ []) ≡ Some (Send (codes "s") [] None false)
+unfolding clap_on_literals
+send_of_another_words_right = refl
+
+send_of_a_right_behind_a_right : asked_by (codes "send" ∷ codes "s" ∷ codes "token-grant" ∷ codes "acme" ∷ codes "full" ∷ codes "--right" ∷ codes "read" ∷ []) ≡ Some (Send (codes "s") [] None false)
+unfolding clap_on_literals
+send_of_a_right_behind_a_right = refl
+
+send_of_settings : asked_by (codes "send" ∷ codes "s" ∷ codes "network-add" ∷ codes "acme" ∷ codes "--capacity" ∷ codes "9" ∷ codes "--key" ∷ codes "k" ∷ codes "lab" ∷ codes "--host" ∷ codes "h" ∷ codes "--port" ∷ codes "1" ∷ codes "--pool" ∷ codes "p" ∷ [])
+    ≡ Some (Send (codes "s") (codes "network-add" ∷ codes "acme" ∷ codes "lab" ∷ codes "p" ∷ codes "h" ∷ codes "1" ∷ codes "k" ∷ codes "9" ∷ []) None false)
+unfolding clap_on_literals
+send_of_settings = refl
+
+send_of_four_settings : asked_by (codes "send" ∷ codes "s" ∷ codes "network-add" ∷ codes "acme" ∷ codes "lab" ∷ codes "--pool" ∷ codes "p" ∷ codes "--host" ∷ codes "h" ∷ codes "--port" ∷ codes "1" ∷ codes "--key" ∷ codes "k" ∷ [])
+    ≡ Some (Send (codes "s") [] None false)
+unfolding clap_on_literals
+send_of_four_settings = refl
+
+send_of_settings_and_a_right : asked_by (codes "send" ∷ codes "s" ∷ codes "network-add" ∷ codes "a" ∷ codes "b" ∷ codes "--right" ∷ codes "full" ∷ codes "--pool" ∷ codes "p" ∷ codes "--host" ∷ codes "h" ∷ codes "--port" ∷ codes "1" ∷ codes "--key" ∷ codes "k" ∷ codes "--capacity" ∷ codes "9" ∷ [])
+    ≡ Some (Send (codes "s") [] None false)
+unfolding clap_on_literals
+send_of_settings_and_a_right = refl
+
+send_of_another_words_settings : asked_by (codes "send" ∷ codes "s" ∷ codes "network-end" ∷ codes "a" ∷ codes "b" ∷ codes "--pool" ∷ codes "p" ∷ codes "--host" ∷ codes "h" ∷ codes "--port" ∷ codes "1" ∷ codes "--key" ∷ codes "k" ∷ codes "--capacity" ∷ codes "9" ∷ [])
+    ≡ Some (Send (codes "s") [] None false)
+unfolding clap_on_literals
+send_of_another_words_settings = refl
+
 send_of_no_word : asked_by (codes "send" ∷ codes "s" ∷ []) ≡ None
 unfolding clap_on_literals
 send_of_no_word = refl

@@ -1,6 +1,7 @@
 -- The command line: what the words of `wgr` ask for, and what is wrong with them.
-use Rattle.std.specs.Prelude.{◌≡◌, ◌≢◌, Bool, true, false, List, [], ◌∷◌, Option, Some, None, codes, map, option_and_then, option_map, if◌then◌else◌, slice_get}
+use Rattle.std.specs.Prelude.{◌≡◌, ◌≢◌, ◌++◌, Bool, true, false, List, [], ◌∷◌, Option, Some, None, codes, is_some, map, option_and_then, option_map, if◌then◌else◌, slice_get}
 use Rattle.std.specs.Borrow.{Bor}
+use Rattle.std.specs.List.{list_any}
 use Rattle.std.specs.Option.{option_map_or}
 use Rattle.std.specs.Str.{bytes_eq}
 use Rattle.clap.specs.Kinds.{or_else}
@@ -11,6 +12,7 @@ use Rattle.clap.specs.declared.builder.action.ArgAction.TheVariants.{SetTrue}
 use Rattle.clap.specs.declared.error.kind.ErrorKind.TheVariants.{MissingSubcommand}
 use Rattle.wgr_command_line.specs.declared.invocation.Invocation.{Invocation}
 use Rattle.wgr_command_line.specs.declared.invocation.Invocation.TheVariants as invocation
+use Rattle.wgr_command_line.specs.declared.sending.SettingWords.{SettingWords}
 use Rattle.wgr_words.specs.Asked.{DigestEnd, NetworkAdd, NetworkEnd, OrderAsked, TenantAdd, TokenEnd, TokenGrant, order_asked}
 
 -- ---- the commands
@@ -114,9 +116,15 @@ serve_app =
 abbrev pub socket_app : App
 socket_app = with_value (codes "path") (new_app (codes "send"))
 
--- `send PATH [--digest HEX] [--json] WORD..`
+-- `send PATH [--right R] [--pool P] [--host H] [--port N] [--key K] [--capacity N]`
+abbrev pub field_app : App
+field_app =
+    with_choice (codes "capacity") (with_choice (codes "key") (with_choice (codes "port") (with_choice (codes "host") (with_choice (codes "pool")
+    (with_choice (codes "right") socket_app)))))
+
+-- the same with `[--digest HEX] [--json] WORD..`
 abbrev pub send_app : App
-send_app = with_rule (with_flag (codes "json") (with_choice (codes "digest") socket_app)) (values_rule (codes "word"))
+send_app = with_rule (with_flag (codes "json") (with_choice (codes "digest") field_app)) (values_rule (codes "word"))
 
 -- `wgr` has a version and requires a command; its own name is not one of the words
 abbrev pub wgr_alone : App
@@ -138,7 +146,7 @@ wgr_app =
 -- A plan of a pool; a new register in the file `db`, an order on the register there, the orders that are the lines of
 -- a file or of standard input, or what the register has; the answers to the requests in files, or to connections, at a
 -- moment or by the clock, where orders and readings may come over the socket `orders`; or one of these by its words,
--- sent to that socket.
+-- sent to that socket. There are no words where an option is another order's.
 pub data Asked : Type 0 where
   Plan : (pool : Text) → Asked
   Init : (db : Text) → Asked
@@ -225,10 +233,53 @@ serve_in rows =
     with_first (codes "count") rows (λ count.
     Some (Serve db place count (first_of (codes "now") rows) (first_of (codes "orders") rows)))))
 
+-- `token-grant TENANT`
+abbrev pub is_grant : List Text → Bool
+is_grant (word ∷ tenant ∷ []) = bytes_eq word (codes "token-grant")
+is_grant words = false
+
+-- `network-add TENANT NAME`
+abbrev pub is_new_network : List Text → Bool
+is_new_network (word ∷ tenant ∷ name ∷ []) = bytes_eq word (codes "network-add")
+is_new_network words = false
+
+-- The words of a grant with its right, or of a new network with its settings. Of another order there are none.
+abbrev pub with_given_right : Text → List Text → List Text
+with_given_right right words = if is_grant words then words ++ right ∷ [] else []
+
+abbrev pub with_settings : List Text → List Text → List Text
+with_settings settings words = if is_new_network words then words ++ settings else []
+
+-- the settings of a network in the order of a line's fields, if all are given
+abbrev pub given_settings : List Row → Option (List Text)
+given_settings rows =
+    option_and_then (λ pool.
+    option_and_then (λ host.
+    option_and_then (λ port.
+    option_and_then (λ key.
+    option_map (λ capacity. pool ∷ host ∷ port ∷ key ∷ capacity ∷ []) (first_of (codes "capacity") rows))
+    (first_of (codes "key") rows))
+    (first_of (codes "port") rows))
+    (first_of (codes "host") rows))
+    (first_of (codes "pool") rows)
+
+abbrev pub has_setting : List Row → Bool
+has_setting rows = list_any (λ id. is_some (first_of id rows)) (codes "pool" ∷ codes "host" ∷ codes "port" ∷ codes "key" ∷ codes "capacity" ∷ [])
+
+-- the words with the fields behind them that are given as options: a right, or all settings and no right
+abbrev pub fields_behind : Option Text → Option (List Text) → Bool → List Text → List Text
+fields_behind None None false words = words
+fields_behind None (Some settings) some words = with_settings settings words
+fields_behind (Some right) settings false words = with_given_right right words
+fields_behind right settings some words = []
+
+abbrev pub with_fields : List Row → List Text → List Text
+with_fields rows words = fields_behind (first_of (codes "right") rows) (given_settings rows) (has_setting rows) words
+
 abbrev pub send_in : List Row → Option Asked
 send_in rows =
     with_first (codes "path") rows (λ path.
-    option_map (λ words. Send path words (first_of (codes "digest") rows) (is_set (codes "json") rows)) (all_of (codes "word") rows))
+    option_map (λ words. Send path (with_fields rows words) (first_of (codes "digest") rows) (is_set (codes "json") rows)) (all_of (codes "word") rows))
 
 -- what a command asks for by its values
 abbrev pub asked_in : Text × List Row → Option Asked
@@ -269,6 +320,10 @@ abbrev pub wrong_with : List Text → Kinds
 wrong_with words = or_else (fault_of wgr_app words) (if_missing (named_by words))
 
 -- ---- what is asked for, in the program's types
+
+-- the settings of a network in the order of a line's fields
+abbrev pub setting_words : SettingWords → List Text
+setting_words s = s.pool.now ∷ s.host.now ∷ s.port.now ∷ s.key.now ∷ s.capacity.now ∷ []
 
 abbrev pub optional_text : Option (Bor Text) → Option Text
 optional_text = option_map (λ text. text.now)

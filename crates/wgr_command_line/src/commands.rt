@@ -1,12 +1,12 @@
 //! The commands and their arguments, as `clap` parses them.
-ghost use Rattle.std.specs.Prelude.{◌≡◌, true, IfErr, IfOk};
-ghost use Rattle.clap.specs.Words.{app_of, kind_of, with_subcommand};
-ghost use Rattle.wgr_command_line.specs.Words.{batch_app, db_app, init_app, migrate_app, network_add_app, network_app, network_end_app, orders_app, plan_app, send_app, serve_app, show_app, socket_app, tenant_add_app, token_end_app, token_grant_app, wgr_alone, wgr_app};
+ghost use Rattle.std.specs.Prelude.{◌≡◌, false, true, IfErr, IfOk};
+ghost use Rattle.clap.specs.Words.{app_of, kind_of, rule_of, with_subcommand};
+ghost use Rattle.wgr_command_line.specs.Words.{batch_app, choice_rule, db_app, field_app, init_app, migrate_app, network_add_app, network_app, network_end_app, orders_app, plan_app, send_app, serve_app, show_app, socket_app, tenant_add_app, token_end_app, token_grant_app, wgr_alone, wgr_app};
 
 use crate::help;
 use crate::values::{choice, flag, option, optional, value, values};
 use clap::error::ErrorKind;
-use clap::{Command, Error};
+use clap::{Arg, Command, Error};
 use std::alloc::Global;
 
 pub(crate) fn wgr_command<'a>(alloc: Global) -> Result<Command<'a>, Error>
@@ -36,7 +36,7 @@ fn bare_command<'a>(alloc: Global) -> Result<Command<'a>, Error>
     ensures memory { IfErr result (λ error. kind_of error ≡ ErrorKind.OutOfMemory) }
 {
     let command = Command::new(alloc, "wgr")
-        .version("0.8.0")
+        .version("0.8.1")
         .about("A register of WireGuard peers and their tunnel addresses")
         .no_binary_name(true)
         .subcommand_required(true)
@@ -298,11 +298,40 @@ fn socket_command<'a>(alloc: Global) -> Result<Command<'a>, Error>
     Ok(command.arg(path)?)
 }
 
+// A field of an order that is an option of the command on a file, or may be among the words.
+fn field<'a>(alloc: Global, shown: &'a str, id: &'a str) -> Arg<'a>
+    ensures rule { rule_of result ≡ choice_rule id.now }
+    ensures local { result.global ≡ false }
+{
+    choice(
+        alloc,
+        id,
+        shown,
+        "As the order's command on a file takes it",
+    )
+}
+
+// `send` with the options of `token-grant` and of `network-add`, of which it requires none.
+fn field_command<'a>(alloc: Global) -> Result<Command<'a>, Error>
+    ensures app { IfOk result (λ command. app_of command ≡ field_app) }
+    ensures memory { IfErr result (λ error. kind_of error ≡ ErrorKind.OutOfMemory) }
+{
+    let command = socket_command(alloc)?;
+    let right = field(alloc, "R", "right");
+    let pool = field(alloc, "P", "pool");
+    let host = field(alloc, "H", "host");
+    let port = field(alloc, "N", "port");
+    let key = field(alloc, "K", "key");
+    let capacity = field(alloc, "N", "capacity");
+    let command = command.arg(right)?.arg(pool)?.arg(host)?;
+    Ok(command.arg(port)?.arg(key)?.arg(capacity)?)
+}
+
 fn send_command<'a>(alloc: Global) -> Result<Command<'a>, Error>
     ensures app { IfOk result (λ command. app_of command ≡ send_app) }
     ensures memory { IfErr result (λ error. kind_of error ≡ ErrorKind.OutOfMemory) }
 {
-    let command = socket_command(alloc)?;
+    let command = field_command(alloc)?;
     let digest = choice(
         alloc,
         "digest",

@@ -217,8 +217,8 @@ Example:
   done";
 
 pub(crate) const ORDERS: &str = "\
-FILE or standard input has one order per line, as for `wgr send`: its words separated by single
-spaces, with the token as the last word of `token-grant` and of `token-end`:
+FILE or standard input has one order per line: its name and its fields by position, separated by
+single spaces, with the token as the last word of `token-grant` and of `token-end`:
   tenant-add NAME
   token-grant TENANT TOKEN
   token-grant TENANT RIGHT TOKEN
@@ -339,18 +339,18 @@ Example:
 
 pub(crate) const SEND: &str = "\
 Sends an order to the service that listens at PATH (`wgr serve` with --orders), and prints
-`done` once it is carried out. The words are the order's name and its fields, by position:
+`done` once it is carried out. The words are those of the command on a file, without DB:
   tenant-add NAME
-  token-grant TENANT [RIGHT]
-  token-end
-  token-end --digest HEX
-  network-add TENANT NAME POOL HOST PORT KEY CAPACITY
+  token-grant TENANT [--right R]
+  token-end [--digest HEX]
+  network-add TENANT NAME --pool P --host H --port N --key K --capacity N
   network-end TENANT NAME
 
-The fields are those of the command of the same name, which does the same on a file: see its
---help. As there, the token of `token-grant` and of `token-end` is read from standard input, and
-is refused as a word, and so is an option of another command. No word may be empty or contain a
-space. One that begins with `-` must come after `--`.
+See their --help. As there, the token of `token-grant` and of `token-end` is read from standard
+input, and is refused as a word, and so is an option of another command. Instead of options, the
+values may come behind the names, in this order: `token-grant TENANT R` and `network-add TENANT
+NAME P H N K CAPACITY`. No word may be empty or contain a space. One that begins with `-` must
+come after `--`.
 
 Or asks the service for a reading, which changes nothing:
   status                    prints its figures, lines `name value` for Prometheus
@@ -362,7 +362,8 @@ Or asks the service for a reading, which changes nothing:
 
 Messages on standard error besides that command's, with the exit status, and what to do:
   wgr: bad_order       2  the words are no order and no reading: check number and spelling, give
-                          a token by standard input, and an option only to its own word
+                          a token by standard input, an option only to its own word, and all
+                          five of `network-add`
   wgr: bad_field file  2  FILE does not begin with `/`: give its whole path
   wgr: file_exists     2  FILE, or a file that SQLite would use with it (FILE-wal, FILE-shm,
                           FILE-journal), is there already, or would be one of the register's:

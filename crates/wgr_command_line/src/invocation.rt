@@ -9,7 +9,7 @@ ghost use Rattle.clap.specs.Words.{HasKind, kind_of, subcommand_rows_of};
 ghost use Rattle.wgr_command_line.specs.Words.{asked_by, asked_in, asked_of, wrong_with};
 
 use crate::commands::wgr_command;
-use crate::values;
+use crate::{sending, values};
 use clap::error::ErrorKind;
 use clap::{ArgMatches, Error};
 use std::alloc::{AllocError, Global};
@@ -62,7 +62,8 @@ pub enum Invocation<'a> {
         now: Option<&'a str>,
         orders: Option<&'a str>,
     },
-    /// An order or a reading by its words, sent to the service that listens at a socket.
+    /// An order or a reading by its words, sent to the service that listens at a socket. There are no words
+    /// if an option belongs to another order.
     Send {
         path: &'a str,
         words: Vec<&'a str>,
@@ -82,7 +83,7 @@ fn invocation_of<'a>(
     };
     match given {
         ("batch", found) => values::batch(alloc, found),
-        ("send", found) => values::send(alloc, found),
+        ("send", found) => sending::send(alloc, found),
         ("plan", found) => Ok(values::plan(found)),
         ("init", found) => Ok(values::init(found)),
         ("migrate", found) => Ok(values::migrate(found)),

@@ -5,6 +5,7 @@ mod commands;
 mod help;
 mod invocation;
 mod laws;
+mod sending;
 mod values;
 
 pub use invocation::{Invocation, read_words};

@@ -1,7 +1,7 @@
 //! The values of a command's arguments, by their names.
 ghost use Rattle.std.specs.Prelude.{◌≡◌, false, IfOk, map, option_map};
 ghost use Rattle.clap.specs.Words.{all_of, first_of, found_of, rows_of, rule_of};
-ghost use Rattle.wgr_command_line.specs.Words.{asked_of, batch_in, choice_rule, flag_rule, init_in, is_set, migrate_in, network_add_in, network_end_in, option_rule, optional_rule, orders_in, plan_in, send_in, serve_in, show_in, tenant_add_in, token_end_in, token_grant_in, value_rule, values_rule};
+ghost use Rattle.wgr_command_line.specs.Words.{asked_of, batch_in, choice_rule, flag_rule, init_in, is_set, migrate_in, network_add_in, network_end_in, option_rule, optional_rule, orders_in, plan_in, serve_in, show_in, tenant_add_in, token_end_in, token_grant_in, value_rule, values_rule};
 
 use crate::invocation::Invocation;
 use clap::{Arg, ArgAction, ArgMatches};
@@ -62,15 +62,15 @@ pub(crate) fn values<'a>(alloc: Global, id: &'a str, shown: &'a str, help: &'a s
     value(alloc, id, shown, help).num_args(1..)
 }
 
-// The first value under this name.
-fn first<'a>(found: &ArgMatches<'a>, id: &str) -> Option<&'a str>
+/// The first value under this name.
+pub(crate) fn first<'a>(found: &ArgMatches<'a>, id: &str) -> Option<&'a str>
     ensures { option_map (λ text. text.now) result ≡ first_of id.now (rows_of (found_of found.now)) }
 {
     found.get_str(id)
 }
 
-// Whether the option without a value under this name is given.
-fn is_set(found: &ArgMatches<'_>, id: &str) -> bool
+/// Whether the option without a value under this name is given.
+pub(crate) fn is_set(found: &ArgMatches<'_>, id: &str) -> bool
     ensures { result ≡ is_set id.now (rows_of (found_of found.now)) }
 {
     match first(found, id) {
@@ -192,8 +192,8 @@ pub(crate) fn show<'a>(found: &ArgMatches<'a>) -> Option<Invocation<'a>>
     })
 }
 
-// All values under this name.
-fn all<'a>(
+/// All values under this name.
+pub(crate) fn all<'a>(
     alloc: Global,
     found: &ArgMatches<'a>,
     id: &str,
@@ -241,26 +241,4 @@ pub(crate) fn serve<'a>(found: &ArgMatches<'a>) -> Option<Invocation<'a>>
         now,
         orders,
     })
-}
-
-pub(crate) fn send<'a>(
-    alloc: Global,
-    found: &ArgMatches<'a>,
-) -> Result<Option<Invocation<'a>>, AllocError>
-    ensures { IfOk result (λ invocation. option_map asked_of invocation ≡ send_in (rows_of (found_of found.now))) }
-{
-    let Some(path) = first(found, "path") else {
-        return Ok(None);
-    };
-    let Some(words) = all(alloc, found, "word")? else {
-        return Ok(None);
-    };
-    let digest = first(found, "digest");
-    let is_json = is_set(found, "json");
-    Ok(Some(Invocation::Send {
-        path,
-        words,
-        digest,
-        is_json,
-    }))
 }

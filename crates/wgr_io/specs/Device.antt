@@ -1,5 +1,6 @@
 -- What a read and a write report: their count, their bytes and a failure.
 use Rattle.std.specs.Prelude.{◌≡◌, Bool, true, ℕ, ◌+◌, ◌<◌, ◌≤◌, ◌++◌, List, [], length, take, slice_index_or, All, Option, Some, None, Result, Ok, Err}
+use Rattle.std.specs.Io.KnownBytes.{Appends}
 
 -- a call that fails is marked, and one that does not leaves the mark as it was
 abbrev pub MarksError : {A E : Type 0} → Bool → Bool → Result A E → Type 0
@@ -29,3 +30,7 @@ AllGave pieces = All (λ (piece : List ℕ). 0 < length piece) pieces
 -- each call but the last returned some bytes: no call was made after the end or a failure
 abbrev pub EndAtNothing : List (List ℕ) → Type 0
 EndAtNothing pieces = (k : ℕ) → k + 1 < length pieces → 0 < length (slice_index_or pieces k [])
+
+-- a first part of the bytes was written, which may be none or all
+abbrev pub IsCut : Option (List ℕ) → Option (List ℕ) → List ℕ → Type 0
+IsCut before after bytes = (beginning : List ℕ) × (rest : List ℕ) × (bytes ≡ beginning ++ rest) × Appends before after beginning

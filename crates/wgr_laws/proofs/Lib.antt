@@ -28,3 +28,4 @@ pub mod RepeatLemmas
 pub mod Examples
 pub mod CheckOrder
 pub mod AdoptionExamples
+pub mod OnExamples

@@ -34,3 +34,4 @@ pub mod StopLemmas
 -- The definitions on small registers, by computation.
 pub mod Examples
 pub mod RowExamples
+pub mod AloneExamples

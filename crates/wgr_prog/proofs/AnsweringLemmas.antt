@@ -15,7 +15,8 @@ use Rattle.wgr_file.proofs.FileLemmas.{stays_open}
 use Rattle.wgr_office.specs.declared.answer.Answer as given
 use Rattle.wgr_office.specs.declared.run.Event as event
 use Rattle.wgr_office.specs.Serving.{is_available, written_reply}
-use Rattle.wgr_service.specs.Batch.{IsBatch, IsCut}
+use Rattle.wgr_io.specs.Device.{IsCut}
+use Rattle.wgr_service.specs.Batch.{IsBatch}
 use Rattle.wgr_service.specs.Network.{Log}
 use Rattle.wgr_service.specs.declared.connections.Ending.{Ending}
 use Rattle.wgr_service.specs.declared.connections.Ending.TheVariants as ending

@@ -16,7 +16,7 @@ use Rattle.wgr_office.specs.Serving.{is_available, written_reply}
 use Rattle.wgr_office.specs.declared.answer.Answer as given
 use Rattle.wgr_office.specs.declared.run.Event as event
 use Rattle.wgr_office.specs.declared.run.Event.TheVariants as events
-use Rattle.wgr_service.specs.Batch.{IsCut}
+use Rattle.wgr_io.specs.Device.{IsCut}
 use Rattle.wgr_service.specs.Connections.{AreConnectionsServed, ConnectionEnd, contacts_of}
 use Rattle.wgr_service.specs.Network.{Contact, Log, Logs, bound, bound_orders}
 use Rattle.wgr_service.specs.declared.connections.Ending.{Ending}

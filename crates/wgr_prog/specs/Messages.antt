@@ -1,7 +1,7 @@
 -- What is printed of what was asked for.
 use Rattle.std.specs.Prelude.{ℕ, ◌≡◌, ◌⊎◌, true, Bool, List, Option, codes}
 use Rattle.std.specs.Io.KnownBytes.{Appends}
-use Rattle.wgr_service.specs.Batch.{IsCut}
+use Rattle.wgr_io.specs.Device.{IsCut}
 use Rattle.wgr_prog.specs.declared.messages.TheConstants.{DONE, FAULT}
 
 -- the text is printed, or the writer fails after a first part of it

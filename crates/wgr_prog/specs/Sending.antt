@@ -3,6 +3,7 @@ use Rattle.std.specs.Prelude.{ℕ, ◌≡◌, ◌⊎◌, ◌++◌, ◌||◌, Boo
 use Rattle.std.specs.declared.vec.Vec.{Vec}
 use Rattle.std.specs.declared.alloc.Global.{Global}
 use Rattle.std.specs.Io.KnownBytes.{Appends}
+use Rattle.wgr_io.specs.Device.{IsCut}
 use Rattle.wgr_service.specs.Network.{Contact, Log, Logs, called, ended}
 use Rattle.wgr_words.specs.Line.{is_line, line_text}
 use Rattle.wgr_words.specs.Order.{Input, TakesInput}
@@ -47,10 +48,11 @@ pub record IsSentBack (path : List ℕ) (line : List (List ℕ)) (before after :
   pub read : IfSome call.input (λ all. reply ≡ all)
   pub sound : has_failed call ≡ false
 
--- No connection was made; or one was, and whether an order was done isn't known. `failed` says whether a read or a write
--- of it had failed.
-abbrev pub IsUnanswered : List ℕ → Log → Log → Bool → Type 0
-IsUnanswered path before after failed = (after ≡ before) ⊎ ((call : Call) × Logs before after (met_in path call) × (has_failed call ≡ failed))
+-- No connection was made; or one was, nothing but a first part of the line was written, which may be none or all, and
+-- whether an order was done isn't known. `failed` says whether a read or a write of it had failed.
+abbrev pub IsUnanswered : List ℕ → List (List ℕ) → Log → Log → Bool → Type 0
+IsUnanswered path line before after failed =
+    (after ≡ before) ⊎ ((call : Call) × Logs before after (met_in path call) × IsCut call.before call.after (line_text line) × (has_failed call ≡ failed))
 
 -- how an exchange may break off, and whether a read or a write has failed by then
 abbrev pub MayBreak : SendFault → Bool → Type 0
@@ -63,8 +65,8 @@ abbrev pub SendsLine : List ℕ → List (List ℕ) → Log → Log → Result (
 SendsLine path line before after (Ok reply) = IsSentBack path line before after reply.items
 SendsLine path line before after (Err fault.BadOrder) = (after ≡ before) × (is_line line ≡ false)
 SendsLine path line before after (Err fault.BadToken) = ⊥
-SendsLine path line before after (Err fault.Device) = (is_line line ≡ true) × IsUnanswered path before after true
-SendsLine path line before after (Err fault.NoMemory) = IsUnanswered path before after false
+SendsLine path line before after (Err fault.Device) = (is_line line ≡ true) × IsUnanswered path line before after true
+SendsLine path line before after (Err fault.NoMemory) = IsUnanswered path line before after false
 
 -- all of the input is the token, a word, which comes after the words
 abbrev pub SendsTaken : List ℕ → List (List ℕ) → Bool → Log → Log → Input → Input → Result (Vec ℕ Global) SendFault → Type 0

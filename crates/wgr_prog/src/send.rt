@@ -1,8 +1,9 @@
 //! `send`: an order or a reading, sent to a running service.
-ghost use Rattle.std.specs.Prelude.{◌≡◌, ◌||◌, ◌∷◌, ◌++◌, ℕ, Result, [], false, map, option_map, true, IfErr, IfNone, IfOk, IfSome, OnOk};
+ghost use Rattle.std.specs.Prelude.{◌≡◌, ◌||◌, ◌∷◌, ◌++◌, ℕ, Result, [], false, map, option_map, true, IfErr, IfNone, IfOk, IfSome, OnErr, OnOk};
 ghost use Rattle.std.specs.declared.vec.Vec.{Vec};
 ghost use Rattle.std.specs.declared.alloc.Global.{Global};
 ghost use Rattle.std.specs.Io.KnownBytes.{Appends};
+ghost use Rattle.wgr_io.specs.Device.{IsCut};
 ghost use Rattle.wgr_prog.specs.Reply.{reply_in};
 ghost use Rattle.wgr_prog.specs.Sending.{IsNoWord, MayBreak, Sends, SendsLine, SendsToken, SendsWhole, ReportsReply, ReportsSent, send_status};
 ghost use Rattle.wgr_prog.specs.declared.send.SendFault.{SendFault as Failed};
@@ -273,6 +274,7 @@ fn ask<R: Read, W: Write>(
 ) -> Result<Vec<u8>, SendFault>
     requires sound { (R.failed input.old ≡ false) × (W.failed out.old ≡ false) }
     ensures ok { IfOk result (λ reply. Appends (W.contents out.old) (W.contents out.new) (line_text (map (λ word. word.now) line.now)) × IfSome (R.remaining input.old) (λ all. reply.items ≡ all)) }
+    ensures cut { OnErr result (IsCut (W.contents out.old) (W.contents out.new) (line_text (map (λ word. word.now) line.now))) }
     ensures err { IfErr result (λ why. MayBreak why (R.failed input.new || W.failed out.new)) }
     ensures sound { OnOk result ((R.failed input.new || W.failed out.new) ≡ false) }
 {

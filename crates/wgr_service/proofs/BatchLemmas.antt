@@ -5,7 +5,7 @@ use Rattle.std.specs.Io.KnownBytes.{Appends}
 use Rattle.std.proofs.lemmas.List.{flat_map_more, take-append-drop}
 use Rattle.std.proofs.lemmas.List.Concat.{flat_map-append}
 use Rattle.wgr_model.specs.Register.{Bytes}
-use Rattle.wgr_service.specs.Batch.{IsCut}
+use Rattle.wgr_io.specs.Device.{IsCut}
 use Rattle.wgr_service.proofs.ConnectionLemmas.{appends_more}
 
 pub on_err : {T E P : Type 0} (r : Result T E) → P → OnErr r P

@@ -20,8 +20,8 @@ use Rattle.wgr_office.specs.declared.serve.ServeFault.{ServeFault}
 use Rattle.wgr_office.specs.declared.serve.ServeFault.TheVariants as serve_fault
 use Rattle.wgr_office.proofs.BetweenLemmas.{call_kept, calls_more, passed}
 use Rattle.wgr_office.proofs.RunLemmas.{ask_served}
-use Rattle.wgr_service.specs.Batch.{IsCut}
-use Rattle.wgr_service.specs.Connections.{AreConnectionsServed, AreUnharmed, IsAppended, Asked, Exchange, HasCounted, HasMet, HasOutcome, IsConnectionServed, Meeting, Ordered, ConnectionEnd, Reports, given_answer, answered, asked_event, contacts_of, counted_all, cut, door_of, exchange_of, exchanges, failed, failure_line, is_request_at, line_of, meeting_of, missed, served_moment, requests_in, shown, status_in, unavailable_line, unspelled, weight}
+use Rattle.wgr_io.specs.Device.{IsCut}
+use Rattle.wgr_service.specs.Connections.{AreConnectionsServed, AreUnharmed, IsAppended, Asked, Exchange, HasCounted, HaveMoved, Moves, HasMet, HasOutcome, IsConnectionServed, Meeting, Ordered, ConnectionEnd, Reports, given_answer, answered, asked_event, contacts_of, counted_all, cut, door_of, exchange_of, exchanges, failed, failure_line, is_request_at, line_of, meeting_of, missed, served_moment, requests_in, shown, status_in, unavailable_line, unspelled, weight}
 use Rattle.wgr_service.specs.Counts.{counted_if}
 use Rattle.wgr_service.specs.Lines.{fault_text, is_read, order_answer}
 use Rattle.wgr_service.specs.Network.{Contact, Log, Logs}
@@ -226,10 +226,15 @@ asked outcomes = map asked_event (exchanges outcomes)
 abbrev pub given_to : List ConnectionEnd → List given.Answer
 given_to outcomes = map given_answer (exchanges outcomes)
 
+pub moved_more : {S : Type 0} (g : Ghosts S) (old mid new : Held S) (outcomes : List ConnectionEnd) (outcome : ConnectionEnd) → HaveMoved g old mid outcomes → Moves g mid new outcome → HaveMoved g old new (outcomes ++ outcome ∷ [])
+moved_more {S} g old mid new [] outcome same moves = (new, subst (λ (conn : Held S). Moves g conn new outcome) same moves, refl)
+moved_more g old mid new (first ∷ outcomes) outcome (next, moved, later) moves = (next, moved, moved_more g next mid new outcomes outcome later moves)
+
 -- so many of the connections that were served so far were requests'
 pub record AreServedSoFar {S : Type 0} (g : Ghosts S) (old new : Held S) (now : Option ℕ) (count : ℕ) (outcomes : List ConnectionEnd) : Type 0 where
   pub each : requests_in outcomes ≡ count
   pub served : All (IsConnectionServed now) outcomes
+  pub moved : HaveMoved g old new outcomes
   pub calls : (start : Held S) × Keeps g old start × AreCalls g start new (asked outcomes) (given_to outcomes)
 
 -- one more
@@ -247,6 +252,7 @@ module _ {S : Type 0} (g : Ghosts S) (old : Held S) (now : Option ℕ) where
   none_served = record {
     each = refl;
     served = search rules;
+    moved = refl;
     calls = (old, keeps_same g old, refl);
   }
 
@@ -254,14 +260,15 @@ module _ {S : Type 0} (g : Ghosts S) (old : Held S) (now : Option ℕ) where
     one_more : (outcome : ConnectionEnd) → requests_in (outcomes ++ outcome ∷ []) ≡ count + weight (door_of outcome)
     one_more outcome = counted outcomes outcome ∙ ap (λ n. n + weight (door_of outcome)) so_far.each
 
-    with_one : (outcome : ConnectionEnd) (x : Exchange) → exchange_of outcome ≡ Some x → IsConnectionServed now outcome → IsCall g mid new (asked_event x) (given_answer x) → AreServedSoFar g old new now (count + weight (door_of outcome)) (outcomes ++ outcome ∷ [])
-    with_one outcome x is served one =
+    with_one : (outcome : ConnectionEnd) (x : Exchange) → exchange_of outcome ≡ Some x → IsConnectionServed now outcome → Moves g mid new outcome → IsCall g mid new (asked_event x) (given_answer x) → AreServedSoFar g old new now (count + weight (door_of outcome)) (outcomes ++ outcome ∷ [])
+    with_one outcome x is served moves one =
         let xs = exchanges outcomes in
         let start = so_far.calls.0 in
         let more : exchanges (outcomes ++ outcome ∷ []) ≡ xs ++ x ∷ [] = filter_map-append exchange_of outcomes (outcome ∷ []) ∙ ap (λ o. xs ++ cons_option o []) is in
         record {
           each = one_more outcome;
           served = All-append (IsConnectionServed now) outcomes (outcome ∷ []) so_far.served (search rules);
+          moved = moved_more g old mid new outcomes outcome so_far.moved moves;
           calls = (
             start,
             so_far.calls.1,
@@ -272,14 +279,15 @@ module _ {S : Type 0} (g : Ghosts S) (old : Held S) (now : Option ℕ) where
           );
         }
 
-    with_none : (outcome : ConnectionEnd) → exchange_of outcome ≡ None → IsConnectionServed now outcome → Keeps g mid new → AreServedSoFar g old new now (count + weight (door_of outcome)) (outcomes ++ outcome ∷ [])
-    with_none outcome is served keeps =
+    with_none : (outcome : ConnectionEnd) → exchange_of outcome ≡ None → IsConnectionServed now outcome → Moves g mid new outcome → Keeps g mid new → AreServedSoFar g old new now (count + weight (door_of outcome)) (outcomes ++ outcome ∷ [])
+    with_none outcome is served moves keeps =
         let (start, kept, calls) = so_far.calls in
         let (front, more_kept, later) = calls_kept g start mid new (asked outcomes) (given_to outcomes) calls keeps in
         let more : exchanges (outcomes ++ outcome ∷ []) ≡ exchanges outcomes = filter_map-append exchange_of outcomes (outcome ∷ []) ∙ ap (λ o. exchanges outcomes ++ cons_option o []) is ∙ append-nil (exchanges outcomes) in
         record {
           each = one_more outcome;
           served = All-append (IsConnectionServed now) outcomes (outcome ∷ []) so_far.served (search rules);
+          moved = moved_more g old mid new outcomes outcome so_far.moved moves;
           calls = (front, keeps_both g old start front kept more_kept, subst (λ ys. AreCalls g front new (map asked_event ys) (map given_answer ys)) (sym more) later);
         }
 
@@ -288,12 +296,12 @@ module _ {S : Type 0} (g : Ghosts S) (old : Held S) (now : Option ℕ) where
     same_kept same = subst (λ conn. Keeps g mid conn) (sym same) (keeps_same g mid)
 
     pub served_more : (outcome : ConnectionEnd) → HasOutcome g mid new now outcome → AreServedSoFar g old new now (count + weight (door_of outcome)) (outcomes ++ outcome ∷ [])
-    served_more (answered m x) one = with_one (answered m x) x refl one.0 one.1
-    served_more (cut m x) one = with_one (cut m x) x refl one.0 one.1
-    served_more (shown m asked end) one = with_none (shown m asked end) refl one.0 one.1.0
-    served_more (unspelled m why) one = with_none (unspelled m why) refl one.0 (same_kept one.1)
-    served_more (failed m) one = with_none (failed m) refl one.0 (same_kept one.1)
-    served_more (missed at) one = with_none (missed at) refl one.0 (same_kept one.1)
+    served_more (answered m x) one = with_one (answered m x) x refl one.0 one.1 one.1
+    served_more (cut m x) one = with_one (cut m x) x refl one.0 one.1 one.1
+    served_more (shown m asked end) one = with_none (shown m asked end) refl one.0 one.1 one.1.0
+    served_more (unspelled m why) one = with_none (unspelled m why) refl one.0 one.1 (same_kept one.1)
+    served_more (failed m) one = with_none (failed m) refl one.0 one.1 (same_kept one.1)
+    served_more (missed at) one = with_none (missed at) refl one.0 one.1 (same_kept one.1)
 
   pub all_served : (new : Held S) (asked_for count : ℕ) (ended : Ending) (outcomes : List ConnectionEnd) → RowsAreIsolated → AreServedSoFar g old new now count outcomes → HasCounted ended asked_for outcomes → AreConnectionsServed g old new now asked_for ended outcomes
   all_served new asked_for count ended outcomes law so_far counted =
@@ -301,6 +309,7 @@ module _ {S : Type 0} (g : Ghosts S) (old : Held S) (now : Option ℕ) where
       record {
         each = counted;
         served = so_far.served;
+        moved = so_far.moved;
         run = λ db late at clean. (passed g start new db late (asked outcomes) (given_to outcomes) law calls (kept.stands db late at) clean).run;
         start = start;
         kept = kept;

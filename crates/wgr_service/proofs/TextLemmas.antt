@@ -16,7 +16,7 @@ use Rattle.wgr_orders.specs.declared.order.Order.{Order}
 use Rattle.wgr_register.specs.declared.fault.Done.{Done}
 use Rattle.wgr_register.specs.declared.fault.OrderFault.{OrderFault}
 use Rattle.wgr_words.specs.declared.line.LineFault.{LineFault}
-use Rattle.wgr_service.specs.Batch.{IsCut}
+use Rattle.wgr_io.specs.Device.{IsCut}
 use Rattle.wgr_service.specs.Connections.{Asked, Exchange, Ordered, given_answer, asked_event}
 use Rattle.wgr_service.specs.Lines.{end_status, end_text}
 use Rattle.wgr_service.specs.Texts.{AreOrders, EndsInput, HasCarriedOut, IsCutAtLast, IsNoOrder, SpellsLine, greatest, lines_in}

@@ -24,7 +24,7 @@ use Rattle.wgr_register.specs.declared.fault.Done.{Done}
 use Rattle.wgr_register.specs.declared.fault.OrderFault.{OrderFault}
 use Rattle.wgr_words.specs.Reading.{ReadingAsked}
 use Rattle.wgr_words.specs.declared.line.LineFault.{LineFault}
-use Rattle.wgr_service.specs.Batch.{IsCut}
+use Rattle.wgr_io.specs.Device.{IsCut}
 use Rattle.wgr_service.specs.Counts.{counted_if}
 use Rattle.wgr_service.specs.Lines.{SpellsFirst, SpellsNone, ended_text, fault_text, is_read, order_answer}
 use Rattle.wgr_service.specs.Network as network
@@ -227,6 +227,11 @@ abbrev pub counted_all : List ConnectionEnd → Replies → Replies
 counted_all [] replies = replies
 counted_all (outcome ∷ outcomes) replies = counted_all outcomes (counted_if (status_in outcome) replies)
 
+-- each in turn moved the register
+abbrev pub HaveMoved : {S : Type 0} → Ghosts S → Held S → Held S → List ConnectionEnd → Type 0
+HaveMoved g old new [] = new ≡ old
+HaveMoved {S} g old new (outcome ∷ outcomes) = (mid : Held S) × Moves g old mid outcome × HaveMoved g mid new outcomes
+
 -- the list of these messages and orders, each message at its moment, was run, with these answers
 abbrev pub HasServed : {S : Type 0} → Ghosts S → Held S → Database → List Event → List Exchange → Type 0
 HasServed g conn db late xs = HasRun g conn db late (map asked_event xs) (map given_answer xs)
@@ -238,10 +243,11 @@ HasCounted ending.Shut count outcomes = (requests_in outcomes ≤ count) × ((ea
 
 -- `count` requests' connections were served, and the orders' that came, each with one outcome: the register handled the
 -- answered messages and orders like a list of events, and between any two of them it was at some rows. Readings kept
--- the rows; those that came before the first event led to `start`.
+-- the rows, of which they showed what they did; those that came before the first event led to `start`.
 pub record AreConnectionsServed {S : Type 0} (g : Ghosts S) (old new : Held S) (now : Option ℕ) (count : ℕ) (ended : Ending) (outcomes : List ConnectionEnd) : Type 0 where
   pub each : HasCounted ended count outcomes
   pub served : All (IsConnectionServed now) outcomes
+  pub moved : HaveMoved g old new outcomes
   pub run : (db : Database) (late : List Event) → StandsAt g old db late → HasCleanDisk (state g new) → HasServed g new db late (exchanges outcomes)
   pub start : Held S
   pub kept : Keeps g old start

@@ -6,5 +6,6 @@ pub mod Lines
 pub mod Network
 pub mod Readings
 pub mod Reports
+pub mod Sockets
 pub mod Status
 pub mod Texts

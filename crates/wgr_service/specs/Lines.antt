@@ -16,6 +16,7 @@ use Rattle.wgr_register.specs.declared.fault.OrderFault.{OrderFault}
 use Rattle.wgr_register.specs.declared.fault.OrderFault.TheVariants as order_fault
 use Rattle.wgr_sql.specs.declared.fault.Fault.TheVariants as fault
 use Rattle.wgr_words.specs.Line.{IsUnspelled, SpellsOrder, first_line}
+use Rattle.wgr_words.specs.Reading.{reading_in_line}
 use Rattle.wgr_words.specs.Words.{word_field_name}
 use Rattle.wgr_words.specs.declared.line.LineFault.{LineFault}
 use Rattle.wgr_words.specs.declared.line.LineFault.TheVariants as line_fault
@@ -72,10 +73,10 @@ EndsLine g old new line (line_end.Unspelled why) = (new ≡ old) × IsUnspelled 
 abbrev pub SpellsFirst : Bytes → Order → Type 0
 SpellsFirst all order = (line : Bytes) × (first_line all ≡ Some line) × SpellsOrder line order
 
--- there is no line, or the first spells no order; want of memory leaves open what it spells
+-- there is no line, or the first spells neither an order nor a reading; want of memory leaves open what it spells
 abbrev pub SpellsNone : Bytes → LineFault → Type 0
 SpellsNone all line_fault.NoMemory = Unit {0}
-SpellsNone all why = ((first_line all ≡ None) × (why ≡ line_fault.NoOrder)) ⊎ ((line : Bytes) × (first_line all ≡ Some line) × IsUnspelled line why)
+SpellsNone all why = ((first_line all ≡ None) × (why ≡ line_fault.NoOrder)) ⊎ ((line : Bytes) × (first_line all ≡ Some line) × IsUnspelled line why × (reading_in_line line ≡ None))
 
 -- the order in the first line of the input, where that is known, was carried out; or nothing was done
 abbrev pub TakesLine : {S : Type 0} → Ghosts S → Held S → Held S → Option Bytes → LineEnd → Type 0

@@ -1,5 +1,5 @@
 -- Readings of the operator: how one ended, and what is written of that.
-use Rattle.std.specs.Prelude.{◌≡◌, ◌++◌, ℕ, Bool, true, false, length, codes, decimal, sum_by, IfSome, List, Option, Some, None, Result, Ok, Err}
+use Rattle.std.specs.Prelude.{◌≡◌, ◌==◌, ◌∷◌, ◌++◌, [], ℕ, Bool, true, false, length, codes, decimal, sum_by, IfSome, List, Option, Some, None, Result, Ok, Err}
 use Rattle.std.specs.declared.alloc.AllocError.{AllocError}
 use Rattle.std.specs.declared.alloc.Global.{Global}
 use Rattle.std.specs.declared.vec.Vec.{Vec}
@@ -23,9 +23,12 @@ use Rattle.wgr_show.specs.declared.figures.Figures.{Figures}
 use Rattle.wgr_sql.specs.declared.fault.Fault.TheVariants as fault
 use Rattle.wgr_words.specs.Line.{first_line}
 use Rattle.wgr_words.specs.Reading.{ReadingAsked, Backup, Show, Status, reading_in_line}
+use Rattle.wgr_words.specs.declared.line.LineFault.TheVariants as line_fault
 use Rattle.wgr_service.specs.Lines.{EndsLine, TakesLine, end_text, is_end_available}
 use Rattle.wgr_service.specs.Status.{status_text}
 use Rattle.wgr_service.specs.declared.desk.Tally.{Tally}
+use Rattle.wgr_service.specs.declared.lines.LineEnd.{LineEnd}
+use Rattle.wgr_service.specs.declared.lines.LineEnd.TheVariants as line_end
 use Rattle.wgr_service.specs.declared.readings.ReadingEnd.{ReadingEnd}
 use Rattle.wgr_service.specs.declared.readings.ReadingEnd.TheVariants as end
 use Rattle.wgr_service.specs.declared.taken.Taken.{Taken}
@@ -84,6 +87,11 @@ abbrev pub has_form : Option Bytes → Bool
 has_form None = true
 has_form (Some name) = is_name name
 
+-- whether the path begins at the root, with a slash (47)
+abbrev pub is_absolute : Bytes → Bool
+is_absolute [] = false
+is_absolute (byte ∷ path) = byte == 47
+
 -- how a reading ends whose text could be made, or not
 abbrev pub shown : Result (Vec ℕ Global) AllocError → ReadingEnd
 shown (Ok text) = end.Shown text
@@ -96,10 +104,10 @@ MayEnd Status (end.Shown text) = Unit {0}
 MayEnd (Show tenant is_json) (end.Shown text) = Unit {0}
 MayEnd (Show (Some name) is_json) end.BadTenant = is_name name ≡ false
 MayEnd (Show (Some name) is_json) end.NoSuchTenant = is_name name ≡ true
-MayEnd (Backup file) end.Copied = Unit {0}
-MayEnd (Backup file) end.BadFile = Unit {0}
-MayEnd (Backup file) end.FileExists = Unit {0}
-MayEnd (Backup file) end.Device = Unit {0}
+MayEnd (Backup file) end.Copied = is_absolute file ≡ true
+MayEnd (Backup file) end.BadFile = is_absolute file ≡ false
+MayEnd (Backup file) end.FileExists = is_absolute file ≡ true
+MayEnd (Backup file) end.Device = is_absolute file ≡ true
 MayEnd asked other = ⊥
 
 -- what that says of the rows
@@ -129,9 +137,14 @@ abbrev pub is_taken_available : Taken → Bool
 is_taken_available (taken.Order ended) = is_end_available ended
 is_taken_available (taken.Reading ended) = is_reading_available ended
 
--- the line was taken as an order, or as the reading that it spells
+-- the line is no reading, as far as there was memory to see
+abbrev pub IsNoReading : Bytes → LineEnd → Type 0
+IsNoReading line (line_end.Unspelled line_fault.NoMemory) = Unit {0}
+IsNoReading line ended = reading_in_line line ≡ None
+
+-- the line was taken as an order and is no reading, or as the reading that it spells
 abbrev pub TakesAt : {S : Type 0} → Ghosts S → Held S → Held S → Bytes → Taken → Type 0
-TakesAt g old new line (taken.Order ended) = EndsLine g old new line ended
+TakesAt g old new line (taken.Order ended) = EndsLine g old new line ended × IsNoReading line ended
 TakesAt g old new line (taken.Reading ended) = (asked : ReadingAsked) × (reading_in_line line ≡ Some asked) × HasReadRows g old new asked ended
 
 -- and so was the first line of the input, where that is known

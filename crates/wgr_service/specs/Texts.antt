@@ -13,7 +13,7 @@ use Rattle.wgr_register.specs.Standing.{StandsAt}
 use Rattle.wgr_words.specs.Line.{IsUnspelled, SpellsOrder}
 use Rattle.wgr_words.specs.declared.line.LineFault.{LineFault}
 use Rattle.wgr_words.specs.declared.line.LineFault.TheVariants as line_fault
-use Rattle.wgr_service.specs.Batch.{IsCut}
+use Rattle.wgr_io.specs.Device.{IsCut}
 use Rattle.wgr_service.specs.Connections.{Exchange, Ordered, given_answer, asked_event}
 use Rattle.wgr_service.specs.Lines.{EndsLine, end_status, end_text}
 use Rattle.wgr_service.specs.declared.lines.LineEnd.{LineEnd}

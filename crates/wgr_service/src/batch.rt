@@ -6,7 +6,8 @@ ghost use Rattle.sqlite.specs.Held.{state};
 ghost use Rattle.sqlite.specs.State.{HasCleanDisk};
 ghost use Rattle.wgr_office.specs.Serving.{is_available, written_reply};
 ghost use Rattle.wgr_office.specs.declared.answer.Answer as given;
-ghost use Rattle.wgr_service.specs.Batch.{IsBatch, IsCut};
+ghost use Rattle.wgr_io.specs.Device.{IsCut};
+ghost use Rattle.wgr_service.specs.Batch.{IsBatch};
 ghost use Rattle.wgr_service.specs.declared.batch.BatchFault.TheVariants as fault;
 
 use sqlite::Alter;

@@ -3,7 +3,7 @@ ghost use Rattle.std.specs.Prelude.{◌≡◌, ◌++◌, codes, flat_map, true, 
 ghost use Rattle.std.specs.Io.KnownBytes.{Appends};
 ghost use Rattle.wgr_orders.specs.Orders.{refusal_of};
 ghost use Rattle.wgr_orders.specs.RefusalTexts.{refusal_text};
-ghost use Rattle.wgr_service.specs.Batch.{IsCut};
+ghost use Rattle.wgr_io.specs.Device.{IsCut};
 ghost use Rattle.wgr_service.specs.Lines.{EndsLine, end_status, end_text, is_end_available};
 
 use crate::parts::write_parts;

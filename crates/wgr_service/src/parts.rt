@@ -1,7 +1,7 @@
 //! Parts of a text that are written one after the other.
 ghost use Rattle.std.specs.Prelude.{◌≡◌, flat_map, true, OnErr, OnOk};
 ghost use Rattle.std.specs.Io.KnownBytes.{Appends};
-ghost use Rattle.wgr_service.specs.Batch.{IsCut};
+ghost use Rattle.wgr_io.specs.Device.{IsCut};
 
 use wgr_io::{Write, WriteFault, write_all};
 

@@ -2,9 +2,9 @@
 //! changes the register.
 ghost use Rattle.std.specs.Prelude.{◌≡◌, IfOk, OnErr, OnOk, flat_map, option_map, true};
 ghost use Rattle.std.specs.Io.KnownBytes.{Appends};
-ghost use Rattle.wgr_service.specs.Batch.{IsCut};
+ghost use Rattle.wgr_io.specs.Device.{IsCut};
 ghost use Rattle.wgr_service.specs.Counts.{replies_of};
-ghost use Rattle.wgr_service.specs.Readings.{MayEnd, HasReadRows, has_form, is_reading_available, reading_text, shown};
+ghost use Rattle.wgr_service.specs.Readings.{MayEnd, HasReadRows, has_form, is_absolute, is_reading_available, reading_text, shown};
 ghost use Rattle.wgr_words.specs.Reading.{Backup, Show, Status, reading_asked};
 
 use crate::copies::{Archive, CopyFault};
@@ -131,12 +131,22 @@ fn has_form(alloc: Global, tenant: Option<&str>) -> Result<bool, AllocError>
     }
 }
 
+// Whether the path begins at the root.
+fn is_absolute(file: &str) -> bool
+    ensures { result ≡ is_absolute file.now }
+{
+    match file.as_bytes() {
+        [first, ..] => *first == b'/',
+        [] => false,
+    }
+}
+
 // Copies the register's files. A service and its client may be in different folders, so the path is absolute.
 fn make_copy<A: Archive>(desk: &mut Desk<A>, file: &str) -> ReadingEnd
     ensures ends { MayEnd (Backup file.now) result }
     ensures counts { replies_of desk.new ≡ replies_of desk.old }
 {
-    if !file.starts_with('/') {
+    if !is_absolute(file) {
         return ReadingEnd::BadFile;
     }
     match desk.archive.copy(file) {

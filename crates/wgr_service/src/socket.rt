@@ -1,4 +1,7 @@
 //! The socket of a connection, of either kind.
+ghost use Rattle.std.specs.Prelude.{◌≡◌};
+ghost use Rattle.wgr_service.specs.Sockets.{came_to};
+
 use crate::network::Door;
 use std::io;
 use std::net::{Net, OpenStream, Shutdown};
@@ -15,8 +18,10 @@ pub(crate) enum Socket<H: Net> {
 }
 
 impl<H: Net> Socket<H> {
-    /// Where the connection came.
-    pub(crate) fn door(&self) -> Door {
+    /// Where the connection came. The two are different types, so a connection of the address is never the operator's.
+    pub(crate) fn door(&self) -> Door
+        ensures { result ≡ came_to self.now }
+    {
         match self {
             Socket::Request(_) => Door::Requests,
             Socket::Order(_) => Door::Orders,

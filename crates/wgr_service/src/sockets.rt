@@ -1,6 +1,7 @@
 //! The system's sockets and its clock.
 ghost use Rattle.std.specs.Prelude.{◌≡◌, ◌/◌, ◌<◌, ◌≤◌, false, None, IfErr, IfOk, IfSome};
 ghost use Rattle.std.specs.Time.{system_time_nanos};
+ghost use Rattle.wgr_service.specs.Sockets.{came_to};
 ghost use Rattle.wgr_service.specs.declared.network.Door.TheVariants as door;
 ghost use Rattle.wgr_service.specs.declared.network.Pace.TheVariants as pace;
 
@@ -58,8 +59,8 @@ impl<'a, H: Clock + Net> Sockets<'a, H> {
     }
 
     // Waits for the next connection, and says at which listener none could be accepted. Orders that wait come first.
-    fn accept(&mut self) -> Result<(Door, Socket<H>, Limit), Missed>
-        ensures fewer { IfOk result (λ it. it.0 ≡ door.Orders → self.new.orders_left < self.old.orders_left) }
+    fn accept(&mut self) -> Result<(Socket<H>, Limit), Missed>
+        ensures fewer { IfOk result (λ it. came_to it.0 ≡ door.Orders → self.new.orders_left < self.old.orders_left) }
         ensures fewer_missed { IfErr result (λ it. it.door ≡ door.Orders → self.new.orders_left < self.old.orders_left) }
         ensures no_more { self.new.orders_left ≤ self.old.orders_left }
     {
@@ -67,14 +68,14 @@ impl<'a, H: Clock + Net> Sockets<'a, H> {
             match self.waiting_order() {
                 Ok(Some(stream)) => {
                     let limit = Limit::begun(most_time(Door::Orders), self.host);
-                    return Ok((Door::Orders, Socket::Order(stream), limit));
+                    return Ok((Socket::Order(stream), limit));
                 }
                 Ok(None) => {}
                 Err(_) => return Err(Missed { door: Door::Orders }),
             }
             match self.waiting_request() {
                 Ok(Some(one)) => {
-                    return Ok((Door::Requests, Socket::Request(one.stream), one.limit));
+                    return Ok((Socket::Request(one.stream), one.limit));
                 }
                 Ok(None) => {}
                 Err(_) => return Err(Missed {
@@ -171,7 +172,7 @@ impl<'a, H: Clock + Files + Net> Network for Sockets<'a, H> {
         };
         for _ in 0..ACCEPTS {
             match self.accept() {
-                Ok((door, socket, limit)) => return arrival(self.host, door, socket, limit),
+                Ok((socket, limit)) => return arrival(self.host, socket, limit),
                 Err(why) => {
                     missed = why;
                     thread::sleep(self.host, Duration::from_millis(PAUSE_MILLIS));
@@ -206,13 +207,13 @@ impl<'a, H: Clock + Files + Net> Network for Sockets<'a, H> {
 // The connection of this socket, if it has both its ends.
 fn arrival<'a, H: Clock + Net>(
     host: &'a H,
-    door: Door,
     socket: Socket<H>,
     limit: Limit,
 ) -> Result<Arrival<Device<Stream<'a, H>>, Device<Stream<'a, H>>>, Missed>
-    ensures ok { IfOk result (λ it. (it.door ≡ door) × (it.reader.failed ≡ false) × (it.writer.failed ≡ false)) }
-    ensures missed { IfErr result (λ it. it.door ≡ door) }
+    ensures ok { IfOk result (λ it. (it.door ≡ came_to socket) × (it.reader.failed ≡ false) × (it.writer.failed ≡ false)) }
+    ensures missed { IfErr result (λ it. it.door ≡ came_to socket) }
 {
+    let door = socket.door();
     match Stream::accepted(host, socket, limit) {
         Ok((reader, writer)) => Ok(Arrival {
             door,

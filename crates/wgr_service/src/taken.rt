@@ -1,7 +1,7 @@
 //! The line of a connection for orders: an order is carried out, or a reading is answered.
 ghost use Rattle.std.specs.Prelude.{◌≡◌, true, IfOk, OnErr, OnOk};
 ghost use Rattle.std.specs.Io.KnownBytes.{Appends};
-ghost use Rattle.wgr_service.specs.Batch.{IsCut};
+ghost use Rattle.wgr_io.specs.Device.{IsCut};
 ghost use Rattle.wgr_service.specs.Counts.{replies_of};
 ghost use Rattle.wgr_service.specs.Readings.{HasTaken, TakesAt, is_taken_available, taken_text};
 

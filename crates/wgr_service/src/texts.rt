@@ -4,7 +4,7 @@ ghost use Rattle.std.specs.Io.KnownBytes.{Appends};
 ghost use Rattle.sqlite.specs.Held.{state};
 ghost use Rattle.sqlite.specs.State.{HasCleanDisk};
 ghost use Rattle.wgr_model.specs.Register.{Bytes};
-ghost use Rattle.wgr_service.specs.Batch.{IsCut};
+ghost use Rattle.wgr_io.specs.Device.{IsCut};
 ghost use Rattle.wgr_service.specs.Lines.{end_status, end_text};
 ghost use Rattle.wgr_service.specs.Texts.{EndsInput, HasCarriedOut, IsCutAtLast, greatest, lines_in};
 ghost use Rattle.wgr_service.specs.declared.lines.LineEnd.{LineEnd};

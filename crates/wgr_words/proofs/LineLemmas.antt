@@ -1,14 +1,15 @@
 -- The first line of a text, and the words of a line.
-use Rattle.std.proofs.Common.{◌≡◌, ◌==◌, ◌<◌, ◌≤◌, ◌+◌, ◌-◌, ◌&&◌, ℕ, Bor, get_or, suc, Bool, true, false, cond, not, List, [], ◌∷◌, ◌++◌, All, Option, Some, None, IfSome, length, nat_le, take, drop, codes, option_map, map, refl, ap, subst, sym, ◌∙◌, append-nil, append_assoc, length-append, arith, ltb}
+use Rattle.std.proofs.Common.{◌≡◌, ◌==◌, ◌<◌, ◌≤◌, ◌+◌, ◌-◌, ◌&&◌, ℕ, Bor, get_or, suc, Bool, true, false, cond, not, List, [], ◌∷◌, ◌++◌, All, Option, Some, None, IfSome, length, nat_le, take, drop, codes, option_map, map, refl, ap, subst, sym, ◌∙◌, append-nil, append_assoc, length-append, take-append-drop, arith, ltb}
 use Rattle.std.specs.List.{concat, join_with_byte, list_all, position, position_or_len, slice_split}
-use Rattle.std.specs.Io.KnownBytes.{Consumes, IsAtEnd}
+use Rattle.std.specs.Io.KnownBytes.{Appends, Consumes, IsAtEnd}
 use Rattle.std.proofs.Math.Seq.{drop-cons, take-append-add}
 use Rattle.std.proofs.lemmas.List.{drop_all, get_or_append_left, length-map, length-take-le, map-append, take_all, take-append-le, take_more}
 use Rattle.std.proofs.lemmas.List.Folds.{list_all-map}
 use Rattle.std.proofs.lemmas.List.Splits.{slice_split_at, slice_split_none}
 use Rattle.std.proofs.lemmas.Bool.Decides.{nat_tests}
 use Rattle.std.proofs.lemmas.List.Elements.{All-cons, All-head, All-nil, All-tail}
-use Rattle.wgr_io.specs.Device.{AddsPieces}
+use Rattle.wgr_io.specs.Device.{AddsPieces, IsCut}
+use Rattle.wgr_io.proofs.CutLemmas.{cut_at, cut_behind, cut_longer}
 use Rattle.wgr_io.proofs.Pieces.{AddsPieces-trans, concat_push}
 use Rattle.wgr_words.specs.Line.{EndAtNewline, IsNoEnd, WrittenWordsAreRead, before_newline, first_line, is_inside, is_line, is_word, line_text}
 
@@ -266,3 +267,30 @@ pub words_more : (first : List ℕ) (rest : List (Bor (List ℕ))) (i : ℕ) (d 
     → join_with_byte 32 (first ∷ texts (take (i + 1) rest)) ≡ join_with_byte 32 (first ∷ texts (take i rest)) ++ (32 ∷ (get_or rest i d).now)
 words_more first rest i d within =
     rw (take_more rest i d within, map-append (λ (word : Bor (List ℕ)). word.now) (take i rest) (get_or rest i d ∷ [])) (join_push first (texts (take i rest)) (get_or rest i d).now)
+
+-- ---- writing that fails
+
+join_append : (x : List ℕ) (xs ys : List (List ℕ)) → (more : List ℕ) × (join_with_byte 32 (x ∷ (xs ++ ys)) ≡ join_with_byte 32 (x ∷ xs) ++ more)
+join_append x [] [] = ([], sym (append-nil x))
+join_append x [] (y ∷ ys) = (32 ∷ join_with_byte 32 (y ∷ ys), refl)
+join_append x (z ∷ xs) ys =
+    let (more, is) = join_append z xs ys in
+    (more, ap (λ (l : List ℕ). x ++ (32 ∷ l)) is ∙ sym (append_assoc x (32 ∷ join_with_byte 32 (z ∷ xs)) more))
+
+-- in the first word
+pub cut_first : (old new : Option (List ℕ)) (first bytes : List ℕ) (rest : List (List ℕ)) (sent : ℕ) → bytes ≡ first → Appends old new (take sent bytes) → IsCut old new (join_with_byte 32 (first ∷ rest))
+cut_first old new first bytes rest sent is written =
+    let (more, whole) = join_append first [] rest in
+    subst (IsCut old new) (sym whole) (cut_longer old new first more (subst (IsCut old new) is (cut_at sent old new bytes written)))
+
+-- in the next one
+pub cut_next : (old mid new : Option (List ℕ)) (first : List ℕ) (rest : List (Bor (List ℕ))) (i : ℕ) (d : Bor (List ℕ)) → i < length rest → Appends old mid (join_with_byte 32 (first ∷ texts (take i rest)))
+    → IsCut mid new (32 ∷ (get_or rest i d).now) → IsCut old new (join_with_byte 32 (first ∷ texts rest))
+cut_next old mid new first rest i d within wrote cut =
+    let (more, is) = join_append first (texts (take (i + 1) rest)) (texts (drop (i + 1) rest)) in
+    let parted : texts rest ≡ texts (take (i + 1) rest) ++ texts (drop (i + 1) rest) =
+    ap (λ (words : List (Bor (List ℕ))). texts words) (sym (take-append-drop (i + 1) rest)) ∙ map-append (λ (word : Bor (List ℕ)). word.now) (take (i + 1) rest) (drop (i + 1) rest) in
+    let whole : join_with_byte 32 (first ∷ texts rest) ≡ (join_with_byte 32 (first ∷ texts (take i rest)) ++ (32 ∷ (get_or rest i d).now)) ++ more =
+    ap (λ (words : List (List ℕ)). join_with_byte 32 (first ∷ words)) parted ∙ is ∙ ap (λ (l : List ℕ). l ++ more) (words_more first rest i d within) in
+    subst (IsCut old new) (sym whole)
+    (cut_longer old new _ more (cut_behind old mid new (join_with_byte 32 (first ∷ texts (take i rest))) (32 ∷ (get_or rest i d).now) wrote cut))

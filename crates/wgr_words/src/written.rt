@@ -2,6 +2,7 @@
 ghost use Rattle.std.specs.Prelude.{◌≡◌, ◌∷◌, ◌++◌, OnErr, OnOk, length, map, nat_le, true};
 ghost use Rattle.std.specs.Io.KnownBytes.{Appends};
 ghost use Rattle.std.specs.List.{join_with_byte, list_all};
+ghost use Rattle.wgr_io.specs.Device.{IsCut};
 ghost use Rattle.wgr_words.specs.Line.{is_inside, is_line, is_word, line_text};
 
 use crate::line::LINE_MOST;
@@ -14,6 +15,7 @@ pub fn write_line<W: Write>(out: &mut W, words: &[&str]) -> Result<(), WriteFaul
     ensures ok { OnOk result (Appends (W.contents out.old) (W.contents out.new) (line_text (map (λ word. word.now) words.now))) }
     ensures sound { OnOk result (W.failed out.new ≡ W.failed out.old) }
 
+    ensures cut { OnErr result (IsCut (W.contents out.old) (W.contents out.new) (line_text (map (λ word. word.now) words.now))) }
     ensures failed { OnErr result (W.failed out.new ≡ true) }
 {
     if let Some((first, rest)) = words.split_first() {
@@ -27,6 +29,7 @@ fn write_words<W: Write>(out: &mut W, first: &str, rest: &[&str]) -> Result<(), 
     ensures ok { OnOk result (Appends (W.contents out.old) (W.contents out.new) (join_with_byte 32 (first.now ∷ map (λ word. word.now) rest.now))) }
     ensures sound { OnOk result (W.failed out.new ≡ W.failed out.old) }
 
+    ensures cut { OnErr result (IsCut (W.contents out.old) (W.contents out.new) (join_with_byte 32 (first.now ∷ map (λ word. word.now) rest.now))) }
     ensures failed { OnErr result (W.failed out.new ≡ true) }
 {
     write_all(out, first.as_bytes())?;
@@ -41,6 +44,7 @@ fn write_next<W: Write>(out: &mut W, word: &str) -> Result<(), WriteFault>
     ensures ok { OnOk result (Appends (W.contents out.old) (W.contents out.new) (32 ∷ word.now)) }
     ensures sound { OnOk result (W.failed out.new ≡ W.failed out.old) }
 
+    ensures cut { OnErr result (IsCut (W.contents out.old) (W.contents out.new) (32 ∷ word.now)) }
     ensures failed { OnErr result (W.failed out.new ≡ true) }
 {
     write_all(out, b" ")?;

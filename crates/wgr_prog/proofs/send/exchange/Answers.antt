@@ -13,4 +13,4 @@ returns g c =
       write_failed = g.N.Writer.Write.failed c.ask-reply.new.out;
     } in
     exchanged c.args.path.now (map (λ (word : Bor (List ℕ)). word.now) c.args.line.now) (g.N.Network.log c.args.network.now) (g.N.Network.log c.call.new.self) (g.N.Network.log c.end.new.self) call c.ask-reply.result
-    c.in-Ok.ensures.called c.end.ensures.ended (sym c.is_line.ensures ∙ c.if-not-is_line.false) c.ask-reply.ensures.ok c.ask-reply.ensures.err c.ask-reply.ensures.sound
+    c.in-Ok.ensures.called c.end.ensures.ended (sym c.is_line.ensures ∙ c.if-not-is_line.false) c.ask-reply.ensures.ok c.ask-reply.ensures.cut c.ask-reply.ensures.err c.ask-reply.ensures.sound

@@ -3,7 +3,7 @@ use Rattle.std.specs.Prelude.{flat_map}
 use Rattle.std.specs.Io.KnownBytes.{Appends}
 use Rattle.std.specs.List.{list_all}
 use Rattle.wgr_office.specs.Serving.{is_available, written_reply}
-use Rattle.wgr_service.specs.Batch.{IsCut}
+use Rattle.wgr_io.specs.Device.{IsCut}
 use Rattle.wgr_service.proofs.batch.answer_all.Goals as goal
 
 pub returns-in-Ok-write_replies-clause-answered : goal.returns-in-Ok-write_replies-clause-answered
