@@ -42,12 +42,21 @@ class Browser:
         self.port = free_port()
         self.driver = subprocess.Popen(["chromedriver", f"--port={self.port}"], stdout=subprocess.DEVNULL, stderr=subprocess.DEVNULL)
         assert program.in_time(self.is_up), "chromedriver doesn't start"
+        assert program.in_time(self.has_begun), "chromium doesn't start"
+        return self
+
+    def has_begun(self):
+        """Whether it could be started; the driver gives up before a machine that is busy has read it from the disk."""
         words = ["--headless=new", "--no-sandbox", "--disable-dev-shm-usage", "--no-first-run", "--force-color-profile=srgb", f"--user-data-dir={self.profile}"]
         options = {"binary": shutil.which("chromium"), "args": words, "prefs": {"download.default_directory": str(self.downloads)}}
         logs = {"browser": "ALL", "performance": "ALL"}
         wanted = {"acceptInsecureCerts": True, "goog:loggingPrefs": logs, "goog:chromeOptions": options}
-        self.path = f"/session/{self.ask('POST', '/session', {'capabilities': {'alwaysMatch': wanted}})['sessionId']}"
-        return self
+        try:
+            begun = self.ask("POST", "/session", {"capabilities": {"alwaysMatch": wanted}})
+        except Failed:
+            return False
+        self.path = f"/session/{begun['sessionId']}"
+        return True
 
     def __exit__(self, *_):
         self.ask("DELETE", "")
@@ -94,7 +103,7 @@ class Browser:
             except Failed:
                 return False
 
-        assert program.in_time(is_now, 30), f"{why}: {self.text()}"
+        assert program.in_time(is_now), f"{why}: {self.text()}"
 
     def found(self, css, words=None):
         return self.run(FIND, css, words)
@@ -105,7 +114,15 @@ class Browser:
         return self.found(css, words)[0]
 
     def click(self, words, css="button, a, summary"):
-        self.click_on(self.find(css, words))
+        """Clicks on the first such element. One that is replaced meanwhile wasn't clicked, so the new one is."""
+
+        def is_clicked():
+            [element, *_] = self.found(css, words) or [None]
+            if element:
+                self.click_on(element)
+            return element
+
+        self.wait(is_clicked, f"there is no {css} {words} to click on")
 
     def click_on(self, element):
         self.ask("POST", f"/element/{element[ELEMENT]}/click", {})

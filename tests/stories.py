@@ -23,6 +23,52 @@ COPY = re.compile(r"\d{8}T\d{6}\.\d{3}Z\.db")
 # Commands of the system that say what they do, of which the page shows nothing.
 TALK = re.compile(r"(apt install|nginx -t|systemctl enable|systemctl disable) ")
 URL = "https://wgr.example.net"
+# The story that runs each block, by the block's heading and its place below it.
+FOLLOWED = {
+    ("Installing", 0): "package",
+    ("Installing", 1): "by hand",
+    ("Upgrading", 0): "package",
+    ("Upgrading", 1): "by hand",
+    ("From an installation by hand to the package", 0): "by hand",
+    ("Migrating a register", 0): "package",
+    ("TLS and slow clients", 0): "package",
+    ("TLS and slow clients", 1): "by hand",
+    ("TLS and slow clients", 2): "by hand",
+    ("Several registers on one host", 0): "by hand",
+    ("Orders", 0): "package",
+    ("A customer gets a token", 0): "package",
+    ("A server's token", 0): "by hand",
+    ("A tenant gets a network", 0): "package",
+    ("Rotating a token", 0): "package",
+    ("A lost or leaked token", 0): "package",
+    ("A token for curl", 0): "package",
+    ("Backup and restore", 0): "package",
+    ("To restore", 0): "package",
+    ("To restore", 1): "package",
+    ("Audit: who had which address when", 0): "package",
+    ("Audit: who had which address when", 1): "package",
+    ("Monitoring: health, figures and alerts", 0): "package",
+    ("Monitoring: health, figures and alerts", 1): "package",
+    ("The clock", 0): "package",
+    ("The clock", 1): "package",
+    ("Changing a network", 0): "package",
+    ("Changing a network", 1): "package",
+    ("Failover to a second host", 0): "package",
+    ("Failover to a second host", 1): "package",
+    ("Reading the file", 0): "by hand",
+    ("A server that follows its network", 0): "by hand",
+    ("The Internet behind a network", 0): "by hand",
+    ("Preshared keys, certificates and settings", 0): "package",
+    ("An ordinary interface by hand", 0): "package",
+    ("Taking over an existing WireGuard server", 0): "package",
+    ("Taking over an existing WireGuard server", 1): "package",
+    ("A page for tenants", 0): "by hand",
+    ("A page for tenants", 1): "by hand",
+}
+
+
+def blocks_of_story(story):
+    return {block for block, by in FOLLOWED.items() if by == story}
 
 
 class Story(unittest.TestCase):

@@ -146,8 +146,8 @@ class ByNginx(AnyPage, PagedNginx):
 
     def test_finding_out_the_right_changes_nothing(self):
         """A full token, and a peer whose lease is over, and whose row would go with any change."""
-        self.add("short", end=int(time.time()) + 2)
         self.add("long")
+        self.add("short", end=int(time.time()) + 10)
         rows = self.register_rows()
         self.browser.wait(lambda: len(self.peers()) == 1, "the lease doesn't end")
         self.sign_in()
@@ -156,7 +156,7 @@ class ByNginx(AnyPage, PagedNginx):
         impossible = [request for request in self.browser.requests() if request["method"] == "POST"]
         self.assertEqual([json.loads(request["postData"]) for request in impossible], [{"end": 1}])
         with self.subTest("nor would it change a peer that there is"):
-            status, body, _ = self.ask("POST", f"{PEERS}/2/lease", '{"end":1}')
+            status, body, _ = self.ask("POST", f"{PEERS}/1/lease", '{"end":1}')
             self.assertEqual((status, json.loads(body)), (409, {"error": "lease_over"}))
 
     def register_rows(self):

@@ -11,8 +11,31 @@ from test_client import Proxy, lost, too_many
 from tools import needs
 
 
-class AnyFault:
+# Keeps the notices of a page, since one of a second may be gone before a test that is waiting for it looks.
+NOTICES = """
+window.notices = [];
+new MutationObserver(() => {
+    for (const it of document.querySelectorAll(".notice")) window.notices.push(it.textContent);
+}).observe(document, {childList: true, subtree: true, characterData: true});
+"""
+
+
+class Scripted:
+    """Beside Paged: each page that a test opens has a script."""
+
+    def setUp(self):
+        super().setUp()
+        added = self.browser.devtools("Page.addScriptToEvaluateOnNewDocument", source=self.script)
+        self.addCleanup(self.browser.devtools, "Page.removeScriptToEvaluateOnNewDocument", **added)
+
+
+class AnyFault(Scripted):
     """What is said where no answer comes, through either proxy."""
+
+    script = NOTICES
+
+    def was_told(self, words):
+        self.browser.wait(lambda: words in self.browser.run("return window.notices"), f"it isn't said that {words!r}")
 
     def test_a_service_that_is_down(self):
         browser = self.browser
@@ -21,7 +44,7 @@ class AnyFault:
         browser.says("1 device")
         self.serving.__exit__()
         browser.click("Refresh")
-        browser.says("The service is not available at the moment. Asking again in 5 seconds.", ".notice")
+        self.was_told("The service is not available at the moment. Asking again in 5 seconds.")
         again = Server(f"{self.folder}/reg.db")
         again.words[2] = f"127.0.0.1:{self.serving.port}"
         with again:
@@ -40,7 +63,7 @@ class AnyFault:
             link.sock.sendall(request("GET", PEERS))
         self.browser.wait(self.is_full, "the proxy takes more")
         browser.click("Refresh")
-        browser.says("The service has many requests at the moment. Asking again in 1 second.", ".notice")
+        self.was_told("The service has many requests at the moment. Asking again in 1 second.")
         self.serving.process.send_signal(signal.SIGCONT)
         browser.wait(lambda: browser.text(".notice") == "", "the notice stays")
         self.assertEqual(labels(browser), ["laptop"])
@@ -70,7 +93,7 @@ class FaultsByNginx(AnyFault, PagedNginx):
         self.browser.devtools("Network.emulateNetworkConditions", offline=True, latency=0, downloadThroughput=-1, uploadThroughput=-1)
         self.addCleanup(self.browser.devtools, "Network.emulateNetworkConditions", offline=False, latency=0, downloadThroughput=-1, uploadThroughput=-1)
         self.browser.click("Refresh")
-        self.browser.says("No connection to the service. Asking again in 2 seconds.", ".notice")
+        self.was_told("No connection to the service. Asking again in 2 seconds.")
         self.browser.says("Check your own connection, then try again", "main [role=alert]")
         self.browser.devtools("Network.emulateNetworkConditions", offline=False, latency=0, downloadThroughput=-1, uploadThroughput=-1)
         self.browser.click("Try again")
@@ -79,14 +102,10 @@ class FaultsByNginx(AnyFault, PagedNginx):
 
 @needs_browser
 @needs("nginx", "wg")
-class Lies(PagedNginx):
+class Lies(Scripted, PagedNginx):
     """The service is behind one that loses replies, or changes them. A second of the page is a twentieth of one here."""
 
-    def setUp(self):
-        super().setUp()
-        hurry = "const wait = setTimeout; window.setTimeout = (go, time) => wait(go, time / 20);"
-        script = self.browser.devtools("Page.addScriptToEvaluateOnNewDocument", source=hurry)
-        self.addCleanup(self.browser.devtools, "Page.removeScriptToEvaluateOnNewDocument", **script)
+    script = "const wait = setTimeout; window.setTimeout = (go, time) => wait(go, time / 20);"
 
     def start(self, behind):
         self.liar = Proxy(self.serving, [])
