@@ -3,8 +3,10 @@
 import base64
 import http.client
 import json
+import os
 import shutil
 import subprocess
+from contextlib import suppress
 from pathlib import Path
 
 import program
@@ -21,6 +23,13 @@ return [...(dialogs[dialogs.length - 1] ?? document).querySelectorAll(css)]
 # The control that a label names.
 LABELLED = f"const found = (function () {{ {FIND} }})('label', arguments[0]); return found[0]?.control ?? null;"
 ELEMENT = "element-6066-11e4-a52e-4f735466cecf"
+
+
+def bytes_of(file):
+    """Those of a file that the browser may take away meanwhile."""
+    with suppress(FileNotFoundError):
+        return b"" if file.is_symlink() else file.read_bytes()
+    return b""
 
 
 class Failed(AssertionError):
@@ -53,7 +62,7 @@ class Browser:
         wanted = {"acceptInsecureCerts": True, "goog:loggingPrefs": logs, "goog:chromeOptions": options}
         try:
             begun = self.ask("POST", "/session", {"capabilities": {"alwaysMatch": wanted}})
-        except Failed:
+        except (Failed, OSError):
             return False
         self.path = f"/session/{begun['sessionId']}"
         return True
@@ -191,4 +200,4 @@ class Browser:
 
     def kept(self):
         """All bytes that the browser has on the disk."""
-        return b"\n".join(file.read_bytes() for file in self.profile.rglob("*") if file.is_file() and not file.is_symlink())
+        return b"\n".join(bytes_of(Path(folder, name)) for folder, _, names in os.walk(self.profile) for name in names)

@@ -4,6 +4,7 @@ import json
 import re
 import subprocess
 import tempfile
+import time
 import unittest
 
 from browsing import Browser
@@ -37,7 +38,7 @@ class Paged:
     @classmethod
     def setUpClass(cls):
         super().setUpClass()
-        cls.browser = cls.enterClassContext(Browser(cls.enterClassContext(tempfile.TemporaryDirectory())))
+        cls.browser = cls.enterClassContext(Browser(cls.enterClassContext(tempfile.TemporaryDirectory(ignore_cleanup_errors=True))))
 
     def setUp(self):
         super().setUp()
@@ -73,7 +74,10 @@ class Paged:
         return json.loads(body)
 
     def peers(self):
-        return json.loads(self.ask("GET", PEERS)[1])["peers"]
+        """Those of the network, once the proxy doesn't say that lists of the page are under way."""
+        while (reply := self.ask("GET", PEERS))[0] == 429:
+            time.sleep(0.1)
+        return json.loads(reply[1])["peers"]
 
     def code(self):
         """What the QR code says that the page shows."""

@@ -171,6 +171,7 @@ class ByPackage(Story):
 
     def set_the_clock(self):
         """Of the host, which was off for two days; then the clock is as far ahead, and a change deletes a peer too early."""
+        self.do("systemctl stop wgr-clock.timer wgr-clock")
         self.host.inside("/var/lib/wgr/clock").write_text(f"{int(time.time()) - 172_800}\n")
         with self.host.shell() as shell:
             self.assertEqual(shell.run("systemctl restart wgr").status, 1)
@@ -193,7 +194,8 @@ class ByPackage(Story):
         """Of a server, by the words of the page: the interface follows with the new one."""
         make = "umask 077; wg genkey > key.new; wg pubkey < key.new"
         self.assertIn(f"`{make}`", (TOP / "docs/OPERATIONS.md").read_text())
-        self.do("systemctl start wgr-sync@acme-office.timer")
+        # The timer would make a round of its own a second later, perhaps between the two keys.
+        self.do("systemctl start wgr-sync@acme-office")
         public = self.do("cd /etc/wgr/acme-office", make).strip()
         self.do("systemctl stop wgr", f"sudo -u wgr wgr-change-network /var/lib/wgr/register.db acme office --key {public}", "systemctl start wgr")
         self.do("cd /etc/wgr/acme-office", "mv key.new key", "systemctl start wgr-sync@acme-office")

@@ -55,7 +55,7 @@ class Table(PagedNginx):
         now = int(time.time())
         lines = [f"(none)\t{SERVER_KEY}\t51820\toff\n"]
         for label, address, end, seen, received in [
-            ("b10", "10.8.0.20", now + 3 * 86_400, now - 60, 5_000),
+            ("b10", "10.8.0.20", now + 3 * 86_400 - 60, now - 60, 5_000),
             ("b9", "10.8.0.100", 0, now - 40 * 86_400, 7_000_000_000),
             ("a", "10.8.0.3", now + 90 * 86_400, 0, 0),
             ("c", "10.8.0.4", now + 86_500, now - 7_200, 0),
@@ -176,6 +176,7 @@ class Pools(PagedNginx):
                 self.assertEqual(browser.text(".told"), wanted[place])
         with self.subTest("as a table"):
             browser.click("The same as a table")
+            browser.find("table.plain tbody tr")
             rows = browser.run("return [...document.querySelectorAll('table.plain tbody tr')].map((it) => [...it.children].map((cell) => cell.textContent))")
             self.assertEqual(rows, [
                 ["10.9.0.0", "1", "the network’s own address"], ["10.9.0.1", "1", "the server"], ["10.9.0.2", "1", "free"], ["10.9.0.3", "1", "device 1"],

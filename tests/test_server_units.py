@@ -166,7 +166,8 @@ class Following(Server):
             self.system.run("ip", "-n", "vpn1", "link", "delete", "vpn1")
             self.system.run("systemctl", "start", "wgr-sync@vpn1")
             self.assertEqual(self.peers(), [key(1)])
-            self.assertEqual(len(self.system.processes(NET)), 1)
+            # That of the former interface ends by itself.
+            self.wait_until(lambda: len(self.system.processes(NET)) == 1)
         with self.subTest("the end of the namespace is the end of the rounds"):
             self.system.run("systemctl", "stop", "wgr-net@vpn1")
             self.assertEqual(self.namespaces(), [])

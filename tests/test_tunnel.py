@@ -1,5 +1,6 @@
 """A real tunnel: wireguard-go, wg and wg-quick in two network namespaces, by the register's files."""
 
+import itertools
 import json
 import os
 import re
@@ -12,6 +13,7 @@ from serving import TOKEN, Server, order
 from tools import needs
 
 PAGE = Path(__file__).resolve().parent.parent / "docs/OPERATIONS.md"
+NUMBERS = itertools.count()
 
 
 def shell(command, text=None, allowed=(0,)):
@@ -26,9 +28,9 @@ class Host:
     """A network namespace with one end of a cable."""
 
     def __init__(self, name):
-        # The names have the number of this process, so that no other's are touched.
+        # The names have the number of this process, so that no other's are touched, and none comes again.
         mark = f"{os.getpid() % 10_000:04}"
-        self.space, self.tunnel = f"wgr-{name}{mark}", f"wgr{name}{mark}"
+        self.space, self.tunnel = f"wgr-{name}{mark}", f"wgr{name}{mark}-{next(NUMBERS)}"
         self.private = shell("wg genkey").strip()
         self.public = shell("wg pubkey", self.private).strip()
 
