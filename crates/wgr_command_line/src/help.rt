@@ -66,7 +66,7 @@ Messages on standard error, with the exit status, and what to do:
 The status is 0 if `done` is printed, and 2 for a wrong command line.
 
 Example:
-  $ cp register.db register.db.before
+  $ mkdir before && cp -a register.db* before
   $ wgr migrate register.db
   done";
 

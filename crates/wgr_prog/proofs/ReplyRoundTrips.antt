@@ -1,4 +1,4 @@
--- What a service answers to an order, as a client reads it.
+-- What a service answers to an order or a reading, as a client reads it.
 use Rattle.std.proofs.Common.{◌≡◌, ◌==◌, ◌&&◌, ◌++◌, ℕ, Bool, true, false, List, [], ◌∷◌, None, Some, Ok, Err, codes, refl, ap, ◌∙◌, append-nil, arith, string_bytes}
 use Rattle.std.specs.Fmt.{digits}
 use Rattle.std.specs.List.{list_all}
@@ -7,6 +7,7 @@ use Rattle.wgr_orders.specs.declared.refusal.OrderRefusal.TheVariants as refusal
 use Rattle.wgr_peers.specs.Name.{is_name, is_name_byte}
 use Rattle.wgr_register.specs.declared.fault.OrderFault.TheVariants as order_fault
 use Rattle.wgr_service.specs.declared.lines.LineEnd.TheVariants as line_end
+use Rattle.wgr_service.specs.declared.readings.ReadingEnd.TheVariants as reading_end
 use Rattle.wgr_sql.specs.declared.fault.Fault.TheVariants as fault
 use Rattle.wgr_words.specs.Line.{before_newline}
 use Rattle.wgr_words.specs.Words.{word_field_name}
@@ -14,9 +15,9 @@ use Rattle.wgr_words.specs.declared.field.WordField.{WordField}
 use Rattle.wgr_words.specs.declared.field.WordField.TheVariants as of
 use Rattle.wgr_words.specs.declared.line.LineFault.TheVariants as line_fault
 use Rattle.wgr_words.proofs.LineLemmas.{both_none, onwards}
-use Rattle.wgr_prog.specs.Laws.{OrdersAreRead}
+use Rattle.wgr_prog.specs.Laws.{OrdersAreRead, ReadingsAreRead}
 use Rattle.wgr_prog.specs.Reply.{Undone, reply_in}
-use Rattle.wgr_prog.proofs.ReplyLaws.{behind}
+use Rattle.wgr_prog.proofs.ReplyLaws.{behind, read}
 
 -- ---- names have no newline
 
@@ -86,3 +87,15 @@ orders (line_end.Ended (Err (order_fault.Fault fault.Store))) names = refl
 orders (line_end.Unspelled line_fault.NoOrder) names = refl
 orders (line_end.Unspelled (line_fault.Field f)) names = refused_line (codes "bad_field " ++ word_field_name f) (both_none (codes "bad_field ") (word_field_name f) refl (field f))
 orders (line_end.Unspelled line_fault.NoMemory) names = refl
+
+pub readings : ReadingsAreRead
+unfolding digits
+readings (reading_end.Shown text) small = read text.items small
+readings reading_end.Copied small = refl
+readings reading_end.BadTenant small = refused_line (codes "bad_field tenant") refl
+readings reading_end.NoSuchTenant small = refused_line (codes "no_such_tenant") refl
+readings reading_end.BadFile small = refused_line (codes "bad_field file") refl
+readings reading_end.FileExists small = refused_line (codes "file_exists") refl
+readings reading_end.Device small = refl
+readings (reading_end.Fault fault.NoMemory) small = refl
+readings (reading_end.Fault fault.Store) small = refl

@@ -4,9 +4,13 @@ use Rattle.wgr_orders.specs.declared.refusal.OrderRefusal.TheVariants as refusal
 use Rattle.wgr_peers.specs.Name.{is_name}
 use Rattle.wgr_register.specs.declared.fault.OrderFault.TheVariants as order_fault
 use Rattle.wgr_service.specs.Lines.{end_status, end_text}
+use Rattle.wgr_service.specs.Readings.{reading_text}
 use Rattle.wgr_service.specs.declared.lines.LineEnd.{LineEnd}
 use Rattle.wgr_service.specs.declared.lines.LineEnd.TheVariants as line_end
+use Rattle.wgr_service.specs.declared.readings.ReadingEnd.{ReadingEnd}
+use Rattle.wgr_service.specs.declared.readings.ReadingEnd.TheVariants as reading_end
 use Rattle.wgr_prog.specs.Reply.{Reply, Done, Shown, Undone, reply_in}
+use Rattle.wgr_prog.specs.declared.messages.TheConstants.{FAULT, REFUSED}
 
 -- ---- a text
 
@@ -36,3 +40,25 @@ HasNames ended = Unit {0}
 -- a reply to an order is read as its exit status
 abbrev pub OrdersAreRead : Type 0
 OrdersAreRead = (ended : LineEnd) → HasNames ended → reply_in (end_text ended) ≡ told_by (end_status ended)
+
+-- ---- the replies to readings
+
+-- the length of a text that is shown has 64 bits
+abbrev pub HasLength : ReadingEnd → Type 0
+HasLength (reading_end.Shown text) = length text.items < 2 ^ 64
+HasLength ended = Unit {0}
+
+-- what the same reading prints as a command, or its exit status
+abbrev pub told_of : ReadingEnd → Reply
+told_of (reading_end.Shown text) = Shown text.items
+told_of reading_end.Copied = Done
+told_of reading_end.BadTenant = Undone REFUSED
+told_of reading_end.NoSuchTenant = Undone REFUSED
+told_of reading_end.BadFile = Undone REFUSED
+told_of reading_end.FileExists = Undone REFUSED
+told_of reading_end.Device = Undone FAULT
+told_of (reading_end.Fault why) = Undone FAULT
+
+-- so is a reply to a reading read
+abbrev pub ReadingsAreRead : Type 0
+ReadingsAreRead = (ended : ReadingEnd) → HasLength ended → reply_in (reading_text ended) ≡ told_of ended

@@ -33,6 +33,7 @@ pub use desk::Desk;
 pub use laws::{connections_are_apart, each_reply_is_counted};
 pub use lines::{LineEnd, carry_out_line, write_line_end};
 pub use network::{Arrival, Door, Missed, Network, Pace};
+pub use readings::ReadingEnd;
 pub use sockets::{Sockets, seconds_now};
 pub use stream::Stream;
 pub use texts::carry_out_text;

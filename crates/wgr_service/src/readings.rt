@@ -22,7 +22,7 @@ use wgr_words::Reading;
 
 /// How a reading ended.
 #[derive(Drop)]
-pub(crate) enum ReadingEnd {
+pub enum ReadingEnd {
     /// The text that is shown.
     Shown(Vec<u8>),
     /// The copy is made.
