@@ -23,7 +23,7 @@ abbrev pool : PrefixValue
 pool = record { address = v4 10 8 0 0; length = 24 }
 
 abbrev peer : ℕ → AddrValue → ℕ → ℕ → Peer
-peer number address until keepalive = record { number = number; key = key number; label = []; address = address; until = until; keepalive = keepalive; status = None }
+peer number address until keepalive = record { number = number; key = key number; label = []; address = address; second = None; until = until; keepalive = keepalive; status = None }
 
 abbrev lan : PrefixValue
 lan = record { address = v4 192 168 4 0; length = 24 }

@@ -63,7 +63,7 @@ peopled n is = record {
   capacity = is.capacity;
   next = is.next;
   room = is.room;
-  members = λ k d h. let m = is.members k d h in record { numbered = m.numbered; not_server = m.not_server; assignable = m.assignable };
+  members = λ k d h. let m = is.members k d h in record { numbered = m.numbered; not_server = m.not_server; assignable = m.assignable; alone = m.alone };
   numbered = is.numbered;
   apart = is.apart;
   few_routes = omega arith;
@@ -109,6 +109,7 @@ module _ (Given : PrefixValue → Type 0) (P : Adoption → Type 0) (leads : Kep
         not_server = may.not_server;
         room = may.room;
         address = record { assignable = may.address.assignable; unowned = may.address.unowned; no_route = λ k d h. absurd (omega (arith, h)) };
+        alone = may.alone;
       }) in
       then_if (λ after. Kept (record (joined_by s line a) { network = after })) Kept (give_all (with_line s.network line a) s.network.next (other_prefixes a line.allowed)) _
       (give_keeps (joined_by s line a) s.network.next (other_prefixes a line.allowed) (people', joins a may) (All-filter (λ p. not (same_prefix p (full a))) Given line.allowed given) (joined_stands s.network.peers (peer_of_line s.network line a)))

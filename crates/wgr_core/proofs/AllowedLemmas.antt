@@ -13,6 +13,7 @@ use Rattle.wgr_pool.proofs.Bools.{decide, or_false}
 use Rattle.wgr_pool.proofs.PrefixLemmas.{same_prefix_is, same_prefix_self}
 use Rattle.wgr_peers.proofs.PlaceLemmas.{not_before_self}
 use Rattle.wgr_peers.proofs.PutLemmas.{map_pairs}
+use Rattle.wgr_peers.proofs.PeerLemmas.{apart_first}
 
 pub AllPairs-append : {X : Type 0} (R : X → X → Type 0) (xs ys : List X) → AllPairs R xs → AllPairs R ys → All (λ x. All (R x) ys) xs → AllPairs R (xs ++ ys)
 AllPairs-append R [] ys pairs pairs' cross = pairs'
@@ -38,7 +39,7 @@ before_differs r s before = elim (decide (same_prefix r.0 s.0)) [
 pub all_differ : (n : NetworkValue) → IsNetwork n → AllPairs Differ (allowed n)
 all_differ n is =
     AllPairs-append Differ (own_prefixes n.peers) n.routes
-    (map_pairs (λ (e : Peer). (full e.address, e.number)) Differ n.peers (λ i j d l h. ap (λ b. b && nat_eq (width (get_or n.peers i d).address.family) (width (get_or n.peers j d).address.family)) (is.apart i j d l h).1))
+    (map_pairs (λ (e : Peer). (full e.address, e.number)) Differ n.peers (λ i j d l h. ap (λ b. b && nat_eq (width (get_or n.peers i d).address.family) (width (get_or n.peers j d).address.family)) (apart_first (get_or n.peers i d) (get_or n.peers j d) (is.apart i j d l h))))
     (λ i j d l h. before_differs (get_or n.routes i d) (get_or n.routes j d) (is.ordered i j d l h))
     (All-map (λ (r : PrefixValue × ℕ). All (Differ r) n.routes) (λ (e : Peer). (full e.address, e.number)) n.peers
     (λ k d h j e l. differ_turn (get_or n.routes j e).0 (full (get_or n.peers k d).address) (no_own (get_or n.routes j e) ((is.routes j e l).no_address) k d h)))

@@ -171,5 +171,6 @@ noted_put start peers at d status rise within noted =
       number = λ e. ap (λ (q : Peer). q.number) (get_or_default peers at e d within);
       key = λ e. ap (λ (q : Peer). q.key) (get_or_default peers at e d within);
       address = λ e. ap (λ (q : Peer). q.address) (get_or_default peers at e d within);
+      second = λ e. ap (λ (q : Peer). q.second) (get_or_default peers at e d within);
     } in
     subst (AreNoted start) (sym (alike_place peers (record (get_or peers at d) { status = status }) at rise alike)) (noted_at start peers at d status within noted)

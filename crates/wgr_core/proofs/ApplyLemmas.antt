@@ -8,7 +8,7 @@ use Rattle.wgr_peers.specs.declared.peer.Peer.{Peer}
 use Rattle.wgr_core.specs.declared.change.Change.{Change}
 use Rattle.wgr_peers.specs.Peers.{key_holder, put_peer}
 use Rattle.wgr_peers.specs.PeerIndex.{EndsFrom}
-use Rattle.wgr_peers.specs.PeersLeft.{OnlyRenews, peers_after}
+use Rattle.wgr_peers.specs.PeersLeft.{HasItsPlaces, OnlyRenews, peers_after}
 use Rattle.wgr_peers.specs.Routes.{Routes}
 use Rattle.wgr_core.specs.Network.{NetworkValue, is_among, without_peers}
 use Rattle.wgr_core.specs.Change.{put_peers, assign_routes, without_routes, changed, applied, NoneIsNew, NothingGrows, OnlyPuts}
@@ -91,12 +91,12 @@ one_at_most n removed [] none = omega arith
 one_at_most n removed (p ∷ []) none = omega arith
 one_at_most n removed (p ∷ q ∷ more) none = absurd none
 
-pub one_known : (n : NetworkValue) (removed : List ℕ) (peers : List Peer) (p : Peer) → NoneIsNew n removed peers → peers ≡ p ∷ [] → key_holder n.peers p.key ≡ Some p.number
-one_known n removed peers p none is = (subst (NoneIsNew n removed) is none).0
+pub one_known : (n : NetworkValue) (removed : List ℕ) (peers : List Peer) (p : Peer) → NoneIsNew n removed peers → peers ≡ p ∷ [] → (key_holder n.peers p.key ≡ Some p.number) × HasItsPlaces n.peers p
+one_known n removed peers p none is = let known = subst (NoneIsNew n removed) is none in (known.0, known.2)
 
 renews : (n : NetworkValue) (removed gone : List ℕ) (o : Option Peer) → ((m : ℕ) → list_any (nat_eq m) gone ≡ is_among removed m) → NoneIsNew n removed (option_to_list o) → OnlyRenews n.peers gone o
 renews n removed gone None same none = tt
-renews n removed gone (Some p) same none = (none.0, same p.number ∙ none.1)
+renews n removed gone (Some p) same none = (none.0, same p.number ∙ none.1, none.2)
 
 -- the peer that a pop gives is in the place of one that stays
 pub pop_renews : (c : Change) (n : NetworkValue) (gone : List ℕ) (o : Option Peer) (peers rest : List Peer) (len : ℕ) → NothingGrows c n → peers ≡ c.peers → len ≡ length peers → peers ≡ rest ++ option_to_list o → rest ≡ take (len - 1) peers

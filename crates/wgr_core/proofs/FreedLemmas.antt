@@ -11,12 +11,13 @@ use Rattle.wgr_pool.specs.PrefixTests.{same_address, has}
 use Rattle.wgr_pool.specs.Pool.{reserved}
 use Rattle.wgr_pool.specs.Allot.{is_assignable, lower, lowest_where}
 use Rattle.wgr_pool.specs.HeldSpans.{is_routed, standing}
-use Rattle.wgr_peers.specs.Peers.{is_live, is_own, expired, expired_addresses, peer_of}
+use Rattle.wgr_peers.specs.Peers.{is_live, is_own, expired, expired_addresses, peer_of, is_first}
 use Rattle.wgr_peers.specs.Routes.{Routes}
-use Rattle.wgr_core.specs.Network.{NetworkValue, IsNetwork, is_among, live_at, lowest_free}
+use Rattle.wgr_core.specs.Network.{NetworkValue, IsNetwork, is_among, live_at, lowest_free, AreAlone}
 use Rattle.wgr_core.specs.Outcome.{vacated}
 use Rattle.wgr_pool.proofs.Bools.{decide, and_true, or_right}
 use Rattle.wgr_pool.proofs.PrefixLemmas.{same_address_is, same_address_self, same_family_is}
+use Rattle.wgr_core.proofs.AloneLemmas.{members_alone, own_alone}
 use Rattle.wgr_core.proofs.MoveLemmas.{first_agrees, first_with_any, lowest_where_routed, lowest_where_unrouted}
 use Rattle.wgr_core.proofs.ApplyLemmas.{kept_routes}
 use Rattle.wgr_core.proofs.LiveLemmas.{without_expired}
@@ -99,7 +100,7 @@ pub all_given : (n : NetworkValue) (now : ℕ) (given_up : List AddrValue) → I
     → lowest_where n.pool (held_but given_up n.pool n.peers (live_at n now).routes) ≡ lowest_free (live_at n now) n.pool
 all_given n now given_up is same =
     first_agrees n.pool.address.family _ _ n.pool.address.number (block n.pool.address.family n.pool.length)
-    (λ a. ap (λ b. is_assignable n.pool a && not (b || is_routed n.pool (live_at n now).routes a)) (ap (λ ys. is_own n.peers a && not (list_any (λ b. same_address b a) ys)) same ∙ sym (own_live now n.peers a is.apart)))
+    (λ a. ap (λ b. is_assignable n.pool a && not (b || is_routed n.pool (live_at n now).routes a)) (ap (λ ys. is_own n.peers a && not (list_any (λ b. same_address b a) ys)) same ∙ sym (own_live now n.peers a is.apart (members_alone n is))))
 
 -- each that is given up is one that the pool may give
 pub given_assignable : (n : NetworkValue) (now : ℕ) (given_up : List AddrValue) → IsNetwork n → given_up ≡ expired_addresses now n.peers → All (λ a. is_assignable n.pool a ≡ true) given_up
@@ -141,3 +142,8 @@ mover_given n p is stands = by (is_routed n.pool n.routes p.address) refl
     by : (b : Bool) → is_routed n.pool n.routes p.address ≡ b → cond b (lowest_free n n.pool) (Some (lower (lowest_free n n.pool) p.address)) ≡ lowest_free (vacated n (Some p.number)) n.pool
     by true r = sym (lowest_where_routed n p.number p is stands r)
     by false r = sym (lowest_where_unrouted n p.number p is stands r)
+
+-- the search for a free address passes over first addresses alone
+pub free_alone : (n : NetworkValue) (pool : PrefixValue) → AreAlone n.peers → lowest_free n pool ≡ lowest_where pool (λ a. list_any (λ p. is_first p a) n.peers || is_routed pool n.routes a)
+free_alone n pool alone =
+    first_agrees pool.address.family _ _ pool.address.number (block pool.address.family pool.length) (λ a. ap (λ b. is_assignable pool a && not (b || is_routed pool n.routes a)) (own_alone n.peers a alone))

@@ -17,13 +17,14 @@ use Rattle.wgr_pool.specs.PrefixTests.{same_address, same_prefix, has, covers, f
 use Rattle.wgr_pool.specs.Pool.{IsPool}
 use Rattle.wgr_pool.specs.Allot.{is_assignable, first_from}
 use Rattle.wgr_peers.specs.Limits.{is_expired, max_number}
-use Rattle.wgr_peers.specs.Peers.{is_own, key_holder, peer_of, same_key, IsNumberedBelow, IsApart}
+use Rattle.wgr_peers.specs.Peers.{is_own, key_holder, peer_of, same_key, IsNumberedBelow, IsApart, is_at}
 use Rattle.wgr_peers.specs.Routes.{Routes, route_of}
 use Rattle.wgr_core.specs.Network.{NetworkValue, IsNetwork, IsMember, is_held, lowest_free, server_address}
 use Rattle.wgr_core.specs.Refusals.{address_refusal, held_or, is_address_taken, joining_refusal, or_full, place, unless_refused}
 use Rattle.wgr_pool.proofs.Lists.{list_any-none}
 use Rattle.wgr_pool.proofs.Bools.{decide, and_true, or_false, not_true}
 use Rattle.wgr_pool.proofs.PrefixLemmas.{same_prefix_is, full_has, covers_full, same_family_is}
+use Rattle.wgr_core.proofs.AloneLemmas.{apart_alone}
 
 -- nobody has the key
 pub key_free : (peers : List Peer) (key : Key) → key_holder peers key ≡ None → All (λ p. same_key p.key key ≡ false) peers
@@ -174,11 +175,12 @@ pub record MayJoin (n : NetworkValue) (p : Peer) : Type 0 where
   pub not_server : same_key p.key n.server ≡ false
   pub room : length n.peers < n.capacity
   pub address : IsOpen n p.address
+  pub alone : p.second ≡ None
 
 pub joined_is_network : (n : NetworkValue) (p : Peer) → IsNetwork n → MayJoin n p → IsNetwork (with_peer n p)
 joined_is_network n p is may =
     let keys = key_free n.peers p.key may.key_unheld in
-    let owners = list_any-none (λ (q : Peer). same_address q.address p.address) n.peers may.address.unowned in
+    let owners = list_any-none (λ (q : Peer). is_at q p.address) n.peers may.address.unowned in
     record {
       pool = is.pool;
       port = is.port;
@@ -186,10 +188,10 @@ joined_is_network n p is may =
       next = (omega arith, omega (arith, may.number_left));
       room = omega (arith, may.room, length-append n.peers (p ∷ []));
       members = All-push (IsMember (with_peer n p)) n.peers p
-          (λ k d h. let m = is.members k d h in record { numbered = (m.numbered.0, omega (arith, m.numbered.1)); not_server = m.not_server; assignable = m.assignable })
-          (record { numbered = (omega (arith, may.next, is.next.0), omega (arith, may.next)); not_server = may.not_server; assignable = may.address.assignable });
+          (λ k d h. let m = is.members k d h in record { numbered = (m.numbered.0, omega (arith, m.numbered.1)); not_server = m.not_server; assignable = m.assignable; alone = m.alone })
+          (record { numbered = (omega (arith, may.next, is.next.0), omega (arith, may.next)); not_server = may.not_server; assignable = may.address.assignable; alone = may.alone });
       numbered = all_pairs_push IsNumberedBelow n.peers p is.numbered (λ k d h. omega (arith, (is.members k d h).numbered.1, may.next));
-      apart = all_pairs_push IsApart n.peers p is.apart (λ k d h. (keys k d h, owners k d h));
+      apart = all_pairs_push IsApart n.peers p is.apart (λ k d h. apart_alone (get_or n.peers k d) p may.alone (keys k d h) (owners k d h));
       few_routes = is.few_routes;
       routes = λ k d h. let r = is.routes k d h in
           record {

@@ -39,7 +39,7 @@ kept_is_network n keeps leads is led =
       capacity = is.capacity;
       next = is.next;
       room = omega (arith, is.room, length-filter keeps n.peers);
-      members = All-weaker (IsMember n) (IsMember (kept n keeps leads)) (λ p m. record { numbered = m.numbered; not_server = m.not_server; assignable = m.assignable }) (filter keeps n.peers) (All-filter keeps (IsMember n) n.peers is.members);
+      members = All-weaker (IsMember n) (IsMember (kept n keeps leads)) (λ p m. record { numbered = m.numbered; not_server = m.not_server; assignable = m.assignable; alone = m.alone }) (filter keeps n.peers) (All-filter keeps (IsMember n) n.peers is.members);
       numbered = AllPairs-filter IsNumberedBelow keeps n.peers is.numbered;
       apart = AllPairs-filter IsApart keeps n.peers is.apart;
       few_routes = omega (arith, is.few_routes, length-filter leads n.routes);

@@ -1,4 +1,5 @@
 -- Lists: what is found, kept and put in order.
+pub mod AloneLemmas
 pub mod LookLemmas
 pub mod WalkLemmas
 pub mod Arranged

@@ -65,6 +65,7 @@ line_may_join n line a pool allowed placed =
       not_server = may.not_server;
       room = has_room (length n.peers) n.capacity may.room;
       address = place_is_open n (named_address n.pool line.allowed) a pool placed;
+      alone = refl;
     }
 
 -- ---- a prefix that leads to the peer

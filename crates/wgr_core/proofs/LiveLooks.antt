@@ -1,25 +1,27 @@
 -- What is found of the live network, by what is found of the whole.
-use Rattle.std.proofs.Common.{◌≡◌, ℕ, ◌+◌, ◌<◌, ◌≤◌, inl, inr, Bool, true, false, not, ◌&&◌, ◌||◌, cond, nat_eq, nat_lt, nat_le, List, [], ◌∷◌, length, map, Option, Some, None, is_some, refl, sym, ap, ◌∙◌, arith}
+use Rattle.std.proofs.Common.{get_or, ◌≡◌, ℕ, ◌+◌, ◌<◌, ◌≤◌, inl, inr, Bool, true, false, not, ◌&&◌, ◌||◌, cond, nat_eq, nat_lt, nat_le, List, [], ◌∷◌, length, map, Option, Some, None, is_some, refl, sym, ap, ◌∙◌, arith}
 use Rattle.std.specs.Prelude.{option_map}
 use Rattle.std.specs.List.{All, AllPairs, filter, list_any}
 use Rattle.std.proofs.lemmas.Bool.Decides.{nat_tests}
 use Rattle.std.proofs.lemmas.List.{length-map}
-use Rattle.std.proofs.lemmas.List.Elements.{All-head, All-tail, All-weaker}
+use Rattle.std.proofs.lemmas.List.Elements.{All-head, All-tail, All-weaker, All-filter}
 use Rattle.std.proofs.lemmas.List.Filters.{length-filter_both}
 use Rattle.std.proofs.lemmas.List.Folds.{list_any_none}
 use Rattle.wgr_text.specs.declared.key.Key.{Key}
 use Rattle.wgr_text.specs.Prefix.{AddrValue, PrefixValue}
 use Rattle.wgr_peers.specs.declared.peer.Peer.{Peer}
 use Rattle.wgr_pool.specs.PrefixTests.{same_address}
-use Rattle.wgr_peers.specs.Peers.{is_live, is_own, expired_addresses, key_holder, peer_of, same_key, IsApart, IsNumberedBelow, AreApart, AreNumbered}
+use Rattle.wgr_peers.specs.Peers.{is_live, is_own, expired_addresses, key_holder, peer_of, same_key, IsApart, IsNumberedBelow, AreApart, AreNumbered, is_at}
 use Rattle.wgr_peers.specs.Routes.{Routes, route_of}
 use Rattle.wgr_core.specs.Network.{NetworkValue, IsNetwork, live_at}
 use Rattle.wgr_core.specs.Owner.{longest_match, own_prefixes}
 use Rattle.wgr_pool.proofs.Lists.{AllPairs-head, AllPairs-tail, filter_none, filter_twice, list_any-filter_none}
 use Rattle.wgr_pool.proofs.Bools.{decide}
 use Rattle.wgr_pool.proofs.PrefixLemmas.{nat_eq_is}
-use Rattle.wgr_peers.proofs.PeerLemmas.{apart_too}
+use Rattle.wgr_peers.proofs.PeerLemmas.{apart_too, apart_at, one_at}
 use Rattle.wgr_peers.proofs.TableLemmas.{holder_absent, peer_absent, same_key_is}
+use Rattle.wgr_core.specs.Network.{AreAlone}
+use Rattle.wgr_core.proofs.AloneLemmas.{at_alone, own_alone}
 use Rattle.wgr_core.proofs.LookLemmas.{absent_kept, found_kept, live_routes}
 use Rattle.wgr_core.proofs.OwnerLemmas.{own_here, own_skip}
 
@@ -147,17 +149,18 @@ any_map : {X Y : Type 0} (f : X → Y) (q : Y → Bool) (xs : List X) → list_a
 any_map f q [] = refl
 any_map f q (x ∷ xs) = ap (λ b. q (f x) || b) (any_map f q xs)
 
-pub own_live : (now : ℕ) (peers : List Peer) (a : AddrValue) → AreApart peers
+pub own_live : (now : ℕ) (peers : List Peer) (a : AddrValue) → AreApart peers → AreAlone peers
     → is_own (filter (is_live now) peers) a ≡ (is_own peers a && not (list_any (λ b. same_address b a) (expired_addresses now peers)))
-own_live now peers a apart =
-    one_of (λ (p : Peer). same_address p.address a) (is_live now) peers (λ i j d l h s. apart_too _ _ a (apart i j d l h).1 s)
-    ∙ ap (λ b. is_own peers a && not b) (sym (any_map (λ (p : Peer). p.address) (λ b. same_address b a) (filter (λ p. not (is_live now p)) peers)))
+own_live now peers a apart alone =
+    let over = filter (λ (p : Peer). not (is_live now p)) peers in
+    one_of (λ (p : Peer). is_at p a) (is_live now) peers (one_at peers a apart)
+    ∙ ap (λ b. is_own peers a && not b) (own_alone over a (All-filter (λ (p : Peer). not (is_live now p)) (λ p. p.second ≡ None) peers alone) ∙ sym (any_map (λ (p : Peer). p.address) (λ b. same_address b a) over))
 
 -- who owns an address among those that are kept owns it among all
-pub match_kept : (keeps : Peer → Bool) (peers : List Peer) (a : AddrValue) → AreApart peers → is_own (filter keeps peers) a ≡ true
+pub match_kept : (keeps : Peer → Bool) (peers : List Peer) (a : AddrValue) → AreApart peers → AreAlone peers → is_own (filter keeps peers) a ≡ true
     → longest_match (own_prefixes (filter keeps peers)) a ≡ longest_match (own_prefixes peers) a
-match_kept keeps [] a apart h = refl
-match_kept keeps (p ∷ peers) a apart h = by (same_address p.address a) refl (λ rest. match_kept keeps peers a (AllPairs-tail IsApart p peers apart) rest)
+match_kept keeps [] a apart alone h = refl
+match_kept keeps (p ∷ peers) a apart alone h = by (is_at p a) refl (λ rest. match_kept keeps peers a (AllPairs-tail IsApart p peers apart) (All-tail (λ p. p.second ≡ None) p peers alone) rest)
   where
     left : List Peer
     left = filter keeps peers
@@ -165,19 +168,22 @@ match_kept keeps (p ∷ peers) a apart h = by (same_address p.address a) refl (�
     Goal : Bool → Type 0
     Goal b = is_own (cond b (p ∷ left) left) a ≡ true → longest_match (own_prefixes (cond b (p ∷ left) left)) a ≡ longest_match (own_prefixes (p ∷ peers)) a
 
-    by : (b : Bool) → same_address p.address a ≡ b → (is_own left a ≡ true → longest_match (own_prefixes left) a ≡ longest_match (own_prefixes peers) a)
+    at_first : (b : Bool) → is_at p a ≡ b → same_address p.address a ≡ b
+    at_first b s = sym (at_alone p a (All-head (λ p. p.second ≡ None) p peers alone)) ∙ s
+
+    by : (b : Bool) → is_at p a ≡ b → (is_own left a ≡ true → longest_match (own_prefixes left) a ≡ longest_match (own_prefixes peers) a)
         → longest_match (own_prefixes (cond (keeps p) (p ∷ left) left)) a ≡ longest_match (own_prefixes (p ∷ peers)) a
     by true s later =
-        let none : is_own peers a ≡ false = list_any_none (λ (r : Peer). same_address r.address a) peers (λ i d l. apart_too p.address _ a (AllPairs-head IsApart p peers apart i d l).1 s) in
-        let none_left = list_any-filter_none (λ (r : Peer). same_address r.address a) keeps peers none in
+        let none : is_own peers a ≡ false = list_any_none (λ (r : Peer). is_at r a) peers (λ i d l. apart_at p (get_or peers i d) a (AllPairs-head IsApart p peers apart i d l) s) in
+        let none_left = list_any-filter_none (λ (r : Peer). is_at r a) keeps peers none in
         (elim (keeps p) as (λ b. Goal b) [
-          | true ↦ (λ own. own_here p left a s ∙ sym (own_here p peers a s))
+          | true ↦ (λ own. own_here p left a (at_first true s) ∙ sym (own_here p peers a (at_first true s)))
           | false ↦ (λ own. let bad : false ≡ true = sym none_left ∙ own in cc)
         ]) h
     by false s later =
         (elim (keeps p) as (λ b. Goal b) [
-          | true ↦ (λ own. own_skip p left a s ∙ later (sym (ap (λ b. b || is_own left a) s) ∙ own) ∙ sym (own_skip p peers a s))
-          | false ↦ (λ own. later own ∙ sym (own_skip p peers a s))
+          | true ↦ (λ own. own_skip p left a (at_first false s) ∙ later (sym (ap (λ b. b || is_own left a) s) ∙ own) ∙ sym (own_skip p peers a (at_first false s)))
+          | false ↦ (λ own. later own ∙ sym (own_skip p peers a (at_first false s)))
         ]) h
 
 -- ---- how many are live

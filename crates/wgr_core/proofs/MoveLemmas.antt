@@ -10,7 +10,7 @@ use Rattle.wgr_core.specs.declared.refusal.Refusal.{Refusal}
 use Rattle.wgr_pool.specs.PrefixTests.{same_address, has}
 use Rattle.wgr_pool.specs.Pool.{reserved}
 use Rattle.wgr_pool.specs.Allot.{is_assignable, first_from, lower}
-use Rattle.wgr_peers.specs.Peers.{is_own, peer_of}
+use Rattle.wgr_peers.specs.Peers.{is_own, peer_of, is_at, is_second}
 use Rattle.wgr_pool.specs.HeldSpans.{is_routed}
 use Rattle.wgr_core.specs.Network.{NetworkValue, IsNetwork, IsMember, is_held, lowest_free}
 use Rattle.wgr_core.specs.Outcome.{at_place, if_stands, move, replaced, vacated}
@@ -18,12 +18,15 @@ use Rattle.wgr_core.specs.Refusals.{place}
 use Rattle.wgr_pool.proofs.Bools.{decide, and_true, or_left, or_right}
 use Rattle.wgr_peers.proofs.PeerLemmas.{own_without, peer_is, peer_number}
 use Rattle.wgr_pool.proofs.PrefixLemmas.{same_address_is, same_address_self, same_family_is}
+use Rattle.wgr_core.proofs.AloneLemmas.{at_alone}
 
 -- an address is held without the peer: by a route where it is the peer's own, and else as before
 pub held_without : (n : NetworkValue) (number : ℕ) (p : Peer) (a : AddrValue) → IsNetwork n → peer_of n.peers number ≡ Some p
     → is_held (vacated n (Some number)) n.pool a ≡ cond (same_address p.address a) (is_routed n.pool n.routes a) (is_held n n.pool a)
 held_without n number p a is h =
-    ap (λ b. b || is_routed n.pool n.routes a) (own_without n.peers number p a is.numbered is.apart h) ∙ split (same_address p.address a)
+    ap (λ b. b || is_routed n.pool n.routes a) (own_without n.peers number p a is.numbered is.apart h)
+    ∙ ap (λ c. cond c false (is_own n.peers a) || is_routed n.pool n.routes a) (at_alone p a (peer_is (IsMember n) n.peers number p is.members h).0.alone)
+    ∙ split (same_address p.address a)
   where
     split : (b : Bool) → cond b false (is_own n.peers a) || is_routed n.pool n.routes a ≡ cond b (is_routed n.pool n.routes a) (is_own n.peers a || is_routed n.pool n.routes a)
     split true = refl
@@ -143,9 +146,9 @@ own_of : (peers : List Peer) (number : ℕ) (p : Peer) → peer_of peers number 
 own_of [] number p h = cc
 own_of (q ∷ peers) number p h = by (nat_eq q.number number) (λ rest. own_of peers number p rest) h
   where
-    by : (b : Bool) → (peer_of peers number ≡ Some p → is_own peers p.address ≡ true) → cond b (Some q) (peer_of peers number) ≡ Some p → same_address q.address p.address || is_own peers p.address ≡ true
-    by true later h = let e : q ≡ p = cc in or_left (same_address q.address p.address) (is_own peers p.address) (subst (λ (r : Peer). same_address r.address p.address ≡ true) (sym e) (same_address_self p.address))
-    by false later h = or_right (same_address q.address p.address) (is_own peers p.address) (later h)
+    by : (b : Bool) → (peer_of peers number ≡ Some p → is_own peers p.address ≡ true) → cond b (Some q) (peer_of peers number) ≡ Some p → is_at q p.address || is_own peers p.address ≡ true
+    by true later h = let e : q ≡ p = cc in or_left (is_at q p.address) (is_own peers p.address) (subst (λ (r : Peer). is_at r p.address ≡ true) (sym e) (or_left (same_address p.address p.address) (is_second p p.address) (same_address_self p.address)))
+    by false later h = or_right (is_at q p.address) (is_own peers p.address) (later h)
 
 -- a peer's address is one of the pool's
 pub own_in_pool : (n : NetworkValue) (p : Peer) → IsNetwork n → peer_of n.peers p.number ≡ Some p → has n.pool p.address ≡ true

@@ -15,7 +15,7 @@ use Rattle.wgr_core.specs.declared.refusal.Refusal.TheVariants.{CapacityReached,
 use Rattle.wgr_core.specs.declared.reply.Reply.{Reply}
 use Rattle.wgr_pool.specs.PrefixTests.{full, same_address}
 use Rattle.wgr_peers.specs.Limits.{is_expired}
-use Rattle.wgr_peers.specs.Peers.{is_own, key_holder, peer_of, same_key, without_peer}
+use Rattle.wgr_peers.specs.Peers.{is_own, key_holder, peer_of, same_key, without_peer, is_at}
 use Rattle.wgr_peers.specs.Routes.{route_of}
 use Rattle.wgr_core.specs.Network.{NetworkValue, IsNetwork, IsMember, is_address, live_at}
 use Rattle.wgr_core.specs.Owner.{owner_of}
@@ -43,23 +43,23 @@ add_keeps n now key label wanted until keepalive is =
     unless_if After (join_refusal n now key until) _ (λ admitted.
     place_if After (place n n.pool wanted) _ (λ a placed.
     let may = is_admitted (joining_of n key) now key until admitted in
-    joined_is_network n (record { number = n.next; key = key; label = label; address = a; until = until; keepalive = keepalive; status = None }) is
-    (record { next = refl; number_left = may.left; key_unheld = may.unheld; not_server = may.not_server; room = has_room (length n.peers) n.capacity may.room; address = place_is_open n wanted a is.pool placed })))
+    joined_is_network n (record { number = n.next; key = key; label = label; address = a; second = None; until = until; keepalive = keepalive; status = None }) is
+    (record { next = refl; number_left = may.left; key_unheld = may.unheld; not_server = may.not_server; room = has_room (length n.peers) n.capacity may.room; address = place_is_open n wanted a is.pool placed; alone = refl })))
 
 -- ---- a peer that moves, leaves, or has another lease
 
 -- no other peer has an address that nobody has where one peer is left out
-unowned_but : (peers : List Peer) (number : ℕ) (a : AddrValue) → is_own (without_peer peers number) a ≡ false → All (λ e. nat_eq e.number number ≡ false → same_address e.address a ≡ false) peers
+unowned_but : (peers : List Peer) (number : ℕ) (a : AddrValue) → is_own (without_peer peers number) a ≡ false → All (λ e. nat_eq e.number number ≡ false → is_at e a ≡ false) peers
 unowned_but [] number a unowned = λ k d h. absurd (omega (arith, h))
 unowned_but (p ∷ peers) number a unowned =
     let others = without_peer peers number in
     elim (decide (nat_eq p.number number)) [
       | inl here ↦
-          All-cons (λ e. nat_eq e.number number ≡ false → same_address e.address a ≡ false) p peers (λ apart. let bad : true ≡ false = sym here ∙ apart in cc)
+          All-cons (λ e. nat_eq e.number number ≡ false → is_at e a ≡ false) p peers (λ apart. let bad : true ≡ false = sym here ∙ apart in cc)
           (unowned_but peers number a (sym (ap (λ b. is_own (cond (not b) (p ∷ others) others) a) here) ∙ unowned))
       | inr apart ↦
-          let parts = or_false (same_address p.address a) (is_own others a) (sym (ap (λ b. is_own (cond (not b) (p ∷ others) others) a) apart) ∙ unowned) in
-          All-cons (λ e. nat_eq e.number number ≡ false → same_address e.address a ≡ false) p peers (λ other. parts.0) (unowned_but peers number a parts.1)
+          let parts = or_false (is_at p a) (is_own others a) (sym (ap (λ b. is_own (cond (not b) (p ∷ others) others) a) apart) ∙ unowned) in
+          All-cons (λ e. nat_eq e.number number ≡ false → is_at e a ≡ false) p peers (λ other. parts.0) (unowned_but peers number a parts.1)
     ]
 
 pub move_keeps : (n : NetworkValue) (number : ℕ) (wanted : Option AddrValue) → IsNetwork n → Keeps (move n number wanted)
@@ -73,8 +73,9 @@ move_keeps n number wanted is =
       stands = ap (peer_of n.peers) at ∙ found;
       key = refl;
       assignable = may.assignable;
-      unowned = subst (λ (i : ℕ). All (λ e. nat_eq e.number i ≡ false → same_address e.address a ≡ false) n.peers) (sym at) (unowned_but n.peers number a may.unowned);
+      unowned = subst (λ (i : ℕ). All (λ e. nat_eq e.number i ≡ false → is_at e a ≡ false) n.peers) (sym at) (unowned_but n.peers number a may.unowned);
       no_route = may.no_route;
+      alone = (peer_is (IsMember n) n.peers number p is.members found).0.alone;
     })))
 
 pub renew_keeps : (n : NetworkValue) (now number until : ℕ) → IsNetwork n → Keeps (renew n now number until)

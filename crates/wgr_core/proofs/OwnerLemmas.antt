@@ -1,19 +1,20 @@
 -- The longest match among peers' own addresses and routes.
 use Rattle.std.proofs.Common.{◌≡◌, ℕ, ◌-◌, ◌/◌, ◌^◌, ◌≤◌, inl, inr, true, false, ◌&&◌, ◌||◌, cond, nat_eq, nat_lt, List, [], ◌∷◌, ◌++◌, Option, Some, None, refl, sym, ap, subst, ◌∙◌, arith}
 use Rattle.std.specs.Prelude.{IfSome, option_map}
-use Rattle.std.specs.List.{All}
+use Rattle.std.specs.List.{All, list_any}
 use Rattle.std.proofs.lemmas.Bool.Decides.{nat_tests}
 use Rattle.std.proofs.lemmas.List.Elements.{All-cons, All-head, All-tail}
 use Rattle.wgr_text.specs.declared.addr.Family.{Family}
 use Rattle.wgr_text.specs.Prefix.{AddrValue, PrefixValue, block, width}
 use Rattle.wgr_peers.specs.declared.peer.Peer.{Peer}
 use Rattle.wgr_pool.specs.PrefixTests.{same_family, same_address, has, full}
-use Rattle.wgr_peers.specs.Peers.{is_own}
+use Rattle.wgr_peers.specs.Peers.{is_own, is_first}
 use Rattle.wgr_peers.specs.Routes.{Routes}
 use Rattle.wgr_core.specs.Owner.{own_prefixes, longer, longest_match, owner_of}
 use Rattle.wgr_core.specs.Network.{NetworkValue, IsNetwork}
 use Rattle.wgr_pool.proofs.Bools.{decide, and_true, or_false}
 use Rattle.wgr_pool.proofs.PrefixLemmas.{same_address_is, same_family_is}
+use Rattle.wgr_core.proofs.AloneLemmas.{members_alone, own_alone}
 
 -- ---- the longer of two
 
@@ -126,19 +127,19 @@ own_here e peers a h =
 pub own_skip : (e : Peer) (peers : List Peer) (a : AddrValue) → same_address e.address a ≡ false → longest_match (own_prefixes (e ∷ peers)) a ≡ longest_match (own_prefixes peers) a
 own_skip e peers a h = longest_skip (full e.address, e.number) (own_prefixes peers) a (full_has_own e.address a ∙ h)
 
-own_found : (peers : List Peer) (a : AddrValue) → is_own peers a ≡ true → IsFound (longest_match (own_prefixes peers) a) (width a.family)
+own_found : (peers : List Peer) (a : AddrValue) → list_any (λ p. is_first p a) peers ≡ true → IsFound (longest_match (own_prefixes peers) a) (width a.family)
 own_found [] a h = cc
 own_found (e ∷ peers) a h = elim (decide (same_address e.address a)) [
   | inl t ↦ subst (λ (m : Option (PrefixValue × ℕ)). IsFound m (width a.family)) (sym (own_here e peers a t)) (full_width e.address a t)
   | inr f ↦
-      let rest : is_own peers a ≡ true = ap (λ b. b || is_own peers a) (sym f) ∙ h in
+      let rest : list_any (λ (p : Peer). is_first p a) peers ≡ true = ap (λ b. b || list_any (λ (p : Peer). is_first p a) peers) (sym f) ∙ h in
       subst (λ (m : Option (PrefixValue × ℕ)). IsFound m (width a.family)) (sym (own_skip e peers a f)) (own_found peers a rest)
 ]
 
-own_none : (peers : List Peer) (a : AddrValue) → is_own peers a ≡ false → longest_match (own_prefixes peers) a ≡ None
+own_none : (peers : List Peer) (a : AddrValue) → list_any (λ p. is_first p a) peers ≡ false → longest_match (own_prefixes peers) a ≡ None
 own_none [] a h = refl
 own_none (e ∷ peers) a h =
-    let parts = or_false (same_address e.address a) (is_own peers a) h in
+    let parts = or_false (same_address e.address a) (list_any (λ (p : Peer). is_first p a) peers) h in
     own_skip e peers a parts.0 ∙ own_none peers a parts.1
 
 -- ---- the owner
@@ -148,9 +149,9 @@ owner_own n a is h =
     let within : All IsInWidth n.routes = λ k d l. (is.routes k d l).masked.1.0 in
     ap (option_map (λ (r : PrefixValue × ℕ). r.1))
     (longest_append (own_prefixes n.peers) n.routes a
-    ∙ found_stands (longest_match (own_prefixes n.peers) a) (longest_match n.routes a) (width a.family) (own_found n.peers a h) (longest_within n.routes a within))
+    ∙ found_stands (longest_match (own_prefixes n.peers) a) (longest_match n.routes a) (width a.family) (own_found n.peers a (sym (own_alone n.peers a (members_alone n is)) ∙ h)) (longest_within n.routes a within))
 
-pub owner_routed : (n : NetworkValue) (a : AddrValue) → is_own n.peers a ≡ false → owner_of n a ≡ option_map (λ r. r.1) (longest_match n.routes a)
-owner_routed n a h =
+pub owner_routed : (n : NetworkValue) (a : AddrValue) → IsNetwork n → is_own n.peers a ≡ false → owner_of n a ≡ option_map (λ r. r.1) (longest_match n.routes a)
+owner_routed n a is h =
     ap (option_map (λ (r : PrefixValue × ℕ). r.1))
-    (longest_append (own_prefixes n.peers) n.routes a ∙ ap (λ (m : Option (PrefixValue × ℕ)). longer m (longest_match n.routes a)) (own_none n.peers a h))
+    (longest_append (own_prefixes n.peers) n.routes a ∙ ap (λ (m : Option (PrefixValue × ℕ)). longer m (longest_match n.routes a)) (own_none n.peers a (sym (own_alone n.peers a (members_alone n is)) ∙ h)))

@@ -9,12 +9,14 @@ use Rattle.wgr_peers.specs.declared.peer.Peer.{Peer}
 use Rattle.wgr_pool.specs.PrefixTests.{same_address, same_prefix, is_before, full}
 use Rattle.wgr_pool.specs.Pool.{IsPool}
 use Rattle.wgr_peers.specs.Limits.{IsPort, IsCapacity}
-use Rattle.wgr_peers.specs.Peers.{is_own, AreNumbered, AreApart}
+use Rattle.wgr_peers.specs.Peers.{is_own, AreNumbered, AreApart, is_first}
 use Rattle.wgr_peers.specs.Routes.{Routes, AreOrdered}
 use Rattle.wgr_core.specs.Network.{NetworkValue, IsMember, IsRoute, IsNetwork, is_address, server_address}
 use Rattle.wgr_pool.proofs.Bools.{decide, and_false_last}
 use Rattle.wgr_peers.proofs.PlaceLemmas.{before_joins}
 use Rattle.wgr_pool.proofs.PrefixLemmas.{same_address_is, same_address_self, same_prefix_is}
+use Rattle.wgr_core.specs.Network.{AreAlone}
+use Rattle.wgr_core.proofs.AloneLemmas.{own_alone}
 
 -- ---- lists in order
 
@@ -78,23 +80,23 @@ one_address p a = elim (decide (same_address a p.address)) [
     and_true_right false = refl
 
 -- a prefix is a peer's address where it is full and its own address is a peer's
-address_of_peer : (p : PrefixValue) (peers : List Peer) → list_any (λ e. same_prefix p (full e.address)) peers ≡ (same_prefix p (full p.address) && is_own peers p.address)
+address_of_peer : (p : PrefixValue) (peers : List Peer) → list_any (λ e. same_prefix p (full e.address)) peers ≡ (same_prefix p (full p.address) && list_any (λ e. is_first e p.address) peers)
 address_of_peer p [] = sym (and_false_last (same_prefix p (full p.address)) false refl)
 address_of_peer p (e ∷ peers) =
     ap (λ b. same_prefix p (full e.address) || b) (address_of_peer p peers)
-    ∙ ap (λ b. b || (same_prefix p (full p.address) && is_own peers p.address)) (one_address p e.address)
-    ∙ joined (same_prefix p (full p.address)) (same_address e.address p.address) (is_own peers p.address)
+    ∙ ap (λ b. b || (same_prefix p (full p.address) && list_any (λ (q : Peer). is_first q p.address) peers)) (one_address p e.address)
+    ∙ joined (same_prefix p (full p.address)) (same_address e.address p.address) (list_any (λ (q : Peer). is_first q p.address) peers)
   where
     joined : (f x y : Bool) → ((f && x) || (f && y)) ≡ (f && (x || y))
     joined false x y = refl
     joined true x y = refl
 
-pub address_is : (n : NetworkValue) (pool : PrefixValue) (peers : List Peer) (p : PrefixValue) → n.pool ≡ pool → n.peers ≡ peers
+pub address_is : (n : NetworkValue) (pool : PrefixValue) (peers : List Peer) (p : PrefixValue) → AreAlone n.peers → n.pool ≡ pool → n.peers ≡ peers
     → ((same_prefix p (full p.address) && is_own peers p.address) || same_prefix p (full (server_address pool))) ≡ is_address n p
-address_is n pool peers p same_pool same_peers =
+address_is n pool peers p alone same_pool same_peers =
     ap (λ (q : PrefixValue). (same_prefix p (full p.address) && is_own peers p.address) || same_prefix p (full (server_address q))) (sym same_pool)
     ∙ ap (λ (ps : List Peer). (same_prefix p (full p.address) && is_own ps p.address) || same_prefix p (full (server_address n.pool))) (sym same_peers)
-    ∙ ap (λ b. b || same_prefix p (full (server_address n.pool))) (sym (address_of_peer p n.peers))
+    ∙ ap (λ b. b || same_prefix p (full (server_address n.pool))) (ap (λ b. same_prefix p (full p.address) && b) (own_alone n.peers p.address alone) ∙ sym (address_of_peer p n.peers))
 
 -- ---- an item that is read
 

@@ -1,5 +1,5 @@
 -- A peer in place of the one of its number leaves a network that keeps the rules.
-use Rattle.std.proofs.Common.{◌≡◌, ℕ, ◌<◌, ◌≤◌, inl, inr, true, false, ◌||◌, cond, nat_eq, nat_lt, List, [], ◌∷◌, get_or, map, Option, Some, is_some, refl, sym, ap, ◌∙◌, subst, arith}
+use Rattle.std.proofs.Common.{◌≡◌, ℕ, ◌<◌, ◌≤◌, inl, inr, true, false, ◌||◌, cond, nat_eq, nat_lt, List, [], ◌∷◌, get_or, map, Option, Some, is_some, refl, sym, ap, ◌∙◌, subst, arith, None}
 use Rattle.std.specs.List.{All, list_any}
 use Rattle.std.proofs.lemmas.Bool.Decides.{nat_tests}
 use Rattle.std.proofs.lemmas.List.{length-map}
@@ -9,14 +9,15 @@ use Rattle.wgr_peers.specs.declared.peer.Peer.{Peer}
 use Rattle.wgr_peers.specs.declared.peer.Status.{Status}
 use Rattle.wgr_pool.specs.PrefixTests.{same_address, same_prefix, full}
 use Rattle.wgr_pool.specs.Allot.{is_assignable}
-use Rattle.wgr_peers.specs.Peers.{peer_of, put_peer, same_key, IsNumberedBelow, IsApart, AreApart, AreNumbered}
+use Rattle.wgr_peers.specs.Peers.{peer_of, put_peer, same_key, IsNumberedBelow, IsApart, AreApart, AreNumbered, is_at, is_second}
 use Rattle.wgr_core.specs.Network.{NetworkValue, IsNetwork, IsMember, server_address}
 use Rattle.wgr_pool.proofs.Lists.{list_any-none}
-use Rattle.wgr_pool.proofs.Bools.{decide, or_false}
-use Rattle.wgr_pool.proofs.PrefixLemmas.{nat_eq_is}
-use Rattle.wgr_peers.proofs.PeerLemmas.{peer_is, some_stands, apart_turn, others_apart}
+use Rattle.wgr_pool.proofs.Bools.{decide, or_false, or_left}
+use Rattle.wgr_pool.proofs.PrefixLemmas.{nat_eq_is, same_address_self}
+use Rattle.wgr_peers.proofs.PeerLemmas.{peer_is, some_stands, apart_turn, others_apart, apart_at}
 use Rattle.wgr_peers.proofs.PlaceLemmas.{below_test}
 use Rattle.wgr_peers.proofs.PutLemmas.{swapped, put_is_map, map_pairs}
+use Rattle.wgr_core.proofs.AloneLemmas.{apart_alone}
 
 -- ---- the peers with another in the place
 
@@ -83,8 +84,9 @@ pub record MayReplace (n : NetworkValue) (p q : Peer) : Type 0 where
   pub stands : peer_of n.peers q.number ≡ Some p
   pub key : q.key ≡ p.key
   pub assignable : is_assignable n.pool q.address ≡ true
-  pub unowned : All (λ e. nat_eq e.number q.number ≡ false → same_address e.address q.address ≡ false) n.peers
+  pub unowned : All (λ e. nat_eq e.number q.number ≡ false → is_at e q.address ≡ false) n.peers
   pub no_route : All (λ r. same_prefix r.0 (full q.address) ≡ false) n.routes
+  pub alone : q.second ≡ None
 
 pub replaced_is_network : (n : NetworkValue) (p q : Peer) → IsNetwork n → MayReplace n p q → IsNetwork (record n { peers = put_peer n.peers q })
 replaced_is_network n p q is may =
@@ -99,14 +101,15 @@ replaced_is_network n p q is may =
       next = is.next;
       room = subst (λ (m : ℕ). m ≤ n.capacity) (sym (length-map n.peers (renewed q))) is.room;
       members = renewed_all (IsMember now) q n.peers
-          (λ k d h. let m = is.members k d h in record { numbered = m.numbered; not_server = m.not_server; assignable = m.assignable })
+          (λ k d h. let m = is.members k d h in record { numbered = m.numbered; not_server = m.not_server; assignable = m.assignable; alone = m.alone })
           (record {
             numbered = subst (λ (m : ℕ). (1 ≤ m) × (m < n.next)) member.1 member.0.numbered;
             not_server = ap (λ k. same_key k n.server) may.key ∙ member.0.not_server;
             assignable = may.assignable;
+            alone = may.alone;
           });
       numbered = renewed_numbered q n.peers is.numbered;
-      apart = renewed_apart q n.peers is.numbered is.apart (λ k d h other. (ap (same_key (get_or n.peers k d).key) may.key ∙ (others k d h other).0, may.unowned k d h other));
+      apart = renewed_apart q n.peers is.numbered is.apart (λ k d h other. apart_alone (get_or n.peers k d) q may.alone (ap (same_key (get_or n.peers k d).key) may.key ∙ (others k d h other).0) (may.unowned k d h other));
       few_routes = is.few_routes;
       routes = λ k d h. let r = is.routes k d h in
           record {
@@ -139,6 +142,7 @@ amended_is_network n p until status is stands =
       stands = stands;
       key = refl;
       assignable = member.0.assignable;
-      unowned = λ k d h other. (apart k d h other).1;
+      unowned = λ k d h other. apart_at p (get_or n.peers k d) p.address (apart_turn (get_or n.peers k d) p (apart k d h other)) (or_left (same_address p.address p.address) (is_second p p.address) (same_address_self p.address));
       no_route = no_route_at n p.number p is stands;
+      alone = member.0.alone;
     })

@@ -61,7 +61,7 @@ routed_is_network n p number is may =
       capacity = is.capacity;
       next = is.next;
       room = is.room;
-      members = λ k d h. let m = is.members k d h in record { numbered = m.numbered; not_server = m.not_server; assignable = m.assignable };
+      members = λ k d h. let m = is.members k d h in record { numbered = m.numbered; not_server = m.not_server; assignable = m.assignable; alone = m.alone };
       numbered = is.numbered;
       apart = is.apart;
       few_routes = few_assigned n p number is may;

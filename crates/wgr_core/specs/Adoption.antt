@@ -35,7 +35,7 @@ names_address pool line = is_some (named_address pool line.allowed)
 
 -- the peer of a line, and the network with it
 abbrev pub peer_of_line : NetworkValue → SeenPeer → AddrValue → Peer
-peer_of_line n line a = record { number = n.next; key = line.key; label = []; address = a; until = 0; keepalive = line.keepalive; status = Some line.status }
+peer_of_line n line a = record { number = n.next; key = line.key; label = []; address = a; second = None; until = 0; keepalive = line.keepalive; status = Some line.status }
 
 abbrev pub with_line : NetworkValue → SeenPeer → AddrValue → NetworkValue
 with_line n line a = record n { next = n.next + 1; peers = n.peers ++ peer_of_line n line a ∷ [] }

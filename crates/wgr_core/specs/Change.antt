@@ -7,6 +7,7 @@ use Rattle.wgr_core.specs.declared.reply.Reply.{Reply}
 use Rattle.wgr_core.specs.declared.fault.ActFault.{ActFault}
 use Rattle.wgr_core.specs.declared.fault.ActFault.TheVariants.{Refused, NoMemory}
 use Rattle.wgr_peers.specs.Peers.{key_holder, put_peer}
+use Rattle.wgr_peers.specs.PeersLeft.{HasItsPlaces}
 use Rattle.wgr_peers.specs.Routes.{Routes, assign_route, without_route}
 use Rattle.wgr_core.specs.Network.{NetworkValue, IsNetwork, is_among, without_peers}
 use Rattle.wgr_core.specs.Outcome.{Outcome}
@@ -46,10 +47,10 @@ pub record OnlyPuts (c : Change) : Type 0 where
   pub routes_put : c.routes_put ≡ []
   pub routes_gone : c.routes_gone ≡ []
 
--- none is put, or one that has the number and the key of a peer that stays
+-- none is put, or one that has the number and the key of a peer that stays, and no more addresses
 abbrev pub NoneIsNew : NetworkValue → List ℕ → List Peer → Type 0
 NoneIsNew n removed [] = Unit {0}
-NoneIsNew n removed (p ∷ []) = (key_holder n.peers p.key ≡ Some p.number) × (is_among removed p.number ≡ false)
+NoneIsNew n removed (p ∷ []) = (key_holder n.peers p.key ≡ Some p.number) × (is_among removed p.number ≡ false) × HasItsPlaces n.peers p
 NoneIsNew n removed (p ∷ q ∷ more) = ⊥
 
 -- the change only removes, moves and renews: no peer is new, and no route is put

@@ -1,6 +1,6 @@
 -- One network as a value: its peers are a finite map by number and its routes one by prefix, each
 -- a list in the order of its keys.
-use Rattle.std.specs.Prelude.{ℕ, ◌≡◌, ◌+◌, ◌<◌, ◌≤◌, Bool, true, false, not, ◌&&◌, ◌||◌, nat_eq, List, length, Option, is_some, All}
+use Rattle.std.specs.Prelude.{ℕ, ◌≡◌, ◌+◌, ◌<◌, ◌≤◌, Bool, true, false, not, ◌&&◌, ◌||◌, nat_eq, List, length, Option, None, is_some, All}
 use Rattle.std.specs.List.{filter, list_any}
 use Rattle.wgr_text.specs.declared.key.Key.{Key}
 use Rattle.wgr_text.specs.Prefix.{AddrValue, PrefixValue, IsAddr, IsPrefix}
@@ -53,11 +53,16 @@ lowest_free n pool = lowest_where pool (is_held n pool)
 
 -- ---- the rules that each network keeps
 
--- a peer's number is given already, its key isn't the server's, and the pool may give its address
+-- a peer's number is given already, its key isn't the server's, the pool may give its address, and it has no other
 pub record IsMember (n : NetworkValue) (p : Peer) : Type 0 where
   pub numbered : (1 ≤ p.number) × (p.number < n.next)
   pub not_server : same_key p.key n.server ≡ false
   pub assignable : is_assignable n.pool p.address ≡ true
+  pub alone : p.second ≡ None
+
+-- no peer has a second address
+abbrev pub AreAlone : List Peer → Type 0
+AreAlone = All (λ p. p.second ≡ None)
 
 -- whether the prefix is a peer's or the server's address at full length
 abbrev pub is_address : NetworkValue → PrefixValue → Bool

@@ -47,7 +47,7 @@ abbrev pub add : NetworkValue → ℕ → Key → List ℕ → Option AddrValue 
 add n now key label wanted until keepalive =
     unless (join_refusal n now key until)
     (at_place (place n n.pool wanted)
-    (λ a. joined n (record { number = n.next; key = key; label = label; address = a; until = until; keepalive = keepalive; status = None })))
+    (λ a. joined n (record { number = n.next; key = key; label = label; address = a; second = None; until = until; keepalive = keepalive; status = None })))
 
 -- ---- a peer that moves, leaves, or has another lease
 

@@ -64,6 +64,7 @@ impl Live<'_> {
                     key: *key,
                     label: label.copy()?,
                     address,
+                    second: None,
                     until: *until,
                     keepalive: *keepalive,
                     status: None,

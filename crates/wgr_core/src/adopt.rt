@@ -160,6 +160,7 @@ impl<'a> Adopting<'a> {
             key: line.key,
             label: Label::empty(alloc),
             address,
+            second: None,
             until: LeaseEnd::never(),
             keepalive: line.keepalive,
             status: Some(line.status),

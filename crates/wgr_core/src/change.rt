@@ -6,6 +6,7 @@ ghost use Rattle.wgr_core.specs.Change.{Fits, NothingGrows, OnlyPuts, applied, w
 ghost use Rattle.wgr_core.specs.Network.{NetworkValue, is_among, without_peers};
 ghost use Rattle.wgr_peers.specs.PeerIndex.{EndsFrom};
 ghost use Rattle.wgr_peers.specs.Peers.{key_holder};
+ghost use Rattle.wgr_peers.specs.PeersLeft.{HasItsPlaces};
 ghost use Rattle.wgr_peers.specs.Routes.{AreOrdered, HasAddr};
 
 use crate::network::Network;
@@ -253,11 +254,26 @@ impl Network {
         }
     }
 
-    // Whether a peer that stays has this one's number and key.
+    // Whether a peer that stays has this one's number and key, and as many addresses.
     fn is_known(&self, peer: &Peer, gone: &[u32]) -> bool
-        ensures { IsTrue result ↔ ((key_holder self.now.peers peer.now.key ≡ Some peer.now.number) × (is_among gone.now peer.now.number ≡ false)) }
+        ensures { IsTrue result ↔ ((key_holder self.now.peers peer.now.key ≡ Some peer.now.number) × (is_among gone.now peer.now.number ≡ false) × HasItsPlaces self.now.peers peer.now) }
     {
-        self.table().key_holder(&peer.key) == Some(peer.number) && !has_number(gone, peer.number)
+        self.table().key_holder(&peer.key) == Some(peer.number)
+            && !has_number(gone, peer.number)
+            && self.has_its_places(peer)
+    }
+
+    // Whether the peer has a second address only where the one of its number has one.
+    fn has_its_places(&self, peer: &Peer) -> bool
+        ensures { IsTrue result ↔ HasItsPlaces self.now.peers peer.now }
+    {
+        if peer.second.is_none() {
+            return true;
+        }
+        match self.table().peer(peer.number) {
+            Some(one) => one.second.is_some(),
+            None => true,
+        }
     }
 
     // The change that only removes these peers.

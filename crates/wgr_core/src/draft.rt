@@ -63,7 +63,7 @@ impl<'a> Draft<'a> {
     }
 
     // Does nothing. Its contract says that the network as it is now keeps the rules of a network.
-    fn rules_hold(&self)
+    pub(crate) fn rules_hold(&self)
         ensures { IsNetwork self.now.network }
     {
         let _next = self.next;

@@ -123,6 +123,7 @@ impl Draft<'_> {
     pub(crate) fn route_refusal(&self, prefix: &Prefix) -> Option<Refusal>
         ensures { result ≡ route_refusal self.now.network prefix.now }
     {
+        self.rules_hold();
         let is_owned = self.peers.owns(&prefix.address());
         let is_address = is_address(&self.start.pool(), prefix, is_owned);
         let is_full = self.routes.len() >= MAX_ROUTES;

@@ -208,7 +208,7 @@ fn is_one_of(addresses: &[Addr], address: &Addr) -> bool
 }
 
 // Whether the two addresses are the same.
-fn is_same(one: &Addr, other: &Addr) -> bool
+pub(crate) fn is_same(one: &Addr, other: &Addr) -> bool
     ensures { result ≡ same_address one.now other.now }
 {
     one == other

@@ -4,7 +4,7 @@ ghost use Rattle.std.specs.List.{filter};
 ghost use Rattle.std.specs.Option.{option_copied};
 ghost use Rattle.wgr_peers.specs.Peers.{key_holder, peer_of, put_peer};
 ghost use Rattle.wgr_peers.specs.PeerIndex.{EndsFrom};
-ghost use Rattle.wgr_peers.specs.PeersLeft.{OnlyRenews, peers_after};
+ghost use Rattle.wgr_peers.specs.PeersLeft.{HasItsPlaces, OnlyRenews, peers_after};
 ghost use Rattle.wgr_core.specs.Network.{NetworkValue, IsNetwork, is_among, live_at, without_peers};
 ghost use Rattle.wgr_core.specs.Change.{without_routes};
 ghost use Rattle.wgr_core.specs.Parts.{IsNetworkOf, KeepTheRules, network_of};
@@ -235,7 +235,7 @@ impl Network {
         requires { IsNetwork (record self.old { peers = put_peer self.old.peers peer; next = next }) }
         ensures ok { OnOk result (self.new ≡ record self.old { peers = put_peer self.old.peers peer; next = next }) }
         ensures err { OnErr result (self.new ≡ self.old) }
-        ensures succeeds { key_holder self.old.peers peer.key ≡ Some peer.number → IsOk result }
+        ensures succeeds { key_holder self.old.peers peer.key ≡ Some peer.number → HasItsPlaces self.old.peers peer → IsOk result }
     {
         self.peers.put(peer)?;
         self.next = next;

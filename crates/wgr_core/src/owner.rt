@@ -2,7 +2,7 @@
 ghost use Rattle.std.specs.Prelude.{◌≡◌, Some, option_map};
 ghost use Rattle.wgr_core.specs.Owner.{longest_match, longer, owner_of, own_prefixes};
 
-use crate::live::Live;
+use crate::live::{Live, is_same};
 use wgr_peers::Peer;
 use wgr_text::{Addr, Prefix};
 
@@ -33,12 +33,12 @@ impl Live<'_> {
     }
 }
 
-// The number of the peer that has the address as its own.
+// The number of the peer that has the address as its first.
 fn own_holder(peers: &[Peer], address: &Addr) -> Option<u32>
     ensures { result ≡ option_map (λ r. r.1) (longest_match (own_prefixes peers.now) address.now) }
 {
     for peer in peers {
-        if peer.is_at(address) {
+        if is_same(&peer.address, address) {
             return Some(peer.number);
         }
     }

@@ -1,6 +1,6 @@
 //! The parts of a network, and whether they keep its rules.
 ghost use Rattle.std.specs.Prelude.{◌≡◌, ◌+◌, ◌≤◌, ◌↔◌, IsTrue, All, length};
-ghost use Rattle.wgr_core.specs.Network.{NetworkValue, IsMember, IsRoute};
+ghost use Rattle.wgr_core.specs.Network.{AreAlone, NetworkValue, IsMember, IsRoute};
 ghost use Rattle.wgr_core.specs.Parts.{network_of};
 ghost use Rattle.wgr_peers.specs.Limits.{max_number, max_routes};
 
@@ -54,7 +54,7 @@ impl Parts {
     }
 
     // Whether the peer's number is given already, its key isn't the server's, and the pool may give
-    // its address.
+    // its address, the only one that it has.
     fn is_member(&self, peer: &Peer) -> bool
         ensures { IsTrue result ↔ IsMember (network_of self.now) peer.now }
     {
@@ -62,12 +62,13 @@ impl Parts {
             && peer.number < self.next
             && peer.key != self.server
             && self.pool.gives(&peer.address)
+            && peer.second.is_none()
     }
 }
 
 // Whether each route leads to one of these peers, and isn't an address of theirs or the server's.
 pub(crate) fn are_routes(pool: &Pool, peers: &PeerTable, routes: &[(Prefix, u32)]) -> bool
-    ensures { (n : NetworkValue) → n.pool ≡ pool.now → n.peers ≡ peers.now → IsTrue result ↔ All (IsRoute n) routes.now }
+    ensures { (n : NetworkValue) → AreAlone n.peers → n.pool ≡ pool.now → n.peers ≡ peers.now → IsTrue result ↔ All (IsRoute n) routes.now }
 {
     for route in routes {
         if !is_route(pool, peers, route) {
@@ -78,7 +79,7 @@ pub(crate) fn are_routes(pool: &Pool, peers: &PeerTable, routes: &[(Prefix, u32)
 }
 
 fn is_route(pool: &Pool, peers: &PeerTable, route: &(Prefix, u32)) -> bool
-    ensures { (n : NetworkValue) → n.pool ≡ pool.now → n.peers ≡ peers.now → IsTrue result ↔ IsRoute n route.now }
+    ensures { (n : NetworkValue) → AreAlone n.peers → n.pool ≡ pool.now → n.peers ≡ peers.now → IsTrue result ↔ IsRoute n route.now }
 {
     let (_address, _length) = (route.0.address(), route.0.length());
     let is_owned = peers.owns(&route.0.address());

@@ -239,6 +239,7 @@ impl Network {
 fn lowest_beside(network: &Network, pool: &Pool, expired: &HashSet<u32>) -> Option<Addr>
     ensures { result ≡ lowest_where pool.now (λ a. is_own network.now.peers a || is_routed pool.now (standing (contains nat_eq expired.now) network.now.routes) a) }
 {
+    network.rules_hold();
     let addresses = network.table().addresses();
     lowest_address(pool, addresses, network.routes(), expired)
 }

@@ -2,7 +2,7 @@
 ghost use Rattle.std.specs.Prelude.{◌≡◌, ℕ, false, List, map, nat_eq, Some, None, Err, IfOk, IfErr};
 ghost use Rattle.std.specs.List.{filter};
 ghost use Rattle.wgr_core.specs.Change.{MeetsLive};
-ghost use Rattle.wgr_core.specs.Network.{NetworkValue, is_address};
+ghost use Rattle.wgr_core.specs.Network.{AreAlone, NetworkValue, is_address};
 ghost use Rattle.wgr_core.specs.Outcome.{route, unroute};
 ghost use Rattle.wgr_core.specs.Refusals.{route_refusal};
 ghost use Rattle.wgr_peers.specs.Peers.{is_own, peer_of};
@@ -112,6 +112,7 @@ impl Live<'_> {
     fn is_address(&self, prefix: &Prefix) -> bool
         ensures { result ≡ is_address self.now prefix.now }
     {
+        self.rules_hold();
         is_address(&self.pool(), prefix, self.owns(&prefix.address()))
     }
 }
@@ -155,7 +156,7 @@ impl Network {
 // Whether the prefix is the server's address or a peer's; `is_owned` says whether a peer has the
 // prefix's address.
 pub(crate) fn is_address(pool: &Pool, prefix: &Prefix, is_owned: bool) -> bool
-    ensures { (n : NetworkValue) → n.pool ≡ pool.now → is_own n.peers prefix.now.address ≡ is_owned → result ≡ is_address n prefix.now }
+    ensures { (n : NetworkValue) → AreAlone n.peers → n.pool ≡ pool.now → is_own n.peers prefix.now.address ≡ is_owned → result ≡ is_address n prefix.now }
 {
     (is_owned && is_same(prefix, &Prefix::full(prefix.address())))
         || is_same(prefix, &Prefix::full(pool.server()))

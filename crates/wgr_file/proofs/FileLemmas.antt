@@ -18,6 +18,7 @@ use Rattle.wgr_orders.specs.Orders.{order_event}
 use Rattle.wgr_model.specs.RowLaws.{IsRowStep}
 use Rattle.wgr_model.specs.Steps.{Answer, Event}
 use Rattle.wgr_orders.specs.declared.order.Order.{Order}
+use Rattle.wgr_register.specs.Causes.{IfOrderFault, OrderStops}
 use Rattle.wgr_register.specs.Ends.{StandsAfter, OrderEnds, is_change}
 use Rattle.wgr_register.specs.Standing.{StandsAt}
 use Rattle.wgr_register.specs.declared.fault.Done as done
@@ -25,6 +26,7 @@ use Rattle.wgr_register.specs.declared.fault.OrderFault.{OrderFault}
 use Rattle.wgr_register.specs.declared.fault.OrderFault.TheVariants as order_fault
 use Rattle.wgr_register.proofs.LeftLemmas.{one_database}
 use Rattle.wgr_sql.specs.Calls.{IsKept}
+use Rattle.wgr_sql.specs.Causes.{HasCauseOr}
 use Rattle.wgr_schema.specs.Fresh.{IsFresh, no_schema}
 use Rattle.wgr_columns.specs.Decode.{tables_of}
 use Rattle.wgr_opening.specs.Good.{IsGood}
@@ -112,11 +114,15 @@ module _ {D : Type 0} {g : disk.Ghosts D} where
 
   pub ended : (register left : Held (FileStore D g)) (start : Image) (closed : Option (Files D)) (order : Order) (r : Result done.Done OrderFault) → IsOpen start register
       → (HasCleanDisk (file_state left) → HasCleanDisk (file_state register))
-      → ((db : Database) (late : List Event) → StandsAt over_files register db late → OrderEnds over_files left db late (order_event order) r) → IsClosedTo g closed left → HasEnded g start closed order r
-  ended register left start closed order r opened clean ends is = record {
+      → ((db : Database) (late : List Event) → StandsAt over_files register db late → OrderEnds over_files left db late (order_event order) r)
+      → ((db : Database) (late : List Event) → StandsAt over_files register db late → IfOrderFault (HasCauseOr (OrderStops (tables_of db) (order_event order)) (file_state register) (file_state left)) r)
+      → IsClosedTo g closed left → HasEnded g start closed order r
+  ended register left start closed order r opened clean ends stops is = record {
+    opened = register;
     left = left;
     closed_to = is;
     ends = λ now. let o = opened (clean now) in (o.0, o.1, ends o.0 [] o.2);
+    cause = λ now. let o = opened now in (o.0, o.1, stops o.0 [] o.2);
   }
 
   -- ---- laws

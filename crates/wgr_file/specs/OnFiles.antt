@@ -16,11 +16,13 @@ use Rattle.wgr_orders.specs.Orders.{order_event, refusal_of}
 use Rattle.wgr_model.specs.RowLaws.{IsRowStep}
 use Rattle.wgr_model.specs.Steps.{Done, Refused}
 use Rattle.wgr_orders.specs.declared.order.Order.{Order}
+use Rattle.wgr_register.specs.Causes.{IfOrderFault, OrderStops}
 use Rattle.wgr_register.specs.Ends.{OrderEnds}
 use Rattle.wgr_register.specs.Standing.{StandsAt}
 use Rattle.wgr_register.specs.declared.fault.Done as done
 use Rattle.wgr_register.specs.declared.fault.OrderFault.{OrderFault}
 use Rattle.wgr_register.specs.declared.fault.OrderFault.TheVariants as order_fault
+use Rattle.wgr_sql.specs.Causes.{HasCauseOr}
 use Rattle.wgr_schema.specs.Versions.{IsOfEarlierVersion, IsOfVersion}
 use Rattle.wgr_schema.specs.declared.version.Version.{Version}
 use Rattle.wgr_schema.specs.declared.version.Version.TheVariants.{Three}
@@ -119,11 +121,14 @@ pub record WasMigrated {D : Type 0} (g : disk.Ghosts D) (start : Image) (closed 
   pub closed_to : IsClosedTo g closed left
   pub migrated : HasCleanDisk (file_state left) → (old new : Database) × AreThoseOf start old.trees × IsMigrated old new × StandsAt over_files left new []
 
--- an order ended in this way on the register that was in the files
+-- an order ended in this way on the register that was in the files; a fault of the store has a cause in the call, or
+-- the rows refuse a statement
 pub record HasEnded {D : Type 0} (g : disk.Ghosts D) (start : Image) (closed : Option (Files D)) (order : Order) (ended : Result done.Done OrderFault) : Type 0 where
+  pub opened : Held (FileStore D g)
   pub left : Held (FileStore D g)
   pub closed_to : IsClosedTo g closed left
   pub ends : HasCleanDisk (file_state left) → (db : Database) × StoodIn start db × OrderEnds over_files left db [] (order_event order) ended
+  pub cause : HasCleanDisk (file_state opened) → (db : Database) × StoodIn start db × IfOrderFault (HasCauseOr (OrderStops (tables_of db) (order_event order)) (file_state opened) (file_state left)) ended
 
 -- ---- in terms of the rows
 

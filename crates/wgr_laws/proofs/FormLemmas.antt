@@ -44,7 +44,7 @@ add_formed n now key label wanted until keepalive forms is_key is_label is_end i
     unless_if After (join_refusal n now key until) _ (λ admitted.
     place_if After (place n n.pool wanted) _ (λ a placed. (
       forms.0,
-      All-push IsPeerFormed n.peers (record { number = n.next; key = key; label = label; address = a; until = until; keepalive = keepalive; status = None }) forms.1
+      All-push IsPeerFormed n.peers (record { number = n.next; key = key; label = label; address = a; second = None; until = until; keepalive = keepalive; status = None }) forms.1
           (record { key = is_key; label = is_label; until = is_end; keepalive = is_keepalive; status = tt }),
     )))
 

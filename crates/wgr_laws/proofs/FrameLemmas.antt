@@ -93,7 +93,7 @@ framed n now (command.Add key label wanted until keepalive) is =
     place_if (IsFramed n asked) (place n n.pool wanted) _ (λ a placed.
     record {
       settings = record { pool = refl; host = refl; port = refl; server = refl; capacity = refl };
-      peers = λ i l off. appended_others n.peers (record { number = n.next; key = key; label = label; address = a; until = until; keepalive = keepalive; status = None }) i l;
+      peers = λ i l off. appended_others n.peers (record { number = n.next; key = key; label = label; address = a; second = None; until = until; keepalive = keepalive; status = None }) i l;
       routes = λ q i off off'. same_routes n q i;
     }))
 framed n now (command.Move number wanted) is =

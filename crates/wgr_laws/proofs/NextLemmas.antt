@@ -84,7 +84,7 @@ pub live_outcome_next : (n : NetworkValue) (now : ℕ) (asked : Command) → IsN
 live_outcome_next n now (command.Add key label wanted until keepalive) is live =
     unless_if (IsNext n now) (join_refusal n now key until) _ (λ admitted.
     place_if (IsNext n now) (place n n.pool wanted) _ (λ a placed.
-    joined_next n now (record { number = n.next; key = key; label = label; address = a; until = until; keepalive = keepalive; status = None }) live refl (ap not (is_admitted (joining_of n key) now key until admitted).runs)))
+    joined_next n now (record { number = n.next; key = key; label = label; address = a; second = None; until = until; keepalive = keepalive; status = None }) live refl (ap not (is_admitted (joining_of n key) now key until admitted).runs)))
 live_outcome_next n now (command.Move number wanted) is live =
     stands_if (IsNext n now) (peer_of n.peers number) _ (λ p found.
     place_if (IsNext n now) (place (vacated n (Some number)) n.pool wanted) _ (λ a placed.

@@ -60,11 +60,11 @@ module _ (P : Reply × NetworkValue → Type 0) where
 pub added_as_asked : AddedAsAsked
 added_as_asked n now key label wanted until keepalive is =
     let live = live_at n now in
-    let P = λ (done : Reply × NetworkValue). (a : AddrValue) × IfSome wanted (λ b. a ≡ b) × (peer_of done.1.peers n.next ≡ Some (record { number = n.next; key = key; label = label; address = a; until = until; keepalive = keepalive; status = None })) in
+    let P = λ (done : Reply × NetworkValue). (a : AddrValue) × IfSome wanted (λ b. a ≡ b) × (peer_of done.1.peers n.next ≡ Some (record { number = n.next; key = key; label = label; address = a; second = None; until = until; keepalive = keepalive; status = None })) in
     changed_if P n now (command.Add key label wanted until keepalive) refl
     (unless_if P (join_refusal live now key until) _ (λ admitted.
     place_if P (place live live.pool wanted) _ (λ a placed.
-    (a, as_named live wanted a placed, appended_stands live (record { number = n.next; key = key; label = label; address = a; until = until; keepalive = keepalive; status = None }) (live_is_network n now is) refl))))
+    (a, as_named live wanted a placed, appended_stands live (record { number = n.next; key = key; label = label; address = a; second = None; until = until; keepalive = keepalive; status = None }) (live_is_network n now is) refl))))
 
 pub added_counts : AddedCounts
 added_counts n now key label wanted until keepalive =
@@ -123,7 +123,7 @@ shows_live : (v : PeerView) (n : NetworkValue) (now : ℕ) (asked : Command) →
 shows_live v n now (command.Add key label wanted until keepalive) is changes =
     unless_if (Shows v) (join_refusal n now key until) _ (λ admitted.
     place_if (Shows v) (place n n.pool wanted) _ (λ a placed.
-    let p : Peer = record { number = n.next; key = key; label = label; address = a; until = until; keepalive = keepalive; status = None } in
+    let p : Peer = record { number = n.next; key = key; label = label; address = a; second = None; until = until; keepalive = keepalive; status = None } in
     shows v (record n { next = n.next + 1; peers = n.peers ++ p ∷ [] }) p (appended_stands n p is refl)))
 shows_live v n now (command.Move number wanted) is changes =
     stands_if (Shows v) (peer_of n.peers number) _ (λ p found.

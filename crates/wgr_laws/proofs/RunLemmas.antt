@@ -26,6 +26,7 @@ use Rattle.wgr_core.proofs.OutcomeCases.{stands_if, kept_if_reading}
 use Rattle.wgr_core.proofs.OutcomeLemmas.{outcome_keeps}
 use Rattle.wgr_laws.proofs.NextSteps.{IsLater, IsNext, later_on, later_self, same_key_at}
 use Rattle.wgr_laws.proofs.NextLemmas.{changes_end_numbers, outcome_next, owner_stands, revoked_absent}
+use Rattle.wgr_peers.proofs.PeerLemmas.{apart_first}
 
 later_live : (n : NetworkValue) (now : ℕ) → IsNetwork n → IsLater n (live_at n now)
 later_live n now is = record {
@@ -120,7 +121,7 @@ have_own has peers never = λ i j d within within' same. elim (cases_lt i j) [
 ]
 
 pub own_address : (n : NetworkValue) → IsNetwork n → HaveOwn (λ p. p.address) n.peers
-own_address n is = have_own (λ (p : Peer). p.address) n.peers (λ i j d before within same. clash (get_or n.peers i d).address (get_or n.peers j d).address same (is.apart i j d before within).1)
+own_address n is = have_own (λ (p : Peer). p.address) n.peers (λ i j d before within same. clash (get_or n.peers i d).address (get_or n.peers j d).address same (apart_first (get_or n.peers i d) (get_or n.peers j d) (is.apart i j d before within)))
   where
     clash : (a b : AddrValue) → a ≡ b → same_address a b ≡ false → ⊥
     clash a b same apart = let bad : true ≡ false = sym (subst (λ c. same_address a c ≡ true) same (same_address_self a)) ∙ apart in cc

@@ -16,7 +16,7 @@ use Rattle.wgr_core.specs.Outcome.{outcome_of}
 abbrev pub AddedAsAsked : Type 0
 AddedAsAsked = (n : NetworkValue) (now : ℕ) (key : Key) (label : List ℕ) (wanted : Option AddrValue) (until keepalive : ℕ) → IsNetwork n
     → IfOk (outcome_of n now (command.Add key label wanted until keepalive)) (λ done. (a : AddrValue) × IfSome wanted (λ b. a ≡ b)
-    × (peer_of done.1.peers n.next ≡ Some (record { number = n.next; key = key; label = label; address = a; until = until; keepalive = keepalive; status = None })))
+    × (peer_of done.1.peers n.next ≡ Some (record { number = n.next; key = key; label = label; address = a; second = None; until = until; keepalive = keepalive; status = None })))
 
 -- the next number is the one after it
 abbrev pub AddedCounts : Type 0

@@ -104,7 +104,7 @@ abbrev add : Command
 add = command.Add (key 5) [] None 0 0
 
 abbrev peer : ℕ → ℕ → Peer
-peer n until = record { number = 1; key = key n; label = []; address = (ten_eight 0 2 25).address; until = until; keepalive = 0; status = None }
+peer n until = record { number = 1; key = key n; label = []; address = (ten_eight 0 2 25).address; second = None; until = until; keepalive = 0; status = None }
 
 -- what it may ask: no command that changes, whatever its fields
 no_add : (key : Key) (label : Bytes) (wanted : Option AddrValue) (until keepalive : ℕ) → allows Read (command.Add key label wanted until keepalive) ≡ false

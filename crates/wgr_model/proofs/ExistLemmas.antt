@@ -30,6 +30,7 @@ use Rattle.wgr_model.proofs.RuleLemmas.{none_at}
 use Rattle.wgr_model.proofs.RunLemmas.{step_law}
 use Rattle.wgr_model.proofs.SameLemmas.{at_has}
 use Rattle.wgr_model.proofs.StepLemmas.{has_step}
+use Rattle.wgr_peers.proofs.PeerLemmas.{apart_first}
 
 -- ---- keys that are apart
 
@@ -103,7 +104,7 @@ module _ (h : NetworkEntry) (rules : IsNetwork h.network) where
   pub addresses_apart : IsDistinct same_allowed (map allowed_key (map (address_row h.id) h.network.peers))
   addresses_apart = subst (IsDistinct same_allowed) (sym (map_map (address_row h.id) allowed_key h.network.peers))
       (distinct_pairs same_allowed (λ p. allowed_key (address_row h.id p)) IsApart
-      (λ p q apart. prefixes_apart h.id (full p.address) (full q.address) (ap (λ b. b && nat_eq (full p.address).length (full q.address).length) apart.1))
+      (λ p q apart. prefixes_apart h.id (full p.address) (full q.address) (ap (λ b. b && nat_eq (full p.address).length (full q.address).length) (apart_first p q apart)))
       h.network.peers rules.apart)
 
   pub routes_apart : IsDistinct same_allowed (map allowed_key (map (route_row h.id) h.network.routes))

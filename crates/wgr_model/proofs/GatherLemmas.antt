@@ -29,7 +29,7 @@ use Rattle.wgr_model.specs.Laws.{Has}
 use Rattle.wgr_model.specs.Register.{NetworkEntry, IsSame, Register}
 use Rattle.wgr_model.specs.Rows.{AllowedRow, AreKeyed, AreRowsOf, PeerRow, Tables, address_of, address_row, allowed_key, allowed_rows, family_number, network_entry_of, network_row, number_in, peer_id, peer_row, peer_rows, peer_value, peers_of, prefix_cmp, prefix_key, register_of, route_row, route_value, routes_of, same_allowed, same_pair}
 use Rattle.wgr_model.proofs.CollectLemmas.{collected, from_append, from_flat, from_map, has_flat, has_left, has_map, has_right}
-use Rattle.wgr_model.proofs.HolderLemmas.{one_or_apart}
+use Rattle.wgr_model.proofs.HolderLemmas.{member, one_or_apart}
 use Rattle.wgr_model.proofs.SameLemmas.{at_has, eqb_sym, has_find}
 
 pub eqb_self : (a : ℕ) → nat_eq a a ≡ true
@@ -166,7 +166,7 @@ module _ (r : Register) (t : Tables) (rows : AreRowsOf r t) (good : IsConsistent
     (rows.peers (peer_row h.id v)).0 (has_flat peer_rows r.networks h (peer_row h.id v) held (has_map (peer_row h.id) h.network.peers v k)),
     eqb_self h.id,
     number_back h.id v.number,
-    λ i. record { number = number_back h.id v.number i; key = v.key; label = v.label; address = address_is v k i; until = v.until; keepalive = v.keepalive; status = v.status },
+    λ i. record { number = number_back h.id v.number i; key = v.key; label = v.label; address = address_is v k i; second = sym (member h.network v rules k).alone i; until = v.until; keepalive = v.keepalive; status = v.status },
   )
 
   peer_from : (a : PeerRow) → Has t.peers a → nat_eq a.network h.id ≡ true → (v : Peer) × Has h.network.peers v × (peer_row h.id v ≡ a)

@@ -17,6 +17,7 @@ use Rattle.wgr_model.specs.Consistent.{IsConsistent, IsNetworkEntry, overlaps, p
 use Rattle.wgr_model.specs.Laws.{Has, HasOneHolder}
 use Rattle.wgr_model.specs.Register.{NetworkEntry, Register}
 use Rattle.wgr_model.proofs.SameLemmas.{at_has, overlaps_sym}
+use Rattle.wgr_peers.proofs.PeerLemmas.{apart_first}
 
 pub head_apart : {A B : Type 0} (f : A → B) (e : B → B → Bool) (b : B) (xs : List A) (a : A) → AllByRecursion (λ y. e b y ≡ false) (map f xs) → Has xs a → e b (f a) ≡ false
 head_apart f e b [] a all h = elim h [ ]
@@ -84,7 +85,7 @@ not_both a b e f = true≢false (sym (same_address_self b) ∙ ap (λ z. same_ad
 pub one_in_network : (n : NetworkValue) (p q : Peer) → IsNetwork n → Has n.peers p → Has n.peers q → p.address ≡ q.address → p ≡ q
 one_in_network n p q rules hp hq same = elim (one_or_related IsApart n.peers p q rules.apart hp hq) [
   | inl e ↦ e
-  | inr apart ↦ elim apart [ inl x ↦ absurd (not_both p.address q.address same x.1) | inr x ↦ absurd (not_both q.address p.address (sym same) x.1) ]
+  | inr apart ↦ elim apart [ inl x ↦ absurd (not_both p.address q.address same (apart_first p q x)) | inr x ↦ absurd (not_both q.address p.address (sym same) (apart_first q p x)) ]
 ]
 
 pub one_holder : (r : Register) → IsConsistent r → HasOneHolder r

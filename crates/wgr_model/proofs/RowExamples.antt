@@ -47,7 +47,7 @@ abbrev settings : ℕ → ℕ → Settings
 settings b port = record { pool = record { address = address b 0; length = 24 }; host = codes "vpn.example.net"; port = port; server = key 9; capacity = 4096 }
 
 abbrev peer : ℕ → ℕ → AddrValue → ℕ → Peer
-peer number k at until = record { number = number; key = key k; label = []; address = at; until = until; keepalive = 0; status = None }
+peer number k at until = record { number = number; key = key k; label = []; address = at; second = None; until = until; keepalive = 0; status = None }
 
 -- acme's network
 abbrev office : ℕ → List Peer → Routes → NetworkEntry

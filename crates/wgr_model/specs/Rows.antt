@@ -1,5 +1,5 @@
 -- The register as the rows of its tables.
-use Rattle.std.specs.Prelude.{◌≡◌, ℕ, ◌+◌, ◌-◌, ◌*◌, Bool, true, false, not, ◌&&◌, ◌⊎◌, ◌↔◌, if◌then◌else◌, nat_eq, List, [], ◌∷◌, ◌++◌, map, Option}
+use Rattle.std.specs.Prelude.{◌≡◌, ℕ, ◌+◌, ◌-◌, ◌*◌, Bool, true, false, not, ◌&&◌, ◌⊎◌, ◌↔◌, if◌then◌else◌, nat_eq, List, [], ◌∷◌, ◌++◌, map, Option, None}
 use Rattle.std.specs.List.{filter, flat_map, IsDistinct}
 use Rattle.std.specs.List.Sorted.{IsPermutation}
 use Rattle.std.specs.Ordering.{nat_cmp, ordering_then}
@@ -119,7 +119,7 @@ address_of [] network peer = record { family = V4; number = 0 }
 address_of (a ∷ rows) network peer = if not a.is_route && (nat_eq a.network network && nat_eq a.peer peer) then a.prefix.address else address_of rows network peer
 
 abbrev pub peer_value : Tables → PeerRow → Peer
-peer_value t p = record { number = number_in p.network p.id; key = p.key; label = p.label; address = address_of t.allowed p.network p.id; until = p.until; keepalive = p.keepalive; status = p.status }
+peer_value t p = record { number = number_in p.network p.id; key = p.key; label = p.label; address = address_of t.allowed p.network p.id; second = None; until = p.until; keepalive = p.keepalive; status = p.status }
 
 abbrev pub peers_of : Tables → ℕ → List Peer
 peers_of t id = in_order nat_cmp (map (λ p. (number_in p.network p.id, peer_value t p)) (filter (λ p. nat_eq p.network id) t.peers))

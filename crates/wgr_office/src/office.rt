@@ -12,11 +12,13 @@ ghost use Rattle.wgr_office.specs.declared.answer.Answer as given;
 ghost use Rattle.wgr_office.specs.declared.run.Event.TheVariants as events;
 ghost use Rattle.wgr_office.specs.Pages.{IsAnsweredAs, Responds, event_of};
 ghost use Rattle.wgr_columns.specs.Decode.{tables_of};
+ghost use Rattle.wgr_orders.specs.Orders.{order_event};
+ghost use Rattle.wgr_register.specs.Causes.{IfOrderFault, OrderStops};
 ghost use Rattle.wgr_register.specs.Census.{IsCensus};
 ghost use Rattle.wgr_register.specs.Recent.{max_recent};
 ghost use Rattle.wgr_register.specs.Standing.{IsAtRest, StandsAt};
 ghost use Rattle.wgr_request.specs.Request.{request_view};
-ghost use Rattle.wgr_sql.specs.Causes.{HasCause};
+ghost use Rattle.wgr_sql.specs.Causes.{HasCause, HasCauseOr};
 ghost use Rattle.wgr_sql.specs.declared.fault.Fault.TheVariants.{Store};
 
 use crate::answer::{Answer, ended, made};
@@ -86,9 +88,11 @@ impl<S: Alter> Office<S> {
         }
     }
 
-    /// Carries out an operator's order, or refuses it, as [`run`](Office::run) does an event.
+    /// Carries out an operator's order, or refuses it, as [`run`](Office::run) does an event. A fault is lack of
+    /// memory, or it has a cause: in the store, or a statement that the rows refuse.
     pub fn operate(&mut self, alloc: Global, order: &Order) -> Result<Done, OrderFault>
         ensures call { (answer : given.Answer) → IsOrderAnswer result answer → IsCall S.Store self.old self.new (events.Order order.now) answer }
+        ensures stops { (db : Database) (late : List Event) → StandsAt S.Store self.old db late → IfOrderFault (HasCauseOr (OrderStops (tables_of db) (order_event order.now)) (state S.Store self.old) (state S.Store self.new)) result }
     {
         order.forms_hold();
         self.register.operate(alloc, order)

@@ -22,7 +22,7 @@ module _ (n : NetworkValue) (now : ℕ) (key : Key) (label : List ℕ) (until ke
   m = live_at n now
 
   abbrev new : AddrValue → Peer
-  new a = record { number = m.next; key = key; label = label; address = a; until = until; keepalive = keepalive; status = None }
+  new a = record { number = m.next; key = key; label = label; address = a; second = None; until = until; keepalive = keepalive; status = None }
 
   abbrev at : Option Refusal → Result AddrValue Refusal → Outcome
   at why place = kept_if false n (unless why (at_place place (λ a. joined m (new a))))

@@ -13,7 +13,7 @@ use Rattle.wgr_pool.specs.Pool.{IsPool, reserved}
 use Rattle.wgr_pool.proofs.Bools.{and_true, or_cases, or_false, or_left, or_right}
 use Rattle.wgr_pool.proofs.PrefixLemmas.{has_in, is_in}
 use Rattle.wgr_peers.specs.declared.peer.Peer.{Peer}
-use Rattle.wgr_peers.specs.Peers.{is_own}
+use Rattle.wgr_peers.specs.Peers.{is_at, is_own}
 use Rattle.wgr_peers.specs.PeerIndex.{EndsFrom}
 use Rattle.wgr_peers.specs.Routes.{Routes}
 use Rattle.wgr_peers.proofs.TableLemmas.{none_expired}
@@ -90,8 +90,8 @@ pub joined_floor : (n : NetworkValue) (next : ℕ) (p : Peer) (floor : ℕ) → 
 joined_floor n next p floor is = record {
   held = λ a given low.
       let routed = list_any (λ r. covers n.pool r.0 && has r.0 a) n.routes in
-      let parts = list_any-append (λ (q : Peer). same_address q.address a) n.peers (p ∷ []) in
-      let more = list_any (λ (q : Peer). same_address q.address a) (p ∷ []) in
+      let parts = list_any-append (λ (q : Peer). is_at q a) n.peers (p ∷ []) in
+      let more = list_any (λ (q : Peer). is_at q a) (p ∷ []) in
       ap (λ b. b || routed) parts
       ∙ elim (or_cases (is_own n.peers a) routed (is.held a given low)) [
         | inl own ↦ or_left (is_own n.peers a || more) routed (or_left (is_own n.peers a) more own)

@@ -1,18 +1,20 @@
 -- The indexes of a table that is made at once.
-use Rattle.std.proofs.Common.{◌≡◌, ℕ, suc, ◌+◌, ◌<◌, ◌↔◌, inl, inr, true, ◌||◌, cond, List, [], ◌∷◌, ◌++◌, length, get_or, map, take, take-suc, drop, Some, None, refl, sym, ap, ◌∙◌, subst, arith}
-use Rattle.std.specs.List.{All, AllPairs, list_any}
+use Rattle.std.proofs.Common.{◌≡◌, ℕ, suc, ◌+◌, ◌<◌, ◌↔◌, inl, inr, Bool, true, ◌||◌, cond, List, [], ◌∷◌, ◌++◌, length, get_or, map, take, take-suc, drop, Some, None, refl, sym, ap, ◌∙◌, subst, arith}
+use Rattle.std.specs.List.{All, AllPairs, flat_map, list_any}
 use Rattle.std.specs.HashMap.{HashMap, get}
 use Rattle.std.specs.declared.hash.FoldHasher.{FoldHasher}
 use Rattle.std.specs.declared.hash.BuildHasherDefault.{BuildHasherDefault}
+use Rattle.std.specs.Prelude.{option_to_list}
 use Rattle.std.proofs.lemmas.List.{take-append-drop}
+use Rattle.std.proofs.lemmas.List.Folds.{list_any-append}
 use Rattle.wgr_text.specs.declared.key.Key.{Key}
 use Rattle.wgr_text.specs.declared.prefix.Span.{Span}
 use Rattle.wgr_text.specs.Prefix.{AddrValue, IsAddr}
 use Rattle.wgr_peers.specs.declared.peer.Peer.{Peer}
 use Rattle.wgr_pool.specs.PrefixTests.{same_address}
 use Rattle.wgr_pool.specs.Spans.{IsHeld}
-use Rattle.wgr_peers.specs.Peers.{is_own, key_holder, same_key, AreNumbered, IsApart, AreApart}
-use Rattle.wgr_peers.specs.PeerIndex.{IsIndexed, EndsFrom}
+use Rattle.wgr_peers.specs.Peers.{is_first, is_second, key_holder, same_key, AreNumbered, IsApart, AreApart}
+use Rattle.wgr_peers.specs.PeerIndex.{EndsFrom, HasThose, IsIndexed}
 use Rattle.wgr_pool.proofs.Bools.{decide}
 use Rattle.wgr_pool.proofs.Lists.{drop_next}
 use Rattle.wgr_peers.proofs.TableLemmas.{holder_push_other, holder_push_same, new_key, same_key_is}
@@ -38,19 +40,29 @@ holder_next peers i p key apart within is =
       | inr other ↦ holder_push_other (take i peers) p key other ∙ sym (ap (λ b. cond b (Some p.number) (key_holder (take i peers) key)) other)
     ])
 
-pub own_is : (peers : List Peer) (b : AddrValue) → list_any (λ a. same_address a b) (map (λ (p : Peer). p.address) peers) ≡ is_own peers b
-own_is [] b = refl
-own_is (p ∷ peers) b = ap (λ x. same_address p.address b || x) (own_is peers b)
+pub first_is : (peers : List Peer) (b : AddrValue) → list_any (λ a. same_address a b) (map (λ (p : Peer). p.address) peers) ≡ list_any (λ p. is_first p b) peers
+first_is [] b = refl
+first_is (p ∷ peers) b = ap (λ x. same_address p.address b || x) (first_is peers b)
 
-pub indexed_collected : (peers : List Peer) (addresses : List AddrValue) (numbers : HashMap Key ℕ (BuildHasherDefault FoldHasher)) (runs : List Span) (soonest : ℕ)
-    → AreNumbered peers → addresses ≡ map (λ p. p.address) peers → ((key : Key) → get same_key numbers key ≡ key_holder peers key)
-    → ((b : AddrValue) → IsAddr b → IsHeld runs b ↔ (list_any (λ a. same_address a b) addresses ≡ true)) → All (EndsFrom soonest) peers
-    → IsIndexed peers numbers runs soonest
-indexed_collected peers addresses numbers runs soonest numbered are by_key by_address ends = record {
+second_is : (peers : List Peer) (b : AddrValue) → list_any (λ a. same_address a b) (flat_map (λ (p : Peer). option_to_list p.second) peers) ≡ list_any (λ p. is_second p b) peers
+second_is [] b = refl
+second_is (p ∷ peers) b =
+    list_any-append (λ a. same_address a b) (option_to_list p.second) (flat_map (λ (q : Peer). option_to_list q.second) peers) ∙ ap (λ x. is_second p b || x) (second_is peers b)
+
+-- the runs of a list of addresses
+pub held_collected : (test : Peer → AddrValue → Bool) (peers : List Peer) (addresses : List AddrValue) (runs : List Span) → ((b : AddrValue) → list_any (λ a. same_address a b) addresses ≡ list_any (λ p. test p b) peers)
+    → ((b : AddrValue) → IsAddr b → IsHeld runs b ↔ (list_any (λ a. same_address a b) addresses ≡ true)) → HasThose test peers runs
+held_collected test peers addresses runs same held b fits = ((λ h. sym (same b) ∙ (held b fits).0 h), (λ h. (held b fits).1 (same b ∙ h)))
+
+pub indexed_collected : (peers : List Peer) (addresses others : List AddrValue) (numbers : HashMap Key ℕ (BuildHasherDefault FoldHasher)) (runs seconds : List Span) (soonest : ℕ)
+    → AreNumbered peers → addresses ≡ map (λ p. p.address) peers → others ≡ flat_map (λ p. option_to_list p.second) peers → ((key : Key) → get same_key numbers key ≡ key_holder peers key)
+    → ((b : AddrValue) → IsAddr b → IsHeld runs b ↔ (list_any (λ a. same_address a b) addresses ≡ true))
+    → ((b : AddrValue) → IsAddr b → IsHeld seconds b ↔ (list_any (λ a. same_address a b) others ≡ true)) → All (EndsFrom soonest) peers
+    → IsIndexed peers numbers runs seconds soonest
+indexed_collected peers addresses others numbers runs seconds soonest numbered are are_others by_key held held_second ends = record {
   in_order = numbered;
   by_key = by_key;
-  by_address = λ b fits.
-      let same = ap (list_any (λ (a : AddrValue). same_address a b)) are ∙ own_is peers b in
-      ((λ h. sym same ∙ (by_address b fits).0 h), (λ h. (by_address b fits).1 (same ∙ h)));
+  by_address = held_collected is_first peers addresses runs (λ b. ap (list_any (λ (a : AddrValue). same_address a b)) are ∙ first_is peers b) held;
+  by_second = held_collected is_second peers others seconds (λ b. ap (list_any (λ (a : AddrValue). same_address a b)) are_others ∙ second_is peers b) held_second;
   ends = ends;
 }

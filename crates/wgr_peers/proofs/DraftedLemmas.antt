@@ -1,6 +1,6 @@
 -- The indexes of peers that grow in number: one more peer, and one in the place of another.
 use Rattle.std.proofs.Common.{◌≡◌, ℕ, ◌<◌, ◌↔◌, ◌⊎◌, inl, inr, Bool, true, false, ◌||◌, ◌&&◌, cond, nat_eq, nat_lt, set, List, [], ◌∷◌, ◌++◌, Option, Some, None, refl, sym, ap, ◌∙◌, subst}
-use Rattle.std.specs.List.{All, AllPairs}
+use Rattle.std.specs.List.{All, AllPairs, list_any}
 use Rattle.std.specs.HashMap.{HashMap, get}
 use Rattle.std.specs.HashSet.{contains}
 use Rattle.std.specs.declared.hash.FoldHasher.{FoldHasher}
@@ -10,17 +10,17 @@ use Rattle.wgr_text.specs.declared.addr.Family.{Family}
 use Rattle.wgr_text.specs.declared.addr.Family.TheVariants.{V4, V6}
 use Rattle.wgr_text.specs.declared.key.Key.{Key}
 use Rattle.wgr_text.specs.declared.prefix.Span.{Span}
-use Rattle.wgr_text.specs.Prefix.{AddrValue, IsAddr, width}
+use Rattle.wgr_text.specs.Prefix.{AddrValue, width}
 use Rattle.wgr_peers.specs.declared.peer.Peer.{Peer}
 use Rattle.wgr_pool.specs.PrefixTests.{same_address, same_family}
-use Rattle.wgr_pool.specs.Spans.{IsHeld}
-use Rattle.wgr_pool.proofs.Bools.{decide, or_cases, or_left, or_right}
-use Rattle.wgr_peers.specs.Peers.{is_own, key_holder, same_key, IsNumberedBelow}
+use Rattle.wgr_pool.proofs.Bools.{decide}
+use Rattle.wgr_peers.specs.Peers.{addresses, is_at, is_first, is_own, key_holder, same_key, IsNumberedBelow}
 use Rattle.wgr_peers.specs.PeerIndex.{IsAlikeAt}
-use Rattle.wgr_peers.specs.PeerDraft.{HasOneMore, HasRuns, IsDrafted, Owned, same_spot}
+use Rattle.wgr_peers.specs.PeerDraft.{HasOneMore, HasRuns, HasSpots, IsDrafted, Owned, same_spot}
+use Rattle.wgr_peers.proofs.HeldLemmas.{held_alike, held_push}
 use Rattle.wgr_peers.proofs.OrderedLemmas.{put_pairs}
 use Rattle.wgr_peers.proofs.PlaceLemmas.{peers_placed}
-use Rattle.wgr_peers.proofs.TableLemmas.{alike_holder, alike_own, alike_place, holder_push_other, holder_push_same, own_push, same_key_is}
+use Rattle.wgr_peers.proofs.TableLemmas.{alike_first, alike_holder, alike_own, alike_place, holder_push_other, holder_push_same, own_push, same_key_is}
 
 abbrev Numbers : Type 0
 Numbers = HashMap Key ℕ (BuildHasherDefault FoldHasher)
@@ -35,39 +35,41 @@ spot_is a b = by_family a.family b.family (nat_eq a.number b.number)
     by_family V6 V4 same = refl
     by_family V6 V6 same = refl
 
-turned : (x y : Bool) → (y || x) ≡ cond x true y
+turned : (x y : Bool) → (x || y) ≡ (y || x)
 turned true true = refl
 turned true false = refl
 turned false true = refl
 turned false false = refl
 
-runs_push : (peers : List Peer) (p : Peer) (runs runs' : List Span) → ((b : AddrValue) → IsAddr b → IsHeld runs b ↔ (is_own peers b ≡ true))
-    → ((b : AddrValue) → IsAddr b → IsHeld runs' b ↔ ((same_address p.address b ≡ true) ⊎ IsHeld runs b))
-    → (b : AddrValue) → IsAddr b → IsHeld runs' b ↔ (is_own (peers ++ p ∷ []) b ≡ true)
-runs_push peers p runs runs' is with b fits = (
-  (λ held. own_push peers p b ∙ elim ((with b fits).0 held) [
-    | inl here ↦ or_right (is_own peers b) (same_address p.address b) here
-    | inr there ↦ or_left (is_own peers b) (same_address p.address b) ((is b fits).0 there)
-  ]),
-  (λ own. (with b fits).1 (elim (or_cases (is_own peers b) (same_address p.address b) (sym (own_push peers p b) ∙ own)) [
-    | inl there ↦ inr ((is b fits).1 there)
-    | inr here ↦ inl here
-  ])),
-)
-
 pub more_runs : (peers : List Peer) (p : Peer) (runs runs' : Option (List Span)) → HasOneMore p.address runs runs' → HasRuns peers runs → HasRuns (peers ++ p ∷ []) runs'
 more_runs peers p None None more is = tt
 more_runs peers p None (Some runs') more is = absurd more
 more_runs peers p (Some runs) None more is = tt
-more_runs peers p (Some runs) (Some runs') more is = runs_push peers p runs runs' is more
+more_runs peers p (Some runs) (Some runs') more is = held_push is_first peers p runs runs' is more
+
+pub spots_first : (a : AddrValue) (old new : Owned) → ((q : ℕ × ℕ) → contains same_spot new q ≡ cond (same_spot (width a.family, a.number) q) true (contains same_spot old q)) → HasSpots (a ∷ []) old new
+spots_first a old new with b = with (width b.family, b.number) ∙ ap (λ x. cond x true (contains same_spot old (width b.family, b.number))) (spot_is a b) ∙ by (same_address a b) (contains same_spot old (width b.family, b.number))
+  where
+    by : (x y : Bool) → cond x true y ≡ ((x || false) || y)
+    by true y = refl
+    by false y = refl
+
+pub spots_both : (a s : AddrValue) (old one new : Owned) → HasSpots (a ∷ []) old one → HasSpots (s ∷ []) one new → HasSpots (a ∷ s ∷ []) old new
+spots_both a s old one new first second b = second b ∙ ap (λ x. (same_address s b || false) || x) (first b) ∙ by (same_address s b) (same_address a b) (contains same_spot old (width b.family, b.number))
+  where
+    by : (x y z : Bool) → ((x || false) || ((y || false) || z)) ≡ ((y || (x || false)) || z)
+    by true true z = refl
+    by true false z = refl
+    by false true z = refl
+    by false false z = refl
 
 pub drafted_push : (peers : List Peer) (numbers numbers' : Numbers) (owned owned' : Owned) (runs runs' : Option (List Span)) (p : Peer)
     → IsDrafted peers numbers owned runs → All (λ q. q.number < p.number) peers → key_holder peers p.key ≡ None
     → ((q : Key) → get same_key numbers' q ≡ cond (same_key p.key q) (Some p.number) (get same_key numbers q))
-    → ((q : ℕ × ℕ) → contains same_spot owned' q ≡ cond (same_spot (width p.address.family, p.address.number) q) true (contains same_spot owned q))
+    → HasSpots (addresses p) owned owned'
     → HasRuns (peers ++ p ∷ []) runs'
     → IsDrafted (peers ++ p ∷ []) numbers' owned' runs'
-drafted_push peers numbers numbers' owned owned' runs runs' p is above none by_key by_address by_runs = record {
+drafted_push peers numbers numbers' owned owned' runs runs' p is above none by_key spots by_runs = record {
   in_order = all_pairs_push IsNumberedBelow peers p is.in_order above;
   by_key = λ key. elim (decide (same_key p.key key)) [
     | inl same ↦
@@ -76,12 +78,7 @@ drafted_push peers numbers numbers' owned owned' runs runs' p is above none by_k
     | inr apart ↦
         by_key key ∙ ap (λ b. cond b (Some p.number) (get same_key numbers key)) apart ∙ is.by_key key ∙ sym (holder_push_other peers p key apart)
   ];
-  by_address = λ b.
-      by_address (width b.family, b.number)
-      ∙ ap (λ x. cond x true (contains same_spot owned (width b.family, b.number))) (spot_is p.address b)
-      ∙ ap (λ y. cond (same_address p.address b) true y) (is.by_address b)
-      ∙ sym (turned (same_address p.address b) (is_own peers b))
-      ∙ sym (own_push peers p b);
+  by_address = λ b. spots b ∙ ap (λ y. is_at p b || y) (is.by_address b) ∙ turned (is_at p b) (is_own peers b) ∙ sym (own_push peers p b);
   by_runs = by_runs;
 }
 
@@ -102,10 +99,7 @@ runs_alike : (peers : List Peer) (p : Peer) (at : ℕ) (runs : Option (List Span
     → HasRuns peers runs
     → HasRuns (set peers at p) runs
 runs_alike peers p at None alike is = tt
-runs_alike peers p at (Some runs) alike is = λ b fits. (
-  (λ h. alike_own peers p at b alike ∙ (is b fits).0 h),
-  (λ h. (is b fits).1 (sym (alike_own peers p at b alike) ∙ h)),
-)
+runs_alike peers p at (Some runs) alike is = held_alike is_first peers (set peers at p) runs (λ b. alike_first peers p at b alike) is
 
 pub drafted_alike : (peers : List Peer) (numbers : Numbers) (owned : Owned) (runs : Option (List Span)) (p : Peer) (at : ℕ) → IsDrafted peers numbers owned runs → IsAlikeAt peers p at → IsDrafted (set peers at p) numbers owned runs
 drafted_alike peers numbers owned runs p at is alike =

@@ -11,18 +11,15 @@ use Rattle.std.proofs.lemmas.List.Edits.{get_or-insert_at}
 use Rattle.std.proofs.lemmas.List.Elements.{All-cons, All-head, All-tail, All-weaker}
 use Rattle.wgr_text.specs.declared.key.Key.{Key}
 use Rattle.wgr_text.specs.declared.prefix.Span.{Span}
-use Rattle.wgr_text.specs.Prefix.{AddrValue, IsAddr}
 use Rattle.wgr_peers.specs.declared.peer.Peer.{Peer}
-use Rattle.wgr_pool.specs.PrefixTests.{same_address}
-use Rattle.wgr_pool.specs.Spans.{IsHeld}
 use Rattle.wgr_peers.specs.Ordered.{EndsAt}
-use Rattle.wgr_peers.specs.Peers.{is_own, key_holder, put_peer, same_key, without_peer, IsNumberedBelow, AreNumbered, IsApart, AreApart}
-use Rattle.wgr_peers.specs.PeerIndex.{IsIndexed, EndsFrom}
+use Rattle.wgr_peers.specs.Peers.{is_first, is_second, key_holder, put_peer, same_key, without_peer, IsNumberedBelow, AreNumbered, IsApart, AreApart}
+use Rattle.wgr_peers.specs.PeerIndex.{EndsFrom, HasAlso, HasThose, IsIndexed}
 use Rattle.wgr_peers.specs.PeersLeft.{peers_left}
 use Rattle.wgr_pool.proofs.Lists.{AllPairs-filter, AllPairs-head, AllPairs-tail, filter_each, filter_twice}
-use Rattle.wgr_pool.proofs.Bools.{or_cases, or_left, or_right}
 use Rattle.wgr_pool.proofs.PrefixLemmas.{nat_eq_is}
 use Rattle.wgr_peers.proofs.OrderedLemmas.{put_above, put_absent, put_pairs}
+use Rattle.wgr_peers.proofs.HeldLemmas.{any_insert, held_also}
 use Rattle.wgr_peers.proofs.PeerLemmas.{apart_turn}
 use Rattle.wgr_peers.proofs.PlaceLemmas.{peers_placed}
 use Rattle.wgr_peers.proofs.IndexLemmas.{key_apart}
@@ -162,40 +159,19 @@ holder_insert (q ∷ peers) p (suc at) key l apart =
     swap true y o h = sym (ap (λ b. cond b (Some p.number) (Some q.number)) (h refl))
     swap false y o h = refl
 
-own_insert : (peers : List Peer) (p : Peer) (at : ℕ) (b : AddrValue) → at ≤ length peers → is_own (insert peers at p) b ≡ (same_address p.address b || is_own peers b)
-own_insert [] p zero b l = refl
-own_insert [] p (suc at) b l = absurd (omega (arith, l))
-own_insert (q ∷ peers) p zero b l = refl
-own_insert (q ∷ peers) p (suc at) b l =
-    ap (λ x. same_address q.address b || x) (own_insert peers p at b (omega (arith, l))) ∙ swap (same_address q.address b) (same_address p.address b) (is_own peers b)
-  where
-    swap : (x y z : Bool) → (x || (y || z)) ≡ (y || (x || z))
-    swap true true z = refl
-    swap true false z = refl
-    swap false y z = refl
-
-pub indexed_insert : (peers : List Peer) (numbers numbers' : Numbers) (runs runs' : List Span) (soonest : ℕ) (p : Peer) (at : ℕ)
+pub indexed_insert : (peers : List Peer) (numbers numbers' : Numbers) (runs runs' seconds seconds' : List Span) (soonest : ℕ) (p : Peer) (at : ℕ)
     → AreNumbered peers → EndsAt (λ (q : Peer). nat_lt q.number p.number) (λ q. nat_eq q.number p.number) peers (Err at) → AreApart (insert peers at p)
     → ((key : Key) → get same_key numbers key ≡ key_holder peers key) → ((key : Key) → get same_key numbers' key ≡ cond (same_key p.key key) (Some p.number) (get same_key numbers key))
-    → ((b : AddrValue) → IsAddr b → IsHeld runs b ↔ (is_own peers b ≡ true)) → ((b : AddrValue) → IsAddr b → IsHeld runs' b ↔ ((same_address p.address b ≡ true) ⊎ IsHeld runs b))
+    → HasThose is_first peers runs → HasAlso (is_first p) runs runs' → HasThose is_second peers seconds → HasAlso (is_second p) seconds seconds'
     → All (EndsFrom soonest) (insert peers at p)
-    → IsIndexed (insert peers at p) numbers' runs' soonest
-indexed_insert peers numbers numbers' runs runs' soonest p at numbered ends apart by_key keys held runs_held all_end =
+    → IsIndexed (insert peers at p) numbers' runs' seconds' soonest
+indexed_insert peers numbers numbers' runs runs' seconds seconds' soonest p at numbered ends apart by_key keys held also held_second also_second all_end =
     let placed = put_absent (λ (q : Peer). nat_lt q.number p.number) (λ q. nat_eq q.number p.number) peers p at ends in
     let others = apart_others peers p at ends.0.within apart in
-    let own = λ (b : AddrValue). own_insert peers p at b ends.0.within in
     record {
       in_order = subst (AllPairs IsNumberedBelow) placed (put_pairs IsNumberedBelow (λ q. Unit {0}) (λ q. nat_lt q.number p.number) (λ q. nat_eq q.number p.number) peers p (peers_placed p) (λ k d h. tt) numbered);
       by_key = λ key. keys key ∙ ap (λ (o : Option ℕ). cond (same_key p.key key) (Some p.number) o) (by_key key) ∙ sym (holder_insert peers p at key ends.0.within others);
-      by_address = λ b fits. (
-        (λ h. own b ∙ elim ((runs_held b fits).0 h) [
-          | inl here ↦ or_left (same_address p.address b) (is_own peers b) here
-          | inr there ↦ or_right (same_address p.address b) (is_own peers b) ((held b fits).0 there)
-        ]),
-        (λ h. (runs_held b fits).1 (elim (or_cases (same_address p.address b) (is_own peers b) (sym (own b) ∙ h)) [
-          | inl here ↦ inl here
-          | inr there ↦ inr ((held b fits).1 there)
-        ])),
-      );
+      by_address = held_also is_first peers (insert peers at p) p runs runs' (λ b. any_insert (λ q. is_first q b) peers p at ends.0.within) held also;
+      by_second = held_also is_second peers (insert peers at p) p seconds seconds' (λ b. any_insert (λ q. is_second q b) peers p at ends.0.within) held_second also_second;
       ends = all_end;
     }

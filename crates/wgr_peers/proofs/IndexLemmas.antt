@@ -1,24 +1,24 @@
 -- The indexes of a table without one peer, and with one at another address.
 use Rattle.std.proofs.Common.{◌≡◌, ℕ, zero, suc, ◌<◌, ◌≤◌, ◌↔◌, Bool, true, false, not, ◌||◌, cond, nat_eq, nat_lt, ◌⊎◌, inl, inr, set, List, [], ◌∷◌, length, get_or, Option, Some, None, Ok, Err, refl, sym, ap, ◌∙◌, subst, arith}
-use Rattle.std.specs.List.{All, AllPairs, remove}
+use Rattle.std.specs.List.{All, AllPairs, list_any, remove}
 use Rattle.std.specs.HashMap.{HashMap, get}
 use Rattle.std.specs.declared.hash.FoldHasher.{FoldHasher}
 use Rattle.std.specs.declared.hash.BuildHasherDefault.{BuildHasherDefault}
 use Rattle.std.proofs.lemmas.Bool.{cases_eq}
 use Rattle.std.proofs.lemmas.Bool.Decides.{nat_tests}
 use Rattle.std.proofs.lemmas.List.Elements.{All-filter, All-weaker}
-use Rattle.wgr_peers.proofs.PeerLemmas.{own_without}
+use Rattle.wgr_peers.proofs.HeldLemmas.{held_but, held_moved}
+use Rattle.wgr_peers.proofs.PeerLemmas.{any_without, one_first, one_second, AtMostOne}
 use Rattle.wgr_text.specs.declared.key.Key.{Key}
 use Rattle.wgr_text.specs.declared.prefix.Span.{Span}
 use Rattle.wgr_text.specs.Prefix.{AddrValue, IsAddr}
 use Rattle.wgr_peers.specs.declared.peer.Peer.{Peer}
-use Rattle.wgr_pool.specs.PrefixTests.{same_address}
 use Rattle.wgr_pool.specs.Spans.{IsHeld}
 use Rattle.wgr_peers.specs.Ordered.{EndsAt}
-use Rattle.wgr_peers.specs.Peers.{is_own, key_holder, peer_of, put_peer, same_key, without_peer, IsNumberedBelow, AreNumbered, IsApart, AreApart}
-use Rattle.wgr_peers.specs.PeerIndex.{IsIndexed, IsKeyedAt, EndsFrom}
+use Rattle.wgr_peers.specs.Peers.{is_first, is_second, key_holder, peer_of, put_peer, same_key, without_peer, IsNumberedBelow, AreNumbered, IsApart, AreApart}
+use Rattle.wgr_peers.specs.PeerIndex.{EndsFrom, HasAllBut, HasMoved, IsIndexed, IsKeyedAt}
 use Rattle.wgr_pool.proofs.Lists.{AllPairs-filter, AllPairs-head, AllPairs-tail}
-use Rattle.wgr_pool.proofs.Bools.{decide, not_true, or_cases, or_left, or_right}
+use Rattle.wgr_pool.proofs.Bools.{decide, not_true}
 use Rattle.wgr_pool.proofs.PrefixLemmas.{nat_eq_is}
 use Rattle.wgr_peers.proofs.OrderedLemmas.{drop_found, drop_absent, only_there, put_found, put_all, put_pairs}
 use Rattle.wgr_peers.proofs.PlaceLemmas.{peers_placed}
@@ -68,15 +68,19 @@ pub search_found : (peers : List Peer) (number at : ℕ) (p : Peer) → AreNumbe
 search_found peers number at p pairs ends at_is =
     peer_present peers number at p pairs ends.1 (nat_eq_is (get_or peers at p).number number (ends.2 p)) ∙ ap Some (sym at_is)
 
-pub indexed_removed : (peers : List Peer) (numbers numbers' : Numbers) (runs runs' : List Span) (soonest number at : ℕ) (p : Peer)
-    → IsIndexed peers numbers runs soonest → AreApart peers → EndsAt (λ (q : Peer). nat_lt q.number number) (λ q. nat_eq q.number number) peers (Ok at) → p ≡ get_or peers at p
+-- whether one passes without the peer at the place
+removed_any : (q : Peer → Bool) (peers : List Peer) (number at : ℕ) (p : Peer) → AreNumbered peers → AtMostOne q peers → EndsAt (λ (x : Peer). nat_lt x.number number) (λ x. nat_eq x.number number) peers (Ok at) → p ≡ get_or peers at p
+    → list_any q (remove peers at) ≡ cond (q p) false (list_any q peers)
+removed_any q peers number at p numbered one ends at_is =
+    ap (list_any q) (sym (peer_removed peers number at numbered ends)) ∙ any_without q peers number p numbered one (search_found peers number at p numbered ends at_is)
+
+pub indexed_removed : (peers : List Peer) (numbers numbers' : Numbers) (runs runs' seconds seconds' : List Span) (soonest number at : ℕ) (p : Peer)
+    → IsIndexed peers numbers runs seconds soonest → AreApart peers → EndsAt (λ (q : Peer). nat_lt q.number number) (λ q. nat_eq q.number number) peers (Ok at) → p ≡ get_or peers at p
     → ((key : Key) → get same_key numbers' key ≡ cond (same_key p.key key) None (get same_key numbers key))
-    → ((b : AddrValue) → IsAddr b → IsHeld runs' b ↔ ((same_address p.address b ≡ false) × IsHeld runs b))
-    → IsIndexed (remove peers at) numbers' runs' soonest
-indexed_removed peers numbers numbers' runs runs' soonest number at p is apart ends at_is by_key by_address =
+    → HasAllBut (is_first p) runs runs' → HasAllBut (is_second p) seconds seconds'
+    → IsIndexed (remove peers at) numbers' runs' seconds' soonest
+indexed_removed peers numbers numbers' runs runs' seconds seconds' soonest number at p is apart ends at_is by_key but but_second =
     let removed = peer_removed peers number at is.in_order ends in
-    let found = search_found peers number at p is.in_order ends at_is in
-    let own = λ (b : AddrValue). ap (λ ps. is_own ps b) (sym removed) ∙ own_without peers number p b is.in_order apart found in
     record {
       in_order = subst (AllPairs IsNumberedBelow) removed (AllPairs-filter IsNumberedBelow (λ q. not (nat_eq q.number number)) peers is.in_order);
       by_key = λ key.
@@ -84,13 +88,8 @@ indexed_removed peers numbers numbers' runs runs' soonest number at p is apart e
           ∙ ap (λ (o : Option ℕ). cond (same_key p.key key) None o) (is.by_key key)
           ∙ ap (λ (q : Peer). cond (same_key q.key key) None (key_holder peers key)) at_is
           ∙ sym (holder_removed peers at p key apart ends.1);
-      by_address = λ b fits. (
-        (λ h. let parts = (by_address b fits).0 h in own b ∙ ap (λ x. cond x false (is_own peers b)) parts.0 ∙ (is.by_address b fits).0 parts.1),
-        (λ h. elim (decide (same_address p.address b)) [
-          | inl mine ↦ let bad : false ≡ true = sym (own b ∙ ap (λ x. cond x false (is_own peers b)) mine) ∙ h in cc
-          | inr other ↦ (by_address b fits).1 (other, (is.by_address b fits).1 (sym (own b ∙ ap (λ x. cond x false (is_own peers b)) other) ∙ h))
-        ]),
-      );
+      by_address = held_but is_first peers (remove peers at) p runs runs' (λ b. removed_any (λ q. is_first q b) peers number at p is.in_order (one_first peers b apart) ends at_is) is.by_address but;
+      by_second = held_but is_second peers (remove peers at) p seconds seconds' (λ b. removed_any (λ q. is_second q b) peers number at p is.in_order (one_second peers b apart) ends at_is) is.by_second but_second;
       ends = subst (All (EndsFrom soonest)) removed (All-filter (λ q. not (nat_eq q.number number)) (EndsFrom soonest) peers is.ends);
     }
 
@@ -105,7 +104,7 @@ search_absent peers number at pairs ends = peer_absent peers number (λ k d h. e
 ])
 
 pub keyed_place : (peers : List Peer) (p : Peer) (at : ℕ) → AreNumbered peers → IsKeyedAt peers p at → put_peer peers p ≡ set peers at p
-keyed_place peers p at pairs keyed = put_found (λ q. nat_lt q.number p.number) (λ q. nat_eq q.number p.number) peers p at (keyed_ends peers p at pairs keyed)
+keyed_place peers p at pairs keyed = put_found (λ q. nat_lt q.number p.number) (λ q. nat_eq q.number p.number) peers p at (keyed_ends peers p at pairs keyed.within keyed.number)
 
 keyed_holder : (peers : List Peer) (p : Peer) (at : ℕ) (key : Key) → ((d : Peer) → (get_or peers at d).number ≡ p.number) → ((d : Peer) → (get_or peers at d).key ≡ p.key) → key_holder (set peers at p) key ≡ key_holder peers key
 keyed_holder [] p at key number same = refl
@@ -114,43 +113,18 @@ keyed_holder (q ∷ peers) p zero key number same =
     ∙ ap (λ (n : ℕ). cond (same_key q.key key) (Some n) (key_holder peers key)) (sym (number q))
 keyed_holder (q ∷ peers) p (suc at) key number same = ap (λ (o : Option ℕ). cond (same_key q.key key) (Some q.number) o) (keyed_holder peers p at key number same)
 
-own_set : (peers : List Peer) (p : Peer) (at : ℕ) (b : AddrValue) → at < length peers → is_own (set peers at p) b ≡ (same_address p.address b || is_own (remove peers at) b)
-own_set [] p at b l = absurd (omega (arith, l))
-own_set (q ∷ peers) p zero b l = refl
-own_set (q ∷ peers) p (suc at) b l =
-    ap (λ x. same_address q.address b || x) (own_set peers p at b (omega (arith, l))) ∙ swap (same_address q.address b) (same_address p.address b) (is_own (remove peers at) b)
-  where
-    swap : (x y z : Bool) → (x || (y || z)) ≡ (y || (x || z))
-    swap true true z = refl
-    swap true false z = refl
-    swap false y z = refl
-
-pub indexed_moved : (peers : List Peer) (numbers : Numbers) (runs runs' : List Span) (soonest soonest' : ℕ) (p old : Peer) (at : ℕ)
-    → IsIndexed peers numbers runs soonest → AreApart peers → IsKeyedAt peers p at → old ≡ get_or peers at old
-    → ((b : AddrValue) → IsAddr b → IsHeld runs' b ↔ ((same_address p.address b ≡ true) ⊎ ((same_address old.address b ≡ false) × IsHeld runs b)))
+pub indexed_moved : (peers : List Peer) (numbers : Numbers) (runs runs' seconds seconds' : List Span) (soonest soonest' : ℕ) (p old : Peer) (at : ℕ)
+    → IsIndexed peers numbers runs seconds soonest → AreApart peers → IsKeyedAt peers p at → old ≡ get_or peers at old
+    → HasMoved (is_first old) (is_first p) runs runs' → HasMoved (is_second old) (is_second p) seconds seconds'
     → soonest' ≤ soonest → EndsFrom soonest' p
-    → IsIndexed (set peers at p) numbers runs' soonest'
-indexed_moved peers numbers runs runs' soonest soonest' p old at is apart keyed at_is with sooner ends =
+    → IsIndexed (set peers at p) numbers runs' seconds' soonest'
+indexed_moved peers numbers runs runs' seconds seconds' soonest soonest' p old at is apart keyed at_is with with_second sooner ends =
     let placed = keyed_place peers p at is.in_order keyed in
-    let found : peer_of peers p.number ≡ Some old = peer_present peers p.number at old is.in_order keyed.within (keyed.number old) ∙ ap Some (sym at_is) in
-    let removed = peer_removed peers p.number at is.in_order (keyed_ends peers p at is.in_order keyed) in
-    let left = λ (b : AddrValue). ap (λ ps. is_own ps b) (sym removed) ∙ own_without peers p.number old b is.in_order apart found in
-    let own = λ (b : AddrValue). own_set peers p at b keyed.within in
+    let there = keyed_ends peers p at is.in_order keyed.within keyed.number in
     record {
       in_order = subst (AllPairs IsNumberedBelow) placed (put_pairs IsNumberedBelow (λ q. Unit {0}) (λ q. nat_lt q.number p.number) (λ q. nat_eq q.number p.number) peers p (peers_placed p) (λ k d h. tt) is.in_order);
       by_key = λ key. is.by_key key ∙ sym (keyed_holder peers p at key keyed.number keyed.key);
-      by_address = λ b fits. (
-        (λ h. own b ∙ elim ((with b fits).0 h) [
-          | inl here ↦ or_left (same_address p.address b) (is_own (remove peers at) b) here
-          | inr there ↦ or_right (same_address p.address b) (is_own (remove peers at) b) (left b ∙ ap (λ x. cond x false (is_own peers b)) there.0 ∙ (is.by_address b fits).0 there.1)
-        ]),
-        (λ h. (with b fits).1 (elim (or_cases (same_address p.address b) (is_own (remove peers at) b) (sym (own b) ∙ h)) [
-          | inl here ↦ inl here
-          | inr there ↦ inr (elim (decide (same_address old.address b)) [
-            | inl mine ↦ let bad : false ≡ true = sym (left b ∙ ap (λ x. cond x false (is_own peers b)) mine) ∙ there in cc
-            | inr other ↦ (other, (is.by_address b fits).1 (sym (left b ∙ ap (λ x. cond x false (is_own peers b)) other) ∙ there))
-          ])
-        ])),
-      );
+      by_address = held_moved is_first peers p old at runs runs' keyed.within (λ b. removed_any (λ q. is_first q b) peers p.number at old is.in_order (one_first peers b apart) there at_is) is.by_address with;
+      by_second = held_moved is_second peers p old at seconds seconds' keyed.within (λ b. removed_any (λ q. is_second q b) peers p.number at old is.in_order (one_second peers b apart) there at_is) is.by_second with_second;
       ends = subst (All (EndsFrom soonest')) placed (put_all (EndsFrom soonest') (λ q. nat_lt q.number p.number) (λ q. nat_eq q.number p.number) peers p (All-weaker (EndsFrom soonest) (EndsFrom soonest') (λ q h. ends_sooner soonest soonest' q sooner h) peers is.ends) ends);
     }

@@ -1,20 +1,21 @@
 -- Who holds a key or an address among the peers that are left.
-use Rattle.std.proofs.Common.{◌≡◌, ℕ, ◌<◌, ◌↔◌, inl, inr, Bool, true, false, not, ◌&&◌, ◌||◌, cond, nat_eq, get_or, List, [], ◌∷◌, ◌++◌, Option, Some, None, is_some, refl, sym, ap, ◌∙◌, arith}
+use Rattle.std.proofs.Common.{◌≡◌, ℕ, ◌<◌, ◌↔◌, inl, inr, Bool, true, false, not, ◌&&◌, ◌||◌, cond, nat_eq, get_or, List, [], ◌∷◌, ◌++◌, Option, Some, None, is_some, refl, sym, ap, ◌∙◌, subst, arith}
 use Rattle.std.specs.List.{All, AllPairs, filter, list_any}
 use Rattle.std.proofs.lemmas.List.Elements.{All-head, All-tail}
 use Rattle.std.proofs.lemmas.List.Folds.{list_any-append}
 use Rattle.wgr_text.specs.declared.key.Key.{Key}
 use Rattle.wgr_text.specs.declared.prefix.Span.{Span}
-use Rattle.wgr_text.specs.Prefix.{AddrValue, IsAddr}
+use Rattle.wgr_text.specs.Prefix.{AddrValue}
 use Rattle.wgr_peers.specs.declared.peer.Peer.{Peer}
-use Rattle.wgr_pool.specs.PrefixTests.{same_address}
-use Rattle.wgr_pool.specs.Spans.{IsHeld}
-use Rattle.wgr_peers.specs.Peers.{is_own, key_holder, peer_of, same_key, IsNumberedBelow, AreNumbered, AreApart}
-use Rattle.wgr_peers.specs.PeersLeft.{peers_left}
+use Rattle.wgr_peers.specs.Peers.{key_holder, peer_of, same_key, IsNumberedBelow, AreNumbered, AreApart}
+use Rattle.std.specs.Prelude.{IfSome}
+use Rattle.wgr_peers.specs.PeerIndex.{HasAllBut, HasThose}
+use Rattle.wgr_peers.specs.PeersLeft.{peers_left, HasItsPlaces}
 use Rattle.wgr_pool.proofs.Lists.{AllPairs-head, AllPairs-tail}
 use Rattle.wgr_pool.proofs.Bools.{decide}
 use Rattle.wgr_pool.proofs.PrefixLemmas.{nat_eq_is, nat_eq_self}
-use Rattle.wgr_peers.proofs.PeerLemmas.{peer_is, apart_too}
+use Rattle.wgr_peers.proofs.HeldLemmas.{held_alike, held_but}
+use Rattle.wgr_peers.proofs.PeerLemmas.{peer_is, AtMostOne}
 use Rattle.wgr_peers.proofs.IndexLemmas.{key_apart}
 
 -- ---- the first peer that passes a test, by number
@@ -27,10 +28,6 @@ first q (p ∷ peers) = cond (q p) (Some p.number) (first q peers)
 abbrev staying : (ℕ → Bool) → Option ℕ → Option ℕ
 staying stays None = None
 staying stays (Some n) = cond (stays n) (Some n) None
-
--- at most one peer passes
-abbrev AtMostOne : (Peer → Bool) → List Peer → Type 0
-AtMostOne q = AllPairs (λ x y. q x ≡ true → q y ≡ false)
 
 first_none : (q : Peer → Bool) (peers : List Peer) → All (λ p. q p ≡ false) peers → first q peers ≡ None
 first_none q [] all = refl
@@ -234,51 +231,61 @@ holder_absent_too peers gone m key apart none =
     ∙ without_absent (has_key key) peers gone m (one_key peers key apart) none
     ∙ sym (key_first (peers_left peers gone) key)
 
--- ---- addresses
+-- ---- tests
 
-abbrev is_at : AddrValue → Peer → Bool
-is_at b p = same_address p.address b
-
-own_first : (peers : List Peer) (b : AddrValue) → is_own peers b ≡ is_some (first (is_at b) peers)
-own_first [] b = refl
-own_first (p ∷ peers) b = by (same_address p.address b) (own_first peers b)
+any_first : (q : Peer → Bool) (peers : List Peer) → list_any q peers ≡ is_some (first q peers)
+any_first q [] = refl
+any_first q (p ∷ peers) = by (q p) (any_first q peers)
   where
-    by : (c : Bool) → is_own peers b ≡ is_some (first (is_at b) peers) → (c || is_own peers b) ≡ is_some (cond c (Some p.number) (first (is_at b) peers))
+    by : (c : Bool) → list_any q peers ≡ is_some (first q peers) → (c || list_any q peers) ≡ is_some (cond c (Some p.number) (first q peers))
     by true rest = refl
     by false rest = rest
 
-one_address : (peers : List Peer) (b : AddrValue) → AreApart peers → AtMostOne (is_at b) peers
-one_address peers b apart = λ i j d l h s. apart_too (get_or peers i d).address (get_or peers j d).address b (apart i j d l h).1 s
-
-pub own_without_more : (peers : List Peer) (gone : List ℕ) (m : ℕ) (p : Peer) (b : AddrValue) → AreNumbered peers → AreApart peers → peer_of peers m ≡ Some p
-    → is_own (peers_left peers (gone ++ m ∷ [])) b ≡ cond (same_address p.address b) false (is_own (peers_left peers gone) b)
-own_without_more peers gone m p b numbered apart found =
-    own_first (peers_left peers (gone ++ m ∷ [])) b
-    ∙ ap is_some (without_found (is_at b) peers gone m p numbered (one_address peers b apart) found)
-    ∙ by (same_address p.address b)
-    ∙ ap (λ c. cond (same_address p.address b) false c) (sym (own_first (peers_left peers gone) b))
+any_without_more : (q : Peer → Bool) (peers : List Peer) (gone : List ℕ) (m : ℕ) (p : Peer) → AreNumbered peers → AtMostOne q peers → peer_of peers m ≡ Some p
+    → list_any q (peers_left peers (gone ++ m ∷ [])) ≡ cond (q p) false (list_any q (peers_left peers gone))
+any_without_more q peers gone m p numbered one found =
+    any_first q (peers_left peers (gone ++ m ∷ []))
+    ∙ ap is_some (without_found q peers gone m p numbered one found)
+    ∙ by (q p)
+    ∙ ap (λ c. cond (q p) false c) (sym (any_first q (peers_left peers gone)))
   where
-    by : (c : Bool) → is_some (cond c None (first (is_at b) (peers_left peers gone))) ≡ cond c false (is_some (first (is_at b) (peers_left peers gone)))
+    by : (c : Bool) → is_some (cond c None (first q (peers_left peers gone))) ≡ cond c false (is_some (first q (peers_left peers gone)))
     by true = refl
     by false = refl
 
-pub own_absent_too : (peers : List Peer) (gone : List ℕ) (m : ℕ) (b : AddrValue) → AreApart peers → peer_of peers m ≡ None
-    → is_own (peers_left peers (gone ++ m ∷ [])) b ≡ is_own (peers_left peers gone) b
-own_absent_too peers gone m b apart none =
-    own_first (peers_left peers (gone ++ m ∷ [])) b
-    ∙ ap is_some (without_absent (is_at b) peers gone m (one_address peers b apart) none)
-    ∙ sym (own_first (peers_left peers gone) b)
+any_absent_too : (q : Peer → Bool) (peers : List Peer) (gone : List ℕ) (m : ℕ) → AtMostOne q peers → peer_of peers m ≡ None
+    → list_any q (peers_left peers (gone ++ m ∷ [])) ≡ list_any q (peers_left peers gone)
+any_absent_too q peers gone m one none =
+    any_first q (peers_left peers (gone ++ m ∷ []))
+    ∙ ap is_some (without_absent q peers gone m one none)
+    ∙ sym (any_first q (peers_left peers gone))
 
--- the runs without the address of one peer more
-pub held_without : (peers : List Peer) (gone : List ℕ) (m : ℕ) (p : Peer) (runs runs' : List Span) → AreNumbered peers → AreApart peers → peer_of peers m ≡ Some p
-    → ((b : AddrValue) → IsAddr b → IsHeld runs b ↔ (is_own (peers_left peers gone) b ≡ true))
-    → ((b : AddrValue) → IsAddr b → IsHeld runs' b ↔ ((same_address p.address b ≡ false) × IsHeld runs b))
-    → (b : AddrValue) → IsAddr b → IsHeld runs' b ↔ (is_own (peers_left peers (gone ++ m ∷ [])) b ≡ true)
-held_without peers gone m p runs runs' numbered apart found held without b fits =
-    let own = own_without_more peers gone m p b numbered apart found in (
-      (λ h. let parts = (without b fits).0 h in own ∙ ap (λ x. cond x false (is_own (peers_left peers gone) b)) parts.0 ∙ (held b fits).0 parts.1),
-      (λ h. elim (decide (same_address p.address b)) [
-        | inl mine ↦ let bad : false ≡ true = sym (own ∙ ap (λ x. cond x false (is_own (peers_left peers gone) b)) mine) ∙ h in cc
-        | inr other ↦ (without b fits).1 (other, (held b fits).1 (sym (own ∙ ap (λ x. cond x false (is_own (peers_left peers gone) b)) other) ∙ h))
-      ]),
-    )
+-- the runs without the addresses of one peer more
+pub held_without : (test : Peer → AddrValue → Bool) (peers : List Peer) (gone : List ℕ) (m : ℕ) (p : Peer) (runs runs' : List Span) → AreNumbered peers → ((b : AddrValue) → AtMostOne (λ q. test q b) peers) → peer_of peers m ≡ Some p
+    → HasThose test (peers_left peers gone) runs → HasAllBut (test p) runs runs' → HasThose test (peers_left peers (gone ++ m ∷ [])) runs'
+held_without test peers gone m p runs runs' numbered one found =
+    held_but test (peers_left peers gone) (peers_left peers (gone ++ m ∷ [])) p runs runs' (λ b. any_without_more (λ q. test q b) peers gone m p numbered (one b) found)
+
+-- the same runs where nobody has the number
+pub held_absent_too : (test : Peer → AddrValue → Bool) (peers : List Peer) (gone : List ℕ) (m : ℕ) (runs : List Span) → ((b : AddrValue) → AtMostOne (λ q. test q b) peers) → peer_of peers m ≡ None
+    → HasThose test (peers_left peers gone) runs → HasThose test (peers_left peers (gone ++ m ∷ [])) runs
+held_absent_too test peers gone m runs one none =
+    held_alike test (peers_left peers gone) (peers_left peers (gone ++ m ∷ [])) runs (λ b. any_absent_too (λ q. test q b) peers gone m (one b) none)
+
+-- ---- peers
+
+-- the peer of a number that stays
+pub peer_left : (peers : List Peer) (gone : List ℕ) (n : ℕ) → list_any (nat_eq n) gone ≡ false → peer_of (peers_left peers gone) n ≡ peer_of peers n
+peer_left [] gone n stays_in = refl
+peer_left (p ∷ peers) gone n stays_in = by (nat_eq p.number n) (list_any (nat_eq p.number) gone) refl refl (peer_left peers gone n stays_in)
+  where
+    by : (b c : Bool) → nat_eq p.number n ≡ b → list_any (nat_eq p.number) gone ≡ c → peer_of (peers_left peers gone) n ≡ peer_of peers n
+        → peer_of (cond (not c) (p ∷ peers_left peers gone) (peers_left peers gone)) n ≡ cond b (Some p) (peer_of peers n)
+    by true true s t rest = let bad : true ≡ false = sym t ∙ ap (λ (m : ℕ). list_any (nat_eq m) gone) (nat_eq_is p.number n s) ∙ stays_in in cc
+    by true false s t rest = ap (λ b. cond b (Some p) (peer_of (peers_left peers gone) n)) s
+    by false true s t rest = rest
+    by false false s t rest = ap (λ b. cond b (Some p) (peer_of (peers_left peers gone) n)) s ∙ rest
+
+-- a peer that stays has its places where the others have gone
+pub places_left : (peers : List Peer) (gone : List ℕ) (p : Peer) → list_any (nat_eq p.number) gone ≡ false → HasItsPlaces peers p → HasItsPlaces (peers_left peers gone) p
+places_left peers gone p stays_in has = λ second. subst (λ o. IfSome o (λ q. is_some q.second ≡ true)) (sym (peer_left peers gone p.number stays_in)) (has second)

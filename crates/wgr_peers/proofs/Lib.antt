@@ -5,6 +5,7 @@ pub mod PutLemmas
 pub mod NumberLemmas
 -- Peers, and the indexes of a table of them.
 pub mod PeerLemmas
+pub mod HeldLemmas
 pub mod TableLemmas
 pub mod IndexLemmas
 pub mod LeftLemmas

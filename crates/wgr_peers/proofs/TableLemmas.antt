@@ -1,6 +1,6 @@
 -- The indexes after one more peer.
 use Rattle.std.proofs.Common.{◌≡◌, ℕ, zero, suc, nat_eq, nat_lt, set, not, ◌<◌, ◌≤◌, ◌⊎◌, ◌↔◌, inl, inr, Bool, true, false, ◌||◌, cond, List, [], ◌∷◌, ◌++◌, length, get_or, map, Option, Some, None, refl, sym, ap, ◌∙◌, subst, arith}
-use Rattle.std.specs.List.{All, AllPairs, filter}
+use Rattle.std.specs.List.{All, AllPairs, filter, list_any}
 use Rattle.std.specs.Cmp.Lexicographic.{same_text}
 use Rattle.std.specs.HashMap.{HashMap, get}
 use Rattle.std.specs.declared.hash.FoldHasher.{FoldHasher}
@@ -15,17 +15,17 @@ use Rattle.std.specs.Ordering.{nat_cmp, ordering_index}
 use Rattle.std.specs.Prelude.{Result, Ok, Err, IfOk, IfErr}
 use Rattle.wgr_text.specs.declared.key.Key.{Key}
 use Rattle.wgr_text.specs.declared.prefix.Span.{Span}
-use Rattle.wgr_text.specs.Prefix.{AddrValue, IsAddr}
+use Rattle.wgr_text.specs.Prefix.{AddrValue}
 use Rattle.wgr_peers.specs.declared.peer.Peer.{Peer}
 use Rattle.wgr_pool.specs.PrefixTests.{same_address}
-use Rattle.wgr_pool.specs.Spans.{IsHeld}
-use Rattle.wgr_peers.specs.Peers.{is_own, is_live, expired, expired_addresses, key_holder, peer_of, same_key, put_peer, IsNumberedBelow, AreNumbered, IsApart}
-use Rattle.wgr_peers.specs.PeerIndex.{IsIndexed, IsAlikeAt, IsKeyedAt, EndsFrom}
+use Rattle.std.specs.Prelude.{option_to_list}
+use Rattle.wgr_peers.specs.Peers.{is_at, is_first, is_own, is_second, is_live, expired, expired_addresses, key_holder, peer_of, same_key, put_peer, IsNumberedBelow, AreNumbered, IsApart}
+use Rattle.wgr_peers.specs.PeerIndex.{EndsFrom, HasAlso, HasSame, IsAlikeAt, IsIndexed}
 use Rattle.wgr_peers.specs.Ordered.{EndsAt}
 use Rattle.wgr_pool.proofs.Lists.{filter_none, AllPairs-before, AllPairs-head, AllPairs-tail}
-use Rattle.wgr_pool.proofs.Bools.{decide, or_cases, or_left, or_right}
-use Rattle.wgr_peers.proofs.OrderedLemmas.{put_found, put_all, put_pairs}
-use Rattle.wgr_peers.proofs.PlaceLemmas.{peers_placed}
+use Rattle.wgr_pool.proofs.Bools.{decide}
+use Rattle.wgr_peers.proofs.OrderedLemmas.{put_found}
+use Rattle.wgr_peers.proofs.HeldLemmas.{any_push, held_push, held_same}
 
 abbrev Numbers : Type 0
 Numbers = HashMap Key ℕ (BuildHasherDefault FoldHasher)
@@ -47,29 +47,20 @@ holder_push_same (q ∷ peers) p key same none =
           ap (λ b. cond b (Some q.number) (key_holder (peers ++ p ∷ []) key)) f ∙ holder_push_same peers p key same rest
     ]
 
-pub own_push : (peers : List Peer) (p : Peer) (b : AddrValue) → is_own (peers ++ p ∷ []) b ≡ (is_own peers b || same_address p.address b)
-own_push [] p b = or_false_right (same_address p.address b)
-  where
-    or_false_right : (x : Bool) → (x || false) ≡ (false || x)
-    or_false_right true = refl
-    or_false_right false = refl
-own_push (q ∷ peers) p b = ap (λ x. same_address q.address b || x) (own_push peers p b) ∙ or_again (same_address q.address b) (is_own peers b) (same_address p.address b)
-  where
-    or_again : (x y z : Bool) → (x || (y || z)) ≡ ((x || y) || z)
-    or_again true y z = refl
-    or_again false y z = refl
+pub own_push : (peers : List Peer) (p : Peer) (b : AddrValue) → is_own (peers ++ p ∷ []) b ≡ (is_own peers b || is_at p b)
+own_push peers p b = any_push (λ q. is_at q b) peers p
 
 pub ends_sooner : (high low : ℕ) (p : Peer) → low ≤ high → EndsFrom high p → EndsFrom low p
 ends_sooner high low p l (inl never) = inl never
 ends_sooner high low p l (inr later) = inr (omega (arith, l, later))
 
-pub indexed_push : (peers : List Peer) (numbers numbers' : Numbers) (runs runs' : List Span) (soonest soonest' : ℕ) (p : Peer)
-    → IsIndexed peers numbers runs soonest → All (λ q. q.number < p.number) peers → key_holder peers p.key ≡ None
+pub indexed_push : (peers : List Peer) (numbers numbers' : Numbers) (runs runs' seconds seconds' : List Span) (soonest soonest' : ℕ) (p : Peer)
+    → IsIndexed peers numbers runs seconds soonest → All (λ q. q.number < p.number) peers → key_holder peers p.key ≡ None
     → ((q : Key) → get same_key numbers' q ≡ cond (same_key p.key q) (Some p.number) (get same_key numbers q))
-    → ((b : AddrValue) → IsAddr b → IsHeld runs' b ↔ ((same_address p.address b ≡ true) ⊎ IsHeld runs b))
+    → HasAlso (is_first p) runs runs' → HasAlso (is_second p) seconds seconds'
     → soonest' ≤ soonest → EndsFrom soonest' p
-    → IsIndexed (peers ++ p ∷ []) numbers' runs' soonest'
-indexed_push peers numbers numbers' runs runs' soonest soonest' p is above none by_key by_address sooner ends = record {
+    → IsIndexed (peers ++ p ∷ []) numbers' runs' seconds' soonest'
+indexed_push peers numbers numbers' runs runs' seconds seconds' soonest soonest' p is above none by_key also also_second sooner ends = record {
   in_order = all_pairs_push IsNumberedBelow peers p is.in_order above;
   by_key = λ key. elim (decide (same_key p.key key)) [
     | inl same ↦
@@ -78,26 +69,24 @@ indexed_push peers numbers numbers' runs runs' soonest soonest' p is above none 
     | inr apart ↦
         by_key key ∙ ap (λ b. cond b (Some p.number) (get same_key numbers key)) apart ∙ is.by_key key ∙ sym (holder_push_other peers p key apart)
   ];
-  by_address = λ b fits. (
-    (λ held. own_push peers p b ∙ elim ((by_address b fits).0 held) [
-      | inl here ↦ or_right (is_own peers b) (same_address p.address b) here
-      | inr there ↦ or_left (is_own peers b) (same_address p.address b) ((is.by_address b fits).0 there)
-    ]),
-    (λ own. (by_address b fits).1 (elim (or_cases (is_own peers b) (same_address p.address b) (sym (own_push peers p b) ∙ own)) [
-      | inl there ↦ inr ((is.by_address b fits).1 there)
-      | inr here ↦ inl here
-    ])),
-  );
+  by_address = held_push is_first peers p runs runs' is.by_address also;
+  by_second = held_push is_second peers p seconds seconds' is.by_second also_second;
   ends = All-push (EndsFrom soonest') peers p (All-weaker (EndsFrom soonest) (EndsFrom soonest') (λ q h. ends_sooner soonest soonest' q sooner h) peers is.ends) ends;
 }
 
 -- the same entries found anywhere
-pub indexed_same : (peers peers' : List Peer) (numbers numbers' : Numbers) (runs runs' : List Span) (soonest : ℕ)
-    → IsIndexed peers numbers runs soonest → peers' ≡ peers → ((q : Key) → get same_key numbers' q ≡ get same_key numbers q) → runs' ≡ runs
-    → IsIndexed peers' numbers' runs' soonest
-indexed_same peers peers' numbers numbers' runs runs' soonest is same_peers same_keys same_runs =
-    subst (λ ps. IsIndexed ps numbers' runs' soonest) (sym same_peers)
-    (subst (λ rs. IsIndexed peers numbers' rs soonest) (sym same_runs) (record { in_order = is.in_order; by_key = λ key. same_keys key ∙ is.by_key key; by_address = is.by_address; ends = is.ends }))
+pub indexed_same : (peers peers' : List Peer) (numbers numbers' : Numbers) (runs runs' seconds seconds' : List Span) (soonest : ℕ)
+    → IsIndexed peers numbers runs seconds soonest → peers' ≡ peers → ((q : Key) → get same_key numbers' q ≡ get same_key numbers q)
+    → HasSame runs runs' → HasSame seconds seconds'
+    → IsIndexed peers' numbers' runs' seconds' soonest
+indexed_same peers peers' numbers numbers' runs runs' seconds seconds' soonest is same_peers same_keys same_runs same_seconds =
+    subst (λ ps. IsIndexed ps numbers' runs' seconds' soonest) (sym same_peers) (record {
+      in_order = is.in_order;
+      by_key = λ key. same_keys key ∙ is.by_key key;
+      by_address = held_same is_first peers runs runs' is.by_address same_runs;
+      by_second = held_same is_second peers seconds seconds' is.by_second same_seconds;
+      ends = is.ends;
+    })
 
 -- ---- a look-up by number
 
@@ -177,20 +166,20 @@ pub none_expired : (soonest now : ℕ) (peers : List Peer) → now < soonest →
 none_expired soonest now peers early ends =
     (ap (map (λ (p : Peer). p.number)) (none_over soonest now peers early ends), ap (map (λ (p : Peer). p.address)) (none_over soonest now peers early ends))
 
--- ---- a peer in the place of one of its number, key and address
+-- ---- a peer in the place of one of its number, key and addresses
 
-pub keyed_ends : (peers : List Peer) (p : Peer) (at : ℕ) → AreNumbered peers → IsKeyedAt peers p at → EndsAt (λ (q : Peer). nat_lt q.number p.number) (λ q. nat_eq q.number p.number) peers (Ok at)
-keyed_ends peers p at pairs keyed = (
+pub keyed_ends : (peers : List Peer) (p : Peer) (at : ℕ) → AreNumbered peers → (at < length peers) → ((d : Peer) → (get_or peers at d).number ≡ p.number) → EndsAt (λ (q : Peer). nat_lt q.number p.number) (λ q. nat_eq q.number p.number) peers (Ok at)
+keyed_ends peers p at pairs within number = (
   record {
-    within = omega (arith, keyed.within);
-    before = λ k d h. let l = pairs k at d h keyed.within in let e = keyed.number d in below (get_or peers k d).number p.number (omega (arith, l, e));
+    within = omega (arith, within);
+    before = λ k d h. let l = pairs k at d h within in let e = number d in below (get_or peers k d).number p.number (omega (arith, l, e));
     after = λ k d h w. not_below (get_or peers k d).number p.number (elim (cases_lt at k) [
-      | inl l ↦ let m = pairs at k d l w in let e = keyed.number d in omega (arith, m, e)
-      | inr g ↦ let same : at ≡ k = omega (arith, g, h) in let e = keyed.number d in subst (λ (i : ℕ). p.number ≤ (get_or peers i d).number) same (omega (arith, e))
+      | inl l ↦ let m = pairs at k d l w in let e = number d in omega (arith, m, e)
+      | inr g ↦ let same : at ≡ k = omega (arith, g, h) in let e = number d in subst (λ (i : ℕ). p.number ≤ (get_or peers i d).number) same (omega (arith, e))
     ]);
   },
-  keyed.within,
-  λ d. equal (get_or peers at d).number p.number (keyed.number d),
+  within,
+  λ d. equal (get_or peers at d).number p.number (number d),
 )
   where
     below : (m n : ℕ) → m < n → nat_lt m n ≡ true
@@ -204,7 +193,7 @@ keyed_ends peers p at pairs keyed = (
 
 pub alike_place : (peers : List Peer) (p : Peer) (at : ℕ) → AreNumbered peers → IsAlikeAt peers p at → put_peer peers p ≡ set peers at p
 alike_place peers p at pairs alike =
-    put_found (λ q. nat_lt q.number p.number) (λ q. nat_eq q.number p.number) peers p at (keyed_ends peers p at pairs (record { within = alike.within; number = alike.number; key = alike.key }))
+    put_found (λ q. nat_lt q.number p.number) (λ q. nat_eq q.number p.number) peers p at (keyed_ends peers p at pairs alike.within alike.number)
 
 alike_tail : (q : Peer) (peers : List Peer) (p : Peer) (at : ℕ) → IsAlikeAt (q ∷ peers) p (suc at) → IsAlikeAt peers p at
 alike_tail q peers p at alike = record {
@@ -212,6 +201,7 @@ alike_tail q peers p at alike = record {
   number = alike.number;
   key = alike.key;
   address = alike.address;
+  second = alike.second;
 }
 
 pub alike_holder : (peers : List Peer) (p : Peer) (at : ℕ) (key : Key) → IsAlikeAt peers p at → key_holder (set peers at p) key ≡ key_holder peers key
@@ -222,22 +212,17 @@ alike_holder (q ∷ peers) p zero key alike =
 alike_holder (q ∷ peers) p (suc at) key alike =
     ap (λ (o : Option ℕ). cond (same_key q.key key) (Some q.number) o) (alike_holder peers p at key (alike_tail q peers p at alike))
 
-pub alike_own : (peers : List Peer) (p : Peer) (at : ℕ) (b : AddrValue) → IsAlikeAt peers p at → is_own (set peers at p) b ≡ is_own peers b
-alike_own [] p at b alike = refl
-alike_own (q ∷ peers) p zero b alike = ap (λ a. same_address a b || is_own peers b) (sym (alike.address q))
-alike_own (q ∷ peers) p (suc at) b alike = ap (λ x. same_address q.address b || x) (alike_own peers p at b (alike_tail q peers p at alike))
+-- a test of the addresses passes as before
+pub alike_any : (test : Peer → AddrValue → Bool) (peers : List Peer) (p : Peer) (at : ℕ) (b : AddrValue)
+    → ((q : Peer) → q.address ≡ p.address → q.second ≡ p.second → test p b ≡ test q b)
+    → IsAlikeAt peers p at → list_any (λ q. test q b) (set peers at p) ≡ list_any (λ q. test q b) peers
+alike_any test [] p at b same alike = refl
+alike_any test (q ∷ peers) p zero b same alike = ap (λ x. x || list_any (λ r. test r b) peers) (same q (alike.address q) (alike.second q))
+alike_any test (q ∷ peers) p (suc at) b same alike = ap (λ x. test q b || x) (alike_any test peers p at b same (alike_tail q peers p at alike))
 
-pub indexed_alike : (peers : List Peer) (numbers : Numbers) (runs : List Span) (soonest soonest' : ℕ) (p : Peer) (at : ℕ)
-    → IsIndexed peers numbers runs soonest → IsAlikeAt peers p at → soonest' ≤ soonest → EndsFrom soonest' p
-    → IsIndexed (set peers at p) numbers runs soonest'
-indexed_alike peers numbers runs soonest soonest' p at is alike sooner ends =
-    let placed = alike_place peers p at is.in_order alike in
-    record {
-      in_order = subst (AllPairs IsNumberedBelow) placed (put_pairs IsNumberedBelow (λ q. Unit {0}) (λ q. nat_lt q.number p.number) (λ q. nat_eq q.number p.number) peers p (peers_placed p) (λ k d h. tt) is.in_order);
-      by_key = λ key. is.by_key key ∙ sym (alike_holder peers p at key alike);
-      by_address = λ b fits. (
-        (λ h. alike_own peers p at b alike ∙ (is.by_address b fits).0 h),
-        (λ h. (is.by_address b fits).1 (sym (alike_own peers p at b alike) ∙ h)),
-      );
-      ends = subst (All (EndsFrom soonest')) placed (put_all (EndsFrom soonest') (λ q. nat_lt q.number p.number) (λ q. nat_eq q.number p.number) peers p (All-weaker (EndsFrom soonest) (EndsFrom soonest') (λ q h. ends_sooner soonest soonest' q sooner h) peers is.ends) ends);
-    }
+pub alike_own : (peers : List Peer) (p : Peer) (at : ℕ) (b : AddrValue) → IsAlikeAt peers p at → is_own (set peers at p) b ≡ is_own peers b
+alike_own peers p at b alike =
+    alike_any is_at peers p at b (λ q address second. ap (λ a. same_address a b || is_second p b) (sym address) ∙ ap (λ s. same_address q.address b || list_any (λ c. same_address c b) (option_to_list s)) (sym second)) alike
+
+pub alike_first : (peers : List Peer) (p : Peer) (at : ℕ) (b : AddrValue) → IsAlikeAt peers p at → list_any (λ q. is_first q b) (set peers at p) ≡ list_any (λ q. is_first q b) peers
+alike_first peers p at b alike = alike_any is_first peers p at b (λ q address second. ap (λ a. same_address a b) (sym address)) alike

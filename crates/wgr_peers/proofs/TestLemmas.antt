@@ -1,17 +1,19 @@
 -- The tests whether a table takes a peer.
 use Rattle.std.proofs.Common.{◌≡◌, ℕ, suc, ◌-◌, ◌<◌, ◌↔◌, inl, inr, Bool, true, false, not, ◌||◌, cond, nat_lt, List, [], ◌∷◌, length, get_or, Option, Some, None, refl, sym, ap, subst, ◌∙◌, arith}
 use Rattle.std.specs.Prelude.{IsTrue, is_some}
-use Rattle.std.specs.List.{All}
+use Rattle.std.specs.List.{All, list_any}
 use Rattle.std.proofs.lemmas.Bool.{cases_lt}
 use Rattle.std.proofs.lemmas.Bool.Decides.{nat_tests}
+use Rattle.std.proofs.lemmas.Cmp.{nat_list_eq_equiv}
 use Rattle.std.proofs.lemmas.List.Elements.{All-cons}
+use Rattle.std.proofs.lemmas.List.Folds.{list_any_none}
 use Rattle.wgr_text.specs.declared.key.Key.{Key}
 use Rattle.wgr_text.specs.Prefix.{AddrValue}
 use Rattle.wgr_peers.specs.declared.peer.Peer.{Peer}
-use Rattle.wgr_pool.specs.PrefixTests.{same_address}
-use Rattle.wgr_peers.specs.Peers.{is_own, key_holder, same_key, AreNumbered, IsApart}
+use Rattle.wgr_peers.specs.Peers.{addresses, is_at, is_own, key_holder, same_key, AreNumbered, IsApart}
 use Rattle.wgr_pool.proofs.Bools.{decide, not_true}
 use Rattle.wgr_pool.proofs.Lists.{list_any-none}
+use Rattle.wgr_peers.proofs.PeerLemmas.{apart_turn}
 use Rattle.wgr_peers.proofs.TableLemmas.{holder_absent}
 
 -- all numbers are below one that is above the last
@@ -42,20 +44,25 @@ holder_none (q ∷ peers) key none = elim (decide (same_key q.key key)) [
   | inr other ↦ All-cons (λ q. same_key q.key key ≡ false) q peers other (holder_none peers key (sym (ap (λ b. cond b (Some q.number) (key_holder peers key)) other) ∙ none))
 ]
 
-own_absent : (peers : List Peer) (a : AddrValue) → All (λ q. same_address q.address a ≡ false) peers → is_own peers a ≡ false
-own_absent [] a all = refl
-own_absent (q ∷ peers) a all = ap (λ b. b || is_own peers a) (all 0 q (omega arith)) ∙ own_absent peers a (λ k d l. all (suc k) d (omega (arith, l)))
+own_absent : (peers : List Peer) (a : AddrValue) → All (λ q. is_at q a ≡ false) peers → is_own peers a ≡ false
+own_absent peers a all = list_any_none (λ q. is_at q a) peers all
 
--- a peer stands apart where no peer has its key, and none its address
-pub apart_iff : (peers : List Peer) (p : Peer) (owned : Bool) → is_some (key_holder peers p.key) ≡ false → owned ≡ is_own peers p.address → IsTrue (not owned) ↔ All (λ q. IsApart q p) peers
+-- a peer stands apart where no peer has its key, and none an address of it
+pub apart_iff : (peers : List Peer) (p : Peer) (owned : Bool) → is_some (key_holder peers p.key) ≡ false → owned ≡ list_any (is_own peers) (addresses p) → IsTrue (not owned) ↔ All (λ q. IsApart q p) peers
 apart_iff peers p owned free is = (
-  (λ h k d l. (holder_none peers p.key (none (key_holder peers p.key) free) k d l, list_any-none (λ q. same_address q.address p.address) peers (sym is ∙ not_true owned h) k d l)),
-  (λ all. ap not (is ∙ own_absent peers p.address (λ k d l. (all k d l).1))),
+  (λ h k d l.
+      let none = list_any-none (is_own peers) (addresses p) (sym is ∙ not_true owned h) in
+      let q = get_or peers k d in
+      apart_turn p q (
+        nat_list_eq_equiv.symm p.key.0 q.key.0 ∙ holder_none peers p.key (unheld (key_holder peers p.key) free) k d l,
+        list_any_none (is_at q) (addresses p) (λ i a m. list_any-none (λ r. is_at r (get_or (addresses p) i a)) peers (none i a m) k d l),
+      )),
+  (λ all. ap not (is ∙ list_any_none (is_own peers) (addresses p) (λ i a m. own_absent peers (get_or (addresses p) i a) (λ k d l. list_any-none (is_at (get_or peers k d)) (addresses p) (apart_turn (get_or peers k d) p (all k d l)).1 i a m)))),
 )
   where
-    none : (o : Option ℕ) → is_some o ≡ false → o ≡ None
-    none None h = refl
-    none (Some n) h = cc
+    unheld : (o : Option ℕ) → is_some o ≡ false → o ≡ None
+    unheld None h = refl
+    unheld (Some n) h = cc
 
 -- and not where a peer has its key
 pub not_apart : (peers : List Peer) (p : Peer) → is_some (key_holder peers p.key) ≡ true → All (λ q. IsApart q p) peers → ⊥

@@ -1,5 +1,5 @@
 //! A peer, and what an interface shows of it.
-ghost use Rattle.std.specs.Prelude.{◌≡◌, IfOk, IsTrue};
+ghost use Rattle.std.specs.Prelude.{◌≡◌, ◌↔◌, true, is_some, IfOk, IsTrue};
 
 use crate::label::Label;
 use crate::limits::{Count, LeaseEnd};
@@ -26,8 +26,10 @@ pub struct Peer {
     pub key: Key,
     /// A note on it.
     pub label: Label,
-    /// Its tunnel address.
+    /// Its tunnel address in the network's first pool.
     pub address: Addr,
+    /// Its tunnel address in the second pool, if it has one.
+    pub second: Option<Addr>,
     /// When its lease ends.
     pub until: LeaseEnd,
     /// Seconds between keepalive packets, or 0 for none.
@@ -37,8 +39,7 @@ pub struct Peer {
 }
 
 impl Peer {
-    ghost use Rattle.wgr_peers.specs.Peers.{is_live, same_key};
-    ghost use Rattle.wgr_pool.specs.PrefixTests.{same_address};
+    ghost use Rattle.wgr_peers.specs.Peers.{is_at, is_live, same_key};
 
     /// Whether the peer's lease runs at this moment.
     pub fn is_live(&self, now: u64) -> bool
@@ -47,11 +48,11 @@ impl Peer {
         !self.until.is_expired(now)
     }
 
-    /// Whether the address is the peer's own.
+    /// Whether the address is one of the peer's own.
     pub fn is_at(&self, address: &Addr) -> bool
-        ensures { result ≡ same_address self.now.address address.now }
+        ensures { result ≡ is_at self.now address.now }
     {
-        self.address == *address
+        self.address == *address || self.second == Some(*address)
     }
 
     /// Whether the key is the peer's.
@@ -59,6 +60,13 @@ impl Peer {
         ensures { result ≡ same_key self.now.key key.now }
     {
         self.key == *key
+    }
+
+    /// Whether another peer has the key, and a second address only where this one has one.
+    pub(crate) fn has_place_for(&self, peer: &Peer) -> bool
+        ensures { IsTrue result ↔ (same_key self.now.key peer.now.key ≡ true) × (is_some peer.now.second ≡ true → is_some self.now.second ≡ true) }
+    {
+        self.has_key(&peer.key) && (peer.second.is_none() || self.second.is_some())
     }
 
     /// A copy of the peer.
@@ -70,6 +78,7 @@ impl Peer {
             key: self.key,
             label: self.label.copy()?,
             address: self.address,
+            second: self.second,
             until: self.until,
             keepalive: self.keepalive,
             status: self.status,

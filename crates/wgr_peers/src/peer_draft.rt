@@ -1,17 +1,19 @@
 //! Peers to which many are added.
-ghost use Rattle.std.specs.Prelude.{◌≡◌, ◌<◌, ◌↔◌, ◌||◌, [], ◌∷◌, ◌++◌, length, IsTrue, IfOk, OnOk, OnErr, All, None};
+ghost use Rattle.std.specs.Prelude.{◌≡◌, ◌<◌, ◌≤◌, ◌↔◌, ◌||◌, [], ◌∷◌, ◌++◌, length, IsTrue, IfOk, OnOk, OnErr, All, None};
 ghost use Rattle.std.specs.HashMap.{get};
+ghost use Rattle.std.specs.List.{list_any};
 ghost use Rattle.wgr_text.specs.Prefix.{width};
 ghost use Rattle.wgr_text.specs.declared.key.Key.{Key as KeyValue};
 ghost use Rattle.wgr_pool.specs.Allot.{lowest_where};
 ghost use Rattle.wgr_pool.specs.HeldSpans.{is_routed};
-ghost use Rattle.wgr_peers.specs.PeerDraft.{HasOneMore};
-ghost use Rattle.wgr_peers.specs.Peers.{is_own, key_holder, put_peer, same_key, AreNumbered, AreApart, IsApart};
+ghost use Rattle.std.specs.HashSet.{spare};
+ghost use Rattle.wgr_peers.specs.PeerDraft.{HasOneMore, HasSpots};
+ghost use Rattle.wgr_peers.specs.Peers.{addresses, is_first, is_own, key_holder, put_peer, same_key, AreNumbered, AreApart, IsApart};
 ghost use Rattle.wgr_peers.specs.PeerIndex.{IsAlikeAt};
 
 use crate::order::are_below;
 use crate::peer::Peer;
-use crate::peer_table::addresses_of;
+use crate::peer_table::first_addresses;
 use crate::route_slots::RouteSlots;
 use std::alloc::{AllocError, Global};
 use std::collections::{HashMap, HashSet};
@@ -23,12 +25,12 @@ use wgr_text::{Addr, Key};
 ///
 /// Unlike in a [`PeerTable`](crate::PeerTable), their addresses aren't kept as runs, in whose
 /// vector each address that touches no run moves all runs after it: the runs are made from all
-/// addresses at once, when they are first needed.
+/// first addresses at once, when they are first needed.
 #[derive(Drop)]
 pub struct PeerDraft {
     peers: Vec<Peer>,
     numbers: HashMap<Key, u32>,
-    // The width and the number of each peer's address.
+    // The width and the number of each address that a peer has.
     owned: HashSet<(u8, u128)>,
     addresses: Option<AddressSet>,
 }
@@ -110,34 +112,47 @@ impl PeerDraft {
         self.owned.contains(&spot(address))
     }
 
-    /// Whether the peer's number is above all numbers, and its key and its address are no peer's.
+    /// Whether the peer's number is above all numbers, and its key and its addresses are no peer's.
     pub(crate) fn takes(&self, peer: &Peer) -> bool
         ensures { IsTrue result ↔ (All (λ q. q.number < peer.now.number) self.now × All (λ q. IsApart q peer.now) self.now) }
     {
         are_below(&self.peers, peer.number) && self.is_apart(peer)
     }
 
-    // Whether no peer has the key or the address of this one.
+    // Whether no peer has the key or an address of this one.
     fn is_apart(&self, peer: &Peer) -> bool
         ensures { IsTrue result ↔ All (λ q. IsApart q peer.now) self.now }
     {
-        self.key_holder(&peer.key).is_none() && !self.owns(&peer.address)
+        self.key_holder(&peer.key).is_none() && !self.owns_any(peer)
     }
 
-    /// The lowest address of the pool that may be given and that neither a peer has nor a route
-    /// that lies wholly in the pool.
+    // Whether a peer has one of this one's addresses as its own.
+    fn owns_any(&self, peer: &Peer) -> bool
+        ensures { result ≡ list_any (is_own self.now) (addresses peer.now) }
+    {
+        if self.owns(&peer.address) {
+            return true;
+        }
+        match &peer.second {
+            Some(second) => self.owns(second),
+            None => false,
+        }
+    }
+
+    /// The lowest address of the pool that may be given and that neither a peer has as its first
+    /// nor a route that lies wholly in the pool.
     pub fn lowest_free(
         &mut self,
         alloc: Global,
         pool: &Pool,
         routes: &RouteSlots,
     ) -> Result<Option<Addr>, AllocError>
-        ensures lowest { IfOk result (λ found. found ≡ lowest_where pool.now (λ a. is_own self.old a || is_routed pool.now routes.now a)) }
+        ensures lowest { IfOk result (λ found. found ≡ lowest_where pool.now (λ a. list_any (λ p. is_first p a) self.old || is_routed pool.now routes.now a)) }
         ensures same { self.new ≡ self.old }
     {
         let addresses = match self.addresses.take() {
             Some(addresses) => addresses,
-            None => AddressSet::collect(alloc, addresses_of(alloc, &self.peers)?)?,
+            None => AddressSet::collect(alloc, first_addresses(alloc, &self.peers)?)?,
         };
         let lowest = routes.lowest_free(pool, &addresses);
         self.addresses = Some(addresses);
@@ -153,19 +168,17 @@ impl PeerDraft {
     {
         self.peers.reserve(1)?;
         self.numbers.reserve(1)?;
-        self.owned.reserve(1)?;
+        self.owned.reserve(2)?;
         insert_address(&mut self.addresses, peer.address)?;
         let Ok(_) = self.numbers.insert(peer.key, peer.number) else {
             unreachable!();
         };
-        let Ok(_) = self.owned.insert(spot(&peer.address)) else {
-            unreachable!();
-        };
+        insert_spots(&mut self.owned, &peer);
         self.peers.push_reserved(peer);
         Ok(())
     }
 
-    /// Replaces a peer with one that has its number, key and address.
+    /// Replaces a peer with one that has its number, key and addresses.
     pub fn replace(&mut self, place: usize, peer: Peer)
         requires { IsAlikeAt self.old peer place }
         ensures { self.new ≡ put_peer self.old peer }
@@ -179,6 +192,22 @@ fn spot(address: &Addr) -> (u8, u128)
     ensures { result ≡ (width address.now.family, address.now.number) }
 {
     (address.family().width(), address.number())
+}
+
+// Inserts the spots of the peer's addresses into the set, which has room for two more.
+fn insert_spots(owned: &mut HashSet<(u8, u128)>, peer: &Peer)
+    requires { 2 ≤ spare owned.old }
+    ensures { HasSpots (addresses peer.now) owned.old owned.new }
+{
+    let Ok(_) = owned.insert(spot(&peer.address)) else {
+        unreachable!();
+    };
+    let Some(second) = &peer.second else {
+        return;
+    };
+    let Ok(_) = owned.insert(spot(second)) else {
+        unreachable!();
+    };
 }
 
 // Inserts the address into the set, if there is one.

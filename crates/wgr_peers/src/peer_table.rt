@@ -1,13 +1,12 @@
 //! The peers of a network, with their indexes.
-ghost use Rattle.std.specs.Prelude.{◌≡◌, ◌+◌, ◌<◌, ◌≤◌, ◌↔◌, ◌⊎◌, List, [], ◌∷◌, ◌++◌, length, map, IsTrue, IsSome, IfSome, IfNone, IfOk, OnOk, OnErr, All, Some, None, true};
+ghost use Rattle.std.specs.Prelude.{◌≡◌, ◌+◌, ◌<◌, ◌≤◌, ◌↔◌, ◌⊎◌, List, [], ◌∷◌, ◌++◌, length, map, is_some, IsTrue, IsSome, IfSome, IfNone, IfOk, OnOk, OnErr, All, Some, None, true};
 ghost use Rattle.std.specs.HashMap.{get};
 ghost use Rattle.std.specs.List.{filter};
 ghost use Rattle.std.specs.Option.{option_copied};
-ghost use Rattle.wgr_text.specs.Prefix.{AddrValue, IsAddr};
 ghost use Rattle.wgr_text.specs.declared.key.Key.{Key as KeyValue};
-ghost use Rattle.wgr_pool.specs.Spans.{IsHeld};
-ghost use Rattle.wgr_peers.specs.Peers.{is_live, is_own, expired, expired_addresses, key_holder, peer_of, put_peer, same_key, without_peer, AreNumbered, AreApart};
-ghost use Rattle.wgr_peers.specs.PeerIndex.{EndsFrom, IsKeyedAt};
+ghost use Rattle.wgr_peers.specs.Peers.{is_first, is_live, is_own, expired, expired_addresses, key_holder, peer_of, put_peer, same_key, without_peer, AreNumbered, AreApart};
+ghost use Rattle.wgr_peers.specs.PeerIndex.{EndsFrom, HasThose, IsKeyedAt};
+ghost use Rattle.wgr_peers.specs.PeersLeft.{HasItsPlaces};
 
 use crate::items::Items;
 use crate::limits::LeaseEnd;
@@ -21,13 +20,17 @@ use wgr_pool::AddressSet;
 use wgr_text::{Addr, Key};
 
 mod change;
+mod own;
+
+pub(crate) use own::first_addresses;
+use own::{insert_addresses, move_addresses, remove_addresses, second_addresses};
 
 /// The peers that are expired at a moment.
 #[derive(Debug, Drop)]
 pub struct ExpiredPeers {
     /// Their numbers, which rise.
     pub numbers: Items<u32>,
-    /// Their addresses, in the same order.
+    /// Their first addresses, in the same order.
     pub addresses: Items<Addr>,
 }
 
@@ -37,7 +40,9 @@ pub struct ExpiredPeers {
 pub struct PeerTable {
     peers: Vec<Peer>,
     numbers: HashMap<Key, u32>,
+    // The first addresses, and the second ones.
     addresses: AddressSet,
+    seconds: AddressSet,
     // No lease ends before this moment; the greatest number where none ends.
     soonest_end: u64,
 }
@@ -52,7 +57,7 @@ impl Model for PeerTable {
 
     ghost view = { λ t. t.peers.items };
 
-    ghost invariant = { λ t. IsIndexed t.peers.items t.numbers t.addresses t.soonest_end };
+    ghost invariant = { λ t. IsIndexed t.peers.items t.numbers t.addresses t.seconds t.soonest_end };
 }
 
 impl PeerTable {
@@ -64,6 +69,7 @@ impl PeerTable {
             peers: Vec::new(alloc),
             numbers: HashMap::new(alloc),
             addresses: AddressSet::new(alloc),
+            seconds: AddressSet::new(alloc),
             soonest_end: u64::MAX,
         }
     }
@@ -104,12 +110,12 @@ impl PeerTable {
         ensures { result ≡ is_own self.now address.now }
     {
         address.rules_hold();
-        self.addresses.contains(address)
+        self.addresses.contains(address) || self.seconds.contains(address)
     }
 
-    /// The addresses of the peers.
+    /// The first addresses of the peers.
     pub fn addresses(&self) -> &AddressSet
-        ensures { (b : AddrValue) → IsAddr b → IsHeld result.now b ↔ (is_own self.now b ≡ true) }
+        ensures { HasThose is_first self.now result.now }
     {
         &self.addresses
     }
@@ -123,7 +129,7 @@ impl PeerTable {
     {
         self.peers.reserve(1)?;
         self.numbers.reserve(1)?;
-        self.addresses.insert(peer.address)?;
+        insert_addresses(&mut self.addresses, &mut self.seconds, &peer)?;
         let Ok(_) = self.numbers.insert(peer.key, peer.number) else {
             unreachable!();
         };
@@ -134,31 +140,29 @@ impl PeerTable {
 }
 
 impl PeerTable {
-    // The place of the peer that has this peer's number and key.
+    // The place of the peer that has this peer's number and key, and as many addresses.
     fn place_keyed(&self, peer: &Peer) -> Option<usize>
         requires { AreApart self.now }
         ensures place { IfSome result (λ at. IsKeyedAt self.now peer.now at) }
         ensures some { IfSome result (λ _. key_holder self.now peer.now.key ≡ Some peer.now.number) }
-        ensures none { IfNone result (key_holder self.now peer.now.key ≡ Some peer.now.number → ⊥) }
+        ensures places { IfSome result (λ _. HasItsPlaces self.now peer.now) }
+        ensures none { IfNone result (key_holder self.now peer.now.key ≡ Some peer.now.number → HasItsPlaces self.now peer.now → ⊥) }
     {
         match peer_place(&self.peers, peer.number) {
-            Ok(place) if self.peers[place].has_key(&peer.key) => Some(place),
+            Ok(place) if self.peers[place].has_place_for(peer) => Some(place),
             _ => None,
         }
     }
 
-    // Replaces a peer with one that has its number and key.
+    // Replaces a peer with one that has its number and key, and no more addresses.
     fn replace(&mut self, place: usize, peer: Peer)
         requires keyed { IsKeyedAt self.old peer place }
         requires apart { AreApart self.old }
         ensures { self.new ≡ put_peer self.old peer }
     {
-        let (address, until) = (peer.address, peer.until);
-        if !self.peers[place].is_at(&address) {
-            let left = self.peers[place].address;
-            left.rules_hold();
-            self.addresses.replace(&left, address);
-        }
+        let until = peer.until;
+        let left = &self.peers[place];
+        move_addresses(&mut self.addresses, &mut self.seconds, left, &peer);
         self.peers[place] = peer;
         self.soonest_end = sooner(self.soonest_end, until);
     }
@@ -172,9 +176,8 @@ impl PeerTable {
             return;
         };
         let peer = &self.peers[place];
-        let (key, address) = (peer.key, peer.address);
-        self.addresses.remove(&address);
-        self.numbers.remove(&key);
+        remove_addresses(&mut self.addresses, &mut self.seconds, peer);
+        self.numbers.remove(&peer.key);
         self.peers.remove(place);
     }
 }
@@ -202,7 +205,8 @@ impl PeerTable {
         ensures { IfOk result (λ table. table ≡ peers.items) }
     {
         Ok(PeerTable {
-            addresses: AddressSet::collect(alloc, addresses_of(alloc, &peers)?)?,
+            addresses: AddressSet::collect(alloc, first_addresses(alloc, &peers)?)?,
+            seconds: AddressSet::collect(alloc, second_addresses(alloc, &peers)?)?,
             soonest_end: soonest_end(&peers),
             numbers,
             peers,
@@ -300,13 +304,6 @@ fn numbers_by_key(alloc: Global, peers: &[Peer]) -> Result<HashMap<Key, u32>, Al
         numbers.insert(peer.key, peer.number)?;
     }
     Ok(numbers)
-}
-
-// The addresses of the peers, in the order of their numbers.
-pub(crate) fn addresses_of(alloc: Global, peers: &[Peer]) -> Result<Vec<Addr>, AllocError>
-    ensures { IfOk result (λ addresses. addresses.items ≡ map (λ p. p.address) peers.now) }
-{
-    peers.iter().map(|peer| peer.address).collect(alloc)
 }
 
 /// A moment before which no lease of these peers ends; the greatest number where none ends.

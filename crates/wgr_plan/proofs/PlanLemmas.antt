@@ -37,7 +37,7 @@ joins_by n None (Ok a) make done is =
 
 pub joins : (n : NetworkValue) (key : Key) (done : Reply × NetworkValue) → outcome_of n 0 (joining key) ≡ Ok done → Joins n done
 joins n key done is =
-    joins_by n (join_refusal (live_at n 0) 0 key 0) (place (live_at n 0) n.pool None) (λ a. record { number = n.next; key = key; label = []; address = a; until = 0; keepalive = 0; status = None }) done is
+    joins_by n (join_refusal (live_at n 0) 0 key 0) (place (live_at n 0) n.pool None) (λ a. record { number = n.next; key = key; label = []; address = a; second = None; until = 0; keepalive = 0; status = None }) done is
 
 -- ---- the plan so far
 

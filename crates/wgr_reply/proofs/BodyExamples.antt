@@ -29,7 +29,7 @@ prefix a length = record { address = a; length = length }
 
 abbrev view : List ℕ → ℕ → Option Status → List PrefixValue → PeerView
 view label keepalive status routes = record {
-  peer = record { number = 1; key = key 1; label = label; address = v4 10 8 0 2; until = 0; keepalive = keepalive; status = status };
+  peer = record { number = 1; key = key 1; label = label; address = v4 10 8 0 2; second = None; until = 0; keepalive = keepalive; status = status };
   routes = routes;
 }
 

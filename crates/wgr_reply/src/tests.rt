@@ -38,6 +38,7 @@ fn bare(rt: &(impl Abort + AllocGlobal), number: u32, text: &str, note: &str) ->
             key: Key([1; 32]),
             label: label(rt, note),
             address: address(rt, text),
+            second: None,
             until: LeaseEnd::never(),
             keepalive: 0,
             status: None,

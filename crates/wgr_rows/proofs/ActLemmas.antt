@@ -40,6 +40,7 @@ use Rattle.wgr_rows.specs.declared.fault.RowFault.{RowFault}
 use Rattle.wgr_rows.specs.declared.fault.RowFault.TheVariants as fault
 use Rattle.wgr_rows.specs.Holder.{prefix_holder}
 use Rattle.wgr_rows.proofs.LeadLemmas.{full_held}
+use Rattle.wgr_core.proofs.AloneLemmas.{members_alone}
 
 -- ---- whether a peer may join
 
@@ -95,8 +96,8 @@ room_by_count n now over is = same (length n.peers) (length (live_at n now).peer
 -- ---- the address
 
 -- a named address is taken where the prefix at full length leads to a peer, and there alone
-pub taken_is : (m : NetworkValue) (a : AddrValue) (holder : Option ℕ) → holder ≡ prefix_holder m (full a) → is_address_taken m a ≡ is_some holder
-taken_is m a holder found = sym (full_held m a) ∙ ap is_some (sym found)
+pub taken_is : (m : NetworkValue) (a : AddrValue) (holder : Option ℕ) → IsNetwork m → holder ≡ prefix_holder m (full a) → is_address_taken m a ≡ is_some holder
+taken_is m a holder is found = sym (full_held m a (members_alone m is)) ∙ ap is_some (sym found)
 
 -- ---- the outcome
 
@@ -118,7 +119,7 @@ joins n p removed is next =
 module _ (n : NetworkValue) (is : IsNetwork n) (now : ℕ) where
   module _ (key : Key) (label : List ℕ) (wanted : Option AddrValue) (until keepalive : ℕ) where
     abbrev after : AddrValue → Outcome
-    after a = joined (live_at n now) (record { number = n.next; key = key; label = label; address = a; until = until; keepalive = keepalive; status = None })
+    after a = joined (live_at n now) (record { number = n.next; key = key; label = label; address = a; second = None; until = until; keepalive = keepalive; status = None })
 
     meets_refused : (why : Refusal) → add (live_at n now) now key label wanted until keepalive ≡ Err (of_command why) → Meets n (Err (act.Refused (of_command why))) (outcome_of n now (command.Add key label wanted until keepalive))
     meets_refused why so = subst (λ o. Meets n (Err (act.Refused (of_command why))) (kept_if false n o)) (sym so) refl
@@ -130,7 +131,7 @@ module _ (n : NetworkValue) (is : IsNetwork n) (now : ℕ) where
     not_placed why none so = meets_refused why (ap (λ o. unless o (at_place (place (live_at n now) n.pool wanted) after)) none ∙ ap (λ o. at_place o after) so)
 
     pub is_added : (a : AddrValue) (p : Peer) (removed : List ℕ) → join_refusal (live_at n now) now key until ≡ None → place (live_at n now) n.pool wanted ≡ Ok a
-        → p ≡ record { number = n.next; key = key; label = label; address = a; until = until; keepalive = keepalive; status = None } → removed ≡ expired now n.peers
+        → p ≡ record { number = n.next; key = key; label = label; address = a; second = None; until = until; keepalive = keepalive; status = None } → removed ≡ expired now n.peers
         → Meets n (Ok (joined_by p removed)) (outcome_of n now (command.Add key label wanted until keepalive))
     is_added a p removed none placed peer over =
         let so : add (live_at n now) now key label wanted until keepalive ≡ joined (live_at n now) p = ap (λ o. unless o (at_place (place (live_at n now) n.pool wanted) after)) none ∙ ap (λ o. at_place o after) placed ∙ ap (joined (live_at n now)) (sym peer) in

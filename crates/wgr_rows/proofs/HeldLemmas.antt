@@ -20,7 +20,7 @@ use Rattle.wgr_pool.proofs.Bools.{and_true, not_true, or_cases, or_left, or_righ
 use Rattle.wgr_pool.proofs.Merging.{covers_fits, found_is, has_span}
 use Rattle.wgr_pool.proofs.PrefixLemmas.{covers_full, covers_tells, has_in, is_in, same_address_is}
 use Rattle.wgr_peers.specs.declared.peer.Peer.{Peer}
-use Rattle.wgr_peers.specs.Peers.{expired, is_own}
+use Rattle.wgr_peers.specs.Peers.{expired, is_at, is_first, is_own, is_second}
 use Rattle.wgr_core.specs.Network.{IsNetwork, IsRoute, NetworkValue, is_among, is_held, live_at, lowest_free, without_peers}
 use Rattle.wgr_core.proofs.AllowedLemmas.{full_is_prefix}
 use Rattle.wgr_core.proofs.LiveLemmas.{without_expired}
@@ -44,6 +44,7 @@ use Rattle.wgr_columns.specs.Decode.{tables_of}
 use Rattle.wgr_rows.proofs.Coming.{le_of, one_family}
 use Rattle.wgr_rows.proofs.NetworkRows.{route_there, row_from}
 use Rattle.wgr_rows.proofs.OwnRows.{le_is}
+use Rattle.wgr_core.proofs.AloneLemmas.{at_alone}
 
 any_has : {A : Type 0} (f : A → Bool) (xs : List A) → list_any f xs ≡ true → (x : A) × Has xs x × (f x ≡ true)
 any_has f [] h = absurd (true≢false (sym h))
@@ -220,7 +221,7 @@ module _ (t : Tables) (is : AreConsistent t) (w : NetworkRow) (hw : Has t.networ
               let within = subst (λ (y : AllowedRow). IsWithin (span_of y.prefix) b) (sym x.2) a.3 in
               let own : same_address v.address b ≡ true = sym (full_has_own v.address b) ∙ (has_span (full v.address) b (full_is_prefix v.address) (own_fits v x.1) fits).1 within in
               let keeps = stays v.number (ap ex (sym number) ∙ a.2) in
-              or_left (is_own left.peers b) (list_any in_route left.routes) (has_any (λ p. same_address p.address b) left.peers v (in_filter (λ p. not (is_among removed p.number)) n.peers v x.1 keeps) own)
+              or_left (is_own left.peers b) (list_any in_route left.routes) (has_any (λ p. is_at p b) left.peers v (in_filter (λ p. not (is_among removed p.number)) n.peers v x.1 keeps) (or_left (is_first v b) (is_second v b) own))
           | inr x ↦
               let r = x.0 in
               let number : number_in w.id a.0.peer ≡ r.1 = ap (λ (y : AllowedRow). number_in w.id y.peer) (sym x.2) ∙ number_back w.id r.1 in
@@ -252,14 +253,15 @@ module _ (t : Tables) (is : AreConsistent t) (w : NetworkRow) (hw : Has t.networ
     of_held : is_held left left.pool b ≡ true → (is_below w.pool start b ≡ true) ⊎ IsHeld spans b
     of_held h = elim (or_cases (is_own left.peers b) (list_any in_route left.routes) h) [
       | inl own ↦
-          let x = any_has (λ p. same_address p.address b) left.peers own in
+          let x = any_has (λ p. is_at p b) left.peers own in
           let it = from_filter (λ p. not (is_among removed p.number)) n.peers x.0 x.1 in
-          let at : x.0.address ≡ b = same_address_is x.0.address b x.2 in
+          let first : same_address x.0.address b ≡ true = sym (at_alone x.0 b (member n x.0 own_rules it.0).alone) ∙ x.2 in
+          let at : x.0.address ≡ b = same_address_is x.0.address b first in
           elim (cases_lt b.number start.number) [
             | inl low ↦ inl (beneath (ap (has w.pool) (sym at) ∙ pool_has x.0 it.0) low)
             | inr high ↦
                 let last = ap ex (number_back w.id x.0.number) ∙ lasts x.0.number it.1 in
-                let within = (has_span (full x.0.address) b (full_is_prefix x.0.address) (own_fits x.0 it.0) fits).0 (full_has_own x.0.address b ∙ x.2) in
+                let within = (has_span (full x.0.address) b (full_is_prefix x.0.address) (own_fits x.0 it.0) fits).0 (full_has_own x.0.address b ∙ first) in
                 inr (put (address_row w.id x.0) (address_there t is w x.0 hw it.0) refl (pool_covers x.0 it.0) (subst (λ (a : AddrValue). start.number ≤ a.number) (sym at) high) last within)
           ]
       | inr routed ↦

@@ -11,10 +11,10 @@ use Rattle.wgr_pool.proofs.Bools.{and_true, decide}
 use Rattle.wgr_pool.proofs.PrefixLemmas.{nat_eq_self, same_address_is, same_prefix_is}
 use Rattle.wgr_peers.specs.declared.peer.Peer.{Peer}
 use Rattle.wgr_peers.specs.Limits.{IsLeaseEnd, is_expired}
-use Rattle.wgr_peers.specs.Peers.{is_live, is_own}
+use Rattle.wgr_peers.specs.Peers.{is_first, is_live}
 use Rattle.wgr_peers.specs.Routes.{Routes, route_of}
 use Rattle.wgr_core.specs.Forms.{IsPeerFormed}
-use Rattle.wgr_core.specs.Network.{IsNetwork, NetworkValue, live_at}
+use Rattle.wgr_core.specs.Network.{AreAlone, IsNetwork, NetworkValue, live_at}
 use Rattle.wgr_core.specs.Refusals.{is_address_taken}
 use Rattle.wgr_core.specs.Owner.{allowed, own_prefixes}
 use Rattle.wgr_model.specs.Laws.{Has}
@@ -29,6 +29,8 @@ use Rattle.wgr_tables.proofs.FewRows.{few_rows}
 use Rattle.wgr_rows.specs.Holder.{HasEnd, HasLead, IsLasting, IsLed, ShowPeer, ShowPrefix, is_allowed, prefix_holder}
 use Rattle.wgr_rows.proofs.NetworkRows.{entry_live, entry_peer, entry_row, id_tells, live_entry, low, one_peer, row_entry}
 use Rattle.wgr_rows.proofs.OwnRows.{few_peers, pair_self, peer_key}
+use Rattle.std.specs.List.{list_any}
+use Rattle.wgr_core.proofs.AloneLemmas.{own_alone}
 
 -- ---- to which number a prefix leads
 
@@ -64,20 +66,20 @@ full_same e a = go (same_address e a) refl
     go true h = ap (λ (x : AddrValue). nat_eq (width x.family) (width a.family)) (same_address_is e a h) ∙ nat_eq_self (width a.family)
     go false h = refl
 
-full_among : (peers : List Peer) (routes : Routes) (a : AddrValue) → is_some (route_of (own_prefixes peers ++ routes) (full a)) ≡ (is_own peers a || is_some (route_of routes (full a)))
+full_among : (peers : List Peer) (routes : Routes) (a : AddrValue) → is_some (route_of (own_prefixes peers ++ routes) (full a)) ≡ (list_any (λ p. is_first p a) peers || is_some (route_of routes (full a)))
 full_among [] routes a = refl
 full_among (p ∷ peers) routes a = go (same_prefix (full p.address) (full a)) (same_address p.address a) (full_same p.address a) (full_among peers routes a)
   where
-    go : (x y : Bool) → x ≡ y → is_some (route_of (own_prefixes peers ++ routes) (full a)) ≡ (is_own peers a || is_some (route_of routes (full a)))
-        → is_some (cond x (Some p.number) (route_of (own_prefixes peers ++ routes) (full a))) ≡ ((y || is_own peers a) || is_some (route_of routes (full a)))
+    go : (x y : Bool) → x ≡ y → is_some (route_of (own_prefixes peers ++ routes) (full a)) ≡ (list_any (λ p. is_first p a) peers || is_some (route_of routes (full a)))
+        → is_some (cond x (Some p.number) (route_of (own_prefixes peers ++ routes) (full a))) ≡ ((y || list_any (λ (q : Peer). is_first q a) peers) || is_some (route_of routes (full a)))
     go true true same later = refl
     go false false same later = later
     go true false same later = absurd (true≢false same)
     go false true same later = absurd (true≢false (sym same))
 
 -- an address is a peer's own or at full length a route exactly where that prefix leads to somebody
-pub full_held : (n : NetworkValue) (a : AddrValue) → is_some (prefix_holder n (full a)) ≡ is_address_taken n a
-full_held n a = full_among n.peers n.routes a
+pub full_held : (n : NetworkValue) (a : AddrValue) → AreAlone n.peers → is_some (prefix_holder n (full a)) ≡ is_address_taken n a
+full_held n a alone = full_among n.peers n.routes a ∙ ap (λ b. b || is_some (route_of n.routes (full a))) (sym (own_alone n.peers a alone))
 
 -- ---- by the rows
 

@@ -195,6 +195,7 @@ pub fn row_act<S: Alter>(
                 key: *key,
                 label: label.copy()?,
                 address,
+                second: None,
                 until: *until,
                 keepalive: *keepalive,
                 status: None,

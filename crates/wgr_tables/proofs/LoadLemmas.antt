@@ -14,6 +14,7 @@ use Rattle.wgr_core.specs.Parts.{IsNetworkOf, network_of}
 use Rattle.wgr_tables.specs.Loads.{IsMade, network_with}
 use Rattle.wgr_model.proofs.CollectLemmas.{collected, from_map, has_map}
 use Rattle.wgr_model.proofs.GatherLemmas.{in_filter, eqb_self, address_read, number_back, peers_sorted, routes_sorted, prefix_total, prefix_exact, peer_keys_tell, route_keys_tell}
+use Rattle.wgr_model.proofs.HolderLemmas.{member}
 use Rattle.wgr_model.proofs.OrderLemmas.{from_filter}
 use Rattle.wgr_model.proofs.SameLemmas.{has_permutation}
 
@@ -31,7 +32,7 @@ module _ (t : Tables) (id : ℕ) (keyed : AreKeyed t) (n : NetworkValue) (rules 
     peer_there v k,
     eqb_self id,
     number_back id v.number,
-    λ i. record { number = number_back id v.number i; key = v.key; label = v.label; address = address_read t keyed id v (address_there v k) i; until = v.until; keepalive = v.keepalive; status = v.status },
+    λ i. record { number = number_back id v.number i; key = v.key; label = v.label; address = address_read t keyed id v (address_there v k) i; second = sym (member n v rules k).alone i; until = v.until; keepalive = v.keepalive; status = v.status },
   )
 
   peer_from : (a : PeerRow) → Has t.peers a → nat_eq a.network id ≡ true → (v : Peer) × Has n.peers v × (peer_row id v ≡ a)

@@ -79,6 +79,7 @@ fn peer_of(alloc: Global, row: &Row, address: &Row, network: u32) -> Result<Peer
         key,
         label,
         address,
+        second: None,
         until,
         keepalive,
         status,

@@ -61,6 +61,7 @@ pub(crate) fn peer(rt: &(impl Abort + AllocGlobal), number: u32, byte: u8, text:
         key: key(byte),
         label: Label::empty(rt.alloc()),
         address: address(rt, text),
+        second: None,
         until: LeaseEnd::never(),
         keepalive: 0,
         status: None,

@@ -2,12 +2,12 @@
 ghost use Rattle.std.specs.Prelude.{◌≡◌, ◌≤◌, ◌<◌, ◌↔◌, true, IsOk, IfOk, OnOk, OnErr, Some};
 ghost use Rattle.std.specs.HashMap.{get, spare};
 ghost use Rattle.std.specs.Vec.{vec_len, vec_capacity};
-ghost use Rattle.wgr_text.specs.Prefix.{AddrValue, IsAddr};
 ghost use Rattle.wgr_text.specs.declared.key.Key.{Key as KeyValue};
-ghost use Rattle.wgr_pool.specs.Spans.{IsHeld};
-ghost use Rattle.wgr_peers.specs.Peers.{is_own, key_holder, put_peer, same_key, AreNumbered, AreApart};
-ghost use Rattle.wgr_peers.specs.PeersLeft.{peers_left, peers_after, OnlyRenews};
+ghost use Rattle.wgr_peers.specs.Peers.{is_first, is_second, key_holder, put_peer, same_key, AreNumbered, AreApart};
+ghost use Rattle.wgr_peers.specs.PeerIndex.{HasThose};
+ghost use Rattle.wgr_peers.specs.PeersLeft.{peers_left, peers_after, HasItsPlaces, OnlyRenews};
 
+use super::own::{insert_addresses, remove_addresses};
 use super::{PeerTable, soonest_end};
 use crate::number_set::NumberSet;
 use crate::order::peer_place;
@@ -22,7 +22,7 @@ impl PeerTable {
     /// one with its number if there is one; if memory runs out, the table is unchanged.
     ///
     /// No peer is copied, and each is moved at most once. If none comes, or one that renews a
-    /// peer that stays, no memory is allocated.
+    /// peer that stays and has no more addresses, no memory is allocated.
     pub fn change(&mut self, gone: NumberSet, coming: Option<Peer>) -> Result<(), AllocError>
         requires apart { AreApart self.old }
         requires fits { AreApart (peers_after self.old gone coming) }
@@ -44,15 +44,16 @@ impl PeerTable {
     }
 
     /// Puts in a peer, in place of the one with its number if there is one; if memory runs out, the
-    /// table is unchanged. If a peer has its number and key already, no memory is allocated.
+    /// table is unchanged. If a peer has its number and key already, and as many addresses, no memory
+    /// is allocated.
     ///
-    /// There is no pass over the peers if its number is above all, or the one in its place has its key.
+    /// There is no pass over the peers then, nor if its number is above all.
     pub fn put(&mut self, peer: Peer) -> Result<(), AllocError>
         requires apart { AreApart self.old }
         requires fits { AreApart (put_peer self.old peer) }
         ensures ok { OnOk result (self.new ≡ put_peer self.old peer) }
         ensures err { OnErr result (self.new ≡ self.old) }
-        ensures succeeds { key_holder self.old peer.key ≡ Some peer.number → IsOk result }
+        ensures succeeds { key_holder self.old peer.key ≡ Some peer.number → HasItsPlaces self.old peer → IsOk result }
     {
         if let Some(place) = self.place_keyed(&peer) {
             self.replace(place, peer);
@@ -70,7 +71,12 @@ impl PeerTable {
         requires { AreApart self.old }
         ensures { self.new ≡ peers_left self.old gone.now }
     {
-        forget_addresses(&mut self.addresses, &self.peers, gone.as_slice());
+        forget_addresses(
+            &mut self.addresses,
+            &mut self.seconds,
+            &self.peers,
+            gone.as_slice(),
+        );
         forget_keys(&mut self.numbers, &self.peers, gone.as_slice());
         drop_peers(&mut self.peers, gone);
         self.soonest_end = soonest_end(&self.peers);
@@ -84,8 +90,8 @@ impl PeerTable {
         ensures err { OnErr result (self.new ≡ self.old) }
     {
         gone.insert(peer.number)?;
-        let mut addresses = self.addresses_left(&gone)?;
-        addresses.insert(peer.address)?;
+        let (mut addresses, mut seconds) = self.addresses_left(&gone)?;
+        insert_addresses(&mut addresses, &mut seconds, &peer)?;
         self.peers.reserve(1)?;
         self.numbers.reserve(1)?;
         // Nothing fails from here on.
@@ -101,31 +107,41 @@ impl PeerTable {
             unreachable!();
         };
         self.addresses = addresses;
+        self.seconds = seconds;
         self.soonest_end = soonest_end(&self.peers);
         Ok(())
     }
 
-    // The addresses of the peers except those with these numbers.
-    fn addresses_left(&self, gone: &NumberSet) -> Result<AddressSet, AllocError>
+    // The first and the second addresses of the peers except those with these numbers.
+    fn addresses_left(&self, gone: &NumberSet) -> Result<(AddressSet, AddressSet), AllocError>
         requires { AreApart self.now }
-        ensures { IfOk result (λ left. (b : AddrValue) → IsAddr b → IsHeld left b ↔ (is_own (peers_left self.now gone.now) b ≡ true)) }
+        ensures first { IfOk result (λ left. HasThose is_first (peers_left self.now gone.now) left.0) }
+        ensures second { IfOk result (λ left. HasThose is_second (peers_left self.now gone.now) left.1) }
     {
-        let mut left = self.addresses.copy()?;
-        forget_addresses(&mut left, &self.peers, gone.as_slice());
-        Ok(left)
+        let mut addresses = self.addresses.copy()?;
+        let mut seconds = self.seconds.copy()?;
+        forget_addresses(&mut addresses, &mut seconds, &self.peers, gone.as_slice());
+        Ok((addresses, seconds))
     }
 }
 
-// Removes the addresses of the peers with these numbers from the set.
-fn forget_addresses(addresses: &mut AddressSet, peers: &[Peer], gone: &[u32])
+// Removes the addresses of the peers with these numbers from the sets.
+fn forget_addresses(
+    addresses: &mut AddressSet,
+    seconds: &mut AddressSet,
+    peers: &[Peer],
+    gone: &[u32],
+)
     requires numbered { AreNumbered peers.now }
     requires apart { AreApart peers.now }
-    requires by_address { (b : AddrValue) → IsAddr b → IsHeld addresses.old b ↔ (is_own peers.now b ≡ true) }
-    ensures { (b : AddrValue) → IsAddr b → IsHeld addresses.new b ↔ (is_own (peers_left peers.now gone.now) b ≡ true) }
+    requires by_address { HasThose is_first peers.now addresses.old }
+    requires by_second { HasThose is_second peers.now seconds.old }
+    ensures first { HasThose is_first (peers_left peers.now gone.now) addresses.new }
+    ensures second { HasThose is_second (peers_left peers.now gone.now) seconds.new }
 {
     for number in gone {
         if let Ok(place) = peer_place(peers, *number) {
-            addresses.remove(&peers[place].address);
+            remove_addresses(addresses, seconds, &peers[place]);
         }
     }
 }

@@ -7,10 +7,10 @@ use Rattle.wgr_pool.proofs.Lists.{drop_next}
 use Rattle.wgr_core.proofs.OwnerLemmas.{own_here}
 use Rattle.wgr_core.proofs.owner.own_holder.Goals as goal
 
-pub returns-then-is_at : goal.returns-then-is_at
-returns-then-is_at c =
+pub returns-then-is_same : goal.returns-then-is_same
+returns-then-is_same c =
     let a = c.args.address.now in
     let p = c.peer-item.result in
     let rest = drop_next c.args.peers.now c.loop-peer.peer-index p c.loop-peer-test.true c.peer-item.is in
-    let here = own_here p (drop (c.loop-peer.peer-index + 1) c.args.peers.now) a (sym c.if-is_at.ensures) in
+    let here = own_here p (drop (c.loop-peer.peer-index + 1) c.args.peers.now) a (sym c.if-is_same.ensures) in
     sym (ap (option_map (λ (r : PrefixValue × ℕ). r.1)) (sym c.loop-peer.invariant ∙ ap (λ (ps : List Peer). longest_match (own_prefixes ps) a) rest ∙ here))

@@ -8,6 +8,8 @@ use Rattle.wgr_model.specs.Rows.{network_entry_of}
 use Rattle.wgr_columns.specs.Decode.{tables_of}
 use Rattle.wgr_sql.specs.Causes.{HasCause}
 use Rattle.wgr_rows.specs.Holder.{prefix_holder}
+use Rattle.wgr_core.proofs.LiveLemmas.{live_is_network}
+use Rattle.wgr_model.proofs.RuleLemmas.{rules}
 use Rattle.wgr_rows.proofs.ActLemmas.{cause_clean, fault_told, taken_is}
 use Rattle.wgr_rows.proofs.act.place_row.Goals as goal
 
@@ -20,7 +22,7 @@ returns-in-Some-address_refusal-clause-found g c db pending w stood good here is
     let m = live_at (network_entry_of (tables_of db) w).network c.args.now in
     let a = c.in-Some.address in
     let led = c.in_ok-holder.ensures.found db pending w stood good here is clean ∙ ap (prefix_holder m) c.full.ensures in
-    let refused = sym (c.address_refusal.ensures m (taken_is m a c.in_ok-holder.holder led ∙ sym c.is_some.ensures)) ∙ c.in-Some-address_refusal.is in
+    let refused = sym (c.address_refusal.ensures m (taken_is m a c.in_ok-holder.holder (live_is_network (network_entry_of (tables_of db) w).network c.args.now (rules (tables_of db) good w here)) led ∙ sym c.is_some.ensures)) ∙ c.in-Some-address_refusal.is in
     ap (place m m.pool) c.in-Some.is ∙ ap (λ (p : PrefixValue). unless_refused (address_refusal m p a) a) (sym head.pool) ∙ ap (λ (why : Option Refusal). unless_refused why a) refused
 
 pub returns-in-None-clause-found : goal.returns-in-None-clause-found
@@ -28,7 +30,7 @@ returns-in-None-clause-found g c db pending w stood good here is clean head over
     let m = live_at (network_entry_of (tables_of db) w).network c.args.now in
     let a = c.in-Some.address in
     let led = c.in_ok-holder.ensures.found db pending w stood good here is clean ∙ ap (prefix_holder m) c.full.ensures in
-    let free = sym (c.address_refusal.ensures m (taken_is m a c.in_ok-holder.holder led ∙ sym c.is_some.ensures)) ∙ c.in-None.is in
+    let free = sym (c.address_refusal.ensures m (taken_is m a c.in_ok-holder.holder (live_is_network (network_entry_of (tables_of db) w).network c.args.now (rules (tables_of db) good w here)) led ∙ sym c.is_some.ensures)) ∙ c.in-None.is in
     ap (place m m.pool) c.in-Some.is ∙ ap (λ (p : PrefixValue). unless_refused (address_refusal m p a) a) (sym head.pool) ∙ ap (λ (why : Option Refusal). unless_refused why a) free
 
 pub returns-in_err-address-clause-cause : goal.returns-in_err-address-clause-cause

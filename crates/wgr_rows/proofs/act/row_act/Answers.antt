@@ -67,8 +67,8 @@ returns-in_ok-joined-in-Add-clause-outcome g c db pending w stood good here is c
     let admitted = c.in_ok-admission-in-Add.ensures.found db pending w stood good here is (c.place_row.ensures.reads.clean clean) outlined.ends in
     let placed = c.in_ok-address-in-Add.ensures.found db pending w (c.admit_row.ensures.reads.stands db pending stood) good here is clean admitted.1 admitted.2 (c.floor_at-floor.ensures n (rules_of (tables_of db) good w here) outlined) in
     let address = c.in_ok-address-in-Add.address in
-    let peer : Peer = record { number = admission.head.next; key = c.in-Add.key; label = c.in_ok-copy-in-Add.field-0; address = address; until = c.in-Add.until; keepalive = c.in-Add.keepalive; status = None } in
-    let same : peer ≡ record { number = n.next; key = c.in-Add.key; label = c.in-Add.label; address = address; until = c.in-Add.until; keepalive = c.in-Add.keepalive; status = None } =
+    let peer : Peer = record { number = admission.head.next; key = c.in-Add.key; label = c.in_ok-copy-in-Add.field-0; address = address; second = None; until = c.in-Add.until; keepalive = c.in-Add.keepalive; status = None } in
+    let same : peer ≡ record { number = n.next; key = c.in-Add.key; label = c.in-Add.label; address = address; second = None; until = c.in-Add.until; keepalive = c.in-Add.keepalive; status = None } =
     ap (λ (m : ℕ). record peer { number = m }) admitted.1.next ∙ ap (λ (text : List ℕ). record peer { number = n.next; label = text }) c.in_ok-copy-in-Add.ensures in
     subst (λ (x : Command). Meets n (Ok c.in_ok-joined-in-Add.field-0) (outcome_of n c.args.now x)) (sym c.in-Add.is)
     (subst (λ (given : Reply × Option Change). Meets n (Ok given) (outcome_of n c.args.now (command.Add c.in-Add.key c.in-Add.label c.in-Add.address c.in-Add.until c.in-Add.keepalive))) (sym c.in_ok-joined-in-Add.ensures)

@@ -1,4 +1,4 @@
-use Rattle.std.proofs.Common.{rules, ◌≡◌, ℕ, ◌++◌, List, [], ◌∷◌, Some, Ok, Err, is_some, refl, sym, ap, subst, ◌∙◌}
+use Rattle.std.proofs.Common.{rules, ◌≡◌, ℕ, ◌++◌, List, [], ◌∷◌, Some, Ok, Err, is_some, refl, sym, ap, subst, ◌∙◌, None}
 use Rattle.wgr_text.specs.Prefix.{PrefixValue}
 use Rattle.wgr_peers.specs.declared.peer.Peer.{Peer}
 use Rattle.wgr_peers.specs.Peers.{peer_of}
@@ -21,7 +21,7 @@ join-requires-clause-fits c =
     let next : c.next-number.result ≡ n.next = c.next-number.ensures.value ∙ sym (ap (λ (d : DraftValue). d.network.next) same) in
     let v : AdoptingValue = record { start = draft.start; so_far = record { network = n; added = c.self.inside.added; known = c.self.inside.known } } in
     let view : v ≡ c.args.self.now = ap (λ (d : DraftValue). record { start = d.start; so_far = record { network = d.network; added = c.self.inside.added; known = c.self.inside.known } }) same ∙ c.self.view_is in
-    let peer : ℕ → List ℕ → ℕ → Peer = λ number label until. record { number = number; key = line.key; label = label; address = a; until = until; keepalive = line.keepalive; status = Some line.status } in
+    let peer : ℕ → List ℕ → ℕ → Peer = λ number label until. record { number = number; key = line.key; label = label; address = a; second = None; until = until; keepalive = line.keepalive; status = Some line.status } in
     let same_peer : peer c.next-number.result c.empty.result c.never.result ≡ peer_of_line n line a =
     ap (λ (k : ℕ). peer k c.empty.result c.never.result) next ∙ ap (λ (l : List ℕ). peer n.next l c.never.result) c.empty.ensures ∙ ap (peer n.next []) c.never.ensures in
     let is : IsNetwork n = subst (λ (d : DraftValue). IsNetwork d.network) (sym same) c.next-number.ensures.rules in
@@ -31,7 +31,7 @@ pub give_all-requires : goal.give_all-requires
 give_all-requires c =
     let n = c.line_address.new.self.network in
     let line = c.args.line.now in
-    let p : Peer = record { number = c.next-number.result; key = line.key; label = c.empty.result; address = c.in_ok-address.address; until = c.never.result; keepalive = line.keepalive; status = Some line.status } in
+    let p : Peer = record { number = c.next-number.result; key = line.key; label = c.empty.result; address = c.in_ok-address.address; second = None; until = c.never.result; keepalive = line.keepalive; status = Some line.status } in
     ap (λ (d : DraftValue). is_some (peer_of d.network.peers c.next-number.result)) c.in_ok-join.ensures.ok ∙ new_stands n.peers p
 
 pub returns-in_err-give_all : goal.returns-in_err-give_all
@@ -45,7 +45,7 @@ returns-in_err-give_all c =
     let next : c.next-number.result ≡ n.next = c.next-number.ensures.value ∙ sym (ap (λ (d : DraftValue). d.network.next) same) in
     let v : AdoptingValue = record { start = draft.start; so_far = record { network = n; added = c.self.inside.added; known = c.self.inside.known } } in
     let view : v ≡ c.args.self.now = ap (λ (d : DraftValue). record { start = d.start; so_far = record { network = d.network; added = c.self.inside.added; known = c.self.inside.known } }) same ∙ c.self.view_is in
-    let peer : ℕ → List ℕ → ℕ → Peer = λ number label until. record { number = number; key = line.key; label = label; address = a; until = until; keepalive = line.keepalive; status = Some line.status } in
+    let peer : ℕ → List ℕ → ℕ → Peer = λ number label until. record { number = number; key = line.key; label = label; address = a; second = None; until = until; keepalive = line.keepalive; status = Some line.status } in
     let same_peer : peer c.next-number.result c.empty.result c.never.result ≡ peer_of_line n line a =
     ap (λ (k : ℕ). peer k c.empty.result c.never.result) next ∙ ap (λ (l : List ℕ). peer n.next l c.never.result) c.empty.ensures ∙ ap (peer n.next []) c.never.ensures in
     let w = c.in_err-give_all.field-0.0 in
@@ -70,7 +70,7 @@ returns c =
     let next : c.next-number.result ≡ n.next = c.next-number.ensures.value ∙ sym (ap (λ (d : DraftValue). d.network.next) same) in
     let v : AdoptingValue = record { start = draft.start; so_far = record { network = n; added = c.self.inside.added; known = c.self.inside.known } } in
     let view : v ≡ c.args.self.now = ap (λ (d : DraftValue). record { start = d.start; so_far = record { network = d.network; added = c.self.inside.added; known = c.self.inside.known } }) same ∙ c.self.view_is in
-    let peer : ℕ → List ℕ → ℕ → Peer = λ number label until. record { number = number; key = line.key; label = label; address = a; until = until; keepalive = line.keepalive; status = Some line.status } in
+    let peer : ℕ → List ℕ → ℕ → Peer = λ number label until. record { number = number; key = line.key; label = label; address = a; second = None; until = until; keepalive = line.keepalive; status = Some line.status } in
     let same_peer : peer c.next-number.result c.empty.result c.never.result ≡ peer_of_line n line a =
     ap (λ (k : ℕ). peer k c.empty.result c.never.result) next ∙ ap (λ (l : List ℕ). peer n.next l c.never.result) c.empty.ensures ∙ ap (peer n.next []) c.never.ensures in
     let after = c.give_all.new.self in

@@ -8,7 +8,7 @@ use Rattle.wgr_core.proofs.adopt.Adopting.adopt_line.Goals as goal
 
 -- a peer, to read a list by
 abbrev some_peer : Key → Peer
-some_peer key = record { number = 0; key = key; label = []; address = record { family = V4; number = 0 }; until = 0; keepalive = 0; status = None }
+some_peer key = record { number = 0; key = key; label = []; address = record { family = V4; number = 0 }; second = None; until = 0; keepalive = 0; status = None }
 
 pub returns-in-Some : goal.returns-in-Some
 returns-in-Some c =

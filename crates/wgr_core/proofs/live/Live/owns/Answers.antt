@@ -5,6 +5,7 @@ use Rattle.wgr_peers.specs.declared.peer.Peer.{Peer}
 use Rattle.wgr_pool.specs.PrefixTests.{same_address}
 use Rattle.wgr_peers.specs.Peers.{expired_addresses, is_own}
 use Rattle.wgr_core.specs.Network.{NetworkValue}
+use Rattle.wgr_core.proofs.AloneLemmas.{members_alone}
 use Rattle.wgr_core.proofs.LiveLooks.{own_live}
 use Rattle.wgr_core.proofs.live.Live.owns.Goals as goal
 
@@ -13,7 +14,7 @@ returns-then-owns c =
     let n = c.self.inside.network.now in
     let a = c.args.address.now in
     let over = list_any (λ b. same_address b a) (expired_addresses c.self.inside.moment n.peers) in
-    let own = own_live c.self.inside.moment n.peers a c.self.invariant.whole.apart in
+    let own = own_live c.self.inside.moment n.peers a c.self.invariant.whole.apart (members_alone n c.self.invariant.whole) in
     let here : c.owns.result ≡ is_own n.peers a = c.owns.ensures ∙ ap (λ (ps : List Peer). is_own ps a) c.table.ensures.value in
     ap not (c.is_one_of.ensures ∙ ap (λ (xs : List AddrValue). list_any (λ b. same_address b a) xs) (c.as_slice.ensures ∙ c.self.invariant.addresses))
     ∙ sym (own ∙ ap (λ b. b && not over) (sym here ∙ c.if-owns.true))
@@ -24,7 +25,7 @@ returns-else-owns c =
     let n = c.self.inside.network.now in
     let a = c.args.address.now in
     let over = list_any (λ b. same_address b a) (expired_addresses c.self.inside.moment n.peers) in
-    let own = own_live c.self.inside.moment n.peers a c.self.invariant.whole.apart in
+    let own = own_live c.self.inside.moment n.peers a c.self.invariant.whole.apart (members_alone n c.self.invariant.whole) in
     let here : c.owns.result ≡ is_own n.peers a = c.owns.ensures ∙ ap (λ (ps : List Peer). is_own ps a) c.table.ensures.value in
     c.if-owns.false
     ∙ sym (own ∙ ap (λ b. b && not over) (sym here ∙ c.if-owns.false))

@@ -3,6 +3,10 @@ use Rattle.sqlite.specs.Held.{state}
 use Rattle.sqlite.specs.State.{HasCleanDisk}
 use Rattle.wgr_register.specs.Standing.{StandsAt}
 use Rattle.wgr_office.proofs.RunLemmas.{order_served}
+use Rattle.wgr_columns.specs.Decode.{tables_of}
+use Rattle.wgr_orders.specs.Orders.{order_event}
+use Rattle.wgr_register.specs.Causes.{IfOrderFault, OrderStops}
+use Rattle.wgr_sql.specs.Causes.{HasCauseOr}
 use Rattle.wgr_office.proofs.office.Office.operate.Goals as goal
 
 pub returns : goal.returns
@@ -14,3 +18,8 @@ returns g c = record {
         (c.operate.ensures.ends db late (subst (λ h. StandsAt g.S.Store h db late) (sym c.self.view_is) at)) settled c.forms_hold.ensures clean;
   };
 }
+
+pub returns-clause-stops : goal.returns-clause-stops
+returns-clause-stops g c db late at =
+    subst (λ h. IfOrderFault (HasCauseOr (OrderStops (tables_of db) (order_event c.args.order.now)) (state g.S.Store h) (state g.S.Store c.operate.new.self)) c.operate.result) c.self.view_is
+    (c.operate.ensures.stops db late (subst (λ h. StandsAt g.S.Store h db late) (sym c.self.view_is) at))

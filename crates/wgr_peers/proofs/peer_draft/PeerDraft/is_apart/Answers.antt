@@ -5,7 +5,7 @@ use Rattle.wgr_peers.proofs.peer_draft.PeerDraft.is_apart.Goals as goal
 
 pub returns-then-is_none : goal.returns-then-is_none
 returns-then-is_none c =
-    apart_iff c.args.self.now c.args.peer.now c.owns.result (sym (ap is_some c.key_holder.ensures) ∙ c.if-is_none.ensures) c.owns.ensures
+    apart_iff c.args.self.now c.args.peer.now c.owns_any.result (sym (ap is_some c.key_holder.ensures) ∙ c.if-is_none.ensures) c.owns_any.ensures
 
 pub returns-else-is_none : goal.returns-else-is_none
 returns-else-is_none c = (

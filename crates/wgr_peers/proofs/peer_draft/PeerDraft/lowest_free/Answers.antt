@@ -8,25 +8,26 @@ use Rattle.wgr_pool.specs.HeldSpans.{is_routed}
 use Rattle.wgr_pool.specs.Spans.{IsHeld}
 use Rattle.wgr_peers.specs.declared.peer.Peer.{Peer}
 use Rattle.wgr_peers.specs.PeerDraft.{HasRuns}
-use Rattle.wgr_peers.specs.Peers.{is_own}
-use Rattle.wgr_peers.proofs.CollectLemmas.{own_is}
+use Rattle.wgr_peers.specs.PeerIndex.{HasThose}
+use Rattle.wgr_peers.specs.Peers.{is_first}
+use Rattle.wgr_peers.proofs.CollectLemmas.{first_is}
 use Rattle.wgr_peers.proofs.peer_draft.PeerDraft.lowest_free.Goals as goal
-use Rattle.wgr_peers.proofs.peer_draft.PeerDraft.lowest_free.Goals.{in-Some, in-None+in_ok-addresses_of-in-None+in_ok-addresses-in-None}
+use Rattle.wgr_peers.proofs.peer_draft.PeerDraft.lowest_free.Goals.{in-Some, in-None+in_ok-first_addresses-in-None+in_ok-addresses-in-None}
 
 pub returns-clause-lowest : goal.returns-clause-lowest
 returns-clause-lowest c =
     let peers = c.self.inside.peers.items in
     let routed = λ (b : AddrValue). is_routed c.args.pool.now c.args.routes.now b in
-    let own = λ (b : AddrValue). is_own c.args.self.now b in
-    let HasThem : List Span → Type 0 = λ runs. (b : AddrValue) → IsAddr b → IsHeld runs b ↔ (is_own peers b ≡ true) in
+    let own = λ (b : AddrValue). list_any (λ (p : Peer). is_first p b) c.args.self.now in
+    let HasThem : List Span → Type 0 = HasThose is_first peers in
     let held : HasThem c.match-take.addresses = elim c.match-take.branch [
       | in-Some w ↦ subst HasThem (sym w.addresses-is) (subst (HasRuns peers) (sym c.take.ensures.value ∙ w.in-Some.is) c.self.invariant.by_runs)
-      | in-None+in_ok-addresses_of-in-None+in_ok-addresses-in-None w ↦
+      | in-None+in_ok-first_addresses-in-None+in_ok-addresses-in-None w ↦
           let made = w.in_ok-addresses-in-None.ensures in
-          let same = λ (b : AddrValue). ap (list_any (λ (a : AddrValue). same_address a b)) w.in_ok-addresses_of-in-None.ensures ∙ own_is w.deref.result.now b ∙ ap (λ (ps : List Peer). is_own ps b) w.deref.ensures.value in
+          let same = λ (b : AddrValue). ap (list_any (λ (a : AddrValue). same_address a b)) w.in_ok-first_addresses-in-None.ensures ∙ first_is w.deref.result.now b ∙ ap (list_any (λ (p : Peer). is_first p b)) w.deref.ensures.value in
           subst HasThem (sym w.addresses-is) (λ b fits. ((λ h. sym (same b) ∙ (made b fits).0 h), (λ h. (made b fits).1 (same b ∙ h))))
     ] in
-    let same = λ (b : AddrValue). ap (λ (ps : List Peer). is_own ps b) c.self.view_is in
+    let same = λ (b : AddrValue). ap (list_any (λ (p : Peer). is_first p b)) c.self.view_is in
     c.lowest_free-lowest.ensures (λ b. own b || routed b) (λ b fits. (
       (λ h. elim (or_cases (own b) (routed b) h) [
         | inl mine ↦ inl ((held b fits).1 (same b ∙ mine))
@@ -41,12 +42,12 @@ returns-clause-lowest c =
 pub invariant_of-self-2 : goal.invariant_of-self-2
 invariant_of-self-2 c =
     let peers = c.self.inside.peers.items in
-    let HasThem : List Span → Type 0 = λ runs. (b : AddrValue) → IsAddr b → IsHeld runs b ↔ (is_own peers b ≡ true) in
+    let HasThem : List Span → Type 0 = HasThose is_first peers in
     let held : HasThem c.match-take.addresses = elim c.match-take.branch [
       | in-Some w ↦ subst HasThem (sym w.addresses-is) (subst (HasRuns peers) (sym c.take.ensures.value ∙ w.in-Some.is) c.self.invariant.by_runs)
-      | in-None+in_ok-addresses_of-in-None+in_ok-addresses-in-None w ↦
+      | in-None+in_ok-first_addresses-in-None+in_ok-addresses-in-None w ↦
           let made = w.in_ok-addresses-in-None.ensures in
-          let same = λ (b : AddrValue). ap (list_any (λ (a : AddrValue). same_address a b)) w.in_ok-addresses_of-in-None.ensures ∙ own_is w.deref.result.now b ∙ ap (λ (ps : List Peer). is_own ps b) w.deref.ensures.value in
+          let same = λ (b : AddrValue). ap (list_any (λ (a : AddrValue). same_address a b)) w.in_ok-first_addresses-in-None.ensures ∙ first_is w.deref.result.now b ∙ ap (list_any (λ (p : Peer). is_first p b)) w.deref.ensures.value in
           subst HasThem (sym w.addresses-is) (λ b fits. ((λ h. sym (same b) ∙ (made b fits).0 h), (λ h. (made b fits).1 (same b ∙ h))))
     ] in
     record { in_order = c.self.invariant.in_order; by_key = c.self.invariant.by_key; by_address = c.self.invariant.by_address; by_runs = held }

@@ -1,10 +1,8 @@
 use Rattle.std.proofs.Common.{◌≡◌, ℕ, ◌↔◌, List, true, false, nat_eq, not, cond, refl, sym, ap, ◌∙◌, subst}
 use Rattle.std.specs.List.{All, AllPairs, list_any}
-use Rattle.wgr_text.specs.Prefix.{AddrValue, IsAddr}
 use Rattle.wgr_peers.specs.declared.peer.Peer.{Peer}
-use Rattle.wgr_pool.specs.Spans.{IsHeld}
-use Rattle.wgr_peers.specs.Peers.{is_own, key_holder, IsNumberedBelow, AreApart}
-use Rattle.wgr_peers.specs.PeerIndex.{IsIndexed, EndsFrom}
+use Rattle.wgr_peers.specs.Peers.{is_first, is_second, key_holder, IsNumberedBelow, AreApart}
+use Rattle.wgr_peers.specs.PeerIndex.{EndsFrom, HasThose, IsIndexed}
 use Rattle.wgr_peers.specs.PeersLeft.{peers_left}
 use Rattle.wgr_pool.proofs.Lists.{AllPairs-filter}
 use Rattle.wgr_pool.proofs.PrefixLemmas.{nat_eq_self}
@@ -14,7 +12,7 @@ use Rattle.wgr_peers.proofs.peer_table.PeerTable.exchange.Goals as goal
 
 pub invariant_of-self-in_err-reserve-2 : goal.invariant_of-self-in_err-reserve-2
 invariant_of-self-in_err-reserve-2 c =
-    indexed_same _ _ c.self.inside.numbers c.reserve-2.new.self _ _ _ c.self.invariant c.reserve.ensures.items c.reserve-2.ensures.entries.2 refl
+    indexed_same _ _ c.self.inside.numbers c.reserve-2.new.self _ _ _ _ _ c.self.invariant c.reserve.ensures.items c.reserve-2.ensures.entries.2 (λ b fits. ((λ h. h), (λ h. h))) (λ b fits. ((λ h. h), (λ h. h)))
 
 pub forget_keys-requires-clause-numbered : goal.forget_keys-requires-clause-numbered
 forget_keys-requires-clause-numbered c =
@@ -49,13 +47,15 @@ invariant_of-self-2 c =
     let ends = rw c.deref-2.ensures.value at c.in-Err.ensures in
     let placed = exchanged items c.args.self.now rest c.args.gone gone p c.in-Err.place c.self.invariant.in_order c.self.view_is left c.in_ok-insert.ensures.ok ends in
     let made = c.in-Ok-insert.ensures.items in
-    subst (λ (ps : List Peer). IsIndexed ps c.insert-3.new.self c.insert-2.new.self c.soonest_end-self-inside.result) (sym made)
-    (indexed_insert rest c.forget_keys.new.numbers c.insert-3.new.self c.in_ok-addresses.addresses c.insert-2.new.self c.soonest_end-self-inside.result p c.in-Err.place numbered ends
+    subst (λ (ps : List Peer). IsIndexed ps c.insert-2.new.self c.insert_addresses.new.addresses c.insert_addresses.new.seconds c.soonest_end-self-inside.result) (sym made)
+    (indexed_insert rest c.forget_keys.new.numbers c.insert-2.new.self c.in_ok-addresses.addresses c.insert_addresses.new.addresses c.in_ok-addresses.seconds c.insert_addresses.new.seconds c.soonest_end-self-inside.result p c.in-Err.place numbered ends
     (subst AreApart (sym placed) c.requires.fits)
     (λ key. c.forget_keys.ensures.by_key key ∙ ap (λ (gs : List ℕ). key_holder (peers_left c.deref.result.now gs) key) c.as_slice.ensures ∙ ap (λ (ps : List Peer). key_holder (peers_left ps gone) key) c.deref.ensures.value ∙ sym (ap (λ (ps : List Peer). key_holder ps key) c.drop_peers.ensures.left))
     c.in-Ok.ensures.updates.0
-    (subst (λ (ps : List Peer). (b : AddrValue) → IsAddr b → IsHeld c.in_ok-addresses.addresses b ↔ (is_own ps b ≡ true)) (ap (λ (ps : List Peer). peers_left ps gone) (sym c.self.view_is) ∙ sym left) c.in_ok-addresses.ensures)
-    c.in_ok-insert-2.ensures.held
+    (subst (λ (ps : List Peer). HasThose is_first ps c.in_ok-addresses.addresses) (ap (λ (ps : List Peer). peers_left ps gone) (sym c.self.view_is) ∙ sym left) c.in_ok-addresses.ensures.first)
+    c.in_ok-insert_addresses.ensures.first
+    (subst (λ (ps : List Peer). HasThose is_second ps c.in_ok-addresses.seconds) (ap (λ (ps : List Peer). peers_left ps gone) (sym c.self.view_is) ∙ sym left) c.in_ok-addresses.ensures.second)
+    c.in_ok-insert_addresses.ensures.second
     (subst (All (EndsFrom c.soonest_end-self-inside.result)) (c.deref-3.ensures.value ∙ made) c.soonest_end-self-inside.ensures))
 
 pub returns-clause-ok : goal.returns-clause-ok

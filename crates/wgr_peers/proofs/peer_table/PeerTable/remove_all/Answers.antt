@@ -1,10 +1,8 @@
 use Rattle.std.proofs.Common.{◌≡◌, ◌↔◌, ℕ, List, true, nat_eq, not, sym, ap, ◌∙◌, subst}
 use Rattle.std.specs.List.{All, AllPairs, list_any}
-use Rattle.wgr_text.specs.Prefix.{AddrValue, IsAddr}
 use Rattle.wgr_peers.specs.declared.peer.Peer.{Peer}
-use Rattle.wgr_pool.specs.Spans.{IsHeld}
-use Rattle.wgr_peers.specs.Peers.{is_own, key_holder, IsNumberedBelow}
-use Rattle.wgr_peers.specs.PeerIndex.{EndsFrom}
+use Rattle.wgr_peers.specs.Peers.{is_first, is_second, key_holder, IsNumberedBelow}
+use Rattle.wgr_peers.specs.PeerIndex.{EndsFrom, HasThose}
 use Rattle.wgr_peers.specs.PeersLeft.{peers_left}
 use Rattle.wgr_pool.proofs.Lists.{AllPairs-filter}
 use Rattle.wgr_peers.proofs.peer_table.PeerTable.remove_all.Goals as goal
@@ -22,6 +20,7 @@ invariant_of-self c =
           ∙ ap (λ (ps : List Peer). key_holder (peers_left ps c.as_slice-2.result.now) key) c.deref-2.ensures.value
           ∙ ap (λ (gs : List ℕ). key_holder (peers_left items gs) key) c.as_slice-2.ensures
           ∙ sym (ap (λ (ps : List Peer). key_holder ps key) left);
-      by_address = subst (λ (ps : List Peer). (b : AddrValue) → IsAddr b → IsHeld c.forget_addresses.new.addresses b ↔ (is_own ps b ≡ true)) seen c.forget_addresses.ensures;
+      by_address = subst (λ (ps : List Peer). HasThose is_first ps c.forget_addresses.new.addresses) seen c.forget_addresses.ensures.first;
+      by_second = subst (λ (ps : List Peer). HasThose is_second ps c.forget_addresses.new.seconds) seen c.forget_addresses.ensures.second;
       ends = subst (All (EndsFrom c.soonest_end-self-inside.result)) c.deref-3.ensures.value c.soonest_end-self-inside.ensures;
     }

@@ -1,61 +1,56 @@
-use Rattle.std.proofs.Common.{◌≡◌, ◌≤◌, set, sym, ap, ◌∙◌, subst}
-use Rattle.std.proofs.lemmas.List.{get_or_default}
-use Rattle.wgr_peers.specs.declared.peer.Peer.{Peer}
+use Rattle.std.proofs.Common.{◌≡◌, true, false, is_some, refl, sym, ap, ◌∙◌, subst, Option, Some, None}
+use Rattle.std.specs.Prelude.{IfSome}
+use Rattle.wgr_text.specs.Prefix.{AddrValue, IsAddr}
 use Rattle.wgr_pool.specs.PrefixTests.{same_address}
-use Rattle.wgr_peers.specs.Peers.{put_peer, AreApart}
-use Rattle.wgr_peers.specs.PeerIndex.{IsIndexed, IsKeyedAt, IsAlikeAt}
+use Rattle.wgr_pool.specs.Spans.{IsHeld}
+use Rattle.wgr_pool.proofs.Bools.{or_left}
 use Rattle.wgr_pool.proofs.Lists.{list_any-some}
-use Rattle.wgr_pool.proofs.PrefixLemmas.{same_address_is, same_address_self}
+use Rattle.wgr_pool.proofs.PrefixLemmas.{same_address_self}
+use Rattle.wgr_peers.specs.declared.peer.Peer.{Peer}
+use Rattle.wgr_peers.specs.Peers.{is_first, is_second, is_there, put_peer, AreApart}
+use Rattle.wgr_peers.specs.PeerIndex.{IsKeyedAt}
 use Rattle.wgr_peers.proofs.IndexLemmas.{keyed_place, indexed_moved}
-use Rattle.wgr_peers.proofs.TableLemmas.{indexed_alike}
 use Rattle.wgr_peers.proofs.peer_table.PeerTable.replace.Goals as goal
-use Rattle.wgr_peers.proofs.peer_table.PeerTable.replace.Goals.{then-not-is_at, else-not-is_at}
 
-pub replace-requires : goal.replace-requires
-replace-requires c =
+pub move_addresses-requires-clause-first : goal.move_addresses-requires-clause-first
+move_addresses-requires-clause-first c = λ fits.
     let items = c.self.inside.peers.items in
-    let q = c.index-then-not-is_at.result.now in
+    let q = c.index-left.result.now in
     let keyed = subst (λ ps. IsKeyedAt ps c.args.peer c.args.place) (sym c.self.view_is) c.requires.keyed in
-    let own = list_any-some (λ (p : Peer). same_address p.address q.address) items c.args.place q keyed.within
-    (ap (λ (p : Peer). same_address p.address q.address) (sym c.index-then-not-is_at.ensures) ∙ same_address_self q.address) in
-    (c.self.invariant.by_address q.address c.rules_hold.ensures).1 own
+    let own = list_any-some (λ (p : Peer). is_first p q.address) items c.args.place q keyed.within (ap (λ (p : Peer). is_first p q.address) (sym c.index-left.ensures) ∙ same_address_self q.address) in
+    (c.self.invariant.by_address q.address fits).1 own
+
+pub move_addresses-requires-clause-second : goal.move_addresses-requires-clause-second
+move_addresses-requires-clause-second c = by c.index-left.result.now.second refl
+  where
+    by : (o : Option AddrValue) → c.index-left.result.now.second ≡ o → IfSome o (λ a. IsAddr a → IsHeld c.self.inside.seconds a)
+    by None is = tt
+    by (Some a) is = λ fits.
+        let items = c.self.inside.peers.items in
+        let q = c.index-left.result.now in
+        let keyed = subst (λ ps. IsKeyedAt ps c.args.peer c.args.place) (sym c.self.view_is) c.requires.keyed in
+        let mine : is_second q a ≡ true = ap (λ s. is_there s a) is ∙ or_left (same_address a a) false (same_address_self a) in
+        let own = list_any-some (λ (p : Peer). is_second p a) items c.args.place q keyed.within (ap (λ (p : Peer). is_second p a) (sym c.index-left.ensures) ∙ mine) in
+        (c.self.invariant.by_second a fits).1 own
+
+pub move_addresses-requires-clause-place : goal.move_addresses-requires-clause-place
+move_addresses-requires-clause-place c = λ second.
+    let items = c.self.inside.peers.items in
+    let q = c.index-left.result.now in
+    let keyed = subst (λ ps. IsKeyedAt ps c.args.peer c.args.place) (sym c.self.view_is) c.requires.keyed in
+    ap (λ (p : Peer). is_some p.second) c.index-left.ensures ∙ keyed.places second q
 
 pub invariant_of-self : goal.invariant_of-self
 invariant_of-self c =
     let items = c.self.inside.peers.items in
-    let at = c.args.place in
     let p = c.args.peer in
-    let q = c.index.result.now in
-    let keyed = subst (λ ps. IsKeyedAt ps p at) (sym c.self.view_is) c.requires.keyed in
+    let keyed = subst (λ ps. IsKeyedAt ps p c.args.place) (sym c.self.view_is) c.requires.keyed in
     let apart = subst AreApart (sym c.self.view_is) c.requires.apart in
-    let at_most = c.sooner-self-inside.ensures.at_most in
-    elim c.if-not-is_at.branch [
-      | then-not-is_at w ↦
-          let sooner : c.sooner-self-inside.result ≤ c.self.inside.soonest_end = subst (λ s. c.sooner-self-inside.result ≤ s.soonest_end) w.self-inside-is at_most in
-          subst (λ s. IsIndexed (set s.peers.items at p) s.numbers s.addresses c.sooner-self-inside.result) (sym w.self-inside-is)
-          (indexed_moved items c.self.inside.numbers c.self.inside.addresses w.replace.new.self _ _ p w.index-then-not-is_at.result.now at c.self.invariant apart keyed w.index-then-not-is_at.ensures
-          w.replace.ensures sooner c.sooner-self-inside.ensures.ends)
-      | else-not-is_at w ↦
-          let sooner : c.sooner-self-inside.result ≤ c.self.inside.soonest_end = subst (λ s. c.sooner-self-inside.result ≤ s.soonest_end) w.self-inside-is at_most in
-          let here : q.address ≡ p.address = same_address_is q.address p.address (sym c.is_at.ensures ∙ w.if-not-is_at.false) in
-          let alike : IsAlikeAt items p at = record {
-            within = keyed.within;
-            number = keyed.number;
-            key = keyed.key;
-            address = λ d. ap (λ (x : Peer). x.address) (get_or_default items at d q keyed.within ∙ sym c.index.ensures) ∙ here;
-          } in
-          subst (λ s. IsIndexed (set s.peers.items at p) s.numbers s.addresses c.sooner-self-inside.result) (sym w.self-inside-is)
-          (indexed_alike items _ _ _ _ p at c.self.invariant alike sooner c.sooner-self-inside.ensures.ends)
-    ]
+    indexed_moved items c.self.inside.numbers c.self.inside.addresses c.move_addresses.new.addresses c.self.inside.seconds c.move_addresses.new.seconds _ _ p c.index-left.result.now c.args.place c.self.invariant apart keyed c.index-left.ensures
+    c.move_addresses.ensures.first c.move_addresses.ensures.second c.sooner-self-inside.ensures.at_most c.sooner-self-inside.ensures.ends
 
 pub returns : goal.returns
 returns c =
     let items = c.self.inside.peers.items in
-    let at = c.args.place in
-    let p = c.args.peer in
-    let keyed = subst (λ ps. IsKeyedAt ps p at) (sym c.self.view_is) c.requires.keyed in
-    let placed = sym (keyed_place items p at c.self.invariant.in_order keyed) ∙ ap (λ ps. put_peer ps p) c.self.view_is in
-    elim c.if-not-is_at.branch [
-      | then-not-is_at w ↦ ap (λ s. set s.peers.items at p) w.self-inside-is ∙ placed
-      | else-not-is_at w ↦ ap (λ s. set s.peers.items at p) w.self-inside-is ∙ placed
-    ]
+    let keyed = subst (λ ps. IsKeyedAt ps c.args.peer c.args.place) (sym c.self.view_is) c.requires.keyed in
+    sym (keyed_place items c.args.peer c.args.place c.self.invariant.in_order keyed) ∙ ap (λ ps. put_peer ps c.args.peer) c.self.view_is
