@@ -11,7 +11,7 @@ use Rattle.wgr_sql.specs.declared.fault.Fault.{Fault}
 use Rattle.wgr_sql.proofs.CauseLemmas.{cause_after, cause_before, cause_if}
 use Rattle.wgr_columns.specs.Decode.{IsRegister, tables_of}
 use Rattle.wgr_rows.specs.Staying.{IsQuiet, IsStillOnClean, stays_itself, stays_on}
-use Rattle.wgr_rows.specs.Stopping.{Blames, HavePool, IsSound, Leaves, fault_at}
+use Rattle.wgr_rows.specs.Stopping.{Blames, HavePool, IsSound, Leaves}
 use Rattle.wgr_rows.specs.declared.progress.Progress.{Progress}
 
 module _ (network : ℕ) (pool : PrefixValue) (a b c : State) (one : Survives a b (λ _. ⊥)) (two : Survives b c (λ _. ⊥)) (still : IsQuiet a → IsStillOnClean a b) where
@@ -29,8 +29,8 @@ module _ (network : ℕ) (pool : PrefixValue) (a b c : State) (one : Survives a 
 
   blames_on : (at mid end : Progress) → Blames network pool a at b mid → Blames network pool b mid c end → Blames network pool a at c end
   blames_on at mid end first next why is = elim (next why is) [
-    | inl same ↦ elim (first why same) [ inl was ↦ inl was | inr cause ↦ inr (λ known. cause_first (fault_at why) known cause) ]
-    | inr cause ↦ inr (λ known. cause_next (fault_at why) known cause)
+    | inl same ↦ elim (first why same) [ inl was ↦ inl was | inr cause ↦ inr (λ known. cause_first why known cause) ]
+    | inr cause ↦ inr (λ known. cause_next why known cause)
   ]
 
 pub leaves_itself : {S : Type 0} (g : Ghosts S) (h : Held S) (network : ℕ) (pool : PrefixValue) (at : Progress) → Leaves g h network pool at h network pool at
