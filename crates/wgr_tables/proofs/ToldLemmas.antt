@@ -1,5 +1,5 @@
 -- What rows tell, if they tell it.
-use Rattle.std.proofs.Common.{◌≡◌, ◌<◌, ℕ, Result, Ok, Err, Option, IfErr, IfOk, IfSome, IfNone, refl, subst, arith}
+use Rattle.std.proofs.Common.{◌≡◌, ◌<◌, ℕ, Result, Ok, Err, Option, IfErr, IfOk, IfSome, IfNone, IsErrAnd, refl, subst, arith}
 use Rattle.wgr_pool.specs.Pool.{IsPool}
 use Rattle.wgr_peers.specs.Host.{IsHost}
 use Rattle.wgr_peers.specs.Limits.{IsCapacity, IsPort}
