@@ -8,7 +8,8 @@ use Rattle.sqlite.specs.State.{State, HasCleanDisk, Survives}
 use Rattle.wgr_text.specs.Prefix.{PrefixValue}
 use Rattle.wgr_sql.specs.Causes.{HasCause}
 use Rattle.wgr_sql.specs.declared.fault.Fault.{Fault}
-use Rattle.wgr_sql.proofs.CauseLemmas.{cause_after, cause_before, cause_if}
+use Rattle.wgr_sql.specs.declared.fault.Fault.TheVariants.{NoMemory, Store}
+use Rattle.wgr_sql.proofs.CauseLemmas.{cause_after, cause_before}
 use Rattle.wgr_columns.specs.Decode.{IsRegister, tables_of}
 use Rattle.wgr_rows.specs.Staying.{IsQuiet, IsStillOnClean, stays_itself, stays_on}
 use Rattle.wgr_rows.specs.Stopping.{Blames, HavePool, IsSound, Leaves}
@@ -22,7 +23,8 @@ module _ (network : ℕ) (pool : PrefixValue) (a b c : State) (one : Survives a 
   )
 
   cause_first : (f : Fault) → (HasCleanDisk c → IsSound network pool a) → ((HasCleanDisk b → IsSound network pool a) → HasCause a b f) → HasCause a c f
-  cause_first f known cause = cause_if ⊥ a c f (λ is clean. subst (HasCause a c) is (cause_before a b c ⊥ ⊥ (λ _. ⊥) two (λ none. none) f (cause (λ _. known clean))) clean)
+  cause_first NoMemory known cause = tt
+  cause_first (Store w) known cause = λ clean. cause_before a b c ⊥ ⊥ (λ _. ⊥) two (λ none. none) (Store w) (cause (λ _. known clean)) clean
 
   cause_next : (f : Fault) → (HasCleanDisk c → IsSound network pool a) → ((HasCleanDisk c → IsSound network pool b) → HasCause b c f) → HasCause a c f
   cause_next f known cause = cause_after a b c ⊥ ⊥ (λ _. ⊥) (λ _. ⊥) one two (λ none. none) f (cause (λ clean. sound_next (omega (arith, two.clean, clean)) (known clean)))
