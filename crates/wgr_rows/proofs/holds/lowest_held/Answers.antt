@@ -6,4 +6,4 @@ pub returns-in-Err-clause-cause : goal.returns-in-Err-clause-cause
 returns-in-Err-clause-cause g c running known =
     let old = c.args.holds.now in
     let new = c.lowest_free.new.holds in
-    stopped_cause old.network old.pool (state g.S.Store old.rows.now.conn.now) (state g.S.Store new.rows.now.conn.now) old.at new.at _ c.fault_at.result running c.lowest_free.ensures.stop c.fault_at.ensures c.lowest_free.ensures.keeps.2.3 known
+    stopped_cause old.network old.pool (state g.S.Store old.rows.now.conn.now) (state g.S.Store new.rows.now.conn.now) old.at new.at _ c.fault_at.result running c.in-Err.ensures.stop c.fault_at.ensures c.lowest_free.ensures.keeps.2.3 known
