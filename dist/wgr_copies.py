@@ -76,7 +76,8 @@ def explain(why, path):
     # Its second line says that the tables are of an earlier version.
     if why and why.startswith("wgr: not_a_register\n"):
         return f"wgr: not_a_register: its tables are of an earlier version, and wgr migrate {path} takes them to this one"
-    return why
+    # That of a failed store says what is wrong with the file.
+    return why.replace("\nwgr: ", ": ") if why else why
 
 
 def is_known(tenant):

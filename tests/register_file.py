@@ -32,8 +32,19 @@ def refused(why):
     return Left(2, b"", b"wgr: %s\n" % why.encode())
 
 
-def failed(why):
-    return Left(1, b"", b"wgr: %s\n" % why.encode())
+# What the second line says of a fault of the store; there is none where it is none of these.
+BUSY = "another process has the file open"
+DENIED = "the file can't be opened, read or written: see its owner and permissions, and those of its directory"
+DAMAGED = "the file isn't a database, or is damaged"
+FULL = "the disk is full"
+
+
+def failed(*lines):
+    return Left(1, b"", b"".join(b"wgr: %s\n" % line.encode() for line in lines))
+
+
+# A fault of the store, whatever its second line.
+STORE = [failed("store"), *(failed("store", line) for line in [BUSY, DENIED, DAMAGED, FULL])]
 
 
 def options(**changed):

@@ -7,6 +7,7 @@ from contextlib import closing
 from pathlib import Path
 
 from program import Left
+from register_file import BUSY, failed
 from serving import PEERS, key, network_add, request
 from shipped import ANOTHER, BEFORE, NEW, OLD, OTHER, Shipped, rows_of
 from test_batch import batch
@@ -102,14 +103,14 @@ class Changes(Shipped):
     def test_a_register_that_is_served(self):
         self.serve()
         left = self.change("acme", "office", "--port", "1")
-        self.assertEqual(left, Left(1, b"", f"wgr-change-network: {self.database} can't be opened: wgr: store\n".encode()))
+        self.assertEqual(left, Left(1, b"", f"wgr-change-network: {self.database} can't be opened: wgr: store: {BUSY}\n".encode()))
 
     def test_nobody_opens_it_meanwhile(self):
         """While the copy is judged, a service that starts is refused the register."""
         real = (self.bin / "wgr").resolve()
         self.stand_in("wgr", f'[[ $2 == "$DB" ]] || {real} tenant-add "$DB" bolt 2>"$ROOM/meanwhile"; exec {real} "$@"')
         self.assertEqual(self.change("acme", "office", "--port", "1").status, 0)
-        self.assertEqual((self.folder / "meanwhile").read_bytes(), b"wgr: store\n")
+        self.assertEqual((self.folder / "meanwhile").read_bytes(), failed("store", BUSY).err)
         self.assertEqual(rows_of(self.database, "SELECT name FROM tenant"), [("acme",)])
 
 

@@ -11,6 +11,7 @@ from contextlib import closing
 from pathlib import Path
 
 from program import Left
+from register_file import BUSY
 from serving import PEERS, TOKEN, done, key, network_add, order, peer, refused, request
 from shipped import BEFORE, OTHER, Shipped, rows_of
 from test_batch import batch
@@ -180,7 +181,7 @@ class EndToken(Tokens):
 
     def test_a_register_that_is_served(self):
         self.serve()
-        shut = f"{self.database} can't be opened: wgr: store"
+        shut = f"{self.database} can't be opened: wgr: store: {BUSY}"
         for words, told in [
             (["--tenant", "acme"], shut),
             (["--digest", DIGESTS[TOKEN]], shut),

@@ -16,6 +16,7 @@ from earlier import make
 from faulty import ONCE, Faulty, needs_faults
 from figured import FIGURES, NAME, Figured, figures_of
 from program import Left
+from register_file import BUSY, failed
 from serving import PEERS, TOKEN, free_port, key, request
 from shipped import OLD, SYSTEMCTL, Shipped
 from tools import needs
@@ -123,8 +124,8 @@ class Probe(Shipped):
         """The file is held, or its rows aren't good: the service doesn't start, and no copy is made."""
         self.stand_in("systemctl", SYSTEMCTL)
         rows = [
-            ("held", b"wgr: store\n", b"database is locked"),
-            ("rows that aren't good", b"wgr: not_good\n", b"the copy is bad: wgr: not_good"),
+            ("held", failed("store", BUSY), b"database is locked"),
+            ("rows that aren't good", failed("not_good"), b"the copy is bad: wgr: not_good"),
         ]
         with closing(sqlite3.connect(self.database)) as link:
             link.execute("PRAGMA locking_mode = EXCLUSIVE")
@@ -134,7 +135,7 @@ class Probe(Shipped):
                 with self.subTest(name):
                     port = free_port()
                     words = ["wgr", "serve", self.database, f"127.0.0.1:{port}", "--count", "1"]
-                    self.assertEqual(self.run_script(*words), Left(1, b"", told))
+                    self.assertEqual(self.run_script(*words), told)
                     self.assertEqual(self.probe(f"http://127.0.0.1:{port}"), (1, "no answer: Connection refused", 0))
                     left = self.run_script("wgr-backup", "--register", self.database, "copies")
                     self.assertEqual((left.status, refused in left.err, self.copies()), (1, True, []), left.err)

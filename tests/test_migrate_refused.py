@@ -10,7 +10,7 @@ from pathlib import Path
 from earlier import READER, SECOND, make, rows_of, schema_of
 from faulty import scratch
 from program import without_room
-from register_file import DONE, TABLES, failed
+from register_file import BUSY, DAMAGED, DENIED, DONE, TABLES, failed
 from serving import Server, key, make_register, network_add, order, request
 from test_migrate import PEERS, POOL, UNCOUNTED, Migrations
 from test_open import BROKEN as BROKEN_ROWS
@@ -120,10 +120,10 @@ class Refused(Migrations):
         with self.subTest("no database"):
             text = b"not a database, but longer than a header of one hundred bytes" * 10
             Path(self.db).write_bytes(text)
-            self.assertEqual(self.migrate(), failed("store"))
+            self.assertEqual(self.migrate(), failed("store", DAMAGED))
             self.assertEqual(Path(self.db).read_bytes(), text)
         with self.subTest("a folder"):
-            self.assertEqual(self.migrate(str(self.folder)), failed("store"))
+            self.assertEqual(self.migrate(str(self.folder)), failed("store", DENIED))
 
     def test_a_register_that_is_cut(self):
         make(self.db, 1, make_register(self.folder))
@@ -131,7 +131,7 @@ class Refused(Migrations):
         for length in [len(whole) // 2, len(whole) - 1, 512]:
             with self.subTest(length):
                 Path(self.db).write_bytes(whole[:length])
-                self.assertEqual(self.migrate(), failed("store"))
+                self.assertEqual(self.migrate(), failed("store", DAMAGED))
                 self.assertEqual(Path(self.db).read_bytes(), whole[:length])
 
     def test_in_use(self):
@@ -139,7 +139,7 @@ class Refused(Migrations):
         before = rows_of(self.db)
         with closing(sqlite3.connect(self.db, isolation_level=None)) as file:
             file.execute("BEGIN EXCLUSIVE")
-            self.assertEqual(self.migrate(), failed("store"))
+            self.assertEqual(self.migrate(), failed("store", BUSY))
         self.assertEqual(rows_of(self.db), before)
         self.assertEqual(self.migrate(), DONE)
 
@@ -149,14 +149,14 @@ class Refused(Migrations):
         for mode in [0, stat.S_IRUSR, stat.S_IWUSR]:
             with self.subTest(oct(mode)):
                 Path(self.db).chmod(mode)
-                self.assertEqual(self.migrate(prepare=bound_by_modes), failed("store"))
+                self.assertEqual(self.migrate(prepare=bound_by_modes), failed("store", DENIED))
         Path(self.db).chmod(stat.S_IRUSR | stat.S_IWUSR)
         self.assertEqual(Path(self.db).read_bytes(), before)
 
     def test_a_register_that_is_served(self):
         self.db = make_register(self.folder)
         with Server(self.db) as server:
-            self.assertEqual(self.migrate(), failed("store"))
+            self.assertEqual(self.migrate(), failed("store", BUSY))
             self.assertIn(b" 200 OK", server.send(request("POST", PEERS, {"key": key(1)})))
         self.assertEqual(self.migrate(), DONE)
         self.assertEqual(len(self.query("SELECT * FROM peer")), 1)

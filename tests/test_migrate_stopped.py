@@ -10,7 +10,7 @@ from pathlib import Path
 import program
 from earlier import copy, make, remove, rows_of
 from program import LIMIT, in_time
-from register_file import DONE, failed, put
+from register_file import BUSY, DENIED, DONE, FULL, failed, put
 from serving import make_register
 from test_migrate import Migrations
 from test_register_faults import bound_by_modes
@@ -68,7 +68,7 @@ class Stopped(Migrations):
         before = Path(self.db).read_bytes()
         os.chmod(self.folder, 0o500)
         try:
-            self.assertEqual(self.migrate(prepare=bound_by_modes), failed("store"))
+            self.assertEqual(self.migrate(prepare=bound_by_modes), failed("store", DENIED))
         finally:
             os.chmod(self.folder, 0o700)
         self.assertEqual(Path(self.db).read_bytes(), before)
@@ -83,7 +83,7 @@ class Stopped(Migrations):
         words = ["unshare", "-m", "bash", "-ec", ON_A_FULL_DISK, program.path, self.path("disk"), self.db]
         told = subprocess.run(words, capture_output=True, text=True, check=True, timeout=LIMIT)
         first, second, third = told.stdout.splitlines()
-        self.assertEqual((first, second, third[:2], told.stderr), (f"1 {digest}  -", "done", "0 ", "wgr: store\n"))
+        self.assertEqual((first, second, third[:2], told.stderr), (f"1 {digest}  -", "done", "0 ", f"wgr: store\nwgr: {FULL}\n"))
         self.assertEqual(rows_of(f"{self.db}.after"), {**before, "second": [], "reader": [], "meta": [(3,)]})
 
     def start_and_stop(self):
@@ -104,7 +104,7 @@ class Stopped(Migrations):
         """The second is refused, and the first is done."""
         self.fill()
         with self.start_and_stop() as first:
-            self.assertEqual(self.migrate(), failed("store"))
+            self.assertEqual(self.migrate(), failed("store", BUSY))
             first.send_signal(signal.SIGCONT)
             self.assertEqual(first.communicate(timeout=LIMIT), (b"done\n", b""))
         self.assertEqual(rows_of(self.db)["meta"], [(3,)])

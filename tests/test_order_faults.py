@@ -11,7 +11,7 @@ from pathlib import Path
 
 from faulty import KILLED, WHOLE, Faulty, needs_faults, scratch, tell
 from program import Left
-from register_file import failed
+from register_file import STORE
 from sending import answered, command, line
 from serving import Server
 from test_growths import LOOK, NOW, make_base, rows
@@ -58,7 +58,7 @@ class Sent(Order):
         answer, end = left
         if answer is None:
             # It did not open the register, and was given nothing.
-            return {()} if end in [failed("store"), Left(KILLED)] else set()
+            return {()} if end in [*STORE, Left(KILLED)] else set()
         if answer == DONE:
             return {(0,)}
         return {(), (0,)} if answer == b"1 store\n" or answer == b"" and end.status == KILLED else set()

@@ -7,7 +7,7 @@ from pathlib import Path
 
 from keys import K0
 from program import Left, run
-from register_file import DIGEST, OFFICE, S, failed
+from register_file import BUSY, DAMAGED, DIGEST, OFFICE, S, failed
 from sending import Sending, answered, line, tell
 from serving import LIST
 from test_register import REFUSALS
@@ -238,13 +238,13 @@ class FromFiles(Sending):
         shutil.copy(good, self.db)
         self.change("UPDATE token SET tenant = 7")
         bad, self.db = self.db, good
-        rows = [("no file", self.path("none.db"), "not_a_register"), ("no database", self.path("text.db"), "store"), ("rows that aren't good", bad, "not_good")]
-        for name, database, why in rows:
+        rows = [("no file", self.path("none.db"), ["not_a_register"]), ("no database", self.path("text.db"), ["store", DAMAGED]), ("rows that aren't good", bad, ["not_good"])]
+        for name, database, lines in rows:
             with self.subTest(name):
-                self.assertEqual(run(["orders", database], b"tenant-add bolt\n"), failed(why))
+                self.assertEqual(run(["orders", database], b"tenant-add bolt\n"), failed(*lines))
         with self.subTest("a register that is served"):
             self.serve()
-            self.assertEqual(run(["orders", self.db], b"tenant-add bolt\n"), failed("store"))
+            self.assertEqual(run(["orders", self.db], b"tenant-add bolt\n"), failed("store", BUSY))
         self.assertFalse(os.path.exists(self.path("none.db")))
 
     def test_files_that_are_not_read(self):

@@ -16,7 +16,7 @@ from earlier import make
 from faulty import WHOLE, Faulty, needs_faults, scratch
 from keys import numbered_keys
 from program import Left
-from register_file import DONE, failed, network_row, put
+from register_file import DONE, STORE, failed, network_row, put
 from serving import SERVER_KEY, key, make_register, network_add, request
 from test_batch import batch
 from test_growths import ADD, ASKED, FOLLOWING, LOOK, MORE, NOW, ORDERS, UNAVAILABLE, files, make_base, rows
@@ -80,13 +80,13 @@ class Reads(unittest.TestCase):
             before = rows(path) if base else None
             for number in range(total):
                 left, path, named = run(file_read=number)
-                due = {ample: after, failed("store"): before}
+                due = {ample: after, **dict.fromkeys(STORE, before)}
                 if asked:
                     due[Left(1, UNAVAILABLE)] = before
                 if left not in due or rows(path) != due[left]:
                     wrong.append((number, left))
                 elif left != ample:
-                    told += left == failed("store")
+                    told += left in STORE
                     again = faulty.run([words[0], path, *words[1:], *named], text)
                     if (again, rows(path)) != (ample, after):
                         wrong.append((number, "again", again))
@@ -129,7 +129,7 @@ class Reads(unittest.TestCase):
                 with self.subTest(quarters=quarters):
                     read = opened + 1 + (total - opened) * quarters // 4
                     left = faulty.run(["tenant-add", self.fresh(faulty, base), "cato"], file_read=read)
-                    self.assertEqual(left, failed("store"))
+                    self.assertIn(left, STORE)
 
     @needs_faults()
     def test_reads_of_requests(self):

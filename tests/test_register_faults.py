@@ -9,7 +9,7 @@ from pathlib import Path
 
 from earlier import EARLIER
 from program import Left, run, without_room
-from register_file import ACME, BOLT, DONE, NETWORK, TABLES, TOKEN, Files, failed, options
+from register_file import ACME, BOLT, BUSY, DAMAGED, DENIED, DONE, NETWORK, TABLES, TOKEN, Files, failed, options
 
 WORDS = [
     ("tenant-add", ["acme"], b""),
@@ -105,8 +105,8 @@ class Faults(Files):
     def test_no_database(self):
         text = b"not a database, but longer than a header of one hundred bytes" * 10
         Path(self.db).write_bytes(text)
-        self.each_word(failed("store"))
-        self.assertEqual(run(["init", self.db]), failed("store"))
+        self.each_word(failed("store", DAMAGED))
+        self.assertEqual(run(["init", self.db]), failed("store", DAMAGED))
         self.assertEqual(Path(self.db).read_bytes(), text)
 
     def test_a_register_that_is_cut(self):
@@ -115,7 +115,7 @@ class Faults(Files):
         for length in [len(whole) // 2, len(whole) - 1, 4096, 512, 99]:
             with self.subTest(length):
                 Path(self.db).write_bytes(whole[:length])
-                self.each_word(failed("store"))
+                self.each_word(failed("store", DAMAGED))
                 self.assertEqual(Path(self.db).read_bytes(), whole[:length])
 
     def test_a_file_that_may_not_be_read_or_written(self):
@@ -125,18 +125,18 @@ class Faults(Files):
             with self.subTest(oct(mode)):
                 Path(self.db).chmod(mode)
                 for word, words, text in WORDS:
-                    self.assertEqual(self.order(word, *words, text=text, prepare=bound_by_modes), failed("store"))
+                    self.assertEqual(self.order(word, *words, text=text, prepare=bound_by_modes), failed("store", DENIED))
         Path(self.db).chmod(stat.S_IRUSR | stat.S_IWUSR)
         self.assertEqual(Path(self.db).read_bytes(), before)
 
     def test_a_folder(self):
         self.db = str(self.folder)
-        self.each_word(failed("store"))
-        self.assertEqual(run(["init", self.db]), failed("store"))
+        self.each_word(failed("store", DENIED))
+        self.assertEqual(run(["init", self.db]), failed("store", DENIED))
 
     def test_a_folder_that_is_missing(self):
         self.db = self.path("none/register.db")
-        self.assertEqual(run(["init", self.db]), failed("store"))
+        self.assertEqual(run(["init", self.db]), failed("store", DENIED))
         self.each_word(failed("not_a_register"))
         self.assertEqual(os.listdir(self.folder), [])
 
@@ -154,7 +154,7 @@ class Faults(Files):
     def test_a_folder_that_is_not_written(self):
         self.folder.chmod(stat.S_IRUSR | stat.S_IXUSR)
         self.addCleanup(self.folder.chmod, stat.S_IRWXU)
-        self.assertEqual(run(["init", self.db], prepare=bound_by_modes), failed("store"))
+        self.assertEqual(run(["init", self.db], prepare=bound_by_modes), failed("store", DENIED))
 
     def test_a_log_that_takes_nothing(self):
         self.init(ACME)
@@ -177,7 +177,7 @@ class Faults(Files):
         self.init(ACME)
         with closing(sqlite3.connect(self.db, isolation_level=None)) as conn:
             conn.execute("BEGIN EXCLUSIVE")
-            self.each_word(failed("store"))
+            self.each_word(failed("store", BUSY))
 
     def test_output_that_takes_nothing(self):
         self.init()

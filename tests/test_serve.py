@@ -6,6 +6,7 @@ import tempfile
 import unittest
 
 from program import Left, run
+from register_file import BUSY, failed
 from serving import OFFICE, PEERS, Server, Serving, done, has_ipv6, key, make_register, peer, read_all, refused, request
 
 ADD = request("POST", PEERS, {"key": key(1)})
@@ -113,9 +114,9 @@ class Serve(Serving):
         with Server(self.database) as server, tempfile.TemporaryDirectory() as folder:
             used = f"127.0.0.1:{server.port}"
             rows = [
-                ("a register that is in use", self.database, place, b"wgr: store\n"),
-                ("an address that is in use", make_register(folder), used, b"wgr: device\n"),
+                ("a register that is in use", self.database, place, failed("store", BUSY)),
+                ("an address that is in use", make_register(folder), used, failed("device")),
             ]
             for name, database, place, told in rows:
                 with self.subTest(name):
-                    self.assertEqual(run(["serve", database, place, "--count", "1"]), Left(1, b"", told))
+                    self.assertEqual(run(["serve", database, place, "--count", "1"]), told)

@@ -9,7 +9,7 @@ import shutil
 
 from keys import K0
 from program import Left, run
-from register_file import DONE, S, failed, network_row, pool_of, put, refused
+from register_file import BUSY, DENIED, DONE, S, failed, network_row, pool_of, put, refused
 from sending import send, shown
 from serving import PEERS, Server, key, request
 from test_readings import HEADER, TEST, Reading
@@ -223,7 +223,7 @@ a       {digests[2]}
         shutil.copy(self.db, bad)
         with Server(self.db):
             with self.subTest("a register that is served"):
-                self.assertEqual(run(["show", self.db]), failed("store"))
+                self.assertEqual(run(["show", self.db]), failed("store", BUSY))
         self.db, good = bad, self.db
         self.change("UPDATE network SET port = 0 WHERE name = 'lab'")
         rows = [
@@ -235,7 +235,7 @@ a       {digests[2]}
             ("no file", [none], failed("not_a_register")),
             ("an empty file", [empty], failed("not_a_register")),
             ("rows that aren't good", [bad], failed("not_good")),
-            ("a folder", [str(self.folder)], failed("store")),
+            ("a folder", [str(self.folder)], failed("store", DENIED)),
         ]
         for name, words, due in rows:
             with self.subTest(name):

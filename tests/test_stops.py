@@ -15,7 +15,7 @@ from pathlib import Path
 from earlier import make_logged
 from faulty import FULL, KILL, KILLED, ON, ONCE, SHORT, TORN, WHOLE, Faulty, needs_faults, recorded, scratch, tell
 from program import Left
-from register_file import DONE, OFFICE, failed, options
+from register_file import DONE, OFFICE, STORE, options
 from serving import Server, key, request
 from test_batch import replies
 from test_growths import PEERS, THREE, UNAVAILABLE, files, make_base, rows
@@ -74,7 +74,7 @@ class Order:
         """What may have been done, where a run told this."""
         if left == DONE or left == Left(KILLED, b"done\n"):
             return {(0,)}
-        return {(), (0,)} if left in [Left(KILLED), failed("store")] else set()
+        return {(), (0,)} if left in [Left(KILLED), *STORE] else set()
 
     def is_answered(self, faulty, path, left):
         """Whether the replies are those that are due where what was answered `unavailable` wasn't asked."""
@@ -153,7 +153,7 @@ class Batch(Order):
     def told(self, left):
         if left == Left(KILLED):
             return self.noted(b"")
-        if left == failed("store"):
+        if left in STORE:
             return {()}
         given = replies(left.out)
         if left.err or len(given) != self.count or left.status != (UNAVAILABLE in given) and left.status != KILLED:
@@ -204,7 +204,7 @@ class Serve(Batch):
         given, end = left
         if given is None:
             # It did not open the register, and was asked nothing.
-            return {()} if end in [failed("store"), Left(KILLED)] else set()
+            return {()} if end in [*STORE, Left(KILLED)] else set()
         if end == Left(KILLED):
             return self.answered(given) | self.under_way(given)
         # It had its count of connections, or ended behind an answer after which the store was shut.

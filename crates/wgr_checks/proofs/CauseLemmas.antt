@@ -27,10 +27,10 @@ all_of_memory old new (Err why) h = of_memory old new why h
 module _ (a b d : State) (s : Survives a b (λ _. ⊥)) (t : Survives b d (λ _. ⊥)) (kept : (HasCleanDisk b → Laid a) → IsKept a b) (laid : HasCleanDisk d → Laid a) where
   pub next_cause : (why : Fault) → ((HasCleanDisk d → Laid b) → HasCause b d why) → HasCause a d why
   next_cause NoMemory cause = tt
-  next_cause Store cause = λ clean.
+  next_cause (Store w) cause = λ clean.
       let before : HasCleanDisk b = omega (arith, t.clean, clean) in
       let here : Laid b = λ live. let same = kept (λ _. laid clean) before live in subst (λ (x : Database). IsLaidOut x.schema) (sym same.1) (laid clean same.0) in
-      cause_after a b d ⊥ ⊥ (λ _. ⊥) (λ _. ⊥) s t (λ none. none) Store (cause (λ _. here)) clean
+      cause_after a b d ⊥ ⊥ (λ _. ⊥) (λ _. ⊥) s t (λ none. none) (Store w) (cause (λ _. here)) clean
 
   pub next_causes : {X : Type 0} (r : Result X Fault) → ((HasCleanDisk d → Laid b) → IfErr r (HasCause b d)) → IfErr r (HasCause a d)
   next_causes (Ok x) cause = tt

@@ -19,7 +19,7 @@ module _ (P Q : Database → Type 0) (leads : (db : Database) → P db → Q db)
 
   pub second_fails : (why : Fault) → ((HasCleanDisk d → IsTrue b.is_open → Q b.now) → HasCause b d why) → HasCause a d why
   second_fails NoMemory cause = tt
-  second_fails Store cause = λ clean. cause_after a b d ⊥ ⊥ (λ _. ⊥) (λ _. ⊥) s t (λ none. none) Store (cause (λ _. second_holds clean)) clean
+  second_fails (Store w) cause = λ clean. cause_after a b d ⊥ ⊥ (λ _. ⊥) (λ _. ⊥) s t (λ none. none) (Store w) (cause (λ _. second_holds clean)) clean
 
   pub either_fails : {X : Type 0} (r : Result X Fault) → ((HasCleanDisk d → IsTrue b.is_open → Q b.now) → IfErr r (HasCause b d)) → IfErr r (HasCause a d)
   either_fails (Ok x) cause = tt

@@ -1,5 +1,5 @@
 -- Why a walk over rows ends by a fault.
-use Rattle.std.proofs.Common.{◌≡◌, ◌↔◌, ◌⊎◌, List, [], Ok, Err, Result, IfErr, IsErrAnd, MatchResult, inl, inr, sym, subst, ◌∙◌, arith}
+use Rattle.std.proofs.Common.{◌≡◌, ◌↔◌, ◌⊎◌, List, [], Ok, Err, Result, IfErr, IsErrAnd, MatchResult, inl, inr, sym, subst, arith}
 use Rattle.sqlite.specs.Order.{Row}
 use Rattle.sqlite.specs.declared.error.Error.{Error}
 use Rattle.sqlite.specs.declared.error.Error.TheVariants.{SqliteFailure}
@@ -10,6 +10,7 @@ use Rattle.sqlite.specs.Held.{Held, state}
 use Rattle.sqlite.specs.State.{State, FailsToQuery, HasCleanDisk, Survives}
 use Rattle.sqlite.specs.Store.{Ghosts}
 use Rattle.wgr_sql.specs.Causes.{HasCause, IsHindered}
+use Rattle.wgr_sql.specs.Faults.{IsStore}
 use Rattle.wgr_sql.specs.declared.fault.Fault.{Fault}
 use Rattle.wgr_sql.specs.declared.fault.Fault.TheVariants.{NoMemory}
 use Rattle.wgr_sql.proofs.CauseLemmas.{cause_after, cause_if, hindered_after, if_open, mapped_cause, query_hindered}
@@ -30,7 +31,7 @@ failed_cause t old new e f told laid fails = cause_if ⊥ old new f (λ is clean
   | inl memory ↦ inl memory
   | inr hindered ↦ inr (inl hindered)
 ])) [
-  | inl memory ↦ absurd (let e = sym is ∙ told.1 memory in cc)
+  | inl memory ↦ absurd (subst IsStore (told.1 memory) is)
   | inr so ↦ so
 ])
 

@@ -1,7 +1,7 @@
 //! A network, read from its row.
 ghost use Rattle.std.specs.Prelude.{◌≡◌, IfErr, IfOk};
 ghost use Rattle.wgr_model.specs.Rows.{NetworkRow};
-ghost use Rattle.wgr_sql.specs.declared.fault.Fault.TheVariants.{Store};
+ghost use Rattle.wgr_sql.specs.Faults.{IsStore};
 ghost use Rattle.wgr_columns.specs.Decode.{network_in};
 ghost use Rattle.wgr_columns.specs.Settings.{row_settings};
 ghost use Rattle.wgr_columns.specs.Stored.{AreSettings, IsKeptNetwork, stored_network};
@@ -61,14 +61,14 @@ impl Model for NetworkRow {
 /// a network is a fault of the store.
 pub fn read_settings(alloc: Global, row: &Row) -> Result<NetworkSettings, Fault>
     ensures value { IfOk result (λ settings. settings ≡ row_settings (network_in row.now)) }
-    ensures only { IfErr result (λ why. why ≡ Store → (w : NetworkRow) → AreSettings w → row.now ≡ stored_network w → ⊥) }
+    ensures only { IfErr result (λ why. IsStore why → (w : NetworkRow) → AreSettings w → row.now ≡ stored_network w → ⊥) }
 {
-    let pool = pool_in(row).ok_or(Fault::Store)?;
-    let host = host_at(alloc, row, network::HOST)?.ok_or(Fault::Store)?;
-    let port = port_at(row, network::PORT).ok_or(Fault::Store)?;
-    let server = key_at(row, network::SERVER).ok_or(Fault::Store)?;
-    let capacity = capacity_at(row, network::CAPACITY).ok_or(Fault::Store)?;
-    let next = word_at(row, network::NEXT).ok_or(Fault::Store)?;
+    let pool = pool_in(row).ok_or(Fault::DAMAGED)?;
+    let host = host_at(alloc, row, network::HOST)?.ok_or(Fault::DAMAGED)?;
+    let port = port_at(row, network::PORT).ok_or(Fault::DAMAGED)?;
+    let server = key_at(row, network::SERVER).ok_or(Fault::DAMAGED)?;
+    let capacity = capacity_at(row, network::CAPACITY).ok_or(Fault::DAMAGED)?;
+    let next = word_at(row, network::NEXT).ok_or(Fault::DAMAGED)?;
     Ok(NetworkSettings {
         pool,
         host,
@@ -82,11 +82,11 @@ pub fn read_settings(alloc: Global, row: &Row) -> Result<NetworkSettings, Fault>
 /// The network's row as a value. One that the register doesn't store is a fault of the store.
 pub fn read_network(alloc: Global, row: &Row) -> Result<NetworkRow, Fault>
     ensures value { IfOk result (λ read. read ≡ network_in row.now) }
-    ensures only { IfErr result (λ why. why ≡ Store → (w : NetworkRow) → IsKeptNetwork w → row.now ≡ stored_network w → ⊥) }
+    ensures only { IfErr result (λ why. IsStore why → (w : NetworkRow) → IsKeptNetwork w → row.now ≡ stored_network w → ⊥) }
 {
-    let id = word_at(row, network::ID).ok_or(Fault::Store)?;
-    let tenant = word_at(row, network::TENANT).ok_or(Fault::Store)?;
-    let name = name_at(alloc, row, network::NAME)?.ok_or(Fault::Store)?;
+    let id = word_at(row, network::ID).ok_or(Fault::DAMAGED)?;
+    let tenant = word_at(row, network::TENANT).ok_or(Fault::DAMAGED)?;
+    let name = name_at(alloc, row, network::NAME)?.ok_or(Fault::DAMAGED)?;
     let settings = read_settings(alloc, row)?;
     Ok(NetworkRow {
         id,

@@ -63,7 +63,7 @@ module _ (old new : State) (start : IsTrue old.is_open → IsThirdRegister old.n
 
   refused_so : (f : Fault) → HasCauseOr (Refuses old.step_limit old.now text params) old new f → HasCauseOr (IsStatementRefused text params (tables_of old.now)) old new f
   refused_so NoMemory h = tt
-  refused_so Store h = λ clean. elim (h clean) [ inl hindered ↦ inl hindered | inr refuses ↦ refused_at refuses ]
+  refused_so (Store w) h = λ clean. elim (h clean) [ inl hindered ↦ inl hindered | inr refuses ↦ refused_at refuses ]
 
 pub third_fails : (old new : State) (text : List ℕ) (params : Row) (r : Result ℕ Fault) → ((schema : Schema) → HasReader schema → IsWriting schema text params)
     → (IsTrue old.in_transaction → (IsTrue old.is_open → HasCleanDisk new → IsWriting old.now.schema text params) → IfErr r (HasCauseOr (Refuses old.step_limit old.now text params) old new)) → FailsOnThird (IsStatementRefused text params) old new r

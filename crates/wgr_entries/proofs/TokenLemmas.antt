@@ -88,7 +88,7 @@ fails_third stops a c (Err f) fails inside register = elim (third_or_not (tables
   where
     anyhow : (g : Fault) → HasCauseOr ⊤ a c g
     anyhow NoMemory = tt
-    anyhow Store = λ _. inr tt
+    anyhow (Store w) = λ _. inr tt
 
 module _ (first : Tables → Type 0) (step : Tables → Tables → Type 0) (second : Tables → Type 0) where
   -- the first of two steps failed, and its fault is handed on

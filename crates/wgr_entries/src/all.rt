@@ -9,7 +9,8 @@ ghost use Rattle.wgr_model.specs.Register.{Tenant, Token};
 ghost use Rattle.wgr_model.specs.Rows.{NetworkRow};
 ghost use Rattle.wgr_entries.specs.Kept.{AreOf, IsKeptToken, stored_token};
 ghost use Rattle.wgr_sql.specs.Causes.{HasCause};
-ghost use Rattle.wgr_sql.specs.declared.fault.Fault.TheVariants.{NoMemory, Store};
+ghost use Rattle.wgr_sql.specs.Faults.{IsStore};
+ghost use Rattle.wgr_sql.specs.declared.fault.Fault.TheVariants.{NoMemory};
 ghost use Rattle.wgr_columns.specs.Decode.{network_in, number_at, tables_of, tenant_in, token_in};
 ghost use Rattle.wgr_entries.specs.Lookups.{settled};
 ghost use Rattle.wgr_tables.specs.Standing.{OnlyReads, Stands};
@@ -52,12 +53,12 @@ fn tenant_rows<S: Alter>(conn: &mut Connection<S>) -> Result<Vec<Row>, Fault>
 // The ids of these rows.
 fn ids_in(alloc: Global, rows: &[Row]) -> Result<Vec<u32>, Fault>
     ensures read { IfOk result (λ ids. ids.items ≡ map (λ r. number_at r tenant.ID) rows.now) }
-    ensures only { IfErr result (λ why. why ≡ Store → AreOf IsTenant stored_tenant rows.now → ⊥) }
+    ensures only { IfErr result (λ why. IsStore why → AreOf IsTenant stored_tenant rows.now → ⊥) }
 {
     let mut ids = Vec::new(alloc);
     for row in rows {
         let Some(id) = word_at(row, tenant::ID) else {
-            return Err(Fault::Store);
+            return Err(Fault::DAMAGED);
         };
         if ids.push(id).is_err() {
             return Err(Fault::NoMemory);
@@ -106,7 +107,7 @@ fn network_rows<S: Alter>(conn: &mut Connection<S>) -> Result<Vec<Row>, Fault>
 // The tenants of these rows.
 fn tenants_in(alloc: Global, rows: &[Row]) -> Result<Vec<Tenant>, Fault>
     ensures read { IfOk result (λ tenants. tenants.items ≡ map tenant_in rows.now) }
-    ensures only { IfErr result (λ why. why ≡ Store → AreOf IsTenant stored_tenant rows.now → ⊥) }
+    ensures only { IfErr result (λ why. IsStore why → AreOf IsTenant stored_tenant rows.now → ⊥) }
 {
     let mut tenants = Vec::new(alloc);
     for row in rows {
@@ -121,7 +122,7 @@ fn tenants_in(alloc: Global, rows: &[Row]) -> Result<Vec<Tenant>, Fault>
 // The tokens of these rows.
 fn tokens_in(alloc: Global, rows: &[Row]) -> Result<Vec<Token>, Fault>
     ensures read { IfOk result (λ tokens. tokens.items ≡ map token_in rows.now) }
-    ensures only { IfErr result (λ why. why ≡ Store → AreOf IsKeptToken stored_token rows.now → ⊥) }
+    ensures only { IfErr result (λ why. IsStore why → AreOf IsKeptToken stored_token rows.now → ⊥) }
 {
     let mut tokens = Vec::new(alloc);
     for row in rows {
@@ -147,7 +148,7 @@ fn keep(networks: &mut Vec<NetworkEntry>, network: NetworkEntry) -> Result<(), F
 // The networks of these rows, as they were added.
 fn settled_in(alloc: Global, rows: &[Row]) -> Result<Vec<NetworkEntry>, Fault>
     ensures read { IfOk result (λ networks. networks.items ≡ map (λ r. settled (network_in r)) rows.now) }
-    ensures only { IfErr result (λ why. why ≡ Store → AreOf IsKeptNetwork stored_network rows.now → ⊥) }
+    ensures only { IfErr result (λ why. IsStore why → AreOf IsKeptNetwork stored_network rows.now → ⊥) }
 {
     let mut networks = Vec::new(alloc);
     for row in rows {

@@ -87,7 +87,7 @@ fn number_in(rows: Vec<Row>, at: usize) -> Result<Option<u32>, Fault>
     let Some(row) = only(rows)? else {
         return Ok(None);
     };
-    Ok(Some(word_at(&row, at).ok_or(Fault::Store)?))
+    Ok(Some(word_at(&row, at).ok_or(Fault::DAMAGED)?))
 }
 
 /// The id of the tenant that the token of this digest names, or `None` where no token has it.

@@ -9,7 +9,7 @@ ghost use Rattle.wgr_model.specs.Consistent.{IsDigest};
 ghost use Rattle.wgr_model.specs.Laws.{Has};
 ghost use Rattle.wgr_model.specs.Register.{Bytes, is_same};
 ghost use Rattle.wgr_sql.specs.Causes.{HasCause};
-ghost use Rattle.wgr_sql.specs.declared.fault.Fault.TheVariants.{Store};
+ghost use Rattle.wgr_sql.specs.Faults.{IsStore};
 ghost use Rattle.wgr_columns.specs.Decode.{reader_in, tables_of};
 ghost use Rattle.wgr_columns.specs.Stored.{AreStored};
 ghost use Rattle.wgr_tables.specs.Standing.{Stands};
@@ -69,12 +69,12 @@ fn reader_rows<S: Alter>(conn: &mut Connection<S>) -> Result<Vec<Row>, Fault>
 // The digests of these rows.
 fn digests_in(alloc: Global, rows: &[Row]) -> Result<Vec<[u8; 32]>, Fault>
     ensures read { IfOk result (λ digests. digests.items ≡ map reader_in rows.now) }
-    ensures only { IfErr result (λ why. why ≡ Store → AreOf IsDigest stored_reader rows.now → ⊥) }
+    ensures only { IfErr result (λ why. IsStore why → AreOf IsDigest stored_reader rows.now → ⊥) }
 {
     let mut digests = Vec::new(alloc);
     for row in rows {
         let Some(digest) = digest_at(row, reader::DIGEST) else {
-            return Err(Fault::Store);
+            return Err(Fault::DAMAGED);
         };
         if digests.push(digest).is_err() {
             return Err(Fault::NoMemory);

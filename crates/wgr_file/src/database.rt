@@ -9,8 +9,9 @@ ghost use Rattle.wgr_file.specs.OnFiles.{AreThoseOf, IsClosedTo};
 use sqlite::{Connection, FileFrom, FileStore, Files, Start};
 use sqlite_disk::Disk;
 use std::fs;
+use std::io::ErrorKind;
 use wgr_register::Fault;
-use wgr_sql::fault_of;
+use wgr_sql::{Cause, fault_of};
 
 /// Both files as they were closed; none where they couldn't be, and then no contract says what they hold.
 pub type Closed<S> = Option<Files<FileFrom<S>>>;
@@ -31,7 +32,10 @@ pub(crate) fn find<S: Start>(
             Ok(conn) => Ok(Some(conn)),
             Err(why) => Err(why),
         },
-        Err(_) => Err(Fault::Store),
+        Err(error) if error.kind() == ErrorKind::PermissionDenied => {
+            Err(Fault::Store(Cause::Denied))
+        }
+        Err(_) => Err(Fault::Store(Cause::Other)),
     }
 }
 

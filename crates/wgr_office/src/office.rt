@@ -19,6 +19,7 @@ ghost use Rattle.wgr_register.specs.Recent.{max_recent};
 ghost use Rattle.wgr_register.specs.Standing.{IsAtRest, StandsAt};
 ghost use Rattle.wgr_request.specs.Request.{request_view};
 ghost use Rattle.wgr_sql.specs.Causes.{HasCause, HasCauseOr};
+ghost use Rattle.wgr_sql.specs.declared.fault.Cause.TheVariants.{Other};
 ghost use Rattle.wgr_sql.specs.declared.fault.Fault.TheVariants.{Store};
 
 use crate::answer::{Answer, ended, made};
@@ -102,7 +103,7 @@ impl<S: Alter> Office<S> {
     /// opened anew. To be asked after such an answer: the networks in memory are loaded anew.
     pub fn is_shut(&mut self) -> bool
         ensures keeps { Keeps S.Store self.old self.new }
-        ensures cause { (db : Database) (late : List Event) → StandsAt S.Store self.old db late → result ≡ true → HasCause (state S.Store self.old) (state S.Store self.new) Store }
+        ensures cause { (db : Database) (late : List Event) → StandsAt S.Store self.old db late → result ≡ true → HasCause (state S.Store self.old) (state S.Store self.new) (Store Other) }
     {
         self.register.is_shut()
     }

@@ -53,7 +53,7 @@ use Rattle.wgr_opening.proofs.WholeLemmas.{whole_is_consistent}
 pub cause_if_clean : {X : Type 0} (old new : State) (r : Result X Fault) → (HasCleanDisk new → IfErr r (HasCause old new)) → IfErr r (HasCause old new)
 cause_if_clean old new (Ok x) h = tt
 cause_if_clean old new (Err NoMemory) h = tt
-cause_if_clean old new (Err Store) h = λ clean. h clean clean
+cause_if_clean old new (Err (Store w)) h = λ clean. h clean clean
 
 -- what was laid out is so after a reading
 pub laid_still : (old new : State) → HasCleanDisk new → Laid old → IsKept old new → Laid new

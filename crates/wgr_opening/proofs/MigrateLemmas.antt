@@ -149,7 +149,7 @@ module _ {S : Type 0} (g : Ghosts S) (version : Version) (old mid end : Held S) 
   pub fails_migrated : Survives (state g old) (state g mid) (λ _. ⊥) → {P : Trees → Type 0} → Survives (state g mid) (state g end) P → (why : Fault) → HasCauseOr (StopsUpgrade (state g mid).now) (state g mid) (state g end) why
       → HasCauseOr (StopsUpgrade was) (state g old) (state g end) why
   fails_migrated begun ended NoMemory cause = tt
-  fails_migrated begun ended Store cause = λ clean. cause_after (state g old) (state g mid) (state g end) (StopsUpgrade was) (StopsUpgrade was) (λ _. ⊥) _ begun ended (λ h. h) Store (λ c. by_open (state g mid).is_open refl (cause c) c) clean
+  fails_migrated begun ended (Store w) cause = λ clean. cause_after (state g old) (state g mid) (state g end) (StopsUpgrade was) (StopsUpgrade was) (λ _. ⊥) _ begun ended (λ h. h) (Store w) (λ c. by_open (state g mid).is_open refl (cause c) c) clean
     where
       by_open : (b : Bool) → (state g mid).is_open ≡ b → IsHindered (state g mid) (state g end) ⊎ StopsUpgrade (state g mid).now → HasCleanDisk (state g end) → IsHindered (state g mid) (state g end) ⊎ StopsUpgrade was
       by_open true live (inl hindered) clean = inl hindered

@@ -83,7 +83,7 @@ orders (line_end.Ended (Err (order_fault.Refused refusal.RegisterFull))) names =
 orders (line_end.Ended (Err (order_fault.Refused (refusal.PoolOverlaps tenant network)))) names =
     refused_line (codes "pool_overlaps " ++ string_bytes tenant ++ codes " " ++ string_bytes network) (overlap (string_bytes tenant) (string_bytes network) names.0 names.1)
 orders (line_end.Ended (Err (order_fault.Fault fault.NoMemory))) names = refl
-orders (line_end.Ended (Err (order_fault.Fault fault.Store))) names = refl
+orders (line_end.Ended (Err (order_fault.Fault (fault.Store cause)))) names = refl
 orders (line_end.Unspelled line_fault.NoOrder) names = refl
 orders (line_end.Unspelled (line_fault.Field f)) names = refused_line (codes "bad_field " ++ word_field_name f) (both_none (codes "bad_field ") (word_field_name f) refl (field f))
 orders (line_end.Unspelled line_fault.NoMemory) names = refl
@@ -98,4 +98,4 @@ readings reading_end.BadFile small = refused_line (codes "bad_field file") refl
 readings reading_end.FileExists small = refused_line (codes "file_exists") refl
 readings reading_end.Device small = refl
 readings (reading_end.Fault fault.NoMemory) small = refl
-readings (reading_end.Fault fault.Store) small = refl
+readings (reading_end.Fault (fault.Store cause)) small = refl

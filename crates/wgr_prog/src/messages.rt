@@ -11,6 +11,7 @@ use std::fmt;
 use std::fmt::Write as _;
 use wgr_io::{Write, write_all};
 use wgr_register::{Done, RegisterFault};
+use wgr_sql::Cause;
 
 /// All is done.
 pub(crate) const DONE: u8 = 0;
@@ -95,7 +96,7 @@ pub(crate) fn failure<E: Write>(why: &Failure, err: &mut E) -> u8
         }
         Failure::Register(why) => register_fault(*why, err),
         Failure::Device => device(err),
-        Failure::Shut => register_fault(RegisterFault::Store, err),
+        Failure::Shut => register_fault(RegisterFault::Store(Cause::Other), err),
     }
 }
 
@@ -104,11 +105,24 @@ fn register_fault<E: Write>(why: RegisterFault, err: &mut E) -> u8
 {
     match why {
         RegisterFault::NoMemory => no_memory(err),
-        RegisterFault::Store => fault(err, b"wgr: store\n"),
+        RegisterFault::Store(cause) => fault(err, store_text(cause)),
         RegisterFault::NotARegister => fault(err, b"wgr: not_a_register\n"),
         RegisterFault::EarlierVersion => fault(err, EARLIER_VERSION),
         RegisterFault::NotGood => fault(err, b"wgr: not_good\n"),
         RegisterFault::NotEmpty => fault(err, b"wgr: not_empty\n"),
+    }
+}
+
+// What is printed where the store fails: what was wrong, if it is known, is said in a line of its own.
+fn store_text(cause: Cause) -> &'static [u8] {
+    match cause {
+        Cause::Busy => b"wgr: store\nwgr: another process has the file open\n",
+        Cause::Denied => {
+            b"wgr: store\nwgr: the file can't be opened, read or written: see its owner and permissions, and those of its directory\n"
+        }
+        Cause::Damaged => b"wgr: store\nwgr: the file isn't a database, or is damaged\n",
+        Cause::Full => b"wgr: store\nwgr: the disk is full\n",
+        Cause::Other => b"wgr: store\n",
     }
 }
 

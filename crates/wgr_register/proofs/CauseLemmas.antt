@@ -57,7 +57,7 @@ use Rattle.wgr_register.proofs.AskLemmas.{changing}
 pub if_clean : {X : Type 0} (old new : State) (r : Result X Fault) → (HasCleanDisk new → IfErr r (HasCause old new)) → IfErr r (HasCause old new)
 if_clean old new (Ok x) h = tt
 if_clean old new (Err NoMemory) h = tt
-if_clean old new (Err Store) h = λ clean. h clean clean
+if_clean old new (Err (Store w)) h = λ clean. h clean clean
 
 pub asked_clean : (old new : State) (r : Result (Vec ℕ Global) AskFault) → (HasCleanDisk new → IfFault (HasCause old new) r) → IfFault (HasCause old new) r
 asked_clean old new (Ok text) h = tt
@@ -66,7 +66,7 @@ asked_clean old new (Err fault.UnknownToken) h = tt
 asked_clean old new (Err fault.ReadOnly) h = tt
 asked_clean old new (Err fault.NoSuchNetwork) h = tt
 asked_clean old new (Err (fault.Fault NoMemory)) h = tt
-asked_clean old new (Err (fault.Fault Store)) h = λ clean. h clean clean
+asked_clean old new (Err (fault.Fault (Store w))) h = λ clean. h clean clean
 
 -- a fault that is handed on
 pub fault_handed : (P : Fault → Type 0) (r : Result (Vec ℕ Global) AskFault) (why : Fault) → IsErrAnd r (λ e. e ≡ fault.Fault why) → P why → IfFault P r
@@ -99,7 +99,7 @@ memory_alone old new (Err fault.UnknownToken) h = tt
 memory_alone old new (Err fault.ReadOnly) h = tt
 memory_alone old new (Err fault.NoSuchNetwork) h = tt
 memory_alone old new (Err (fault.Fault NoMemory)) h = tt
-memory_alone old new (Err (fault.Fault Store)) h = absurd (let e = h in cc)
+memory_alone old new (Err (fault.Fault (Store w))) h = absurd (let e = h in cc)
 
 pub undone_memory : (e : AskFault) (why : ActFault) → e ≡ ask_fault why → IfFault (λ w. w ≡ NoMemory) (Err e)
 undone_memory (fault.Refused other) why is = tt
@@ -117,7 +117,7 @@ stopped_clean P old new (Err fault.UnknownToken) h = tt
 stopped_clean P old new (Err fault.ReadOnly) h = tt
 stopped_clean P old new (Err fault.NoSuchNetwork) h = tt
 stopped_clean P old new (Err (fault.Fault NoMemory)) h = tt
-stopped_clean P old new (Err (fault.Fault Store)) h = λ clean. h clean clean
+stopped_clean P old new (Err (fault.Fault (Store w))) h = λ clean. h clean clean
 
 pub stopped_after : (P : Type 0) (old mid new : State) (r : Result (Vec ℕ Global) AskFault) → Survives old mid (λ _. ⊥) → Survives mid new (λ _. ⊤) → IfFault (HasCauseOr P mid new) r → IfFault (HasCauseOr P old new) r
 stopped_after P old mid new (Ok text) s t h = tt
@@ -139,7 +139,7 @@ memory_stops P old new (Err fault.UnknownToken) h = tt
 memory_stops P old new (Err fault.ReadOnly) h = tt
 memory_stops P old new (Err fault.NoSuchNetwork) h = tt
 memory_stops P old new (Err (fault.Fault NoMemory)) h = tt
-memory_stops P old new (Err (fault.Fault Store)) h = absurd (let e = h in cc)
+memory_stops P old new (Err (fault.Fault (Store w))) h = absurd (let e = h in cc)
 
 -- a call that writes nothing
 pub writes_nothing : {S : Type 0} (g : Ghosts S) (conn : Held S) → conn.in_transaction ≡ false → MayWrite g conn conn

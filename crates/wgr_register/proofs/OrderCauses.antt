@@ -31,7 +31,7 @@ module _ (P : Type 0) (old mid new : State) (r : Result Done OrderFault) (why : 
     where
       each : (f : Fault) → HasCauseOr Q mid new f → HasCauseOr P old new f
       each NoMemory h = tt
-      each Store h = λ clean. elim (h clean) [
+      each (Store w) h = λ clean. elim (h clean) [
         | inl hindered ↦ inl (hindered_after old mid new (λ _. ⊥) before (omega (arith, then_.clean, clean)) then_.counts hindered)
         | inr so ↦ inr (stops clean so)
       ]

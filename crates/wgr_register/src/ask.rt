@@ -56,7 +56,7 @@ fn take_network<S: Alter>(
     }
     match load_network(alloc, conn, id)? {
         Some(network) => Ok(network),
-        None => Err(Fault::Store),
+        None => Err(Fault::DAMAGED),
     }
 }
 

@@ -8,7 +8,8 @@ ghost use Rattle.wgr_model.specs.RowLaws.{AreConsistent};
 ghost use Rattle.wgr_model.specs.Steps.{Event, Networks};
 ghost use Rattle.wgr_entries.specs.Kept.{AreOf};
 ghost use Rattle.wgr_sql.specs.Causes.{HasCause};
-ghost use Rattle.wgr_sql.specs.declared.fault.Fault.TheVariants.{NoMemory, Store};
+ghost use Rattle.wgr_sql.specs.Faults.{IsStore};
+ghost use Rattle.wgr_sql.specs.declared.fault.Fault.TheVariants.{NoMemory};
 ghost use Rattle.wgr_columns.specs.Decode.{network_in, tables_of};
 ghost use Rattle.wgr_entries.specs.Lookups.{settled};
 ghost use Rattle.wgr_tables.specs.Standing.{OnlyReads, Stands};
@@ -55,7 +56,7 @@ fn entries_of(alloc: Global, networks: ByName) -> Result<Vec<(Name, Network)>, F
 // The networks of these rows in the order of their names, as they were added.
 fn entries_in(alloc: Global, rows: &[Row]) -> Result<Vec<(Name, Network)>, Fault>
     ensures entries { IfOk result (λ entries. entries.items ≡ by_name (map (λ r. settled (network_in r)) rows.now)) }
-    ensures only { IfErr result (λ why. why ≡ Store → AreOf IsKeptNetwork stored_network rows.now → ⊥) }
+    ensures only { IfErr result (λ why. IsStore why → AreOf IsKeptNetwork stored_network rows.now → ⊥) }
 {
     let mut networks = ByName::new(alloc);
     let mut rest = rows.len();

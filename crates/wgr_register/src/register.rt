@@ -1,5 +1,5 @@
 //! The register.
-ghost use Rattle.std.specs.Prelude.{◌≡◌, ◌↔◌, ◌≤◌, ℕ, List, [], true, false, Err, IfErr, IfOk, OnOk};
+ghost use Rattle.std.specs.Prelude.{◌≡◌, ◌↔◌, ◌≤◌, ℕ, List, [], true, false, IfErr, IsErrAnd, IfOk, OnOk};
 ghost use Rattle.sqlite.specs.Effect.{Database};
 ghost use Rattle.sqlite.specs.State.{HasCleanDisk, Survives};
 ghost use Rattle.sqlite.specs.Held.{state};
@@ -14,6 +14,8 @@ ghost use Rattle.wgr_register.specs.Recent.{max_recent};
 ghost use Rattle.wgr_register.specs.Standing.{IsAtRest, StandsAt};
 ghost use Rattle.wgr_sql.specs.Calls.{IsKept};
 ghost use Rattle.wgr_sql.specs.Causes.{HasCause, HasCauseOr};
+ghost use Rattle.wgr_sql.specs.Faults.{IsStore};
+ghost use Rattle.wgr_sql.specs.declared.fault.Cause.TheVariants.{Other};
 ghost use Rattle.wgr_sql.specs.declared.fault.Fault.TheVariants.{Store};
 ghost use Rattle.wgr_schema.specs.Faults.{IfStatementFails};
 ghost use Rattle.wgr_schema.specs.Fresh.{IsFresh, LeavesFresh, is_any_taken, no_schema};
@@ -209,7 +211,7 @@ impl<S: Alter> Register<S> {
     pub fn is_shut(&mut self) -> bool
         ensures clean { HasCleanDisk (state S.Store self.new) → HasCleanDisk (state S.Store self.old) }
         ensures stands { (db : Database) (late : List Event) → StandsAt S.Store self.old db late → StandsAt S.Store self.new db late }
-        ensures cause { (db : Database) (late : List Event) → StandsAt S.Store self.old db late → result ≡ true → HasCause (state S.Store self.old) (state S.Store self.new) Store }
+        ensures cause { (db : Database) (late : List Event) → StandsAt S.Store self.old db late → result ≡ true → HasCause (state S.Store self.old) (state S.Store self.new) (Store Other) }
     {
         self.memory.forget_all();
         let found = tenant_of_token(&mut self.conn, &[0; 32]);
@@ -310,7 +312,7 @@ impl<S: Alter> Register<S> {
 }
 
 fn is_fault_of_store(found: &Result<Option<u32>, Fault>) -> bool
-    ensures { result ≡ true → found.now ≡ Err Store }
+    ensures { result ≡ true → IsErrAnd found.now IsStore }
 {
-    matches!(found, Err(Fault::Store))
+    matches!(found, Err(Fault::Store(_)))
 }

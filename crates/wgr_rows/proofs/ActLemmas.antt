@@ -172,7 +172,7 @@ fault_told P (Err (fault.Fault other)) why is h = let same : other ≡ why = cc 
 -- a fault of the store may be taken to come while the disk is clean
 pub cause_clean : (old new : State) (why : Fault) → (HasCleanDisk new → HasCause old new why) → HasCause old new why
 cause_clean old new NoMemory h = tt
-cause_clean old new Store h = λ clean. h clean clean
+cause_clean old new (Store w) h = λ clean. h clean clean
 
 -- a call that came before left the cause
 pub later : (a b d : State) → Survives a b (λ _. ⊥) → Survives b d (λ _. ⊥) → (why : Fault) → HasCause b d why → HasCause a d why

@@ -22,6 +22,8 @@ use Rattle.wgr_pool.specs.declared.allot.Stop.{Stop}
 use Rattle.wgr_model.specs.Rows.{AreKeyed}
 use Rattle.wgr_sql.specs.Causes.{HasCause, IsAnswered, IsHindered}
 use Rattle.wgr_sql.specs.declared.fault.Fault.{Fault}
+use Rattle.wgr_sql.specs.Faults.{IsStore}
+use Rattle.wgr_sql.specs.declared.fault.Cause.TheVariants.{Damaged}
 use Rattle.wgr_sql.specs.declared.fault.Fault.TheVariants.{NoMemory, Store}
 use Rattle.wgr_sql.proofs.CauseLemmas.{cause_if, query_hindered}
 use Rattle.wgr_columns.specs.Decode.{IsRegister, allowed_in, tables_of}
@@ -29,10 +31,10 @@ use Rattle.wgr_columns.specs.Fields.{IsPeerIdAt, IsPrefixAt}
 use Rattle.wgr_columns.specs.Layout.{Others, schema_with}
 use Rattle.wgr_columns.proofs.Statements.{never_refused}
 use Rattle.wgr_rows.specs.HeldRows.{HeldSpan, brief, hold_params, holds_text, max_holds}
-use Rattle.wgr_rows.specs.Stopping.{Blames, HavePool, IsSound, fault_at}
+use Rattle.wgr_rows.specs.Stopping.{Blames, HavePool, IsSound, StopsAs}
 use Rattle.wgr_rows.specs.Telling.{ShowsGoodRows, IsToldTo, Tells}
 use Rattle.wgr_rows.specs.declared.progress.Progress.{Progress}
-use Rattle.wgr_rows.specs.declared.progress.Progress.TheVariants.{Running, Stopped}
+use Rattle.wgr_rows.specs.declared.progress.Progress.TheVariants.{Running, Done, Stopped}
 use Rattle.wgr_rows.proofs.Coming.{is_open, parts, spans}
 use Rattle.wgr_rows.proofs.ReadLemmas.{few_given, given_read}
 
@@ -59,13 +61,21 @@ unless_hindered old new h = elim (cases_lt new.faults (min (old.faults + 1) (2 ^
 ]
 
 -- a fault that can't come where nothing hindered the call
-pub cause_unless : (old new : State) (f : Fault) → (f ≡ Store → HasCleanDisk new → (IsHindered old new → ⊥) → ⊥) → HasCause old new f
+pub cause_unless : (old new : State) (f : Fault) → (IsStore f → HasCleanDisk new → (IsHindered old new → ⊥) → ⊥) → HasCause old new f
 cause_unless old new f h = cause_if ⊥ old new f (λ is clean. inl (unless_hindered old new (h is clean)))
 
-pub for_cause : (network : ℕ) (pool : PrefixValue) (old new : State) (at : Progress) (why : Stop) → ((HasCleanDisk new → IsSound network pool old) → HasCause old new (fault_at why)) → Blames network pool old at new (Stopped why)
+pub for_cause : (network : ℕ) (pool : PrefixValue) (old new : State) (at : Progress) (why : Fault) → ((HasCleanDisk new → IsSound network pool old) → HasCause old new why) → Blames network pool old at new (Stopped why)
 for_cause network pool old new at why cause other is =
     let same : why ≡ other = cc in
-    inr (λ known. subst (λ (w : Stop). HasCause old new (fault_at w)) same (cause known))
+    inr (λ known. subst (λ (w : Fault). HasCause old new w) same (cause known))
+
+-- the fault for which a reading has stopped that was running
+pub stopped_cause : (network : ℕ) (pool : PrefixValue) (old new : State) (at end : Progress) (why : Stop) (told : Fault) → at ≡ Running → StopsAs end why → ((f : Fault) → end ≡ Stopped f → told ≡ f)
+    → Blames network pool old at new end → (HasCleanDisk new → IsSound network pool old) → HasCause old new told
+stopped_cause network pool old new at Running why told running stops is blames known = absurd stops
+stopped_cause network pool old new at Done why told running stops is blames known = absurd stops
+stopped_cause network pool old new at (Stopped f) why told running stops is blames known =
+    subst (HasCause old new) (sym (is f refl)) (elim (blames f refl) [ inl was ↦ absurd (let e = sym running ∙ was in cc) | inr cause ↦ cause known ])
 
 no_two : (x y : ⊥) → x ≡ y
 no_two x y = absurd x
@@ -86,15 +96,15 @@ answered_at shows_peers db register network pool start = subst (λ (s : Schema).
 abbrev Told : Fault → Error → Type 0
 Told f e = (f ≡ NoMemory) ↔ (e ≡ SqliteFailure OutOfMemory)
 
-hindered_by : (old new : State) (e : Error) (f : Fault) → Told f e → f ≡ Store → (e ≡ SqliteFailure OutOfMemory) ⊎ IsHindered old new → IsHindered old new
-hindered_by old new e f told is (inl memory) = absurd (let e = sym is ∙ told.1 memory in cc)
+hindered_by : (old new : State) (e : Error) (f : Fault) → Told f e → IsStore f → (e ≡ SqliteFailure OutOfMemory) ⊎ IsHindered old new → IsHindered old new
+hindered_by old new e f told is (inl memory) = absurd (subst IsStore (told.1 memory) is)
 hindered_by old new e f told is (inr hindered) = hindered
 
 -- the query didn't begin
 pub begin_cause : (shows_peers : Bool) (network : ℕ) (pool : PrefixValue) (start : ℕ) (old new : State) (e : Error) (f : Fault) → Told f e → (HasCleanDisk new → IsSound network pool old) → (HasCleanDisk new → FailsToQuery (holds_text shows_peers) (hold_params network pool start) old new e) → HasCause old new f
 begin_cause shows_peers network pool start old new e f told known fails = cause_unless old new f (λ why clean free. either old.is_open refl why clean free)
   where
-    either : (b : Bool) → old.is_open ≡ b → f ≡ Store → HasCleanDisk new → (IsHindered old new → ⊥) → ⊥
+    either : (b : Bool) → old.is_open ≡ b → IsStore f → HasCleanDisk new → (IsHindered old new → ⊥) → ⊥
     either false shut why clean free = free (inr (inl shut))
     either true live why clean free = free (hindered_by old new e f told why (query_hindered (holds_text shows_peers) (hold_params network pool start) old new (answered_at shows_peers old.now ((known clean).1 live).0 network pool start) e (inl (fails clean))))
 
@@ -107,8 +117,8 @@ module _ {S : Type 0} (g : Ghosts S) (shows_peers : Bool) (network : ℕ) (pool 
   live_given h given runs = is_open g h (holds_text shows_peers) (hold_params network pool start) given runs
 
   -- there are no more rows than a network may have
-  pub limit_cause : max_holds < taken → (HasCleanDisk (state g old) → IsSound network pool (state g old)) → HasCause (state g old) (state g old) Store
-  limit_cause high known = cause_unless (state g old) (state g old) Store (λ _ clean free.
+  pub limit_cause : max_holds < taken → (HasCleanDisk (state g old) → IsSound network pool (state g old)) → HasCause (state g old) (state g old) (Store Damaged)
+  limit_cause high known = cause_unless (state g old) (state g old) (Store Damaged) (λ _ clean free.
       let sound = known clean in
       with_told clean sound (λ told.
       let it = sound.1 (live_given old told.given told.runs) in
@@ -131,8 +141,8 @@ module _ {S : Type 0} (g : Ghosts S) (shows_peers : Bool) (network : ℕ) (pool 
 
     module _ (row : Row) (same : HasCleanDisk (state g new) → IsUnchanged (state g old) (state g new)) (gives : HasCleanDisk (state g new) → (given : List Row) → HasGiven g (holds_text shows_peers) (hold_params network pool start) old given → HasGiven g (holds_text shows_peers) (hold_params network pool start) new (given ++ row ∷ [])) where
       -- a row that was given isn't refused
-      pub row_cause : (IsPrefixAt row 2 → (shows_peers ≡ true → IsPeerIdAt row 6 network) → ⊥) → (HasCleanDisk (state g new) → IsSound network pool (state g old)) → HasCause (state g old) (state g new) Store
-      row_cause refused known = cause_unless (state g old) (state g new) Store (λ _ clean free.
+      pub row_cause : (IsPrefixAt row 2 → (shows_peers ≡ true → IsPeerIdAt row 6 network) → ⊥) → (HasCleanDisk (state g new) → IsSound network pool (state g old)) → HasCause (state g old) (state g new) (Store Damaged)
+      row_cause refused known = cause_unless (state g old) (state g new) (Store Damaged) (λ _ clean free.
           let sound = known clean in
           with_told (clean_before clean) sound (λ told.
           let it = sound.1 (live_given old told.given told.runs) in
@@ -143,8 +153,8 @@ module _ {S : Type 0} (g : Ghosts S) (shows_peers : Bool) (network : ℕ) (pool 
           refused read.0 read.1))
 
       -- and none begins below the one before it
-      pub order_cause : (hold : HeldSpan) → hold ≡ brief shows_peers network (allowed_in row) → (reached_after last ≤ rank hold.0.lo → ⊥) → (HasCleanDisk (state g new) → IsSound network pool (state g old)) → HasCause (state g old) (state g new) Store
-      order_cause hold hold_is below known = cause_unless (state g old) (state g new) Store (λ _ clean free.
+      pub order_cause : (hold : HeldSpan) → hold ≡ brief shows_peers network (allowed_in row) → (reached_after last ≤ rank hold.0.lo → ⊥) → (HasCleanDisk (state g new) → IsSound network pool (state g old)) → HasCause (state g old) (state g new) (Store Damaged)
+      order_cause hold hold_is below known = cause_unless (state g old) (state g new) (Store Damaged) (λ _ clean free.
           let sound = known clean in
           with_told (clean_before clean) sound (λ told.
           let it = sound.1 (live_given old told.given told.runs) in

@@ -8,10 +8,11 @@ use Rattle.sqlite.specs.State.{State, HasCleanDisk, Survives}
 use Rattle.wgr_text.specs.Prefix.{PrefixValue}
 use Rattle.wgr_sql.specs.Causes.{HasCause}
 use Rattle.wgr_sql.specs.declared.fault.Fault.{Fault}
-use Rattle.wgr_sql.proofs.CauseLemmas.{cause_after, cause_before, cause_if}
+use Rattle.wgr_sql.specs.declared.fault.Fault.TheVariants.{NoMemory, Store}
+use Rattle.wgr_sql.proofs.CauseLemmas.{cause_after, cause_before}
 use Rattle.wgr_columns.specs.Decode.{IsRegister, tables_of}
 use Rattle.wgr_rows.specs.Staying.{IsQuiet, IsStillOnClean, stays_itself, stays_on}
-use Rattle.wgr_rows.specs.Stopping.{Blames, HavePool, IsSound, Leaves, fault_at}
+use Rattle.wgr_rows.specs.Stopping.{Blames, HavePool, IsSound, Leaves}
 use Rattle.wgr_rows.specs.declared.progress.Progress.{Progress}
 
 module _ (network : ℕ) (pool : PrefixValue) (a b c : State) (one : Survives a b (λ _. ⊥)) (two : Survives b c (λ _. ⊥)) (still : IsQuiet a → IsStillOnClean a b) where
@@ -22,15 +23,16 @@ module _ (network : ℕ) (pool : PrefixValue) (a b c : State) (one : Survives a 
   )
 
   cause_first : (f : Fault) → (HasCleanDisk c → IsSound network pool a) → ((HasCleanDisk b → IsSound network pool a) → HasCause a b f) → HasCause a c f
-  cause_first f known cause = cause_if ⊥ a c f (λ is clean. subst (HasCause a c) is (cause_before a b c ⊥ ⊥ (λ _. ⊥) two (λ none. none) f (cause (λ _. known clean))) clean)
+  cause_first NoMemory known cause = tt
+  cause_first (Store w) known cause = λ clean. cause_before a b c ⊥ ⊥ (λ _. ⊥) two (λ none. none) (Store w) (cause (λ _. known clean)) clean
 
   cause_next : (f : Fault) → (HasCleanDisk c → IsSound network pool a) → ((HasCleanDisk c → IsSound network pool b) → HasCause b c f) → HasCause a c f
   cause_next f known cause = cause_after a b c ⊥ ⊥ (λ _. ⊥) (λ _. ⊥) one two (λ none. none) f (cause (λ clean. sound_next (omega (arith, two.clean, clean)) (known clean)))
 
   blames_on : (at mid end : Progress) → Blames network pool a at b mid → Blames network pool b mid c end → Blames network pool a at c end
   blames_on at mid end first next why is = elim (next why is) [
-    | inl same ↦ elim (first why same) [ inl was ↦ inl was | inr cause ↦ inr (λ known. cause_first (fault_at why) known cause) ]
-    | inr cause ↦ inr (λ known. cause_next (fault_at why) known cause)
+    | inl same ↦ elim (first why same) [ inl was ↦ inl was | inr cause ↦ inr (λ known. cause_first why known cause) ]
+    | inr cause ↦ inr (λ known. cause_next why known cause)
   ]
 
 pub leaves_itself : {S : Type 0} (g : Ghosts S) (h : Held S) (network : ℕ) (pool : PrefixValue) (at : Progress) → Leaves g h network pool at h network pool at

@@ -15,12 +15,18 @@ use Rattle.wgr_sql.specs.declared.fault.Fault.TheVariants as fault
 use Rattle.wgr_columns.specs.Decode.{IsRegister, tables_of}
 use Rattle.wgr_rows.specs.Staying.{IsQuiet, Stays}
 use Rattle.wgr_rows.specs.declared.progress.Progress.{Progress}
-use Rattle.wgr_rows.specs.declared.progress.Progress.TheVariants.{Stopped}
+use Rattle.wgr_rows.specs.declared.progress.Progress.TheVariants.{Running, Done, Stopped}
 
--- the fault for which a reading stops
-abbrev pub fault_at : Stop → Fault
-fault_at stop.NoMemory = fault.NoMemory
-fault_at stop.Source = fault.Store
+-- what a source says of a fault
+abbrev pub stop_of : Fault → Stop
+stop_of fault.NoMemory = stop.NoMemory
+stop_of (fault.Store cause) = stop.Source
+
+-- the reading has stopped for a fault, of which the source says this
+abbrev pub StopsAs : Progress → Stop → Type 0
+StopsAs Running why = ⊥
+StopsAs Done why = ⊥
+StopsAs (Stopped f) why = why ≡ stop_of f
 
 -- the rows are consistent, and the network of this id has this pool
 pub record HavePool (t : Tables) (network : ℕ) (pool : PrefixValue) : Type 0 where
@@ -36,7 +42,7 @@ IsSound network pool s = IsQuiet s × (IsTrue s.is_open → IsRegister s.now × 
 
 -- a reading that has stopped since had a cause, if the rows were sound
 abbrev pub Blames : ℕ → PrefixValue → State → Progress → State → Progress → Type 0
-Blames network pool old at new end = (why : Stop) → end ≡ Stopped why → (at ≡ Stopped why) ⊎ ((HasCleanDisk new → IsSound network pool old) → HasCause old new (fault_at why))
+Blames network pool old at new end = (f : Fault) → end ≡ Stopped f → (at ≡ Stopped f) ⊎ ((HasCleanDisk new → IsSound network pool old) → HasCause old new f)
 
 -- what a call of a reading leaves as it was, and why the reading stopped if it did
 abbrev pub Leaves : {S : Type 0} → Ghosts S → Held S → ℕ → PrefixValue → Progress → Held S → ℕ → PrefixValue → Progress → Type 0

@@ -77,7 +77,7 @@ fn led_number(rows: Vec<Row>, network: u32) -> Result<Option<u32>, Fault>
     let Some(row) = only(rows)? else {
         return Ok(None);
     };
-    let number = peer_number_at(&row, allowed::PEER, network).ok_or(Fault::Store)?;
+    let number = peer_number_at(&row, allowed::PEER, network).ok_or(Fault::DAMAGED)?;
     Ok(Some(number))
 }
 
@@ -87,9 +87,9 @@ fn lasts(rows: Vec<Row>, now: u64) -> Result<bool, Fault>
     ensures only { OnErr result (HasEnd rows.items → ⊥) }
 {
     let Some(row) = only(rows)? else {
-        return Err(Fault::Store);
+        return Err(Fault::DAMAGED);
     };
-    let end = end_at(&row, peer::UNTIL).ok_or(Fault::Store)?;
+    let end = end_at(&row, peer::UNTIL).ok_or(Fault::DAMAGED)?;
     Ok(!end.is_expired(now))
 }
 

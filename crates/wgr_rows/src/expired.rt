@@ -8,7 +8,7 @@ ghost use Rattle.wgr_peers.specs.PeerIndex.{EndsFrom};
 ghost use Rattle.wgr_peers.specs.Peers.{expired};
 ghost use Rattle.wgr_model.specs.Rows.{peer_id};
 ghost use Rattle.wgr_sql.specs.Causes.{HasCause};
-ghost use Rattle.wgr_sql.specs.declared.fault.Fault.TheVariants.{Store};
+ghost use Rattle.wgr_sql.specs.Faults.{IsStore};
 ghost use Rattle.wgr_columns.specs.Decode.{number_at, peer_in, tables_of};
 ghost use Rattle.wgr_columns.specs.Fields.{IsPeerIdAt};
 ghost use Rattle.wgr_columns.specs.Stored.{AreRising};
@@ -52,12 +52,12 @@ fn over_rows<S: Alter>(conn: &mut Connection<S>, network: u32, now: u64) -> Resu
 // The numbers of the network's peers whose rows these are.
 fn numbers_of(alloc: Global, rows: &[Row], network: u32) -> Result<Vec<u32>, Fault>
     ensures value { IfOk result (λ numbers. map (peer_id network) numbers.items ≡ map (λ r. number_at r peer.ID) rows.now) }
-    ensures only { IfErr result (λ e. e ≡ Store → All (λ r. IsPeerIdAt r peer.ID network) rows.now → ⊥) }
+    ensures only { IfErr result (λ e. IsStore e → All (λ r. IsPeerIdAt r peer.ID network) rows.now → ⊥) }
 {
     let mut numbers = Vec::new(alloc);
     for row in rows {
         let Some(number) = peer_number_at(row, peer::ID, network) else {
-            return Err(Fault::Store);
+            return Err(Fault::DAMAGED);
         };
         if numbers.push(number).is_err() {
             return Err(Fault::NoMemory);

@@ -25,7 +25,7 @@ pub fn head_row<S: Alter>(
     ensures cause { OnNetwork S.Store conn.old network (λ n. IfErr result (HasCause (state S.Store conn.old) (state S.Store conn.new))) }
 {
     let Some(row) = network_row(conn, network)? else {
-        return Err(Fault::Store);
+        return Err(Fault::DAMAGED);
     };
     read_settings(alloc, &row)
 }

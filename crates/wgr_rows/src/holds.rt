@@ -7,12 +7,13 @@ ghost use Rattle.wgr_pool.specs.Spans.{IsFilledBy, IsFull, IsLowestFree, StopsAt
 ghost use Rattle.sqlite.specs.State.{HasCleanDisk};
 ghost use Rattle.sqlite.specs.Held.{state};
 ghost use Rattle.wgr_sql.specs.Causes.{HasCause};
+ghost use Rattle.wgr_sql.specs.declared.fault.Fault.{Fault};
 ghost use Rattle.wgr_columns.specs.Decode.{tables_of};
 ghost use Rattle.wgr_rows.specs.declared.progress.Progress.TheVariants.{Running, Stopped};
 ghost use Rattle.wgr_rows.specs.HeldRows.{TakesFirst, below, coming, is_passed_over, max_holds, rest, rows_to_come};
 ghost use Rattle.wgr_rows.specs.Rising.{next_from, told_rise};
 ghost use Rattle.wgr_rows.specs.Staying.{Stays};
-ghost use Rattle.wgr_rows.specs.Stopping.{Blames, IsSound, Leaves, fault_at};
+ghost use Rattle.wgr_rows.specs.Stopping.{Blames, IsSound, Leaves, StopsAs, stop_of};
 ghost use Rattle.wgr_rows.specs.Left.{leaves_itself, leaves_on};
 ghost use Rattle.wgr_rows.specs.Telling.{ShowsGoodRows, Tells};
 
@@ -28,13 +29,13 @@ use wgr_text::{Addr, Prefix, Span};
 /// How many prefixes a network may have: an address of each peer, and the routes.
 const MAX_HOLDS: usize = Capacity::MOST as usize + MAX_ROUTES;
 
-/// Why a source stops at this fault.
+/// What a source says of this fault.
 fn stop_of(fault: Fault) -> Stop
-    ensures { fault_at result ≡ fault }
+    ensures { result ≡ stop_of fault }
 {
     match fault {
         Fault::NoMemory => Stop::NoMemory,
-        Fault::Store => Stop::Source,
+        Fault::Store(_) => Stop::Source,
     }
 }
 
@@ -72,26 +73,26 @@ impl<'r, 'conn, 'a, S: Alter> HoldRows<'r, 'conn, 'a, S> {
         ensures reached { reached_after self.old.last ≤ reached_after self.new.last }
         ensures rises { IfOk result (λ given. IfSome given (λ h. (reached_after self.old.last ≤ rank h.0.lo) × (reached_after self.new.last ≡ rank h.0.lo))) }
         ensures first { ShowsGoodRows (state S.Store self.new.rows.now.conn.now) → IfOk result (λ given. TakesFirst (rows_to_come self.old.shows_peers self.old.at (tables_of (state S.Store self.old.rows.now.conn.now).now) self.old.network self.old.pool self.old.start.number self.old.taken) given (rows_to_come self.new.shows_peers self.new.at (tables_of (state S.Store self.new.rows.now.conn.now).now) self.new.network self.new.pool self.new.start.number self.new.taken)) }
-        ensures stops { IfErr result (λ why. self.new.at ≡ Stopped why) }
+        ensures stops { IfErr result (λ why. StopsAs self.new.at why) }
         ensures was_good { ShowsGoodRows (state S.Store self.new.rows.now.conn.now) → OnOk result (ShowsGoodRows (state S.Store self.old.rows.now.conn.now)) }
         ensures blames { Blames self.old.network self.old.pool (state S.Store self.old.rows.now.conn.now) self.old.at (state S.Store self.new.rows.now.conn.now) self.new.at }
     {
         match self.at {
             Progress::Running => {}
             Progress::Done => return Ok(None),
-            Progress::Stopped(why) => return Err(why),
+            Progress::Stopped(fault) => return Err(stop_of(fault)),
         }
         self.pool.rules_hold();
         self.start.rules_hold();
         // Until the row is at hand, nothing is known of what comes after it.
-        self.at = Progress::Stopped(Stop::Source);
+        self.at = Progress::Stopped(Fault::DAMAGED);
         if self.taken > MAX_HOLDS {
             return Err(Stop::Source);
         }
         if let Err(error) = self.rows.advance() {
-            let why = stop_of(fault_of(error));
-            self.at = Progress::Stopped(why);
-            return Err(why);
+            let fault = fault_of(error);
+            self.at = Progress::Stopped(fault);
+            return Err(stop_of(fault));
         }
         let Some(row) = self.rows.get() else {
             self.at = Progress::Done;
@@ -129,7 +130,7 @@ impl<S: Alter> Holds for HoldRows<'_, '_, '_, S> {
 
     ghost left = { λ s. max_holds + 1 - s.taken + length (option_to_list s.first) };
 
-    ghost stopped = { λ s why. s.at ≡ Stopped why };
+    ghost stopped = { λ s why. StopsAs s.at why };
 
     ghost keeps = { λ a b. (b.rows.ghost_name ≡ a.rows.ghost_name) × (b.rows.now.conn.ghost_name ≡ a.rows.now.conn.ghost_name) × Leaves S.Store a.rows.now.conn.now a.network a.pool a.at b.rows.now.conn.now b.network b.pool b.at };
 
@@ -154,13 +155,13 @@ impl<S: Alter> Holds for HoldRows<'_, '_, '_, S> {
     ghost keeps_on = { λ a b c one other. (other.0 ∙ one.0, other.1 ∙ one.1, leaves_on S.Store.own a.rows.now.conn.now b.rows.now.conn.now c.rows.now.conn.now a.network a.pool a.at b.network b.pool b.at c.network c.pool c.at one.2 other.2) };
 }
 
-/// The fault for which a source stopped.
-fn fault_at(stop: Stop) -> Fault
-    ensures { result ≡ fault_at stop }
+/// The fault for which a reading has stopped.
+fn fault_at(at: Progress) -> Fault
+    ensures { (fault : Fault) → at ≡ Stopped fault → result ≡ fault }
 {
-    match stop {
-        Stop::NoMemory => Fault::NoMemory,
-        Stop::Source => Fault::Store,
+    match at {
+        Progress::Stopped(fault) => fault,
+        Progress::Running | Progress::Done => Fault::DAMAGED,
     }
 }
 
@@ -232,6 +233,6 @@ fn lowest_held<S: Alter>(
 {
     match lowest_free(pool, holds) {
         Ok(found) => Ok(found),
-        Err(stop) => Err(fault_at(stop)),
+        Err(_) => Err(fault_at(holds.at)),
     }
 }

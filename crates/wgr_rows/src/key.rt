@@ -43,8 +43,8 @@ fn live_number(rows: Vec<Row>, network: u32, now: u64) -> Result<Option<u32>, Fa
     let Some(row) = only(rows)? else {
         return Ok(None);
     };
-    let until = end_at(&row, peer::UNTIL).ok_or(Fault::Store)?;
-    let number = peer_number_at(&row, peer::ID, network).ok_or(Fault::Store)?;
+    let until = end_at(&row, peer::UNTIL).ok_or(Fault::DAMAGED)?;
+    let number = peer_number_at(&row, peer::ID, network).ok_or(Fault::DAMAGED)?;
     if until.is_expired(now) {
         return Ok(None);
     }

@@ -28,7 +28,7 @@ Failed text a b r = IsTrue a.in_transaction → (IsTrue a.is_open → HasCleanDi
 pub statement_fails : (schema : Schema) (text : List ℕ) (a b : State) (r : Result ℕ Fault) → IsWriting schema text [] → (HasBlank schema a.now → Refuses a.step_limit a.now text [] → IsSome a.step_limit) → Failed text a b r → FailsFrom (HasBlank schema) a b r
 statement_fails schema text a b (Ok count) writes refused cause inside from = tt
 statement_fails schema text a b (Err NoMemory) writes refused cause inside from = tt
-statement_fails schema text a b (Err Store) writes refused cause inside from = λ clean. go clean a.is_open refl
+statement_fails schema text a b (Err (Store w)) writes refused cause inside from = λ clean. go clean a.is_open refl
   where
     go : HasCleanDisk b → (live : Bool) → a.is_open ≡ live → IsHindered a b ⊎ ⊥
     go clean false shut = inl (inr (inl shut))
@@ -51,7 +51,7 @@ handed_fails from a b (Err e) why is fails inside start = subst (HasCause a b) (
 pub next_fails : {Y : Type 0} (from to : Database → Type 0) (a b d : State) (x : ℕ) (r : Result Y Fault) → (HasCleanDisk b → Lays {E = Fault} from to a b (Ok x)) → Survives a b (λ _. ⊥) → Survives b d (λ _. ⊥) → FailsFrom to b d r → FailsFrom from a d r
 next_fails from to a b d x (Ok y) done s t fails inside start = tt
 next_fails from to a b d x (Err NoMemory) done s t fails inside start = tt
-next_fails from to a b d x (Err Store) done s t fails inside start = λ clean.
+next_fails from to a b d x (Err (Store w)) done s t fails inside start = λ clean.
     let before : HasCleanDisk b = omega (arith, t.clean, clean) in
     let it = (done before inside start).1 in
     elim (fails it.1.mode (λ _. it.0) clean) [
@@ -67,7 +67,7 @@ module _ {S : Type 0} (g : Ghosts S) (old mid end : Held S) (from to : Database 
   -- a step failed, and the transaction was rolled back
   pub undone_fails : (f : Fault) → Survives (state g mid) (state g end) (λ _. ⊥) → FailsFrom {X = ℕ} from (state g (record old { in_transaction = true })) (state g mid) (Err f) → HasCause (state g old) (state g end) f
   undone_fails NoMemory ended fails = tt
-  undone_fails Store ended fails = λ clean.
+  undone_fails (Store w) ended fails = λ clean.
       let before : HasCleanDisk (state g mid) = omega (arith, ended.clean, clean) in
       elim (fails refl (λ _. start) before) [
         | inl hindered ↦ inl (hindered_before (state g (record old { in_transaction = true })) (state g mid) (state g end) (λ _. ⊥) ended hindered)

@@ -34,7 +34,7 @@ module _ (start : Database) (from : Database → Type 0) (text : List ℕ) (list
   pub text_stops : (r : Result ℕ Fault) → ((db : Database) → from db → HasRows start db) → ((db : Database) → from db → IsWriting db.schema text []) → Failed text a b r → StopsFrom (StopsUpgrade start) from a b r
   text_stops (Ok count) has writes failed inside at = tt
   text_stops (Err NoMemory) has writes failed inside at = tt
-  text_stops (Err Store) has writes failed inside at = λ clean. elim (failed inside (λ live _. writes a.now (at live)) clean) [
+  text_stops (Err (Store w)) has writes failed inside at = λ clean. elim (failed inside (λ live _. writes a.now (at live)) clean) [
     | inl hindered ↦ inl hindered
     | inr refuses ↦ refused_at (λ live. has a.now (at live)) refuses
   ]
@@ -55,7 +55,7 @@ module _ (P : Type 0) where
   pub next_stops : {Y : Type 0} (from to : Database → Type 0) (a b d : State) (x : ℕ) (r : Result Y Fault) → (HasCleanDisk b → Lays {E = Fault} from to a b (Ok x)) → Survives a b (λ _. ⊥) → Survives b d (λ _. ⊥) → StopsFrom P to b d r → StopsFrom P from a d r
   next_stops from to a b d x (Ok y) done s t stops inside at = tt
   next_stops from to a b d x (Err NoMemory) done s t stops inside at = tt
-  next_stops from to a b d x (Err Store) done s t stops inside at = λ clean.
+  next_stops from to a b d x (Err (Store w)) done s t stops inside at = λ clean.
       let before : HasCleanDisk b = omega (arith, t.clean, clean) in
       let it = (done before inside at).1 in
       elim (stops it.1.mode (λ _. it.0) clean) [
@@ -71,7 +71,7 @@ module _ (P : Type 0) where
     -- a step failed, and the transaction was rolled back
     pub undone_stops : (f : Fault) → Survives (state g mid) (state g end) (λ _. ⊥) → StopsFrom {X = ℕ} P from (state g (record old { in_transaction = true })) (state g mid) (Err f) → HasCauseOr P (state g old) (state g end) f
     undone_stops NoMemory ended stops = tt
-    undone_stops Store ended stops = λ clean.
+    undone_stops (Store w) ended stops = λ clean.
         let before : HasCleanDisk (state g mid) = omega (arith, ended.clean, clean) in
         elim (stops refl (at clean) before) [
           | inl hindered ↦ inl (hindered_before (state g (record old { in_transaction = true })) (state g mid) (state g end) (λ _. ⊥) ended hindered)

@@ -7,7 +7,7 @@ use Rattle.wgr_schema.specs.declared.fault.RegisterFault.TheVariants as register
 
 abbrev pub as_register_fault : Fault → RegisterFault
 as_register_fault fault.NoMemory = register_fault.NoMemory
-as_register_fault fault.Store = register_fault.Store
+as_register_fault (fault.Store cause) = register_fault.Store cause
 
 -- if the reason is that a statement failed, this holds for its fault
 abbrev pub IfStatementFails : (Fault → Type 0) → RegisterFault → Type 0

@@ -3,7 +3,7 @@ ghost use Rattle.std.specs.Prelude.{◌≡◌};
 ghost use Rattle.wgr_schema.specs.Faults.{as_register_fault};
 ghost use Rattle.wgr_schema.specs.declared.fault.RegisterFault.TheVariants.{EarlierVersion, NotARegister, NotEmpty, NotGood};
 
-use wgr_sql::Fault;
+use wgr_sql::{Cause, Fault};
 
 /// Why no register was made or opened.
 #[derive(Clone, Copy, Debug, PartialEq, Eq)]
@@ -11,7 +11,7 @@ pub enum RegisterFault {
     /// An allocation failed.
     NoMemory,
     /// Any other error of the store, or invalid contents.
-    Store,
+    Store(Cause),
     /// The database has no tables of a register, of any version.
     NotARegister,
     /// The tables are those of an earlier version: `upgrade` takes them to the present one.
@@ -33,6 +33,6 @@ pub fn register_fault(fault: Fault) -> RegisterFault
 {
     match fault {
         Fault::NoMemory => RegisterFault::NoMemory,
-        Fault::Store => RegisterFault::Store,
+        Fault::Store(cause) => RegisterFault::Store(cause),
     }
 }

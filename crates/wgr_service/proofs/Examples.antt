@@ -6,6 +6,8 @@ use Rattle.std.specs.declared.string.String.{String}
 use Rattle.wgr_orders.specs.declared.refusal.OrderRefusal.TheVariants as refused
 use Rattle.wgr_register.specs.declared.fault.Done.{Done}
 use Rattle.wgr_register.specs.declared.fault.OrderFault.TheVariants as order_fault
+use Rattle.wgr_sql.specs.declared.fault.Cause.{Cause}
+use Rattle.wgr_sql.specs.declared.fault.Cause.TheVariants.{Damaged}
 use Rattle.wgr_sql.specs.declared.fault.Fault.TheVariants as fault
 use Rattle.wgr_words.specs.declared.field.WordField.TheVariants as field
 use Rattle.wgr_words.specs.declared.line.LineFault.TheVariants as line_fault
@@ -47,8 +49,9 @@ pub overlap : (tenant network : String Global) → string_bytes tenant ≡ codes
     → ended_text (Err (order_fault.Refused (refused.PoolOverlaps tenant network))) ≡ codes "2 pool_overlaps acme office\n"
 overlap tenant network is_tenant is_network = rw (is_tenant, is_network) refl
 
-pub store : ended_text (Err (order_fault.Fault fault.Store)) ≡ codes "1 store\n"
-store = refl
+-- the line doesn't say what was wrong with the store
+pub store : (cause : Cause) → ended_text (Err (order_fault.Fault (fault.Store cause))) ≡ codes "1 store\n"
+store cause = refl
 
 pub bad_field : fault_text (line_fault.Field field.Capacity) ≡ codes "2 bad_field capacity\n"
 bad_field = refl
@@ -62,5 +65,5 @@ pub no_lines : greatest [] ≡ 0
 no_lines = refl
 
 -- a refused line counts for more than one where the store failed, wherever it stands
-pub refusal_before_a_fault : greatest (line_end.Unspelled line_fault.NoOrder ∷ line_end.Ended (Err (order_fault.Fault fault.Store)) ∷ []) ≡ 2
+pub refusal_before_a_fault : greatest (line_end.Unspelled line_fault.NoOrder ∷ line_end.Ended (Err (order_fault.Fault (fault.Store Damaged))) ∷ []) ≡ 2
 refusal_before_a_fault = refl

@@ -30,7 +30,7 @@ abbrev pub ended_text : Result Done OrderFault → Bytes
 ended_text (Ok done) = codes "0 done\n"
 ended_text (Err (order_fault.Refused why)) = codes "2 " ++ refusal_text (refusal_of why) ++ codes "\n"
 ended_text (Err (order_fault.Fault fault.NoMemory)) = codes "1 no_memory\n"
-ended_text (Err (order_fault.Fault fault.Store)) = codes "1 store\n"
+ended_text (Err (order_fault.Fault (fault.Store cause))) = codes "1 store\n"
 
 -- why a line is no order
 abbrev pub fault_text : LineFault → Bytes

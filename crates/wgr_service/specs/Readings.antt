@@ -44,7 +44,7 @@ reading_text end.NoSuchTenant = codes "2 no_such_tenant\n"
 reading_text end.BadFile = codes "2 bad_field file\n"
 reading_text end.FileExists = codes "2 file_exists\n"
 reading_text end.Device = codes "1 device\n"
-reading_text (end.Fault fault.Store) = codes "1 store\n"
+reading_text (end.Fault (fault.Store cause)) = codes "1 store\n"
 reading_text (end.Fault fault.NoMemory) = codes "1 no_memory\n"
 
 -- whether neither memory nor the store failed

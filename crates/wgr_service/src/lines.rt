@@ -82,7 +82,7 @@ fn end_parts<'a>(end: &'a LineEnd) -> [&'a [u8]; 7]
         LineEnd::Ended(Err(OrderFault::Refused(why))) => return refusal_parts(why),
         LineEnd::Ended(Ok(_)) => (b"0 done\n", b"", b""),
         LineEnd::Ended(Err(OrderFault::Fault(Fault::NoMemory))) => (b"1 no_memory\n", b"", b""),
-        LineEnd::Ended(Err(OrderFault::Fault(Fault::Store))) => (b"1 store\n", b"", b""),
+        LineEnd::Ended(Err(OrderFault::Fault(Fault::Store(_)))) => (b"1 store\n", b"", b""),
         LineEnd::Unspelled(LineFault::NoOrder) => (b"2 bad_order\n", b"", b""),
         LineEnd::Unspelled(LineFault::Field(field)) => (
             b"2 bad_field ",

@@ -188,7 +188,7 @@ fn reading_parts<'a>(end: &'a ReadingEnd, length: &'a mut Buffer) -> [&'a [u8]; 
         ReadingEnd::BadFile => b"2 bad_field file\n",
         ReadingEnd::FileExists => b"2 file_exists\n",
         ReadingEnd::Device => b"1 device\n",
-        ReadingEnd::Fault(Fault::Store) => b"1 store\n",
+        ReadingEnd::Fault(Fault::Store(_)) => b"1 store\n",
         ReadingEnd::Fault(Fault::NoMemory) => b"1 no_memory\n",
     };
     [line, b"", b"", b""]

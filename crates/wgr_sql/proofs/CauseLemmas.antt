@@ -16,6 +16,8 @@ use Rattle.sqlite.specs.Listing.{understood, IsSourceOf}
 use Rattle.sqlite.specs.Steps.{FailsToCommit}
 use Rattle.sqlite.specs.State.{State, HasCleanDisk, Survives, Fails, IsNoStatement, IsNotRun, IsMisplaced, FailsToQuery, FailsToShow, IsTooLate, RunsCommand, ExecutesIn, ExecutesInside, EndsScope, Escapes}
 use Rattle.wgr_sql.specs.Causes.{IsHindered, HasCause, HasCauseOr, IsOneStatement, AsksPlainly, IsAnswered, WritesPlainly, IsWriting, Refuses, RefusesAs}
+use Rattle.wgr_sql.specs.Faults.{IsStore}
+use Rattle.wgr_sql.specs.declared.fault.Cause.{Cause}
 use Rattle.wgr_sql.specs.declared.fault.Fault.{Fault}
 use Rattle.wgr_sql.specs.declared.fault.Fault.TheVariants.{NoMemory, Store}
 
@@ -49,7 +51,7 @@ module _ (old mid new : State) where
     -- the second call was answered by a fault
     pub cause_after : (P Q : Trees → Type 0) → Survives old mid P → Survives mid new Q → (A → B) → (f : Fault) → HasCauseOr A mid new f → HasCauseOr B old new f
     cause_after P Q s t f NoMemory h = tt
-    cause_after P Q s t f Store h = λ clean. elim (h clean) [
+    cause_after P Q s t f (Store cause) h = λ clean. elim (h clean) [
       | inl hindered ↦ inl (hindered_after P s (omega (arith, t.clean, clean)) t.counts hindered)
       | inr so ↦ inr (f so)
     ]
@@ -57,24 +59,24 @@ module _ (old mid new : State) where
     -- the first was, and the second came after it
     pub cause_before : (Q : Trees → Type 0) → Survives mid new Q → (A → B) → (f : Fault) → HasCauseOr A old mid f → HasCauseOr B old new f
     cause_before Q t f NoMemory h = tt
-    cause_before Q t f Store h = λ clean. elim (h (omega (arith, t.clean, clean))) [
+    cause_before Q t f (Store cause) h = λ clean. elim (h (omega (arith, t.clean, clean))) [
       | inl hindered ↦ inl (hindered_before Q t hindered)
       | inr so ↦ inr (f so)
     ]
 
 pub cause_weaker : (A B : Type 0) (old new : State) → (A → B) → (f : Fault) → HasCauseOr A old new f → HasCauseOr B old new f
 cause_weaker A B old new g NoMemory h = tt
-cause_weaker A B old new g Store h = λ clean. elim (h clean) [ inl hindered ↦ inl hindered | inr so ↦ inr (g so) ]
+cause_weaker A B old new g (Store cause) h = λ clean. elim (h clean) [ inl hindered ↦ inl hindered | inr so ↦ inr (g so) ]
 
 -- a fault that isn't the store's
-pub cause_if : (P : Type 0) (old new : State) (f : Fault) → (f ≡ Store → HasCleanDisk new → IsHindered old new ⊎ P) → HasCauseOr P old new f
+pub cause_if : (P : Type 0) (old new : State) (f : Fault) → (IsStore f → HasCleanDisk new → IsHindered old new ⊎ P) → HasCauseOr P old new f
 cause_if P old new NoMemory h = tt
-cause_if P old new Store h = h refl
+cause_if P old new (Store cause) h = h tt
 
 -- what an error of the database is told as
 cause_told : (P : Type 0) (old new : State) (e : Error) (f : Fault) → ((f ≡ NoMemory) ↔ (e ≡ SqliteFailure OutOfMemory)) → (HasCleanDisk new → (e ≡ SqliteFailure OutOfMemory) ⊎ (IsHindered old new ⊎ P)) → HasCauseOr P old new f
 cause_told P old new e NoMemory told h = tt
-cause_told P old new e Store told h = λ clean. elim (h clean) [ inl memory ↦ absurd (let e = told.1 memory in cc) | inr so ↦ so ]
+cause_told P old new e (Store cause) told h = λ clean. elim (h clean) [ inl memory ↦ absurd (let e = told.1 memory in cc) | inr so ↦ so ]
 
 -- so of a result whose error is told
 pub mapped_cause : {X : Type 0} (P : Type 0) (old new : State) (r : Result X Error) (s : Result X Fault) → MatchResult r (λ x. s ≡ Ok x) (λ e. IsErrAnd s (λ f. (f ≡ NoMemory) ↔ (e ≡ SqliteFailure OutOfMemory)))
@@ -199,6 +201,12 @@ pub never_fails : {X : Type 0} (Q : Type 0) (old new : State) (r : Result X Faul
 never_fails Q old new (Ok x) h never = tt
 never_fails Q old new (Err f) h never = cause_if ⊥ old new f (λ _ clean. absurd (never clean h))
 
-pub never_stores : {X : Type 0} (Q : Type 0) (old new : State) (r : Result X Fault) → IfErr r (λ e. e ≡ Store → Q) → (HasCleanDisk new → Q → ⊥) → IfErr r (HasCause old new)
+pub never_stores : {X : Type 0} (Q : Type 0) (old new : State) (r : Result X Fault) → IfErr r (λ e. IsStore e → Q) → (HasCleanDisk new → Q → ⊥) → IfErr r (HasCause old new)
 never_stores Q old new (Ok x) h never = tt
 never_stores Q old new (Err f) h never = cause_if ⊥ old new f (λ is clean. absurd (never clean (h is)))
+
+-- what was wrong with the store has no part in a cause
+pub any_cause : {X : Type 0} (P : Type 0) (old new : State) (wrong : Cause) (r : Result X Fault) → IsErrAnd r IsStore → IfErr r (HasCauseOr P old new) → HasCauseOr P old new (Store wrong)
+any_cause P old new wrong (Ok x) is h = absurd is
+any_cause P old new wrong (Err NoMemory) is h = absurd is
+any_cause P old new wrong (Err (Store w)) is h = h

@@ -22,11 +22,11 @@ use Rattle.wgr_sql.specs.declared.fault.Fault.TheVariants.{NoMemory, Store}
 abbrev pub IsHindered : State → State → Type 0
 IsHindered old new = MoreFaults old.faults new.faults ⊎ ((old.is_open ≡ false) ⊎ IsSome old.step_limit)
 
--- If the fault is `Store`, and the disk returns what was written, the call was hindered or `P` holds.
+-- If the fault is the store's, and the disk returns what was written, the call was hindered or `P` holds.
 -- For a failed allocation no cause is stated.
 abbrev pub HasCauseOr : Type 0 → State → State → Fault → Type 0
 HasCauseOr P old new NoMemory = ⊤
-HasCauseOr P old new Store = HasCleanDisk new → IsHindered old new ⊎ P
+HasCauseOr P old new (Store cause) = HasCleanDisk new → IsHindered old new ⊎ P
 
 -- A fault of the store has a cause.
 abbrev pub HasCause : State → State → Fault → Type 0

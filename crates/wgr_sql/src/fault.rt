@@ -1,8 +1,9 @@
 //! Why a statement failed.
-ghost use Rattle.std.specs.Prelude.{◌≡◌, ◌↔◌};
+ghost use Rattle.std.specs.Prelude.{◌≡◌, ◌≢◌, ◌↔◌};
 ghost use Rattle.sqlite.specs.declared.error.Error.TheVariants.{SqliteFailure};
 ghost use Rattle.sqlite.specs.declared.error.ErrorCode.TheVariants.{OutOfMemory};
-ghost use Rattle.wgr_sql.specs.declared.fault.Fault.TheVariants.{NoMemory};
+ghost use Rattle.wgr_sql.specs.Faults.{cause_of};
+ghost use Rattle.wgr_sql.specs.declared.fault.Fault.TheVariants.{NoMemory, Store};
 
 use sqlite::{Error, ErrorCode};
 
@@ -12,15 +13,43 @@ pub enum Fault {
     /// An allocation failed.
     NoMemory,
     /// Any other error of the store, or invalid contents.
-    Store,
+    Store(Cause),
+}
+
+/// What was wrong with the store.
+#[derive(Clone, Copy, Debug, PartialEq, Eq)]
+pub enum Cause {
+    /// Another process has the database open.
+    Busy,
+    /// The file or its directory can't be opened, read or written by this user.
+    Denied,
+    /// The file isn't a database, or its contents are invalid.
+    Damaged,
+    /// The disk is full.
+    Full,
+    /// Any other error of the file system, or of a statement.
+    Other,
+}
+
+impl Fault {
+    /// Invalid contents.
+    pub const DAMAGED: Fault = Fault::Store(Cause::Damaged);
 }
 
 /// The fault for an error of the database.
 pub fn fault_of(error: Error) -> Fault
-    ensures { (result ≡ NoMemory) ↔ (error ≡ SqliteFailure OutOfMemory) }
+    ensures memory { (result ≡ NoMemory) ↔ (error ≡ SqliteFailure OutOfMemory) }
+    ensures cause { error ≢ SqliteFailure OutOfMemory → result ≡ Store (cause_of error) }
 {
-    match error {
-        Error::SqliteFailure(ErrorCode::OutOfMemory) => Fault::NoMemory,
-        _ => Fault::Store,
+    let Error::SqliteFailure(code) = error else {
+        return Fault::Store(Cause::Other);
+    };
+    match code {
+        ErrorCode::OutOfMemory => Fault::NoMemory,
+        ErrorCode::DatabaseBusy => Fault::Store(Cause::Busy),
+        ErrorCode::CannotOpen => Fault::Store(Cause::Denied),
+        ErrorCode::NotADatabase | ErrorCode::DatabaseCorrupt => Fault::DAMAGED,
+        ErrorCode::DiskFull => Fault::Store(Cause::Full),
+        _ => Fault::Store(Cause::Other),
     }
 }

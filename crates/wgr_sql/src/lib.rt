@@ -9,5 +9,5 @@
 mod fault;
 mod statement;
 
-pub use fault::{Fault, fault_of};
+pub use fault::{Cause, Fault, fault_of};
 pub use statement::{execute, only, query};

@@ -1,10 +1,13 @@
 //! A query in its own transaction, and a statement in its caller's.
-ghost use Rattle.std.specs.Prelude.{◌≡◌, [], ◌∷◌, false, true, IsTrue, Ok, IfErr, IfOk, IfSome, IfNone, OnErr};
+ghost use Rattle.std.specs.Prelude.{◌≡◌, ◌↔◌, [], ◌∷◌, false, true, IsTrue, Ok, IfErr, IfOk, IfSome, IfNone, OnErr};
+ghost use Rattle.sqlite.specs.declared.error.Error.TheVariants.{SqliteFailure};
+ghost use Rattle.sqlite.specs.declared.error.ErrorCode.TheVariants.{OutOfMemory};
 ghost use Rattle.sqlite.specs.Values.{bound};
 ghost use Rattle.sqlite.specs.State.{HasCleanDisk, Survives, Executes, KeepsCommit, Shows};
 ghost use Rattle.sqlite.specs.Held.{state};
 ghost use Rattle.sqlite.specs.Given.{IsPlain};
 ghost use Rattle.sqlite.specs.Listing.{understood};
+ghost use Rattle.wgr_sql.specs.declared.fault.Fault.TheVariants.{NoMemory};
 ghost use Rattle.wgr_sql.specs.Calls.{AreMany, IsKept, Answered};
 ghost use Rattle.wgr_sql.specs.Causes.{HasCause, HasCauseOr, IsAnswered, IsWriting, Refuses};
 
@@ -28,7 +31,11 @@ pub fn query<S: Alter>(
 {
     let _settled = conn.is_autocommit();
     let mut tx = conn.transaction();
-    tx.query_all(sql, values).map_err(fault_of)
+    tx.query_all(sql, values).map_err(
+        |error|
+            ensures { (result ≡ NoMemory) ↔ (error ≡ SqliteFailure OutOfMemory) }
+        { fault_of(error) },
+    )
 }
 
 /// The one row, if there is one. A key can't have two.
@@ -39,7 +46,7 @@ pub fn only(mut rows: Vec<Row>) -> Result<Option<Row>, Fault>
 {
     let row = rows.pop();
     if !rows.is_empty() {
-        return Err(Fault::Store);
+        return Err(Fault::DAMAGED);
     }
     Ok(row)
 }
@@ -59,5 +66,9 @@ pub fn execute<S: Alter>(
     ensures cause { IsTrue (state S.Store tx.old.conn.now).in_transaction → (IsTrue (state S.Store tx.old.conn.now).is_open → HasCleanDisk (state S.Store tx.new.conn.now) → IsWriting (state S.Store tx.old.conn.now).now.schema sql.now (bound values.now))
         → IfErr result (HasCauseOr (Refuses (state S.Store tx.old.conn.now).step_limit (state S.Store tx.old.conn.now).now sql.now (bound values.now)) (state S.Store tx.old.conn.now) (state S.Store tx.new.conn.now)) }
 {
-    tx.execute(sql, values).map_err(fault_of)
+    tx.execute(sql, values).map_err(
+        |error|
+            ensures { (result ≡ NoMemory) ↔ (error ≡ SqliteFailure OutOfMemory) }
+        { fault_of(error) },
+    )
 }

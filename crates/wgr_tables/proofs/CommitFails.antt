@@ -25,7 +25,7 @@ module _ {S : Type 0} (g : Ghosts S) (old mid end : Held S) (db : Database) (pen
   -- a step failed, and the transaction was rolled back
   pub undone_fails : (f : Fault) → Survives (state g mid) (state g end) (λ _. ⊥) → FailsBy {X = ℕ} stops (state g (record old { in_transaction = true })) (state g mid) (Err f) → HasCauseOr (stops (tables_of db)) (state g old) (state g end) f
   undone_fails NoMemory ended fails = tt
-  undone_fails Store ended fails = λ clean. go clean (state g old).is_open refl
+  undone_fails (Store w) ended fails = λ clean. go clean (state g old).is_open refl
     where
       go : HasCleanDisk (state g end) → (live : Bool) → (state g old).is_open ≡ live → IsHindered (state g old) (state g end) ⊎ stops (tables_of db)
       go clean false shut = inl (inr (inl shut))

@@ -75,7 +75,7 @@ module _ (old new : State) (register : IsTrue old.is_open → IsRegister old.now
 
   refused_so : (f : Fault) → HasCauseOr (Refuses old.step_limit old.now text params) old new f → HasCauseOr (IsStatementRefused text params (tables_of old.now)) old new f
   refused_so NoMemory h = tt
-  refused_so Store h = λ clean. elim (h clean) [ inl hindered ↦ inl hindered | inr refuses ↦ refused_at refuses ]
+  refused_so (Store w) h = λ clean. elim (h clean) [ inl hindered ↦ inl hindered | inr refuses ↦ refused_at refuses ]
 
   here : ((others : Others) → IsWriting (schema_with others) text params) → IsTrue old.is_open → IsWriting old.now.schema text params
   here writes live = let it = register live in subst (λ s. IsWriting s text params) (sym it.schema_is) (writes it.others)
@@ -96,7 +96,7 @@ module _ (first : Tables → Type 0) (step : Tables → Tables → Type 0) (seco
   pub next_fails : {X Y : Type 0} (x : X) (r : Result Y Fault) → (HasCleanDisk b → StepsFrom {X = X} {E = Fault} step a b (Ok x)) → Survives a b (λ _. ⊥) → Survives b c (λ _. ⊥) → FailsBy second b c r → FailsBy (OneOfTwo first step second) a c r
   next_fails x (Ok y) done s t fails inside register = tt
   next_fails x (Err NoMemory) done s t fails inside register = tt
-  next_fails {X} x (Err Store) done s t fails inside register = λ clean. go clean a.is_open refl
+  next_fails {X} x (Err (Store w)) done s t fails inside register = λ clean. go clean a.is_open refl
     where
       go : HasCleanDisk c → (live : Bool) → a.is_open ≡ live → IsHindered a c ⊎ OneOfTwo first step second (tables_of a.now)
       go clean false shut = inl (inr (inl shut))

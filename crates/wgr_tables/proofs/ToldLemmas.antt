@@ -1,5 +1,5 @@
 -- What rows tell, if they tell it.
-use Rattle.std.proofs.Common.{◌≡◌, ◌<◌, ℕ, Result, Ok, Err, Option, IfErr, IfOk, IfSome, IfNone, refl, subst, arith}
+use Rattle.std.proofs.Common.{◌≡◌, ◌<◌, ℕ, Result, Ok, Err, Option, IfErr, IfOk, IfSome, IfNone, IsErrAnd, refl, subst, arith}
 use Rattle.wgr_pool.specs.Pool.{IsPool}
 use Rattle.wgr_peers.specs.Host.{IsHost}
 use Rattle.wgr_peers.specs.Limits.{IsCapacity, IsPort}
@@ -18,8 +18,13 @@ pub err_as : {X E : Type 0} (r : Result X E) (P Q : E → Type 0) → ((e : E) �
 err_as (Ok x) P Q f h = tt
 err_as (Err e) P Q f h = f e h
 
-pub none_as : {X E : Type 0} (read : Result X E) (r : Result (Option X) E) (e : E) (Q : Type 0) → IfErr read (λ x. x ≡ e → Q) → IfOk r (λ found. IfNone found (read ≡ Err e)) → IfOk r (λ found. IfNone found Q)
-none_as read r e Q only told = if_ok r (λ found. IfNone found (read ≡ Err e)) (λ found. IfNone found Q) (λ found h. if_none found (read ≡ Err e) Q (λ is. subst (λ o. IfErr o (λ x. x ≡ e → Q)) is only refl) h) told
+-- what an error of this kind says
+pub only_if : {X E : Type 0} (read : Result X E) (P : E → Type 0) (Q : Type 0) → IfErr read (λ e. P e → Q) → IsErrAnd read P → Q
+only_if (Ok x) P Q only is = absurd is
+only_if (Err e) P Q only is = only is
+
+pub none_as : {X E : Type 0} (read : Result X E) (r : Result (Option X) E) (P : E → Type 0) (Q : Type 0) → IfErr read (λ e. P e → Q) → IfOk r (λ found. IfNone found (IsErrAnd read P)) → IfOk r (λ found. IfNone found Q)
+none_as read r P Q only told = if_ok r (λ found. IfNone found (IsErrAnd read P)) (λ found. IfNone found Q) (λ found h. if_none found (IsErrAnd read P) Q (only_if read P Q only) h) told
 
 -- the settings of a network that its rows tell are of their forms
 pub told_settings : (t : Tables) (id : ℕ) (n : NetworkValue) (told : IsStored t id n) → AreSettings told.row

@@ -18,5 +18,5 @@ mod writing;
 pub use change::NetworkChange;
 pub use load::{load_network, network_row};
 pub use stored::network_if_stored;
-pub use wgr_sql::Fault;
+pub use wgr_sql::{Cause, Fault};
 pub use writing::{Writing, commit};

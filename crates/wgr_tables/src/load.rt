@@ -9,7 +9,7 @@ ghost use Rattle.wgr_core.specs.Parts.{network_of};
 ghost use Rattle.wgr_model.specs.Laws.{Has};
 ghost use Rattle.wgr_model.specs.Rows.{AreKeyed, NetworkRow, address_row, network_entry_of, peer_row, route_row};
 ghost use Rattle.wgr_sql.specs.Causes.{HasCause};
-ghost use Rattle.wgr_sql.specs.declared.fault.Fault.TheVariants.{Store};
+ghost use Rattle.wgr_sql.specs.Faults.{IsStore};
 ghost use Rattle.wgr_columns.specs.Decode.{tables_of, allowed_in, network_in, peer_in};
 ghost use Rattle.wgr_columns.specs.Stored.{AreRising, AreSettings, AreStored, stored_allowed, stored_network, stored_peer};
 ghost use Rattle.wgr_tables.specs.Stored.{IsStored};
@@ -174,7 +174,7 @@ fn parts_of(
     routes: Vec<(Prefix, u32)>,
 ) -> Result<Parts, Fault>
     ensures value { IfOk result (λ parts. network_of parts ≡ network_with (network_in row.now) peers.items routes.items) }
-    ensures only { IfErr result (λ e. e ≡ Store → (w : NetworkRow) → AreSettings w → row.now ≡ stored_network w → ⊥) }
+    ensures only { IfErr result (λ e. IsStore e → (w : NetworkRow) → AreSettings w → row.now ≡ stored_network w → ⊥) }
 {
     let NetworkSettings {
         pool,
@@ -204,7 +204,7 @@ pub(crate) fn make_network(
     routes: Vec<(Prefix, u32)>,
 ) -> Result<Network, Fault>
     ensures made { IfOk result (λ n. IsMade (network_in row.now) peers.items routes.items n) }
-    ensures only { IfErr result (λ e. e ≡ Store → (n : NetworkValue) → IsMade (network_in row.now) peers.items routes.items n → AreSettings (network_in row.now) → row.now ≡ stored_network (network_in row.now) → ⊥) }
+    ensures only { IfErr result (λ e. IsStore e → (n : NetworkValue) → IsMade (network_in row.now) peers.items routes.items n → AreSettings (network_in row.now) → row.now ≡ stored_network (network_in row.now) → ⊥) }
 {
     let parts = parts_of(alloc, row, peers, routes)?;
     match Network::of(alloc, parts) {
@@ -212,7 +212,7 @@ pub(crate) fn make_network(
             network.rules_hold();
             Ok(network)
         }
-        Ok(None) => Err(Fault::Store),
+        Ok(None) => Err(Fault::DAMAGED),
         Err(_) => Err(Fault::NoMemory),
     }
 }

@@ -8,7 +8,7 @@ ghost use Rattle.wgr_peers.specs.declared.peer.Peer.{Peer};
 ghost use Rattle.wgr_peers.specs.declared.peer.Status.{Status};
 ghost use Rattle.wgr_core.specs.Forms.{IsStatus};
 ghost use Rattle.wgr_model.specs.Rows.{allowed_row, peer_row, address_row, route_row};
-ghost use Rattle.wgr_sql.specs.declared.fault.Fault.TheVariants.{Store};
+ghost use Rattle.wgr_sql.specs.Faults.{IsStore};
 ghost use Rattle.wgr_columns.specs.Decode.{status_at, peer_in, allowed_in};
 ghost use Rattle.wgr_columns.specs.Stored.{HasStatus, IsKeptPeer, IsKeptRoute, stored_allowed, stored_peer};
 
@@ -62,18 +62,18 @@ fn address_of(row: &Row, network: u32, number: u32) -> Option<Addr>
 fn peer_of(alloc: Global, row: &Row, address: &Row, network: u32) -> Result<Peer, Fault>
     ensures row { IfOk result (λ p. peer_row network p ≡ peer_in row.now) }
     ensures address { IfOk result (λ p. address_row network p ≡ allowed_in address.now) }
-    ensures only { IfErr result (λ e. e ≡ Store → (p : Peer) → IsKeptPeer p → row.now ≡ stored_peer (peer_row network p) → address.now ≡ stored_allowed (address_row network p) → ⊥) }
+    ensures only { IfErr result (λ e. IsStore e → (p : Peer) → IsKeptPeer p → row.now ≡ stored_peer (peer_row network p) → address.now ≡ stored_allowed (address_row network p) → ⊥) }
 {
     if !has_number(row, peer::NETWORK, u64::from(network)) {
-        return Err(Fault::Store);
+        return Err(Fault::DAMAGED);
     }
-    let number = peer_number_at(row, peer::ID, network).ok_or(Fault::Store)?;
-    let key = key_at(row, peer::KEY).ok_or(Fault::Store)?;
-    let label = label_at(alloc, row, peer::LABEL)?.ok_or(Fault::Store)?;
-    let until = end_at(row, peer::UNTIL).ok_or(Fault::Store)?;
-    let keepalive = short_at(row, peer::KEEPALIVE).ok_or(Fault::Store)?;
-    let status = status_of(row).ok_or(Fault::Store)?;
-    let address = address_of(address, network, number).ok_or(Fault::Store)?;
+    let number = peer_number_at(row, peer::ID, network).ok_or(Fault::DAMAGED)?;
+    let key = key_at(row, peer::KEY).ok_or(Fault::DAMAGED)?;
+    let label = label_at(alloc, row, peer::LABEL)?.ok_or(Fault::DAMAGED)?;
+    let until = end_at(row, peer::UNTIL).ok_or(Fault::DAMAGED)?;
+    let keepalive = short_at(row, peer::KEEPALIVE).ok_or(Fault::DAMAGED)?;
+    let status = status_of(row).ok_or(Fault::DAMAGED)?;
+    let address = address_of(address, network, number).ok_or(Fault::DAMAGED)?;
     Ok(Peer {
         number,
         key,
@@ -95,11 +95,11 @@ pub(crate) fn peers_of(
 ) -> Result<Vec<Peer>, Fault>
     ensures rows { IfOk result (λ peers. map (peer_row network) peers.items ≡ map peer_in rows.now) }
     ensures addresses { IfOk result (λ peers. map (address_row network) peers.items ≡ map allowed_in addresses.now) }
-    ensures only { IfErr result (λ e. e ≡ Store → (peers : List Peer) → AllByRecursion IsKeptPeer peers
+    ensures only { IfErr result (λ e. IsStore e → (peers : List Peer) → AllByRecursion IsKeptPeer peers
         → rows.now ≡ map stored_peer (map (peer_row network) peers) → addresses.now ≡ map stored_allowed (map (address_row network) peers) → ⊥) }
 {
     if rows.len() != addresses.len() {
-        return Err(Fault::Store);
+        return Err(Fault::DAMAGED);
     }
     let mut peers = Vec::new(alloc);
     for at in 0..rows.len() {
@@ -133,12 +133,12 @@ pub(crate) fn routes_of(
     network: u32,
 ) -> Result<Vec<(Prefix, u32)>, Fault>
     ensures value { IfOk result (λ routes. map (route_row network) routes.items ≡ map allowed_in rows.now) }
-    ensures only { IfErr result (λ e. e ≡ Store → (routes : Routes) → AllByRecursion IsKeptRoute routes → rows.now ≡ map stored_allowed (map (route_row network) routes) → ⊥) }
+    ensures only { IfErr result (λ e. IsStore e → (routes : Routes) → AllByRecursion IsKeptRoute routes → rows.now ≡ map stored_allowed (map (route_row network) routes) → ⊥) }
 {
     let mut routes = Vec::new(alloc);
     for row in rows {
         let Some(route) = route_of(row, network) else {
-            return Err(Fault::Store);
+            return Err(Fault::DAMAGED);
         };
         if routes.push(route).is_err() {
             return Err(Fault::NoMemory);

@@ -1,5 +1,5 @@
 //! A network that its rows form, if they form one.
-ghost use Rattle.std.specs.Prelude.{◌≡◌, Ok, Err, IfErr, IfOk, IfSome, IfNone, IsPermutation, filter, map, not, ◌&&◌, nat_eq, false, List};
+ghost use Rattle.std.specs.Prelude.{◌≡◌, Ok, IfErr, IsErrAnd, IfOk, IfSome, IfNone, IsPermutation, filter, map, not, ◌&&◌, nat_eq, false, List};
 ghost use Rattle.std.specs.List.{IsDistinct};
 ghost use Rattle.sqlite.specs.Effect.{Database};
 ghost use Rattle.sqlite.specs.State.{HasCleanDisk};
@@ -7,7 +7,8 @@ ghost use Rattle.sqlite.specs.Held.{state};
 ghost use Rattle.wgr_core.specs.Network.{NetworkValue};
 ghost use Rattle.wgr_model.specs.Rows.{address_row, peer_row, route_row};
 ghost use Rattle.wgr_sql.specs.Causes.{HasCause};
-ghost use Rattle.wgr_sql.specs.declared.fault.Fault.TheVariants.{NoMemory, Store};
+ghost use Rattle.wgr_sql.specs.Faults.{IsStore};
+ghost use Rattle.wgr_sql.specs.declared.fault.Fault.TheVariants.{NoMemory};
 ghost use Rattle.wgr_columns.specs.Decode.{tables_of};
 ghost use Rattle.wgr_tables.specs.Stored.{IsStored};
 ghost use Rattle.wgr_tables.specs.Writes.{Written};
@@ -25,12 +26,12 @@ use wgr_text::Prefix;
 // What was read from rows, or `None` if they form nothing of that kind.
 fn if_stored<T>(read: Result<T, Fault>) -> Result<Option<T>, Fault>
     ensures some { IfOk result (λ found. IfSome found (λ x. read ≡ Ok x)) }
-    ensures none { IfOk result (λ found. IfNone found (read ≡ Err Store)) }
+    ensures none { IfOk result (λ found. IfNone found (IsErrAnd read IsStore)) }
     ensures memory { IfErr result (λ e. e ≡ NoMemory) }
 {
     match read {
         Ok(x) => Ok(Some(x)),
-        Err(Fault::Store) => Ok(None),
+        Err(Fault::Store(_)) => Ok(None),
         Err(Fault::NoMemory) => Err(Fault::NoMemory),
     }
 }

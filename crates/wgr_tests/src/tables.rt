@@ -11,7 +11,7 @@ use sqlite::{Connection, MemStore};
 use std::alloc::AllocGlobal;
 use std::process::Abort;
 use wgr_core::{Change, Count, Label, Network, Parts, Status};
-use wgr_tables::{Fault, NetworkChange, load_network};
+use wgr_tables::{Cause, Fault, NetworkChange, load_network};
 
 // What the peers of the network 3 have, after a command at a moment.
 const LINES: [Line<'_>; 11] = [
@@ -243,7 +243,7 @@ fn is_foreign(rt: &(impl Abort + AllocGlobal), statement: &str) -> bool {
     let mut conn = database(rt);
     do_all(rt, &mut conn, PEER);
     do_all(rt, &mut conn, statement);
-    matches!(load(rt, &mut conn, 3), Err(Fault::Store))
+    matches!(load(rt, &mut conn, 3), Err(Fault::Store(Cause::Damaged)))
 }
 
 #[test]
@@ -290,7 +290,7 @@ fn a_failed_change_leaves_the_rows(rt: HostRuntime) {
         "INSERT INTO allowed (network, family, lo, length, hi, peer, kind) VALUES (3, 4, x'0000000000000000000000000a080002', 32, x'0000000000000000000000000a080002', 1, 'address')";
     do_all(&rt, &mut conn, foreign);
     let network = network(&rt, office(&rt));
-    assert!(rt; written(&rt, &mut conn, &network, "add 1") == Err(Fault::Store));
+    assert!(rt; written(&rt, &mut conn, &network, "add 1") == Err(Fault::Store(Cause::Other)));
     assert!(rt; is_shown(&rt, &mut conn, PEERS, ""));
     assert!(rt;
         is_shown(

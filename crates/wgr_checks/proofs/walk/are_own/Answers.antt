@@ -75,7 +75,7 @@ returns-in-Err-clause-cause g c laid =
     let old = state g.S.Store c.args.conn.now in
     let new = state g.S.Store c.query.follows.lender-at-none in
     let held = c.query.follows.holds-at-none in
-    failed_cause c.args.table old new c.in-Err.error c.fault_of.result c.fault_of.ensures laid (λ clean.
+    failed_cause c.args.table old new c.in-Err.error c.fault_of.result c.fault_of.ensures.memory laid (λ clean.
     let failed : FailsToQuery c.text.result.now [] old new c.in-Err.error = search (rules, clean) in
     subst (λ t. FailsToQuery t [] old new c.in-Err.error) c.text.ensures failed)
 

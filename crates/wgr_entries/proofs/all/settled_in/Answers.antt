@@ -2,7 +2,7 @@ use Rattle.std.proofs.Common.{◌≡◌, [], ◌∷◌, ◌++◌, sym, ap, ap₂
 use Rattle.std.proofs.lemmas.List.{map_more}
 use Rattle.wgr_columns.specs.Decode.{network_in}
 use Rattle.wgr_entries.specs.Lookups.{settled}
-use Rattle.wgr_sql.specs.declared.fault.Fault.TheVariants.{Store}
+use Rattle.wgr_sql.specs.Faults.{IsStore}
 use Rattle.wgr_sql.proofs.CauseLemmas.{handed}
 use Rattle.wgr_columns.specs.Stored.{IsKeptNetwork, stored_network}
 use Rattle.wgr_entries.specs.Kept.{AreOf}
@@ -16,5 +16,5 @@ loop-row-preserved c =
 
 pub returns-in_err-network-clause-only : goal.returns-in_err-network-clause-only
 returns-in_err-network-clause-only c =
-    handed (λ why. why ≡ Store → AreOf IsKeptNetwork stored_network c.args.rows.now → ⊥) c.from_residual.result c.in_err-network.field-0.0 c.from_residual.ensures.1
+    handed (λ why. IsStore why → AreOf IsKeptNetwork stored_network c.args.rows.now → ⊥) c.from_residual.result c.in_err-network.field-0.0 c.from_residual.ensures.1
     (λ is all. let it = all c.row-item.result (has_at c.args.rows.now c.loop-row.row-index c.row-item.result c.loop-row-test.true c.row-item.is) in c.in_err-network.ensures.only is it.0 it.1 it.2)

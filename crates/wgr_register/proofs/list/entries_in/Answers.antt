@@ -7,7 +7,7 @@ use Rattle.wgr_columns.specs.Decode.{network_in}
 use Rattle.wgr_entries.specs.Lookups.{settled}
 use Rattle.wgr_register.specs.Listing.{by_name}
 use Rattle.wgr_register.proofs.ListLemmas.{none_by_name, one_by_name, step_back}
-use Rattle.wgr_sql.specs.declared.fault.Fault.TheVariants.{Store}
+use Rattle.wgr_sql.specs.Faults.{IsStore}
 use Rattle.wgr_sql.proofs.CauseLemmas.{handed}
 use Rattle.wgr_columns.specs.Stored.{IsKeptNetwork, stored_network}
 use Rattle.wgr_entries.specs.Kept.{AreOf}
@@ -46,5 +46,5 @@ returns-in_err-name-clause-only c =
     let rows = c.args.rows.now in
     let row : Row = c.index-rows-rest.result in
     let low : c.loop-rest.rest - 1 < length rows = omega (arith, c.loop-rest-test.true, c.loop-rest.invariant.within) in
-    handed (λ why. why ≡ Store → AreOf IsKeptNetwork stored_network rows → ⊥) c.from_residual.result c.in_err-name.field-0.0 c.from_residual.ensures.1
+    handed (λ why. IsStore why → AreOf IsKeptNetwork stored_network rows → ⊥) c.from_residual.result c.in_err-name.field-0.0 c.from_residual.ensures.1
     (λ is all. let it = all row (has_at rows (c.loop-rest.rest - 1) row low c.index-rows-rest.is) in c.in_err-name.ensures.only is it.0 it.1 it.2)

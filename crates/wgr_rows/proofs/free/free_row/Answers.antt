@@ -110,7 +110,7 @@ returns-in-Err-clause-cause g c db pending w stood is here id pool =
     let held = rw (c.in-Err.is, c.holds_text.ensures, c.number_value.ensures, c.family_value.ensures, c.family.ensures.value, c.bytes_of-first.ensures, c.number.ensures.value, c.bytes_of-last.ensures, c.number-2.ensures.value, c.number_value-2.ensures, c.from-length.ensures, c.length.ensures.value) at c.query.follows.holds-at-none in
     let params = params_are c.args.network p start.number c.span-span.result.lo c.span-span.result.hi c.span-span.ensures.ends in
     let yes : IsTrue c.is_autocommit-settled.result = rw (c.is_autocommit-settled.ensures.value, c.requires.idle) in
-    begin_cause (not c.is_empty-shows_peers.result) c.args.network p start.number (state g.S.Store old) (state g.S.Store new) c.in-Err.error c.fault_of.result c.fault_of.ensures
+    begin_cause (not c.is_empty-shows_peers.result) c.args.network p start.number (state g.S.Store old) (state g.S.Store new) c.in-Err.error c.fault_of.result c.fault_of.ensures.memory
     (λ clean. stands_sound g.S.Store old db pending stood c.args.network p w is here id (sym pool ∙ sym c.prefix-prefix.ensures.value) (c.is_autocommit-settled.ensures.settled yes) (omega (arith, held.survives.clean, clean)))
     (λ clean. subst (λ values. FailsToQuery (holds_text (not c.is_empty-shows_peers.result)) values (state g.S.Store old) (state g.S.Store new) c.in-Err.error) params (held.err clean))
 

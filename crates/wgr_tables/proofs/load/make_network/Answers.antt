@@ -1,5 +1,5 @@
 use Rattle.std.proofs.Common.{rules, ◌≡◌, IfSome, subst}
-use Rattle.wgr_sql.specs.declared.fault.Fault.TheVariants.{Store}
+use Rattle.wgr_sql.specs.Faults.{IsStore}
 use Rattle.wgr_core.specs.Parts.{IsNetworkOf}
 use Rattle.wgr_columns.specs.Decode.{network_in}
 use Rattle.wgr_columns.specs.Stored.{AreSettings, stored_network}
@@ -13,5 +13,5 @@ returns-in-Ok-Some-clause-made c =
 
 pub returns-in_err-parts-clause-only : goal.returns-in_err-parts-clause-only
 returns-in_err-parts-clause-only c =
-    let never : c.in_err-parts.field-0.0 ≡ Store → AreSettings (network_in c.args.row.now) → c.args.row.now ≡ stored_network (network_in c.args.row.now) → ⊥ = (λ e settings is. c.in_err-parts.ensures.only e (network_in c.args.row.now) settings is) in
+    let never : IsStore c.in_err-parts.field-0.0 → AreSettings (network_in c.args.row.now) → c.args.row.now ≡ stored_network (network_in c.args.row.now) → ⊥ = (λ e settings is. c.in_err-parts.ensures.only e (network_in c.args.row.now) settings is) in
     search (rules, never)

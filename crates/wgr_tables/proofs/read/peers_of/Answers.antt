@@ -3,7 +3,7 @@ use Rattle.std.specs.List.{AllByRecursion}
 use Rattle.std.proofs.Math.ListN.{length-map}
 use Rattle.wgr_peers.specs.declared.peer.Peer.{Peer}
 use Rattle.wgr_model.specs.Rows.{address_row, peer_row}
-use Rattle.wgr_sql.specs.declared.fault.Fault.TheVariants.{Store}
+use Rattle.wgr_sql.specs.Faults.{IsStore}
 use Rattle.wgr_sql.proofs.Answers.{map-both}
 use Rattle.wgr_columns.specs.Decode.{allowed_in, peer_in}
 use Rattle.wgr_columns.specs.Stored.{IsKeptPeer, stored_allowed, stored_peer}
@@ -14,7 +14,7 @@ pub returns-in_err-peer-clause-only : goal.returns-in_err-peer-clause-only
 returns-in_err-peer-clause-only c =
     let id = c.args.network in
     let at = c.loop-at.at in
-    let never : c.in_err-peer.field-0.0 ≡ Store → (peers : List Peer) → AllByRecursion IsKeptPeer peers
+    let never : IsStore c.in_err-peer.field-0.0 → (peers : List Peer) → AllByRecursion IsKeptPeer peers
     → c.args.rows.now ≡ map stored_peer (map (peer_row id) peers) → c.args.addresses.now ≡ map stored_allowed (map (address_row id) peers) → ⊥ = (λ e peers kept rows addresses.
     let one = rows ∙ map-both (peer_row id) stored_peer peers in
     let other = addresses ∙ map-both (address_row id) stored_allowed peers in

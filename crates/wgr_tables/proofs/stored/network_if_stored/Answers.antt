@@ -1,17 +1,17 @@
-use Rattle.std.proofs.Common.{◌≡◌, Ok, Err, IfErr, IfOk, IfSome, IfNone, false, refl, sym, ap, ◌∙◌, true≢false, map, filter, nat_eq, not, ◌&&◌, subst, IsPermutation}
+use Rattle.std.proofs.Common.{◌≡◌, Ok, IsErrAnd, IfOk, IfSome, IfNone, false, refl, sym, ap, ◌∙◌, true≢false, map, filter, nat_eq, not, ◌&&◌, subst, IsPermutation}
 use Rattle.std.proofs.lemmas.List.Sorted.{IsPermutation-map, IsPermutation-refl, IsPermutation-trans}
 use Rattle.wgr_model.specs.Laws.{Has}
 use Rattle.wgr_core.specs.Network.{NetworkValue}
 use Rattle.wgr_model.specs.Rows.{NetworkRow, address_row, peer_row, route_row}
 use Rattle.wgr_model.proofs.GatherLemmas.{eqb_self}
-use Rattle.wgr_sql.specs.declared.fault.Fault.TheVariants.{Store}
+use Rattle.wgr_sql.specs.Faults.{IsStore}
 use Rattle.wgr_sql.proofs.SurvivesLemmas.{survives_next}
 use Rattle.wgr_columns.specs.Decode.{tables_of, network_in, number_at}
 use Rattle.wgr_tables.specs.Loads.{IsMade, network_with}
 use Rattle.wgr_columns.specs.Stored.{AreSettings, stored_network}
 use Rattle.wgr_tables.specs.Stored.{IsStored}
 use Rattle.wgr_tables.proofs.ArrangeLemmas.{same_routes}
-use Rattle.wgr_tables.proofs.ToldLemmas.{told_settings}
+use Rattle.wgr_tables.proofs.ToldLemmas.{only_if, told_settings}
 use Rattle.sqlite.specs.Held.{state}
 use Rattle.wgr_sql.specs.Causes.{HasCause}
 use Rattle.wgr_sql.proofs.CauseLemmas.{handed, later_hands_on}
@@ -99,9 +99,8 @@ returns-in_default-4-clause-none g c db pending stood clean n if_stored =
       routes = same_routes id routes n.routes (filter (λ a. a.is_route && nat_eq a.network id) t.allowed) led if_stored.routes;
       rules = if_stored.rules;
     } in
-    let given = subst (λ o. IfNone o (c.make_network.result ≡ Err Store)) c.in_default-4.is c.in_ok-made.ensures.none in
-    let only = subst (λ r. IfErr r (λ e. e ≡ Store → (m : NetworkValue) → IsMade (network_in row) peers routes m → AreSettings (network_in row) → row ≡ stored_network (network_in row) → ⊥)) given c.make_network.ensures.only in
-    only refl n made (subst AreSettings (sym once) (told_settings t id n if_stored)) stored
+    let given = subst (λ o. IfNone o (IsErrAnd c.make_network.result IsStore)) c.in_default-4.is c.in_ok-made.ensures.none in
+    only_if c.make_network.result IsStore ((m : NetworkValue) → IsMade (network_in row) peers routes m → AreSettings (network_in row) → row ≡ stored_network (network_in row) → ⊥) c.make_network.ensures.only given n made (subst AreSettings (sym once) (told_settings t id n if_stored)) stored
 
 pub returns-in_err-row-clause-cause : goal.returns-in_err-row-clause-cause
 returns-in_err-row-clause-cause g c db pending stood apart = handed (HasCause (state g.S.Store c.args.conn.now) (state g.S.Store c.network_row.new.conn)) c.from_residual.result c.in_err-row.field-0.0 c.from_residual.ensures.1 (c.in_err-row.ensures.cause db pending stood apart)

@@ -2,7 +2,7 @@ use Rattle.std.proofs.Common.{◌≡◌, map, filter, nat_eq, not, ◌&&◌, sym
 use Rattle.wgr_sql.proofs.ResultLemmas.{if_ok, if_both}
 use Rattle.wgr_core.specs.Network.{NetworkValue}
 use Rattle.wgr_model.specs.Rows.{address_row, peer_row}
-use Rattle.wgr_sql.specs.declared.fault.Fault.TheVariants.{Store}
+use Rattle.wgr_sql.specs.Faults.{IsStore}
 use Rattle.wgr_columns.specs.Decode.{tables_of, peer_in, allowed_in}
 use Rattle.wgr_columns.specs.Stored.{stored_allowed, stored_peer}
 use Rattle.wgr_tables.specs.Stored.{IsStored}
@@ -58,7 +58,7 @@ returns-clause-none g c db pending stood clean =
     (c.in_ok-rows.ensures.listed db pending stood before) (c.in_ok-rows.ensures.rising db pending stood before) in
     let owned = λ (n : NetworkValue) (if_stored : IsStored t id n). shown_addresses id t n if_stored.rules if_stored.addresses (map allowed_in c.in_ok-addresses.addresses.items)
     (c.in_ok-addresses.ensures.listed db pending next clean) (c.in_ok-addresses.ensures.rising db pending next clean) in
-    none_as c.peers_of.result c.if_stored.result Store ((n : NetworkValue) → IsStored t id n → ⊥)
+    none_as c.peers_of.result c.if_stored.result IsStore ((n : NetworkValue) → IsStored t id n → ⊥)
     (err_as c.peers_of.result _ _ (λ e only is n if_stored. only is n.peers (kept_peers n if_stored.rules if_stored.forms)
     (c.as_slice.ensures.value ∙ c.in_ok-rows.ensures.stored db pending stood before ∙ ap (map stored_peer) (typed n if_stored))
     (c.as_slice-2.ensures.value ∙ c.in_ok-addresses.ensures.stored db pending next clean ∙ ap (map stored_allowed) (owned n if_stored))) c.peers_of.ensures.only)

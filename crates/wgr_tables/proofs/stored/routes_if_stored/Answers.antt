@@ -2,7 +2,7 @@ use Rattle.std.proofs.Common.{map, filter, nat_eq, ◌&&◌, sym, ap, ◌∙◌,
 use Rattle.wgr_sql.proofs.ResultLemmas.{if_ok}
 use Rattle.wgr_core.specs.Network.{NetworkValue}
 use Rattle.wgr_model.specs.Rows.{route_row}
-use Rattle.wgr_sql.specs.declared.fault.Fault.TheVariants.{Store}
+use Rattle.wgr_sql.specs.Faults.{IsStore}
 use Rattle.wgr_columns.specs.Decode.{tables_of, allowed_in}
 use Rattle.wgr_columns.specs.Stored.{stored_allowed}
 use Rattle.wgr_tables.specs.Stored.{IsStored}
@@ -24,7 +24,7 @@ pub returns-clause-none : goal.returns-clause-none
 returns-clause-none g c db pending stood clean =
     let id = c.args.network in
     let t = tables_of db in
-    none_as c.routes_of.result c.if_stored.result Store ((n : NetworkValue) → IsStored t id n → ⊥)
+    none_as c.routes_of.result c.if_stored.result IsStore ((n : NetworkValue) → IsStored t id n → ⊥)
     (err_as c.routes_of.result _ _ (λ e only is n if_stored.
     let found = arranged_routes id n if_stored.rules (map allowed_in c.in_ok-rows.rows.items) (filter (λ a. a.is_route && nat_eq a.network id) t.allowed) if_stored.routes (c.in_ok-rows.ensures.listed db pending stood clean) in
     only is found.0 found.1 (c.as_slice.ensures.value ∙ c.in_ok-rows.ensures.stored db pending stood clean ∙ ap (map stored_allowed) found.2)) c.routes_of.ensures.only)

@@ -1,8 +1,9 @@
 use Rattle.std.proofs.Common.{sym, subst}
-use Rattle.std.specs.Prelude.{IfErr}
 use Rattle.sqlite.specs.Held.{state}
 use Rattle.wgr_sql.specs.Causes.{HasCause}
+use Rattle.wgr_sql.specs.declared.fault.Cause.TheVariants.{Other}
 use Rattle.wgr_sql.specs.declared.fault.Fault.TheVariants.{Store}
+use Rattle.wgr_sql.proofs.CauseLemmas.{any_cause}
 use Rattle.wgr_register.specs.Standing.{StandsAt}
 use Rattle.wgr_columns.specs.Decode.{tables_of}
 use Rattle.wgr_register.proofs.StandLemmas.{at_read}
@@ -27,5 +28,5 @@ pub returns-clause-cause : goal.returns-clause-cause
 returns-clause-cause g c db late at shut =
     let new = state g.S.Store c.tenant_of_token-found.new.conn in
     let here = subst (λ h. StandsAt g.S.Store h db late) (sym c.self.view_is) at in
-    subst (λ h. HasCause (state g.S.Store h) new Store) c.self.view_is
-    (subst (λ r. IfErr r (HasCause (state g.S.Store c.self.inside.conn) new)) (c.is_fault_of_store.ensures shut) (c.tenant_of_token-found.ensures.cause db here.pending here.stands here.consistent))
+    subst (λ h. HasCause (state g.S.Store h) new (Store Other)) c.self.view_is
+    (any_cause ⊥ (state g.S.Store c.self.inside.conn) new Other c.tenant_of_token-found.result (c.is_fault_of_store.ensures shut) (c.tenant_of_token-found.ensures.cause db here.pending here.stands here.consistent))

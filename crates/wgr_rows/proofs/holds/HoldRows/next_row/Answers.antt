@@ -10,8 +10,8 @@ use Rattle.wgr_columns.specs.Decode.{tables_of}
 use Rattle.wgr_rows.specs.HeldRows.{HeldSpan, hold_params, holds_text, rows_to_come}
 use Rattle.wgr_rows.specs.declared.progress.Progress.TheVariants.{Running}
 use Rattle.wgr_rows.proofs.Coming.{come_as, first_is, good_back, last_was, number_low, told_next}
-use Rattle.wgr_sql.specs.Causes.{HasCause}
-use Rattle.wgr_pool.specs.declared.allot.Stop.TheVariants.{Source}
+use Rattle.wgr_sql.specs.declared.fault.Cause.TheVariants.{Damaged}
+use Rattle.wgr_sql.specs.declared.fault.Fault.TheVariants.{Store}
 use Rattle.wgr_rows.specs.HeldRows.{max_holds}
 use Rattle.wgr_rows.proofs.StopLemmas.{advance_cause, for_cause, limit_cause, order_cause, row_cause}
 use Rattle.wgr_rows.proofs.holds.HoldRows.next_row.Goals as goal
@@ -110,7 +110,7 @@ returns-then-self-gt-MAX_HOLDS-clause-blames g c =
     let self = c.args.self.now in
     let mid = self.rows.now.conn.now in
     let more : max_holds < self.taken = omega (arith, c.if-self-gt-MAX_HOLDS.true) in
-    for_cause self.network self.pool (state g.S.Store mid) (state g.S.Store mid) self.at Source
+    for_cause self.network self.pool (state g.S.Store mid) (state g.S.Store mid) self.at (Store Damaged)
     (limit_cause g.S.Store self.shows_peers self.network self.pool self.start.number c.rules_hold.ensures.prefix c.rules_hold.ensures.address (number_low self.start c.rules_hold-2.ensures) self.taken self.first self.last self.at c.in-Running.is mid self.told more)
 
 pub returns-in-Err-clause-blames : goal.returns-in-Err-clause-blames
@@ -118,9 +118,8 @@ returns-in-Err-clause-blames g c =
     let self = c.args.self.now in
     let mid = self.rows.now.conn.now in
     let new = c.advance.new.self.conn.now in
-    for_cause self.network self.pool (state g.S.Store mid) (state g.S.Store new) self.at c.stop_of-why.result (λ known.
-    subst (HasCause (state g.S.Store mid) (state g.S.Store new)) (sym c.stop_of-why.ensures)
-    (advance_cause g.S.Store self.shows_peers self.network self.pool self.start.number c.rules_hold.ensures.prefix c.rules_hold.ensures.address (number_low self.start c.rules_hold-2.ensures) self.taken self.first self.last self.at c.in-Running.is mid self.told new c.advance.ensures.survives c.in-Err.error c.fault_of.result c.fault_of.ensures (λ clean. rw c.in-Err.is at (c.advance.ensures.err clean)) known))
+    for_cause self.network self.pool (state g.S.Store mid) (state g.S.Store new) self.at c.fault_of-fault.result
+    (advance_cause g.S.Store self.shows_peers self.network self.pool self.start.number c.rules_hold.ensures.prefix c.rules_hold.ensures.address (number_low self.start c.rules_hold-2.ensures) self.taken self.first self.last self.at c.in-Running.is mid self.told new c.advance.ensures.survives c.in-Err.error c.fault_of-fault.result c.fault_of-fault.ensures.memory (λ clean. rw c.in-Err.is at (c.advance.ensures.err clean)))
 
 pub returns-in_default-hold_in-clause-blames : goal.returns-in_default-hold_in-clause-blames
 returns-in_default-hold_in-clause-blames g c =
@@ -130,7 +129,7 @@ returns-in_default-hold_in-clause-blames g c =
     let row = c.in-Some.row.now in
     let params = hold_params self.network self.pool self.start.number in
     let some : row_if c.advance.new.self.has_row new ≡ Some row = sym c.get.ensures ∙ ap option_copied c.in-Some.is in
-    for_cause self.network self.pool (state g.S.Store mid) (state g.S.Store new) self.at Source
+    for_cause self.network self.pool (state g.S.Store mid) (state g.S.Store new) self.at (Store Damaged)
     (row_cause g.S.Store self.shows_peers self.network self.pool self.start.number c.rules_hold.ensures.prefix c.rules_hold.ensures.address (number_low self.start c.rules_hold-2.ensures) self.taken self.first self.last self.at c.in-Running.is mid self.told new c.advance.ensures.survives row
     (λ clean. let rested = c.advance.ensures.same clean in search (rules, rested))
     (λ clean given runs.
@@ -148,7 +147,7 @@ returns-then-not-is_from-clause-blames g c =
     let params = hold_params self.network self.pool self.start.number in
     let hold : HeldSpan = (c.in-Some-hold_in.span, c.in-Some-hold_in.number) in
     let some : row_if c.advance.new.self.has_row new ≡ Some row = sym c.get.ensures ∙ ap option_copied c.in-Some.is in
-    for_cause self.network self.pool (state g.S.Store mid) (state g.S.Store new) self.at Source
+    for_cause self.network self.pool (state g.S.Store mid) (state g.S.Store new) self.at (Store Damaged)
     (order_cause g.S.Store self.shows_peers self.network self.pool self.start.number c.rules_hold.ensures.prefix c.rules_hold.ensures.address (number_low self.start c.rules_hold-2.ensures) self.taken self.first self.last self.at c.in-Running.is mid self.told new c.advance.ensures.survives row
     (λ clean. let rested = c.advance.ensures.same clean in search (rules, rested))
     (λ clean given runs.

@@ -36,6 +36,17 @@ returns-clause-keeps g c =
           (c.next_row.ensures.settings.0, c.next_row.ensures.settings.1, c.next_row.ensures.stays, c.next_row.ensures.blames),
     )
 
+pub returns-in_err-span-clause-keeps : goal.returns-in_err-span-clause-keeps
+returns-in_err-span-clause-keeps g c =
+    let old = c.args.self.now in
+    let mid = c.loop-span.self in
+    let new = c.next_row.new.self in (
+      c.next_row.ensures.same_rows ∙ c.loop-span.invariant.0,
+      c.next_row.ensures.same_reference ∙ c.loop-span.invariant.1,
+      leaves_on g.S.Store old.rows.now.conn.now mid.rows.now.conn.now new.rows.now.conn.now old.network old.pool old.at mid.network mid.pool mid.at new.network new.pool new.at c.loop-span.invariant.2
+          (c.next_row.ensures.settings.0, c.next_row.ensures.settings.1, c.next_row.ensures.stays, c.next_row.ensures.blames),
+    )
+
 pub loop-span-preserved : goal.loop-span-preserved
 loop-span-preserved g c =
     let old = c.args.self.now in
