@@ -34,7 +34,7 @@ def refused(why):
 
 # What the second line says of a fault of the store; there is none where it is none of these.
 BUSY = "another process has the file open"
-DENIED = "the file can't be opened, read or written: see its owner and permissions, and those of its directory"
+DENIED = "the file can't be opened: see its permissions, those of its directory, and whether the disk is full"
 DAMAGED = "the file isn't a database, or is damaged"
 FULL = "the disk is full"
 

@@ -118,7 +118,7 @@ fn store_text(cause: Cause) -> &'static [u8] {
     match cause {
         Cause::Busy => b"wgr: store\nwgr: another process has the file open\n",
         Cause::Denied => {
-            b"wgr: store\nwgr: the file can't be opened, read or written: see its owner and permissions, and those of its directory\n"
+            b"wgr: store\nwgr: the file can't be opened: see its permissions, those of its directory, and whether the disk is full\n"
         }
         Cause::Damaged => b"wgr: store\nwgr: the file isn't a database, or is damaged\n",
         Cause::Full => b"wgr: store\nwgr: the disk is full\n",

@@ -21,7 +21,7 @@ pub enum Fault {
 pub enum Cause {
     /// Another process has the database open.
     Busy,
-    /// The file or its directory can't be opened, read or written by this user.
+    /// The file can't be opened: by its permissions or those of its directory, or since there is no room for its log.
     Denied,
     /// The file isn't a database, or its contents are invalid.
     Damaged,
