@@ -36,7 +36,7 @@ fn bare_command<'a>(alloc: Global) -> Result<Command<'a>, Error>
     ensures memory { IfErr result (λ error. kind_of error ≡ ErrorKind.OutOfMemory) }
 {
     let command = Command::new(alloc, "wgr")
-        .version("0.8.1")
+        .version("0.8.2")
         .about("A register of WireGuard peers and their tunnel addresses")
         .no_binary_name(true)
         .subcommand_required(true)

@@ -51,6 +51,7 @@ commit, and prints `done`. Of a register of the present version nothing changes.
 not the register's stay as they are. No other program may have DB open.
 
 It cannot be undone: make a copy first, with `cp`, of DB and of the log DB-wal if it is there.
+If DB is a symbolic link, copy the file that it leads to, and the log beside that.
 
 Messages on standard error, with the exit status, and what to do:
   wgr: not_a_register  1  DB is missing or has no register: create one with `wgr init`
@@ -66,7 +67,7 @@ Messages on standard error, with the exit status, and what to do:
 The status is 0 if `done` is printed, and 2 for a wrong command line.
 
 Example:
-  $ mkdir before && cp -a register.db* before
+  $ mkdir before && cp -pL register.db* before
   $ wgr migrate register.db
   done";
 

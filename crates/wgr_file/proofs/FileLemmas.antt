@@ -1,14 +1,19 @@
 -- A register in two files: what they held, and what they hold once they are closed.
-use Rattle.std.proofs.Common.{◌≡◌, ◌∙◌, [], ◌∷◌, List, Bool, not, Option, Some, None, Result, Ok, Err, IfSome, IsTrue, false, sym, ap, subst, inl, inr}
-use Rattle.std.proofs.Math.Logic.{∥∥₁_elim}
+use Rattle.std.proofs.Common.{◌≡◌, ◌∙◌, [], ◌∷◌, List, Bool, not, Option, Some, None, Result, Ok, Err, IfSome, IsTrue, false, sym, ap, subst, inl, inr, arith}
+use Rattle.std.proofs.Math.Logic.{∥∥₁_elim, ∥∥₁_map}
 use Rattle.sqlite_trees.specs.Props.{Trees-set}
 use Rattle.sqlite_disk.specs.declared.Disk as disk
 use Rattle.sqlite_disk.specs.declared.Files.{Files}
+use Rattle.sqlite_store.specs.FileStore.{faults, files, is_shielded, recovers, view}
 use Rattle.sqlite_store.specs.declared.store.FileStore.{FileStore}
+use Rattle.sqlite_pool.proofs.StateLemmas.{clean_is, may_leave_is}
+use Rattle.sqlite_trees.proofs.Doubt.{no_doubt}
+use Rattle.sqlite_trees.specs.View.{IsClean, IsQuiet}
+use Rattle.sqlite.proofs.Theorems.{opens_again}
 use Rattle.sqlite.specs.Closing.{HoldsAlone, IsCopied}
 use Rattle.sqlite.specs.Effect.{Database, IsDatabase}
 use Rattle.sqlite.specs.Files.{HoldsDatabase, IsOpened, file_state, over_files}
-use Rattle.sqlite.specs.Held.{Held}
+use Rattle.sqlite.specs.Held.{AreDatabases, Held}
 use Rattle.sqlite.specs.Recovery.{Image}
 use Rattle.sqlite.specs.Start.{FindsIn}
 use Rattle.sqlite.specs.State.{HasCleanDisk}
@@ -17,6 +22,7 @@ use Rattle.sqlite.specs.WalReads.{AreClean}
 use Rattle.wgr_orders.specs.Orders.{order_event}
 use Rattle.wgr_model.specs.RowLaws.{IsRowStep}
 use Rattle.wgr_model.specs.Steps.{Answer, Event}
+use Rattle.wgr_model.specs.Stops.{IsLeft}
 use Rattle.wgr_orders.specs.declared.order.Order.{Order}
 use Rattle.wgr_register.specs.Causes.{IfOrderFault, OrderStops}
 use Rattle.wgr_register.specs.Ends.{StandsAfter, OrderEnds, is_change}
@@ -24,13 +30,14 @@ use Rattle.wgr_register.specs.Standing.{StandsAt}
 use Rattle.wgr_register.specs.declared.fault.Done as done
 use Rattle.wgr_register.specs.declared.fault.OrderFault.{OrderFault}
 use Rattle.wgr_register.specs.declared.fault.OrderFault.TheVariants as order_fault
-use Rattle.wgr_register.proofs.LeftLemmas.{one_database}
+use Rattle.wgr_register.proofs.LeftLemmas.{one_database, stop_leaves}
 use Rattle.wgr_sql.specs.Calls.{IsKept}
 use Rattle.wgr_sql.specs.Causes.{HasCauseOr}
 use Rattle.wgr_schema.specs.Fresh.{IsFresh, no_schema}
 use Rattle.wgr_columns.specs.Decode.{tables_of}
 use Rattle.wgr_opening.specs.Good.{IsGood}
 use Rattle.wgr_opening.specs.Migrated.{IsMigrated}
+use Rattle.wgr_file.specs.Laws.{KilledIsFound}
 use Rattle.wgr_file.specs.OnFiles.{AreThoseOf, EndsIn, HasEnded, IsClosedIn, IsClosedTo, IsMadeInFiles, IsOpen, StandIn, FilesStay, StoodIn, WasMigrated}
 
 -- files that hold a good register are found to hold it
@@ -168,6 +175,19 @@ module _ {D : Type 0} {g : disk.Ghosts D} where
 
   pub copy_is : (files : Files D) (left db : Database) (next : Image) → StandIn g files left → outcomes g files.log files.db next → StoodIn (record next { log = [] }) db → db ≡ left
   copy_is files left db next stands may stood = held_is left db (record next { log = [] }) stands.good (stands.holds next may).alone stood
+
+  -- nor does it matter that the process of the last one was killed: the acknowledged rows are there
+  pub killed_left : (register : Held (FileStore D g)) (it : FileStore D g) (closed : Files D) → (IsClean (view it) → IsTrue (view it).is_numbered) → (IsClean (view it) → AreDatabases (recovers it))
+      → IsQuiet view faults recovers is_shielded register.store it → (closed.log, closed.db) ≡ files it → KilledIsFound g register closed
+  killed_left register it closed numbered sound quiet same db again late next at clean may stood =
+      let sure = subst (λ (p : D × D). AreClean g p.0 p.1) same clean in
+      let none : IsClean (view it) = no_doubt _ (clean_is it.pool ∙ sure) in
+      let left = may_leave_is it.pool next sure (subst (λ (p : D × D). outcomes g p.0 p.1 next) same may) in
+      let was : HasCleanDisk (file_state register) = omega (arith, quiet.clean) in
+      ∥∥₁_map (opens_again it (numbered none) (sound none) next left) (λ found.
+      let is = stop_leaves over_files register db late at was found.0 (quiet.outcomes found.0 found.1) in
+      let one = one_database again is.0 stood.good.register.sound is.1.register.sound (stood.found.0 found.0 found.2 ∙ is.3) in
+      subst (λ (d : Database). IsLeft (tables_of db) late (tables_of d)) (sym one) is.2)
 
 -- the good register that the files held is the one that is found
 pub found_is : (start : Image) (db held : Database) → StoodIn start db → IsGood held → HoldsDatabase start held.trees → db ≡ held

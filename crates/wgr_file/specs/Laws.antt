@@ -11,10 +11,12 @@ use Rattle.sqlite_disk.specs.declared.Disk as disk
 use Rattle.sqlite_disk.specs.declared.Files.{Files}
 use Rattle.sqlite_store.specs.declared.store.FileStore.{FileStore}
 use Rattle.wgr_model.specs.Steps.{Event}
+use Rattle.wgr_model.specs.Stops.{IsLeft}
 use Rattle.wgr_orders.specs.declared.order.Order.{Order}
 use Rattle.wgr_register.specs.Standing.{StandsAt}
 use Rattle.wgr_register.specs.declared.fault.Done.{Done}
 use Rattle.wgr_register.specs.declared.fault.OrderFault.{OrderFault}
+use Rattle.wgr_columns.specs.Decode.{tables_of}
 use Rattle.wgr_opening.specs.Good.{IsGood}
 use Rattle.wgr_opening.specs.Migrated.{IsMigrated}
 use Rattle.wgr_file.specs.OnFiles.{AreThoseOf, EndsIn, HasEnded, IsClosedIn, IsMadeInFiles, StandIn, StoodIn, WasMigrated}
@@ -46,6 +48,13 @@ NextFindsTheLast g files = (left db : Database) (next : Image) → StandIn g fil
 -- and so it does where the file of the database is copied without its log
 abbrev pub CopyHasAll : {D : Type 0} → disk.Ghosts D → Files D → Type 0
 CopyHasAll g files = (left db : Database) (next : Image) → StandIn g files left → outcomes g files.log files.db next → StoodIn (record next { log = [] }) db → db ≡ left
+
+-- Whatever of the calls on the files is on the disk when the process that has the register is killed, the register
+-- that the next command finds has the rows of before, or those after one of the late events. So the events of before
+-- and those of the next command are one run (`RunsGoOn` of wgr_model).
+abbrev pub KilledIsFound : {D : Type 0} (g : disk.Ghosts D) → Held (FileStore D g) → Files D → Type 0
+KilledIsFound g register files = (db again : Database) (late : List Event) (next : Image) → StandsAt over_files register db late → AreClean g files.log files.db → outcomes g files.log files.db next → StoodIn next again
+    → ∥ IsLeft (tables_of db) late (tables_of again) ∥₁
 
 -- `Unknown` says nothing about a file that isn't empty: no record of calls on one is honest from it
 abbrev pub UnknownIsEmpty : Type 0

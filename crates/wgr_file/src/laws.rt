@@ -1,11 +1,11 @@
-//! What follows for a register in files. Each function does nothing: its contract is the law.
+//! What follows for a register in files. Each function but `killed` does nothing: its contract is the law.
 ghost use Rattle.std.specs.Prelude.{IsTrue};
 ghost use Rattle.sqlite.specs.Files.{file_state};
 ghost use Rattle.sqlite.specs.State.{HasCleanDisk};
 ghost use Rattle.sqlite_disk.specs.Events.{IsHonest};
 ghost use Rattle.sqlite_disk.specs.Modelled.{calls_of, start_of};
 ghost use Rattle.sqlite_store.specs.FileStore.{files as store_files};
-ghost use Rattle.wgr_file.specs.Laws.{ClosedIsInFiles, CopyHasAll, FoundIsStored, MadeIsInFiles, MigratedIsInFiles, NextFindsTheLast, OrdersEndInFiles, UnknownIsEmpty};
+ghost use Rattle.wgr_file.specs.Laws.{ClosedIsInFiles, CopyHasAll, FoundIsStored, KilledIsFound, MadeIsInFiles, MigratedIsInFiles, NextFindsTheLast, OrdersEndInFiles, UnknownIsEmpty};
 
 use sqlite::{FileStore, Files, Start};
 use sqlite_disk::{Calls, Disk, Modelled};
@@ -59,6 +59,15 @@ pub fn copies_have_all<D: Disk>(files: &Files<D>)
     ensures { CopyHasAll D.Disk files.now }
 {
     let _files = files;
+}
+
+/// The files of a register whose process is killed: nothing of it is closed. Whatever of the calls on them is on
+/// the disk then, the register that the next command finds has the acknowledged rows, or those after one event more
+/// that was answered with a fault since.
+pub fn killed<D: Disk + Drop>(register: Register<FileStore<D>>) -> Files<D>
+    ensures { KilledIsFound D.Disk register result }
+{
+    register.into_connection().into_store().close()
 }
 
 /// Where the calls on both files were answered as by honest files that held what `S` says, the disk is

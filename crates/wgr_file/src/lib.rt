@@ -13,7 +13,7 @@ mod order;
 
 pub use database::Closed;
 pub use laws::{
-    closed_is_in_files, copies_have_all, found_is_reported, honest_files_are_clean,
+    closed_is_in_files, copies_have_all, found_is_reported, honest_files_are_clean, killed,
     made_is_in_files, migrated_is_in_files, next_finds_the_last, orders_end_in_files,
     unknown_is_empty,
 };

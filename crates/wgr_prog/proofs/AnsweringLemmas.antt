@@ -64,12 +64,12 @@ module _ {D : Type 0} (g : disk.Ghosts D) (start : Image) (closed : Option (File
 
   -- ---- connections
 
-  module _ (register left : Held (FileStore D g)) (s : Serving) (before after : Log) (old new : Output) (is_open : IsOpen start register) (closed_to : IsClosedTo g closed left) where
-    served_from : (ended : Ending) → ServesFrom register left s ended before after → HasServedFiles g start closed s ended before after
+  module _ (register left : Held (FileStore D g)) (s : Serving) (before after : Log) (old new errors errors' : Output) (is_open : IsOpen start register) (closed_to : IsClosedTo g closed left) where
+    served_from : (ended : Ending) → ServesFrom register left s ended before after errors errors' → HasServedFiles g start closed s ended before after errors errors'
     served_from ended from =
-        record { register = register; opened = is_open; left = left; closed_to = closed_to; clean = from.0; outcomes = from.1.0; served = from.1.1; listened = from.1.2 }
+        record { register = register; opened = is_open; left = left; closed_to = closed_to; clean = from.0; outcomes = from.1.0; served = from.1.1; listened = from.1.2; told = from.1.3 }
 
-    pub serves_all : (r : Result (Unit {0}) Failure) → Listens register left s before after old new r → ServesAll g start closed s before after old new r
+    pub serves_all : (r : Result (Unit {0}) Failure) → Listens register left s before after old new errors errors' r → ServesAll g start closed s before after old new errors errors' r
     serves_all (Ok done) listens = (served_from ending.Served listens.0, listens.1)
     serves_all (Err failure.Shut) listens = (served_from ending.Shut listens.0, listens.1)
     serves_all (Err (failure.Field f)) listens = absurd listens
@@ -78,11 +78,11 @@ module _ {D : Type 0} (g : disk.Ghosts D) (start : Image) (closed : Option (File
     serves_all (Err failure.Device) listens = (listens.1, stays_open register left start closed is_open listens.0 closed_to)
 
   -- where the words spell what to serve
-  pub ends_serve : (place count : List ℕ) (now orders : Option (List ℕ)) (s : Serving) → IsServing place count now orders s → (before after : Log) (old new : Output) (r : Result (Unit {0}) Failure) → ServesAll g start closed s before after old new r
-      → EndsServe g start closed place count now orders before after old new r
-  ends_serve place count now orders s spelled before after old new (Ok done) serves = (s, spelled, serves)
-  ends_serve place count now orders s spelled before after old new (Err (failure.Field f)) serves = absurd serves
-  ends_serve place count now orders s spelled before after old new (Err (failure.Refused why)) serves = absurd serves
-  ends_serve place count now orders s spelled before after old new (Err (failure.Register why)) serves = (serves.0, serves.1, serves.2, inr (s, spelled))
-  ends_serve place count now orders s spelled before after old new (Err failure.Device) serves = (s, spelled, serves)
-  ends_serve place count now orders s spelled before after old new (Err failure.Shut) serves = (s, spelled, serves)
+  pub ends_serve : (place count : List ℕ) (now orders : Option (List ℕ)) (s : Serving) → IsServing place count now orders s → (before after : Log) (old new errors errors' : Output) (r : Result (Unit {0}) Failure) → ServesAll g start closed s before after old new errors errors' r
+      → EndsServe g start closed place count now orders before after old new errors errors' r
+  ends_serve place count now orders s spelled before after old new errors errors' (Ok done) serves = (s, spelled, serves)
+  ends_serve place count now orders s spelled before after old new errors errors' (Err (failure.Field f)) serves = absurd serves
+  ends_serve place count now orders s spelled before after old new errors errors' (Err (failure.Refused why)) serves = absurd serves
+  ends_serve place count now orders s spelled before after old new errors errors' (Err (failure.Register why)) serves = (serves.0, serves.1, serves.2, inr (s, spelled))
+  ends_serve place count now orders s spelled before after old new errors errors' (Err failure.Device) serves = (s, spelled, serves)
+  ends_serve place count now orders s spelled before after old new errors errors' (Err failure.Shut) serves = (s, spelled, serves)

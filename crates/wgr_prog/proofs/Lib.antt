@@ -5,5 +5,6 @@ pub mod ReplyLaws
 pub mod ReplyLemmas
 pub mod ReplyRoundTrips
 pub mod SendLemmas
+pub mod StatusExamples
 pub mod OrderingLemmas
 pub mod ShowingLemmas

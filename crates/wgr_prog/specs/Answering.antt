@@ -17,7 +17,7 @@ use Rattle.wgr_office.specs.declared.answer.Answer as given
 use Rattle.wgr_office.specs.declared.run.Event as event
 use Rattle.wgr_office.specs.declared.run.Event.TheVariants as events
 use Rattle.wgr_io.specs.Device.{IsCut}
-use Rattle.wgr_service.specs.Connections.{AreConnectionsServed, ConnectionEnd, contacts_of}
+use Rattle.wgr_service.specs.Connections.{AreConnectionsServed, ConnectionEnd, contacts_of, IsAppended, line_of}
 use Rattle.wgr_service.specs.Network.{Contact, Log, Logs, bound, bound_orders}
 use Rattle.wgr_service.specs.declared.connections.Ending.{Ending}
 use Rattle.wgr_service.specs.declared.connections.Ending.TheVariants as ending
@@ -166,8 +166,8 @@ IsUnserved s before after old new =
     ((after ≡ before) × (new ≡ old)) ⊎ (Logs before after (bound_address s) × IsSome s.orders × (new ≡ old)) ⊎ (HasListened s before after [] × (new.failed ≡ true))
 
 -- Connections were served, at this address, by the register that was in the files: as many as asked for, or fewer where
--- the store failed for good.
-pub record HasServedFiles {D : Type 0} (g : disk.Ghosts D) (start : Image) (closed : Option (Files D)) (s : Serving) (ended : Ending) (before after : Log) : Type 0 where
+-- the store failed for good. Those that failed were told on standard error, if that didn't fail.
+pub record HasServedFiles {D : Type 0} (g : disk.Ghosts D) (start : Image) (closed : Option (Files D)) (s : Serving) (ended : Ending) (before after : Log) (errors errors' : Output) : Type 0 where
   pub register : Held (FileStore D g)
   pub opened : IsOpen start register
   pub left : Held (FileStore D g)
@@ -176,36 +176,39 @@ pub record HasServedFiles {D : Type 0} (g : disk.Ghosts D) (start : Image) (clos
   pub outcomes : List ConnectionEnd
   pub served : AreConnectionsServed over_files register left s.moment s.count ended outcomes
   pub listened : HasListened s before after outcomes
+  pub told : IsAppended errors'.failed errors.written errors'.written (flat_map line_of outcomes)
 
 -- `listening` is written, and connections are served
 abbrev pub HasBegun : Output → Output → Type 0
 HasBegun old new = Appends old.written new.written (codes "listening\n") × (new.failed ≡ old.failed)
 
 -- the outcomes of the connections that were served
-abbrev pub ServesFrom : {D : Type 0} {g : disk.Ghosts D} → Held (FileStore D g) → Held (FileStore D g) → Serving → Ending → Log → Log → Type 0
-ServesFrom register left s ended before after =
-    (HasCleanDisk (file_state left) → HasCleanDisk (file_state register)) × ((outcomes : List ConnectionEnd) × AreConnectionsServed over_files register left s.moment s.count ended outcomes × HasListened s before after outcomes)
+abbrev pub ServesFrom : {D : Type 0} {g : disk.Ghosts D} → Held (FileStore D g) → Held (FileStore D g) → Serving → Ending → Log → Log → Output → Output → Type 0
+ServesFrom register left s ended before after errors errors' =
+    (HasCleanDisk (file_state left) → HasCleanDisk (file_state register))
+    × ((outcomes : List ConnectionEnd) × AreConnectionsServed over_files register left s.moment s.count ended outcomes × HasListened s before after outcomes
+    × IsAppended errors'.failed errors.written errors'.written (flat_map line_of outcomes))
 
 -- `listening` is written and connections are served; or none is served
-abbrev pub Listens : {D : Type 0} {g : disk.Ghosts D} → Held (FileStore D g) → Held (FileStore D g) → Serving → Log → Log → Output → Output → Result (Unit {0}) Failure → Type 0
-Listens register left s before after old new (Ok done) = ServesFrom register left s ending.Served before after × HasBegun old new
-Listens register left s before after old new (Err failure.Shut) = ServesFrom register left s ending.Shut before after × HasBegun old new
-Listens register left s before after old new (Err failure.Device) = (left ≡ register) × IsUnserved s before after old new
-Listens register left s before after old new (Err other) = ⊥
+abbrev pub Listens : {D : Type 0} {g : disk.Ghosts D} → Held (FileStore D g) → Held (FileStore D g) → Serving → Log → Log → Output → Output → Output → Output → Result (Unit {0}) Failure → Type 0
+Listens register left s before after old new errors errors' (Ok done) = ServesFrom register left s ending.Served before after errors errors' × HasBegun old new
+Listens register left s before after old new errors errors' (Err failure.Shut) = ServesFrom register left s ending.Shut before after errors errors' × HasBegun old new
+Listens register left s before after old new errors errors' (Err failure.Device) = (left ≡ register) × IsUnserved s before after old new
+Listens register left s before after old new errors errors' (Err other) = ⊥
 
 -- `listening` is written and connections are served; or the register isn't opened, or none is served
-abbrev pub ServesAll : {D : Type 0} → disk.Ghosts D → Image → Option (Files D) → Serving → Log → Log → Output → Output → Result (Unit {0}) Failure → Type 0
-ServesAll g start closed s before after old new (Ok done) = HasServedFiles g start closed s ending.Served before after × HasBegun old new
-ServesAll g start closed s before after old new (Err failure.Shut) = HasServedFiles g start closed s ending.Shut before after × HasBegun old new
-ServesAll g start closed s before after old new (Err (failure.Register why)) = (after ≡ before) × (new ≡ old) × FilesStay g start closed
-ServesAll g start closed s before after old new (Err failure.Device) = IsUnserved s before after old new × FilesStay g start closed
-ServesAll g start closed s before after old new (Err other) = ⊥
+abbrev pub ServesAll : {D : Type 0} → disk.Ghosts D → Image → Option (Files D) → Serving → Log → Log → Output → Output → Output → Output → Result (Unit {0}) Failure → Type 0
+ServesAll g start closed s before after old new errors errors' (Ok done) = HasServedFiles g start closed s ending.Served before after errors errors' × HasBegun old new
+ServesAll g start closed s before after old new errors errors' (Err failure.Shut) = HasServedFiles g start closed s ending.Shut before after errors errors' × HasBegun old new
+ServesAll g start closed s before after old new errors errors' (Err (failure.Register why)) = (after ≡ before) × (new ≡ old) × FilesStay g start closed
+ServesAll g start closed s before after old new errors errors' (Err failure.Device) = IsUnserved s before after old new × FilesStay g start closed
+ServesAll g start closed s before after old new errors errors' (Err other) = ⊥
 
 -- How serving ends: at the places that the words spell, `listening` is written and connections are served; or none is
 -- served.
-abbrev pub EndsServe : {D : Type 0} → disk.Ghosts D → Image → Option (Files D) → List ℕ → List ℕ → Option (List ℕ) → Option (List ℕ) → Log → Log → Output → Output → Result (Unit {0}) Failure → Type 0
-EndsServe g start closed place count now orders before after old new (Err (failure.Field field)) = (after ≡ before) × (new ≡ old) × FilesStay g start closed × IsFirstFault field (serve_fields place count now)
-EndsServe g start closed place count now orders before after old new (Err (failure.Refused why)) = ⊥
-EndsServe g start closed place count now orders before after old new (Err (failure.Register why)) =
+abbrev pub EndsServe : {D : Type 0} → disk.Ghosts D → Image → Option (Files D) → List ℕ → List ℕ → Option (List ℕ) → Option (List ℕ) → Log → Log → Output → Output → Output → Output → Result (Unit {0}) Failure → Type 0
+EndsServe g start closed place count now orders before after old new errors errors' (Err (failure.Field field)) = (after ≡ before) × (new ≡ old) × FilesStay g start closed × IsFirstFault field (serve_fields place count now)
+EndsServe g start closed place count now orders before after old new errors errors' (Err (failure.Refused why)) = ⊥
+EndsServe g start closed place count now orders before after old new errors errors' (Err (failure.Register why)) =
     (after ≡ before) × (new ≡ old) × FilesStay g start closed × OnceRead why ((s : Serving) × IsServing place count now orders s)
-EndsServe g start closed place count now orders before after old new ended = (s : Serving) × IsServing place count now orders s × ServesAll g start closed s before after old new ended
+EndsServe g start closed place count now orders before after old new errors errors' ended = (s : Serving) × IsServing place count now orders s × ServesAll g start closed s before after old new errors errors' ended

@@ -130,10 +130,12 @@ abbrev pub serve_status : Result (Unit {0}) Failure → ℕ
 serve_status (Ok done) = DONE
 serve_status (Err why) = failure_status why
 
--- connections are served
-pub record RunsServe {D : Type 0} (g : disk.Ghosts D) (start : Image) (closed : Option (Files D)) (place count : Text) (now orders : Option Text) (before after : Log) (old new : Streams) (status : ℕ) : Type 0 where
+-- connections are served, and those that fail are told on standard error; then a fault is, if there is one
+pub record RunsServe {D : Type 0} (g : disk.Ghosts D) (start : Image) (closed : Option (Files D)) (place count : Text) (now orders : Option Text) (before after : Log) (old new : Streams) (errors errors' : Output) (status : ℕ) : Type 0 where
   pub answer : Result (Unit {0}) Failure
-  pub ends : EndsServe g start closed place count now orders before after (output_in old) (output_in new) answer
+  pub told : Output
+  pub ends : EndsServe g start closed place count now orders before after (output_in old) (output_in new) errors told answer
+  pub quiet : IfOk answer (λ done. errors' ≡ told)
   pub reported : status ≡ serve_status answer
   pub unread : ReadsNothing old new
 
@@ -170,20 +172,20 @@ pub record RunsSend (path : Text) (words : List Text) (digest : Option Text) (is
 abbrev pub LacksMemory : Streams → Streams → ℕ → Type 0
 LacksMemory old new status = (new ≡ old) × (status ≡ FAULT)
 
-abbrev pub Runs : {D : Type 0} → disk.Ghosts D → Image → Option (Files D) → Asked → Log → Log → Streams → Streams → ℕ → Type 0
-Runs g start closed (Plan pool) before after old new status = (after ≡ before) × FilesStay g start closed × RunsPlan pool old new status
-Runs g start closed (Init db) before after old new status = (after ≡ before) × RunsInit g start closed old new status
-Runs g start closed (Migrate db) before after old new status = (after ≡ before) × RunsMigrate g start closed old new status
-Runs g start closed (Operate db order) before after old new status = (after ≡ before) × RunsOrder g start closed order old new status
-Runs g start closed (Batch db now files) before after old new status = (after ≡ before) × RunsBatch g start closed now files old new status
-Runs g start closed (Serve db place count now orders) before after old new status = RunsServe g start closed place count now orders before after old new status
-Runs g start closed (Send path words digest is_json) before after old new status = FilesStay g start closed × RunsSend path words digest is_json before after old new status
-Runs g start closed (Orders db file) before after old new status = (after ≡ before) × RunsOrders g start closed file old new status
-Runs g start closed (Show db tenant is_json) before after old new status = (after ≡ before) × RunsShow g start closed tenant is_json old new status
+abbrev pub Runs : {D : Type 0} → disk.Ghosts D → Image → Option (Files D) → Asked → Log → Log → Streams → Streams → Output → Output → ℕ → Type 0
+Runs g start closed (Plan pool) before after old new errors errors' status = (after ≡ before) × FilesStay g start closed × RunsPlan pool old new status
+Runs g start closed (Init db) before after old new errors errors' status = (after ≡ before) × RunsInit g start closed old new status
+Runs g start closed (Migrate db) before after old new errors errors' status = (after ≡ before) × RunsMigrate g start closed old new status
+Runs g start closed (Operate db order) before after old new errors errors' status = (after ≡ before) × RunsOrder g start closed order old new status
+Runs g start closed (Batch db now files) before after old new errors errors' status = (after ≡ before) × RunsBatch g start closed now files old new status
+Runs g start closed (Serve db place count now orders) before after old new errors errors' status = RunsServe g start closed place count now orders before after old new errors errors' status
+Runs g start closed (Send path words digest is_json) before after old new errors errors' status = FilesStay g start closed × RunsSend path words digest is_json before after old new status
+Runs g start closed (Orders db file) before after old new errors errors' status = (after ≡ before) × RunsOrders g start closed file old new status
+Runs g start closed (Show db tenant is_json) before after old new errors errors' status = (after ≡ before) × RunsShow g start closed tenant is_json old new status
 
 -- The words ask for something: it is run, or there is no memory and the files stay as they are.
-abbrev pub ServesAsked : {D : Type 0} → disk.Ghosts D → Image → Option (Files D) → Asked → Log → Log → Streams → Streams → ℕ → Type 0
-ServesAsked g start closed asked before after old new status = ((after ≡ before) × FilesStay g start closed × LacksMemory old new status) ⊎ Runs g start closed asked before after old new status
+abbrev pub ServesAsked : {D : Type 0} → disk.Ghosts D → Image → Option (Files D) → Asked → Log → Log → Streams → Streams → Output → Output → ℕ → Type 0
+ServesAsked g start closed asked before after old new errors errors' status = ((after ≡ before) × FilesStay g start closed × LacksMemory old new status) ⊎ Runs g start closed asked before after old new errors errors' status
 
 -- asking for help or the version is not a mistake
 abbrev pub kind_status : ErrorKind → ℕ
@@ -209,9 +211,10 @@ pub record ReportsKind (kinds : Kinds) (old new : Streams) (status : ℕ) : Type
 abbrev pub ReportsError : Kinds → Streams → Streams → ℕ → Type 0
 ReportsError kinds old new status = LacksMemory old new status ⊎ FailsToWrite old new status ⊎ ReportsKind kinds old new status
 
--- The words ask for something, or for nothing. Only `serve` and `send` use the network.
-pub record ServesWords {D : Type 0} (g : disk.Ghosts D) (start : Image) (closed : Option (Files D)) (words : List Text) (before after : Log) (old new : Streams) (status : ℕ) : Type 0 where
-  pub served : IfSome (asked_by words) (λ asked. ServesAsked g start closed asked before after old new status)
+-- The words ask for something, or for nothing. Only `serve` and `send` use the network. Of standard error, only the
+-- lines of `serve` are told.
+pub record ServesWords {D : Type 0} (g : disk.Ghosts D) (start : Image) (closed : Option (Files D)) (words : List Text) (before after : Log) (old new : Streams) (errors errors' : Output) (status : ℕ) : Type 0 where
+  pub served : IfSome (asked_by words) (λ asked. ServesAsked g start closed asked before after old new errors errors' status)
   pub reported : IfNone (asked_by words) ((after ≡ before) × FilesStay g start closed × ReportsError (wrong_with words) old new status)
 
 -- the arguments are not available: they aren't UTF-8, or there is no memory; nothing is read or printed

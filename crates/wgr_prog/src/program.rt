@@ -5,6 +5,7 @@ ghost use Rattle.std.specs.declared.io.ErrorKind.TheVariants.{InvalidData};
 ghost use Rattle.sqlite.specs.WalFiles.{image_at};
 ghost use Rattle.clap.specs.Words.{kind_of};
 ghost use Rattle.wgr_file.specs.OnFiles.{FilesStay};
+ghost use Rattle.wgr_prog.specs.Answering.{output_of};
 ghost use Rattle.wgr_prog.specs.Status.{LacksWords, RunsPlan, ServesWords, plan_fault_status, kind_status, streams};
 ghost use Rattle.wgr_prog.specs.declared.messages.TheConstants.{DONE, FAULT, REFUSED};
 
@@ -46,7 +47,7 @@ pub fn run<S: Start, N: Network, R: Read, W: Write, E: Write>(
     out: &mut W,
     err: &mut E,
 ) -> (u8, Closed<S>)
-    ensures serves { IfOk arguments.now (λ all. ServesWords ⟦<FileFrom<S> as Disk>⟧ (image_at S.Start) result.1 (map string_bytes (drop 1 all.items)) (N.log network.old) (N.log network.new) (streams R.remaining R.failed W.contents W.failed input.old out.old) (streams R.remaining R.failed W.contents W.failed input.new out.new) result.0) }
+    ensures serves { IfOk arguments.now (λ all. ServesWords ⟦<FileFrom<S> as Disk>⟧ (image_at S.Start) result.1 (map string_bytes (drop 1 all.items)) (N.log network.old) (N.log network.new) (streams R.remaining R.failed W.contents W.failed input.old out.old) (streams R.remaining R.failed W.contents W.failed input.new out.new) (output_of E.contents E.failed err.old) (output_of E.contents E.failed err.new) result.0) }
     ensures lacks { IfErr arguments.now (λ error. (N.log network.new ≡ N.log network.old) × FilesStay ⟦<FileFrom<S> as Disk>⟧ (image_at S.Start) result.1 × LacksWords (error_kind error) (streams R.remaining R.failed W.contents W.failed input.old out.old) (streams R.remaining R.failed W.contents W.failed input.new out.new) result.0) }
 {
     match arguments {
@@ -75,7 +76,7 @@ fn program<S: Start, T: AsStr, N: Network, R: Read, W: Write, E: Write>(
     out: &mut W,
     err: &mut E,
 ) -> (u8, Closed<S>)
-    ensures { ServesWords ⟦<FileFrom<S> as Disk>⟧ (image_at S.Start) result.1 (map T.text words.now) (N.log network.old) (N.log network.new) (streams R.remaining R.failed W.contents W.failed input.old out.old) (streams R.remaining R.failed W.contents W.failed input.new out.new) result.0 }
+    ensures { ServesWords ⟦<FileFrom<S> as Disk>⟧ (image_at S.Start) result.1 (map T.text words.now) (N.log network.old) (N.log network.new) (streams R.remaining R.failed W.contents W.failed input.old out.old) (streams R.remaining R.failed W.contents W.failed input.new out.new) (output_of E.contents E.failed err.old) (output_of E.contents E.failed err.new) result.0 }
 {
     let alloc = rt.alloc();
     match read_words(alloc, words) {

@@ -132,6 +132,7 @@ pub(crate) fn run_serve<S: Start, N: Network, W: Write, E: Write>(
     ensures { (input : Option (List ℕ)) (failed : Bool) → RunsServe ⟦<FileFrom<S> as Disk>⟧ (image_at S.Start) result.1 place.now count.now (option_map (λ now. now.now) now.entry) (option_map (λ path. path.now) orders.entry) (N.log network.old) (N.log network.new)
         (record { input = input; read_failed = failed; written = W.contents out.old; write_failed = W.failed out.old })
         (record { input = input; read_failed = failed; written = W.contents out.new; write_failed = W.failed out.new })
+        (output_of E.contents E.failed err.old) (output_of E.contents E.failed err.new)
         result.0 }
 {
     let (served, closed) = serve(
@@ -141,7 +142,8 @@ pub(crate) fn run_serve<S: Start, N: Network, W: Write, E: Write>(
 }
 
 fn serve_status<E: Write>(served: &Result<(), Failure>, err: &mut E) -> u8
-    ensures { result ≡ serve_status served.now }
+    ensures value { result ≡ serve_status served.now }
+    ensures quiet { IfOk served.now (λ done. err.new ≡ err.old) }
 {
     match served {
         Ok(()) => DONE,
@@ -162,7 +164,7 @@ fn serve<S: Start, N: Network, W: Write, E: Write>(
     out: &mut W,
     err: &mut E,
 ) -> (Result<(), Failure>, Closed<S>)
-    ensures { EndsServe ⟦<FileFrom<S> as Disk>⟧ (image_at S.Start) result.1 place.now count.now (option_map (λ now. now.now) now.entry) (option_map (λ path. path.now) orders.entry) (N.log network.old) (N.log network.new) (output_of W.contents W.failed out.old) (output_of W.contents W.failed out.new) result.0 }
+    ensures { EndsServe ⟦<FileFrom<S> as Disk>⟧ (image_at S.Start) result.1 place.now count.now (option_map (λ now. now.now) now.entry) (option_map (λ path. path.now) orders.entry) (N.log network.old) (N.log network.new) (output_of W.contents W.failed out.old) (output_of W.contents W.failed out.new) (output_of E.contents E.failed err.old) (output_of E.contents E.failed err.new) result.0 }
 {
     match read_serving(place, count, now, orders) {
         Ok(serving) => serve_all(rt, path, start, &serving, network, out, err),
@@ -214,7 +216,7 @@ fn serve_all<S: Start, N: Network, W: Write, E: Write>(
     out: &mut W,
     err: &mut E,
 ) -> (Result<(), Failure>, Closed<S>)
-    ensures { ServesAll ⟦<FileFrom<S> as Disk>⟧ (image_at S.Start) result.1 serving.now (N.log network.old) (N.log network.new) (output_of W.contents W.failed out.old) (output_of W.contents W.failed out.new) result.0 }
+    ensures { ServesAll ⟦<FileFrom<S> as Disk>⟧ (image_at S.Start) result.1 serving.now (N.log network.old) (N.log network.new) (output_of W.contents W.failed out.old) (output_of W.contents W.failed out.new) (output_of E.contents E.failed err.old) (output_of E.contents E.failed err.new) result.0 }
 {
     // They are found before, so that they are those of the register that is opened.
     let copies = FileCopies::new(rt.alloc(), rt, path);
@@ -236,7 +238,7 @@ fn listen<S: Start, N: Network, W: Write, E: Write>(
     out: &mut W,
     err: &mut E,
 ) -> Result<(), Failure>
-    ensures { Listens office.old office.new serving.now (N.log network.old) (N.log network.new) (output_of W.contents W.failed out.old) (output_of W.contents W.failed out.new) result }
+    ensures { Listens office.old office.new serving.now (N.log network.old) (N.log network.new) (output_of W.contents W.failed out.old) (output_of W.contents W.failed out.new) (output_of E.contents E.failed err.old) (output_of E.contents E.failed err.new) result }
 {
     let (address, port) = serving.endpoint;
     let Ok(()) = network.listen(address, port.number()) else {

@@ -145,14 +145,14 @@ module _ {S : Type 0} (g : Ghosts S) (now clock : Option ℕ) (before after : En
         → after.read_failed ≡ before.read_failed → after.write_failed ≡ before.write_failed → IsReport available r → Keeps g mid new → HasMet g old new now first last request r
     request_answered new answer available r first last counts takes written whether read wrote told keeps =
         let x = Asked moment takes.message answer in
-        (answered request x, (((refl, is, takes.asks), written, read ∙ sound.0, wrote ∙ sound.1), call_kept g old mid new (asked_event x) answer (called answer takes) keeps), refl, reported request x r (subst (λ a. IsReport a r) whether told), refl, counts)
+        (answered request x, (((refl, is, takes.asks), written, read ∙ sound.0, wrote ∙ sound.1), (call_kept g old mid new (asked_event x) answer (called answer takes) keeps, tt)), refl, reported request x r (subst (λ a. IsReport a r) whether told), refl, counts)
 
     pub request_broken : (why : ServeFault) (counts : Replies) → IsServeFault g old mid moment before after why → HasMet g old mid now counts counts request report.Failed
     request_broken serve_fault.Read counts fails = (failed request, ((fails.2, fails.3 ∙ sound.1, inl fails.0), fails.1), refl, tt, refl, refl)
     request_broken (serve_fault.Write sent) counts fails =
         let answer = fails.2.0 in
         let takes = fails.2.1 in
-        (cut request (Asked moment takes.message answer), (((refl, is, takes.asks), cut_at sent before.written after.written (written_reply answer) fails.2.3, fails.1 ∙ sound.0, fails.0), called answer takes), refl, tt, refl, refl)
+        (cut request (Asked moment takes.message answer), (((refl, is, takes.asks), cut_at sent before.written after.written (written_reply answer) fails.2.3, fails.1 ∙ sound.0, fails.0), (called answer takes, tt)), refl, tt, refl, refl)
 
 -- an operator's order or reading
 module _ {S : Type 0} (g : Ghosts S) (now clock : Option ℕ) (before after : Ends) (sound : AreUnharmed before) (first last : Replies) (counts : last ≡ first) where
@@ -163,7 +163,7 @@ module _ {S : Type 0} (g : Ghosts S) (now clock : Option ℕ) (before after : En
       → after.read_failed ≡ before.read_failed → after.write_failed ≡ before.write_failed → IsReport (is_taken_available end) r → Keeps g mid new → ((why : LineFault) → end ≡ taken.Order (line_end.Unspelled why) → new ≡ mid) → HasMet g old new now first last order r
   line_answered old mid new (taken.Order (line_end.Ended ended)) r takes written read wrote told keeps same =
       let x = Ordered takes.0 ended in
-      (answered order x, (((refl, takes.1), written, read ∙ sound.0, wrote ∙ sound.1), call_kept g old mid new (asked_event x) (order_answer ended) takes.2 keeps), refl, reported order x r told, refl, counts)
+      (answered order x, (((refl, takes.1), written, read ∙ sound.0, wrote ∙ sound.1), (call_kept g old mid new (asked_event x) (order_answer ended) takes.2.call keeps, (mid, takes.2, keeps))), refl, reported order x r told, refl, counts)
   line_answered old mid new (taken.Order (line_end.Unspelled why)) r takes written read wrote told keeps same =
       let whole = wrote ∙ sound.1 in
       (unspelled order why, ((refl, takes.1, subst (λ b. MatchBool b (IsCut before.written after.written (fault_text why)) (Appends before.written after.written (fault_text why))) (sym whole) written, read ∙ sound.0), same why refl ∙ takes.0), refl, unspelled_reported order why r whole told, refl, counts)
@@ -172,7 +172,7 @@ module _ {S : Type 0} (g : Ghosts S) (now clock : Option ℕ) (before after : En
       (shown order takes.0 end, ((refl, takes.1, subst (λ b. MatchBool b (IsCut before.written after.written (reading_text end)) (Appends before.written after.written (reading_text end))) (sym whole) written, read ∙ sound.0), reads_kept g old mid new takes.0 end takes.2 keeps), refl, shown_reported order takes.0 end r whole told, refl, counts)
 
   pub line_broken : (old new : Held S) (end : Taken) → HasTaken g old new before.input end → IsCut before.written after.written (taken_text end) → after.read_failed ≡ before.read_failed → after.write_failed ≡ true → HasMet g old new now first last order report.Failed
-  line_broken old new (taken.Order (line_end.Ended ended)) takes cut_off read broken = (cut order (Ordered takes.0 ended), (((refl, takes.1), cut_off, read ∙ sound.0, broken), takes.2), refl, tt, refl, counts)
+  line_broken old new (taken.Order (line_end.Ended ended)) takes cut_off read broken = (cut order (Ordered takes.0 ended), (((refl, takes.1), cut_off, read ∙ sound.0, broken), (takes.2.call, (new, takes.2, keeps_same g new))), refl, tt, refl, counts)
   line_broken old new (taken.Order (line_end.Unspelled why)) takes cut_off read broken =
       (unspelled order why, ((refl, takes.1, subst (λ b. MatchBool b (IsCut before.written after.written (fault_text why)) (Appends before.written after.written (fault_text why))) (sym broken) cut_off, read ∙ sound.0), takes.0), refl, broken, refl, counts)
   line_broken old new (taken.Reading end) takes cut_off read broken =
@@ -296,8 +296,8 @@ module _ {S : Type 0} (g : Ghosts S) (old : Held S) (now : Option ℕ) where
     same_kept same = subst (λ conn. Keeps g mid conn) (sym same) (keeps_same g mid)
 
     pub served_more : (outcome : ConnectionEnd) → HasOutcome g mid new now outcome → AreServedSoFar g old new now (count + weight (door_of outcome)) (outcomes ++ outcome ∷ [])
-    served_more (answered m x) one = with_one (answered m x) x refl one.0 one.1 one.1
-    served_more (cut m x) one = with_one (cut m x) x refl one.0 one.1 one.1
+    served_more (answered m x) one = with_one (answered m x) x refl one.0 one.1 one.1.0
+    served_more (cut m x) one = with_one (cut m x) x refl one.0 one.1 one.1.0
     served_more (shown m asked end) one = with_none (shown m asked end) refl one.0 one.1 one.1.0
     served_more (unspelled m why) one = with_none (unspelled m why) refl one.0 one.1 (same_kept one.1)
     served_more (failed m) one = with_none (failed m) refl one.0 one.1 (same_kept one.1)

@@ -110,7 +110,7 @@ pub record HaveEnded {S : Type 0} (g : Ghosts S) (old new : Held S) (lines : Lis
 
 module _ {S : Type 0} (g : Ghosts S) where
   pub end_clean : (old new : Held S) (line : Option Bytes) (end : LineEnd) → EndsInput g old new line end → HasCleanDisk (state g new) → HasCleanDisk (state g old)
-  end_clean old new (Some line) (line_end.Ended ended) ends clean = ends.2.clean clean
+  end_clean old new (Some line) (line_end.Ended ended) ends clean = ends.2.call.clean clean
   end_clean old new (Some line) (line_end.Unspelled why) ends clean = subst (λ (conn : Held S). HasCleanDisk (state g conn)) ends.0 clean
   end_clean old new None end ends clean = subst (λ (conn : Held S). HasCleanDisk (state g conn)) ends.0 clean
 
@@ -142,7 +142,7 @@ module _ {S : Type 0} (g : Ghosts S) where
         }
 
     pub ended_more : (line : Option Bytes) (end : LineEnd) → EndsInput g mid new line end → HaveEnded g old new (lines ++ line ∷ []) (ends ++ end ∷ [])
-    ended_more (Some line) (line_end.Ended ended) one = with_order (Some line) one.0 ended one.1 one.2
+    ended_more (Some line) (line_end.Ended ended) one = with_order (Some line) one.0 ended one.1 one.2.call
     ended_more (Some line) (line_end.Unspelled why) one = with_none (Some line) why one.1 one.0
     ended_more None end one = subst (λ (e : LineEnd). HaveEnded g old new (lines ++ None ∷ []) (ends ++ e ∷ [])) (sym one.1) (with_none None _ refl one.0)
 

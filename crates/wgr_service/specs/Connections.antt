@@ -26,7 +26,7 @@ use Rattle.wgr_words.specs.Reading.{ReadingAsked}
 use Rattle.wgr_words.specs.declared.line.LineFault.{LineFault}
 use Rattle.wgr_io.specs.Device.{IsCut}
 use Rattle.wgr_service.specs.Counts.{counted_if}
-use Rattle.wgr_service.specs.Lines.{SpellsFirst, SpellsNone, ended_text, fault_text, is_read, order_answer}
+use Rattle.wgr_service.specs.Lines.{HasOrdered, SpellsFirst, SpellsNone, ended_text, fault_text, is_read, order_answer}
 use Rattle.wgr_service.specs.Network as network
 use Rattle.wgr_service.specs.Readings.{HasReadRows, SpellsFirstReading, is_reading_available, reading_text}
 use Rattle.wgr_service.specs.declared.connections.Ending.{Ending}
@@ -148,10 +148,15 @@ IsConnectionServed now (unspelled m why) =
 IsConnectionServed now (failed m) = (m.after ≡ m.before) × (m.write_failed ≡ false) × ((m.read_failed ≡ true) ⊎ ((m.door ≡ door.Requests) × (served_moment now m.clock ≡ None)))
 IsConnectionServed now (missed at) = Unit {0}
 
+-- an order was done or refused by then, or it failed with a cause, and the rows were kept since
+abbrev pub HasEndedBy : {S : Type 0} → Ghosts S → Held S → Held S → Exchange → Type 0
+HasEndedBy g old new (Asked moment message answer) = Unit {0}
+HasEndedBy {S} g old new (Ordered order ended) = (mid : Held S) × HasOrdered g old mid order ended × Keeps g mid new
+
 -- one message or order was answered, whatever the rows of the register were; a reading kept them; or nothing was done
 abbrev pub Moves : {S : Type 0} → Ghosts S → Held S → Held S → ConnectionEnd → Type 0
-Moves g old new (answered m x) = IsCall g old new (asked_event x) (given_answer x)
-Moves g old new (cut m x) = IsCall g old new (asked_event x) (given_answer x)
+Moves g old new (answered m x) = IsCall g old new (asked_event x) (given_answer x) × HasEndedBy g old new x
+Moves g old new (cut m x) = IsCall g old new (asked_event x) (given_answer x) × HasEndedBy g old new x
 Moves g old new (shown m asked end) = HasReadRows g old new asked end
 Moves g old new other = new ≡ old
 

@@ -1,19 +1,25 @@
 -- Orders that come as lines: what one does, and how it is answered.
-use Rattle.std.specs.Prelude.{◌≡◌, ◌⊎◌, ◌++◌, ℕ, Bool, true, false, Option, Some, None, Result, Ok, Err, IfSome, codes}
+use Rattle.std.specs.Prelude.{◌≡◌, ◌⊎◌, ◌++◌, ℕ, List, Bool, true, false, Option, Some, None, Result, Ok, Err, IfSome, codes}
+use Rattle.sqlite.specs.Effect.{Database}
 use Rattle.sqlite.specs.Store.{Ghosts}
-use Rattle.sqlite.specs.Held.{Held}
+use Rattle.sqlite.specs.Held.{Held, state}
 use Rattle.wgr_model.specs.Register.{Bytes}
+use Rattle.wgr_model.specs.Steps.{Event}
+use Rattle.wgr_columns.specs.Decode.{tables_of}
 use Rattle.wgr_office.specs.Between.{IsCall}
 use Rattle.wgr_office.specs.Serving.{is_available}
 use Rattle.wgr_office.specs.declared.answer.Answer as given
 use Rattle.wgr_office.specs.declared.answer.Answer.TheVariants as givens
 use Rattle.wgr_office.specs.declared.run.Event.TheVariants as events
-use Rattle.wgr_orders.specs.Orders.{refusal_of}
+use Rattle.wgr_orders.specs.Orders.{order_event, refusal_of}
 use Rattle.wgr_orders.specs.RefusalTexts.{refusal_text}
 use Rattle.wgr_orders.specs.declared.order.Order.{Order}
+use Rattle.wgr_register.specs.Causes.{IfOrderFault, OrderStops}
+use Rattle.wgr_register.specs.Standing.{StandsAt}
 use Rattle.wgr_register.specs.declared.fault.Done.{Done}
 use Rattle.wgr_register.specs.declared.fault.OrderFault.{OrderFault}
 use Rattle.wgr_register.specs.declared.fault.OrderFault.TheVariants as order_fault
+use Rattle.wgr_sql.specs.Causes.{HasCauseOr}
 use Rattle.wgr_sql.specs.declared.fault.Fault.TheVariants as fault
 use Rattle.wgr_words.specs.Line.{IsUnspelled, SpellsOrder, first_line}
 use Rattle.wgr_words.specs.Reading.{reading_in_line}
@@ -58,9 +64,10 @@ order_answer (Ok done) = givens.Order (Ok done)
 order_answer (Err (order_fault.Refused why)) = givens.Order (Err why)
 order_answer (Err (order_fault.Fault why)) = givens.Unavailable
 
--- the order had this result
-abbrev pub HasOrdered : {S : Type 0} → Ghosts S → Held S → Held S → Order → Result Done OrderFault → Type 0
-HasOrdered g old new order ended = IsCall g old new (events.Order order) (order_answer ended)
+-- the order had this result; a fault of the store has a cause in the call, or the rows refuse a statement
+pub record HasOrdered {S : Type 0} (g : Ghosts S) (old new : Held S) (order : Order) (ended : Result Done OrderFault) : Type 0 where
+  pub call : IsCall g old new (events.Order order) (order_answer ended)
+  pub stops : (db : Database) (late : List Event) → StandsAt g old db late → IfOrderFault (HasCauseOr (OrderStops (tables_of db) (order_event order)) (state g old) (state g new)) ended
 
 -- the line's order was carried out, or the line spells none and nothing is done
 abbrev pub EndsLine : {S : Type 0} → Ghosts S → Held S → Held S → Bytes → LineEnd → Type 0

@@ -1,11 +1,11 @@
 -- Rows that a network's peers and routes are stored in, in the order of the queries.
-use Rattle.std.proofs.Common.{◌≡◌, ◌<◌, ℕ, Bool, true, false, cond, not, ◌&&◌, List, [], ◌∷◌, Some, is_some, map, filter, drop, get_or, length, nat_eq, nat_lt, eqb-true, IsPermutation, refl, sym, ap, ap₂, subst, ◌∙◌, arith}
+use Rattle.std.proofs.Common.{◌≡◌, ◌<◌, ℕ, Bool, true, false, cond, not, ◌&&◌, List, [], ◌∷◌, Result, Ok, Err, Some, None, IfOk, is_some, map, filter, drop, get_or, length, nat_eq, nat_lt, eqb-true, IsPermutation, refl, sym, ap, ap₂, subst, ◌∙◌, arith}
 use Rattle.std.specs.List.{AllByRecursion}
 use Rattle.std.specs.List.Sorted.{IsNonDecreasingBy, IsSorted}
 use Rattle.std.specs.Ordering.{nat_cmp}
 use Rattle.std.proofs.lemmas.Bool.Decides.{nat_tests}
 use Rattle.std.proofs.lemmas.List.{get_or-map}
-use Rattle.std.proofs.lemmas.List.Elements.{recursion_from_All}
+use Rattle.std.proofs.lemmas.List.Elements.{All-head, All-tail, recursion_from_All}
 use Rattle.std.proofs.lemmas.List.Sorted.{IsNonDecreasingBy-from_sort, IsPermutation-sym, IsPermutation-trans}
 use Rattle.std.proofs.Math.ListN.{length-map}
 use Rattle.sqlite_trees.proofs.ListLemmas.{all-permutation}
@@ -16,7 +16,7 @@ use Rattle.wgr_pool.proofs.Merging.{covers_fits}
 use Rattle.wgr_peers.specs.declared.peer.Peer.{Peer}
 use Rattle.wgr_peers.specs.Peers.{peer_of}
 use Rattle.wgr_peers.specs.Routes.{Routes}
-use Rattle.wgr_core.specs.Network.{NetworkValue, IsNetwork}
+use Rattle.wgr_core.specs.Network.{NetworkValue, AreAlone, IsNetwork}
 use Rattle.wgr_core.specs.Forms.{HasForms}
 use Rattle.wgr_core.proofs.Arranged.{peers_arranged}
 use Rattle.wgr_core.proofs.FreedLemmas.{given_in_pool}
@@ -71,26 +71,38 @@ kept_peers n rules forms = recursion_from_All IsKeptPeer n.peers (λ k d low.
 number_once : (id m n : ℕ) → peer_id id m ≡ peer_id id n → m ≡ n
 number_once id m n is = omega (arith, is)
 
-peer_once : (id : ℕ) (p q : Peer) → peer_row id p ≡ peer_row id q → address_row id p ≡ address_row id q → p ≡ q
-peer_once id p q row address = λ k. record {
+peer_once : (id : ℕ) (p q : Peer) → p.second ≡ None → q.second ≡ None → peer_row id p ≡ peer_row id q → address_row id p ≡ address_row id q → p ≡ q
+peer_once id p q one other row address = λ k. record {
   number = number_once id p.number q.number (ap (λ r. r.id) row) k;
   key = (row k).key;
   label = (row k).label;
   address = (address k).prefix.address;
+  second = (one ∙ sym other) k;
   until = (row k).until;
   keepalive = (row k).keepalive;
   status = (row k).status;
 }
 
-pub peers_once : (id : ℕ) (ps qs : List Peer) → map (peer_row id) ps ≡ map (peer_row id) qs → map (address_row id) ps ≡ map (address_row id) qs → ps ≡ qs
-peers_once id [] [] rows addresses = refl
-peers_once id [] (q ∷ qs) rows addresses = absurd (let none = ap length rows in omega (arith, none))
-peers_once id (p ∷ ps) [] rows addresses = absurd (let none = ap length rows in omega (arith, none))
-peers_once id (p ∷ ps) (q ∷ qs) rows addresses =
-    ap₂ (λ x xs. x ∷ xs) (peer_once id p q (head_is (peer_row id p) rows) (head_is (address_row id p) addresses)) (peers_once id ps qs (ap (drop 1) rows) (ap (drop 1) addresses))
+pub peers_once : (id : ℕ) (ps qs : List Peer) → AreAlone ps → AreAlone qs → map (peer_row id) ps ≡ map (peer_row id) qs → map (address_row id) ps ≡ map (address_row id) qs → ps ≡ qs
+peers_once id [] [] one other rows addresses = refl
+peers_once id [] (q ∷ qs) one other rows addresses = absurd (let none = ap length rows in omega (arith, none))
+peers_once id (p ∷ ps) [] one other rows addresses = absurd (let none = ap length rows in omega (arith, none))
+peers_once id (p ∷ ps) (q ∷ qs) one other rows addresses =
+    ap₂ (λ x xs. x ∷ xs) (peer_once id p q (first p ps one) (first q qs other) (head_is (peer_row id p) rows) (head_is (address_row id p) addresses))
+    (peers_once id ps qs (rest p ps one) (rest q qs other) (ap (drop 1) rows) (ap (drop 1) addresses))
   where
     head_is : {T : Type 0} {xs ys : List T} {x y : T} (d : T) → (x ∷ xs) ≡ (y ∷ ys) → x ≡ y
     head_is d is = ap (λ l. get_or l 0 d) is
+
+    first : (p : Peer) (ps : List Peer) → AreAlone (p ∷ ps) → p.second ≡ None
+    first = All-head (λ p. p.second ≡ None)
+
+    rest : (p : Peer) (ps : List Peer) → AreAlone (p ∷ ps) → AreAlone ps
+    rest = All-tail (λ p. p.second ≡ None)
+
+pub if_three : {X E : Type 0} (r : Result X E) (P Q R S : X → Type 0) → ((x : X) → P x → Q x → R x → S x) → IfOk r P → IfOk r Q → IfOk r R → IfOk r S
+if_three (Ok x) P Q R S f p q s = f x p q s
+if_three (Err e) P Q R S f p q s = tt
 
 pub routes_once : (id : ℕ) (rs ss : Routes) → map (route_row id) rs ≡ map (route_row id) ss → rs ≡ ss
 routes_once id [] [] rows = refl

@@ -1,5 +1,5 @@
 //! Peers and routes of a network, read from their rows.
-ghost use Rattle.std.specs.Prelude.{◌≡◌, ℕ, List, Option, IfErr, IfOk, IfSome, IfNone, map, false};
+ghost use Rattle.std.specs.Prelude.{◌≡◌, ℕ, List, Option, None, IfErr, IfOk, IfSome, IfNone, map, false};
 ghost use Rattle.std.specs.List.{AllByRecursion};
 ghost use Rattle.wgr_text.specs.Prefix.{AddrValue, PrefixValue, IsAddr};
 ghost use Rattle.wgr_pool.specs.PrefixTests.{full};
@@ -7,6 +7,7 @@ ghost use Rattle.wgr_peers.specs.Routes.{Routes};
 ghost use Rattle.wgr_peers.specs.declared.peer.Peer.{Peer};
 ghost use Rattle.wgr_peers.specs.declared.peer.Status.{Status};
 ghost use Rattle.wgr_core.specs.Forms.{IsStatus};
+ghost use Rattle.wgr_core.specs.Network.{AreAlone};
 ghost use Rattle.wgr_model.specs.Rows.{allowed_row, peer_row, address_row, route_row};
 ghost use Rattle.wgr_sql.specs.Faults.{IsStore};
 ghost use Rattle.wgr_columns.specs.Decode.{status_at, peer_in, allowed_in};
@@ -62,6 +63,7 @@ fn address_of(row: &Row, network: u32, number: u32) -> Option<Addr>
 fn peer_of(alloc: Global, row: &Row, address: &Row, network: u32) -> Result<Peer, Fault>
     ensures row { IfOk result (λ p. peer_row network p ≡ peer_in row.now) }
     ensures address { IfOk result (λ p. address_row network p ≡ allowed_in address.now) }
+    ensures alone { IfOk result (λ p. p.second ≡ None) }
     ensures only { IfErr result (λ e. IsStore e → (p : Peer) → IsKeptPeer p → row.now ≡ stored_peer (peer_row network p) → address.now ≡ stored_allowed (address_row network p) → ⊥) }
 {
     if !has_number(row, peer::NETWORK, u64::from(network)) {
@@ -95,6 +97,7 @@ pub(crate) fn peers_of(
 ) -> Result<Vec<Peer>, Fault>
     ensures rows { IfOk result (λ peers. map (peer_row network) peers.items ≡ map peer_in rows.now) }
     ensures addresses { IfOk result (λ peers. map (address_row network) peers.items ≡ map allowed_in addresses.now) }
+    ensures alone { IfOk result (λ peers. AreAlone peers.items) }
     ensures only { IfErr result (λ e. IsStore e → (peers : List Peer) → AllByRecursion IsKeptPeer peers
         → rows.now ≡ map stored_peer (map (peer_row network) peers) → addresses.now ≡ map stored_allowed (map (address_row network) peers) → ⊥) }
 {

@@ -10,7 +10,7 @@ use Rattle.wgr_model.specs.declared.right.Right.{Right}
 use Rattle.wgr_model.specs.declared.right.Right.TheVariants.{Full, Read}
 use Rattle.wgr_words.specs.Order.{order_fields}
 use Rattle.wgr_words.specs.Reading.{ReadingAsked, Backup, Show, Status, reading_in_line}
-use Rattle.wgr_words.specs.Sent.{may_be_sent, sent_line}
+use Rattle.wgr_words.specs.Sent.{asks_token, line_words, may_be_sent, sent_line}
 use Rattle.wgr_words.specs.Words.{SpellsRight}
 use Rattle.wgr_words.specs.declared.field.WordField.TheVariants as of
 
@@ -268,3 +268,25 @@ token_behind_the_words = refl
 pub token_behind_the_right : sent_line (codes "token-grant" ∷ codes "acme" ∷ codes "read" ∷ []) None false (codes "secret")
     ≡ codes "token-grant" ∷ codes "acme" ∷ codes "read" ∷ codes "secret" ∷ []
 token_behind_the_right = refl
+
+-- the token is read only where the words have none and name none by its digest
+pub token_to_end : asks_token (codes "token-end" ∷ []) None ≡ true
+token_to_end = refl
+
+pub end_by_digest : asks_token (codes "token-end" ∷ []) (Some (codes "00ff")) ≡ false
+end_by_digest = refl
+
+pub grant_with_a_right : asks_token (codes "token-grant" ∷ codes "acme" ∷ codes "read" ∷ []) None ≡ true
+grant_with_a_right = refl
+
+pub another_word_of_one_field : asks_token (codes "tenant-add" ∷ codes "acme" ∷ []) None ≡ false
+another_word_of_one_field = refl
+
+pub another_word_of_two_fields : asks_token (codes "network-end" ∷ codes "acme" ∷ codes "office" ∷ []) None ≡ false
+another_word_of_two_fields = refl
+
+pub digest_behind_its_option : line_words (codes "token-end" ∷ []) (Some (codes "00ff")) false ≡ codes "token-end" ∷ codes "--digest" ∷ codes "00ff" ∷ []
+digest_behind_its_option = refl
+
+pub json_behind_all : line_words (codes "show" ∷ []) None true ≡ codes "show" ∷ codes "--json" ∷ []
+json_behind_all = refl

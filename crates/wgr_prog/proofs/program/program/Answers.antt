@@ -11,6 +11,7 @@ use Rattle.sqlite_disk.specs.declared.Files.{Files}
 use Rattle.wgr_command_line.specs.Words.{Asked, asked_by}
 use Rattle.wgr_plan.specs.PlanFault.{Streams}
 use Rattle.wgr_service.specs.Network.{Log}
+use Rattle.wgr_prog.specs.Answering.{Output}
 use Rattle.wgr_prog.specs.Status.{ReadsNothing, Runs, ServesWords, ServesAsked, ReportsError, kind_status, streams}
 use Rattle.wgr_prog.proofs.program.program.Goals as goal
 
@@ -23,11 +24,11 @@ follows_memory kind status memory (inl fault) = fault
 follows_memory kind status memory (inr told) = told ∙ ap kind_status memory
 
 -- an error where a pool is asked for is want of memory
-lacks_memory : {D : Type 0} (g : disk.Ghosts D) (start : Image) (asked : Option Asked) (log : Log) (old new : Streams) (kind : ErrorKind) (status : ℕ)
+lacks_memory : {D : Type 0} (g : disk.Ghosts D) (start : Image) (asked : Option Asked) (log : Log) (old new : Streams) (errors errors' : Output) (kind : ErrorKind) (status : ℕ)
     → (is_some asked ≡ true → kind ≡ OutOfMemory) → (kind_status kind ≢ DONE → new ≡ old) → Follows kind status
-    → IfSome asked (λ asked. ServesAsked g start None asked log log old new status)
-lacks_memory g start None log old new kind status memory kept told = tt
-lacks_memory g start (Some asked) log old new kind status memory kept told =
+    → IfSome asked (λ asked. ServesAsked g start None asked log log old new errors errors' status)
+lacks_memory g start None log old new errors errors' kind status memory kept told = tt
+lacks_memory g start (Some asked) log old new errors errors' kind status memory kept told =
     let is : kind_status kind ≡ FAULT = ap kind_status (memory refl) in
     inl (refl, tt, (kept (λ done. cc (is, done)), follows_memory kind status (memory refl) told))
 
@@ -71,7 +72,7 @@ pub returns-in-Err : goal.returns-in-Err
 returns-in-Err g c =
     let kept = kept_streams g.R.Read.remaining g.R.Read.failed g.W.Write.contents g.W.Write.failed c.args.input.now _ _ in
     record {
-      served = lacks_memory _ _ _ _ _ _ _ _ c.in-Err.ensures.err (λ other. kept (c.no_invocation.ensures.kept other)) c.no_invocation.ensures.status;
+      served = lacks_memory _ _ _ _ _ _ _ _ _ _ c.in-Err.ensures.err (λ other. kept (c.no_invocation.ensures.kept other)) c.no_invocation.ensures.status;
       reported = if_none _ (untouched (g.N.Network.log c.args.network.now) (tells_error _ c.in-Err.answer _ _ _ (refl, refl) c.in-Err.ensures.kinds c.no_invocation.ensures.status
           (λ other. kept (c.no_invocation.ensures.kept other))
           (λ fault. left_of kept (c.no_invocation.ensures.fault fault))
@@ -79,31 +80,31 @@ returns-in-Err g c =
     }
 
 -- what is asked for is run
-serves : {D : Type 0} (g : disk.Ghosts D) (start : Image) (closed : Option (Files D)) (words : List Text) (asked : Asked) (before after : Log) (old new : Streams) (status : ℕ) → asked_by words ≡ Some asked
-    → Runs g start closed asked before after old new status → ServesWords g start closed words before after old new status
-serves g start closed words asked before after old new status is runs = record { served = rw is (inr runs); reported = rw is tt }
+serves : {D : Type 0} (g : disk.Ghosts D) (start : Image) (closed : Option (Files D)) (words : List Text) (asked : Asked) (before after : Log) (old new : Streams) (errors errors' : Output) (status : ℕ) → asked_by words ≡ Some asked
+    → Runs g start closed asked before after old new errors errors' status → ServesWords g start closed words before after old new errors errors' status
+serves g start closed words asked before after old new errors errors' status is runs = record { served = rw is (inr runs); reported = rw is tt }
 
 pub returns-in-Ok-Init : goal.returns-in-Ok-Init
 returns-in-Ok-Init g c =
-    serves _ _ _ _ _ _ _ _ _ _ (rw c.in-Ok-Init.field-0-is at c.in-Ok-Init.ensures.ok) (refl, c.run_init.ensures (g.R.Read.remaining c.args.input.now) (g.R.Read.failed c.args.input.now))
+    serves _ _ _ _ _ _ _ _ _ _ _ _ (rw c.in-Ok-Init.field-0-is at c.in-Ok-Init.ensures.ok) (refl, c.run_init.ensures (g.R.Read.remaining c.args.input.now) (g.R.Read.failed c.args.input.now))
 
 pub returns-in-Ok-Migrate : goal.returns-in-Ok-Migrate
 returns-in-Ok-Migrate g c =
-    serves _ _ _ _ _ _ _ _ _ _ (rw c.in-Ok-Migrate.field-0-is at c.in-Ok-Migrate.ensures.ok) (refl, c.run_migrate.ensures (g.R.Read.remaining c.args.input.now) (g.R.Read.failed c.args.input.now))
+    serves _ _ _ _ _ _ _ _ _ _ _ _ (rw c.in-Ok-Migrate.field-0-is at c.in-Ok-Migrate.ensures.ok) (refl, c.run_migrate.ensures (g.R.Read.remaining c.args.input.now) (g.R.Read.failed c.args.input.now))
 
 pub returns-in-Ok-Batch : goal.returns-in-Ok-Batch
 returns-in-Ok-Batch g c =
-    serves _ _ _ _ _ _ _ _ _ _ (rw c.in-Ok-Batch.field-0-is at c.in-Ok-Batch.ensures.ok) (refl, rw c.deref.ensures.value at c.run_batch.ensures (g.R.Read.remaining c.args.input.now) (g.R.Read.failed c.args.input.now))
+    serves _ _ _ _ _ _ _ _ _ _ _ _ (rw c.in-Ok-Batch.field-0-is at c.in-Ok-Batch.ensures.ok) (refl, rw c.deref.ensures.value at c.run_batch.ensures (g.R.Read.remaining c.args.input.now) (g.R.Read.failed c.args.input.now))
 
 pub returns-in-Ok-Serve : goal.returns-in-Ok-Serve
 returns-in-Ok-Serve g c =
-    serves _ _ _ _ _ _ _ _ _ _ (rw c.in-Ok-Serve.field-0-is at c.in-Ok-Serve.ensures.ok) (c.run_serve.ensures (g.R.Read.remaining c.args.input.now) (g.R.Read.failed c.args.input.now))
+    serves _ _ _ _ _ _ _ _ _ _ _ _ (rw c.in-Ok-Serve.field-0-is at c.in-Ok-Serve.ensures.ok) (c.run_serve.ensures (g.R.Read.remaining c.args.input.now) (g.R.Read.failed c.args.input.now))
 
 pub returns-in-Ok-Show : goal.returns-in-Ok-Show
 returns-in-Ok-Show g c =
-    serves _ _ _ _ _ _ _ _ _ _ (rw c.in-Ok-Show.field-0-is at c.in-Ok-Show.ensures.ok) (refl, c.run_show.ensures (g.R.Read.remaining c.args.input.now) (g.R.Read.failed c.args.input.now))
+    serves _ _ _ _ _ _ _ _ _ _ _ _ (rw c.in-Ok-Show.field-0-is at c.in-Ok-Show.ensures.ok) (refl, c.run_show.ensures (g.R.Read.remaining c.args.input.now) (g.R.Read.failed c.args.input.now))
 
 pub returns-in-Ok-Send : goal.returns-in-Ok-Send
 returns-in-Ok-Send g c =
     let ran = rw c.deref-in-Ok-Send.ensures.value at c.run_send.ensures in
-    serves _ _ _ _ _ _ _ _ _ _ (rw c.in-Ok-Send.field-0-is at c.in-Ok-Send.ensures.ok) (tt, record { answer = ran.0; sends = ran.1; reported = ran.2 })
+    serves _ _ _ _ _ _ _ _ _ _ _ _ (rw c.in-Ok-Send.field-0-is at c.in-Ok-Send.ensures.ok) (tt, record { answer = ran.0; sends = ran.1; reported = ran.2 })

@@ -1,11 +1,12 @@
 use Rattle.std.proofs.Common.{map, filter, nat_eq, not, ◌&&◌, sym, ap, ◌∙◌, subst, IsPermutation}
-use Rattle.wgr_sql.proofs.ResultLemmas.{if_ok, if_both}
+use Rattle.wgr_sql.proofs.ResultLemmas.{if_ok}
+use Rattle.wgr_core.proofs.AloneLemmas.{members_alone}
 use Rattle.wgr_columns.specs.Decode.{tables_of, peer_in, allowed_in}
 use Rattle.sqlite.specs.Held.{state}
 use Rattle.wgr_sql.specs.Causes.{HasCause}
 use Rattle.wgr_sql.proofs.CauseLemmas.{handed, later_hands_on, never_stores}
 use Rattle.wgr_columns.specs.Stored.{stored_allowed, stored_peer}
-use Rattle.wgr_tables.proofs.ArrangeLemmas.{kept_peers, peers_once, shown_addresses, shown_peers}
+use Rattle.wgr_tables.proofs.ArrangeLemmas.{if_three, kept_peers, peers_once, shown_addresses, shown_peers}
 use Rattle.wgr_tables.proofs.ReadLemmas.{reads_next}
 use Rattle.wgr_tables.proofs.load.load_peers.Goals as goal
 
@@ -46,7 +47,7 @@ returns-clause-own g c db pending n stood told clean =
     (c.in_ok-rows.ensures.listed db pending stood before) (c.in_ok-rows.ensures.rising db pending stood before) in
     let owned = shown_addresses id t n told.rules told.addresses (map allowed_in c.in_ok-addresses.addresses.items)
     (c.in_ok-addresses.ensures.listed db pending next clean) (c.in_ok-addresses.ensures.rising db pending next clean) in
-    if_both c.peers_of.result _ _ _ (λ peers p a. peers_once id peers.items n.peers (p ∙ ap (map peer_in) c.as_slice.ensures.value ∙ typed) (a ∙ ap (map allowed_in) c.as_slice-2.ensures.value ∙ owned)) c.peers_of.ensures.rows c.peers_of.ensures.addresses
+    if_three c.peers_of.result _ _ _ _ (λ peers p a alone. peers_once id peers.items n.peers alone (members_alone n told.rules) (p ∙ ap (map peer_in) c.as_slice.ensures.value ∙ typed) (a ∙ ap (map allowed_in) c.as_slice-2.ensures.value ∙ owned)) c.peers_of.ensures.rows c.peers_of.ensures.addresses c.peers_of.ensures.alone
 
 pub returns-clause-cause : goal.returns-clause-cause
 returns-clause-cause g c db pending n stood told = never_stores _ (state g.S.Store c.args.conn.now) (state g.S.Store c.address_rows.new.conn) c.peers_of.result c.peers_of.ensures.only (λ clean only.

@@ -1,7 +1,9 @@
-use Rattle.std.proofs.Common.{rules, ◌≡◌, ◌<◌, ◌++◌, List, [], ◌∷◌, length, map, get_or, ap, ◌∙◌, arith}
+use Rattle.std.proofs.Common.{rules, ◌≡◌, ◌<◌, ◌++◌, List, [], ◌∷◌, None, length, map, get_or, ap, sym, subst, ◌∙◌, arith}
 use Rattle.std.specs.List.{AllByRecursion}
+use Rattle.std.proofs.lemmas.List.Elements.{All-append, All-cons, All-nil}
 use Rattle.std.proofs.Math.ListN.{length-map}
 use Rattle.wgr_peers.specs.declared.peer.Peer.{Peer}
+use Rattle.wgr_core.specs.Network.{AreAlone}
 use Rattle.wgr_model.specs.Rows.{address_row, peer_row}
 use Rattle.wgr_sql.specs.Faults.{IsStore}
 use Rattle.wgr_sql.proofs.Answers.{map-both}
@@ -33,4 +35,5 @@ loop-at-preserved c =
     let short : at < length c.args.addresses.now = omega (arith, low, c.if-rows-addresses.false) in (
       ap (map (peer_row id)) grown ∙ one_longer peer_in (peer_row id) c.args.rows.now c.loop-at.peers.items at c.index-rows-at.result c.in_ok-peer.peer low c.index-rows-at.is c.in_ok-peer.ensures.row c.loop-at.invariant.0,
       ap (map (address_row id)) grown ∙ one_longer allowed_in (address_row id) c.args.addresses.now c.loop-at.peers.items at c.index-addresses-at.result c.in_ok-peer.peer short c.index-addresses-at.is c.in_ok-peer.ensures.address c.loop-at.invariant.1,
+      subst AreAlone (sym grown) (All-append (λ p. p.second ≡ None) c.loop-at.peers.items (c.in_ok-peer.peer ∷ []) c.loop-at.invariant.2 (All-cons (λ p. p.second ≡ None) c.in_ok-peer.peer [] c.in_ok-peer.ensures.alone (All-nil (λ p. p.second ≡ None)))),
     )

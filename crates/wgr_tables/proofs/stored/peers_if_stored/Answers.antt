@@ -1,12 +1,13 @@
 use Rattle.std.proofs.Common.{◌≡◌, map, filter, nat_eq, not, ◌&&◌, sym, ap, ◌∙◌, subst, IsPermutation}
-use Rattle.wgr_sql.proofs.ResultLemmas.{if_ok, if_both}
+use Rattle.wgr_sql.proofs.ResultLemmas.{if_ok}
 use Rattle.wgr_core.specs.Network.{NetworkValue}
+use Rattle.wgr_core.proofs.AloneLemmas.{members_alone}
 use Rattle.wgr_model.specs.Rows.{address_row, peer_row}
 use Rattle.wgr_sql.specs.Faults.{IsStore}
 use Rattle.wgr_columns.specs.Decode.{tables_of, peer_in, allowed_in}
 use Rattle.wgr_columns.specs.Stored.{stored_allowed, stored_peer}
 use Rattle.wgr_tables.specs.Stored.{IsStored}
-use Rattle.wgr_tables.proofs.ArrangeLemmas.{kept_peers, peers_once, shown_addresses, shown_peers}
+use Rattle.wgr_tables.proofs.ArrangeLemmas.{if_three, kept_peers, peers_once, shown_addresses, shown_peers}
 use Rattle.wgr_tables.proofs.ToldLemmas.{err_as, none_as, told_as}
 use Rattle.sqlite.specs.Held.{state}
 use Rattle.wgr_sql.specs.Causes.{HasCause}
@@ -45,7 +46,7 @@ returns-clause-own g c db pending stood clean =
     let owned = λ (n : NetworkValue) (if_stored : IsStored t id n). shown_addresses id t n if_stored.rules if_stored.addresses (map allowed_in c.in_ok-addresses.addresses.items)
     (c.in_ok-addresses.ensures.listed db pending next clean) (c.in_ok-addresses.ensures.rising db pending next clean) in
     told_as c.peers_of.result c.if_stored.result (λ peers. (n : NetworkValue) → IsStored t id n → peers.items ≡ n.peers)
-    (if_both c.peers_of.result _ _ _ (λ peers p a n if_stored. peers_once id peers.items n.peers (p ∙ ap (map peer_in) c.as_slice.ensures.value ∙ typed n if_stored) (a ∙ ap (map allowed_in) c.as_slice-2.ensures.value ∙ owned n if_stored)) c.peers_of.ensures.rows c.peers_of.ensures.addresses)
+    (if_three c.peers_of.result _ _ _ _ (λ peers p a alone n if_stored. peers_once id peers.items n.peers alone (members_alone n if_stored.rules) (p ∙ ap (map peer_in) c.as_slice.ensures.value ∙ typed n if_stored) (a ∙ ap (map allowed_in) c.as_slice-2.ensures.value ∙ owned n if_stored)) c.peers_of.ensures.rows c.peers_of.ensures.addresses c.peers_of.ensures.alone)
     c.if_stored.ensures.some
 
 pub returns-clause-none : goal.returns-clause-none

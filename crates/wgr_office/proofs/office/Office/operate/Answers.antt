@@ -17,9 +17,7 @@ returns g c = record {
         order_served g.S.Store c.operate.new.self db late c.args.order.now c.operate.result answer
         (c.operate.ensures.ends db late (subst (λ h. StandsAt g.S.Store h db late) (sym c.self.view_is) at)) settled c.forms_hold.ensures clean;
   };
+  stops = λ db late at.
+      subst (λ h. IfOrderFault (HasCauseOr (OrderStops (tables_of db) (order_event c.args.order.now)) (state g.S.Store h) (state g.S.Store c.operate.new.self)) c.operate.result) c.self.view_is
+      (c.operate.ensures.stops db late (subst (λ h. StandsAt g.S.Store h db late) (sym c.self.view_is) at));
 }
-
-pub returns-clause-stops : goal.returns-clause-stops
-returns-clause-stops g c db late at =
-    subst (λ h. IfOrderFault (HasCauseOr (OrderStops (tables_of db) (order_event c.args.order.now)) (state g.S.Store h) (state g.S.Store c.operate.new.self)) c.operate.result) c.self.view_is
-    (c.operate.ensures.stops db late (subst (λ h. StandsAt g.S.Store h db late) (sym c.self.view_is) at))
