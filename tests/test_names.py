@@ -9,12 +9,13 @@ CRATES = Path(__file__).resolve().parent.parent / "crates"
 DEFINITION = re.compile(r"(?m)^(?:abbrev |unfoldable )?pub (?:record |data )?(?!mod |record |data )([^\s:]+)")
 
 # Each name with the crates whose definitions have it, without `wgr_`; one crate twice where two of its files do.
-# Each is one idea: `wgr_tables` has for the register's database what `wgr_sql` has for any. Give a new definition
-# a name of its own.
+# Each is one idea: `wgr_tables` has for the register's database what `wgr_sql` has for any, and `is_there` looks for
+# what an option has. Give a new definition a name of its own.
 SHARED = """
 Stands: sql tables
 StepsFrom: sql tables
 StepsOn: sql tables
+is_there: peers show
 """
 
 

@@ -2,10 +2,12 @@
 
 import itertools
 import json
+import math
 import os
 import re
 import subprocess
 import tempfile
+import time
 import unittest
 from pathlib import Path
 
@@ -39,12 +41,16 @@ class Host:
         return shell(f"ip netns exec {self.space} env {quick} {command}", allowed=allowed)
 
     def reaches(self, address, seconds=30):
-        """Whether one of some pings is answered in time; a handshake that fails is begun again after five seconds."""
-        told = subprocess.run(
-            ["ip", "netns", "exec", self.space, "ping", "-c", "1", "-w", str(seconds), address],
-            capture_output=True,
-        )
-        return told.returncode == 0
+        """Whether one of some pings is answered in time; a handshake that fails is begun again after five seconds.
+
+        An error of the network ends a `ping` at once, so another one follows."""
+        end = time.monotonic() + seconds
+        while (left := end - time.monotonic()) > 0:
+            ping = ["ping", "-c", "1", "-w", str(math.ceil(left)), address]
+            if subprocess.run(["ip", "netns", "exec", self.space, *ping], capture_output=True).returncode == 0:
+                return True
+            time.sleep(0.2)
+        return False
 
     def with_private_key(self, file):
         return file.replace("[Interface]\n", f"[Interface]\nPrivateKey = {self.private}\n", 1)
